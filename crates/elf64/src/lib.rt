@@ -2,5 +2,11 @@
 #![tactic(auto)]
 
 mod error;
+mod header;
+mod kind;
+mod order;
+mod text;
 
 pub use error::ElfError;
+pub use kind::SymbolKind;
+pub use order::ByteOrder;
