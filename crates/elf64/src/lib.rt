@@ -5,8 +5,10 @@ mod error;
 mod header;
 mod kind;
 mod order;
+mod section;
 mod text;
 
 pub use error::ElfError;
 pub use kind::SymbolKind;
 pub use order::ByteOrder;
+pub use section::{SectionView, Sections};
