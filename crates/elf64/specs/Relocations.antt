@@ -1,5 +1,5 @@
 -- The relocations of a file: the entries of the relocation sections that belong to its symbol table.
-use Rattle.std.specs.Prelude.{ℕ, ◌+◌, ◌*◌, ◌/◌, ◌%◌, ◌^◌, List, [], length, map, flat_map, ◌==◌, ◌&&◌, ◌||◌, not, Bool, if◌then◌else◌, Option, Some, None, unwrap_or, option_and_then}
+use Rattle.std.specs.Prelude.{ℕ, ◌+◌, ◌*◌, ◌/◌, ◌%◌, ◌^◌, ◌≤◌, ◌<◌, List, [], length, map, flat_map, ◌==◌, ◌&&◌, ◌||◌, not, Bool, if◌then◌else◌, Option, Some, None, unwrap_or, option_and_then}
 use Rattle.std.specs.Option.{option_map}
 use Rattle.std.specs.List.{range_with_len}
 use Rattle.std.specs.Int.{w64}
@@ -40,9 +40,18 @@ abbrev pub is_relocation_table : ℕ → SectionHeader → Bool
 is_relocation_table symbol_table header =
     ((header.kind == 4) || (header.kind == 9)) && (header.link == symbol_table) && not (header.info == 0)
 
+-- the entries of some indexes in a relocation section's bytes
+abbrev pub entries_at : ByteOrder → ℕ → List ℕ → List ℕ → List Relocation
+entries_at order size entries indexes = map (λ i. relocation_at order entries (size * i)) indexes
+
 -- the entries of a relocation section's bytes, in order
 abbrev pub entries_in : ByteOrder → ℕ → List ℕ → List Relocation
-entries_in order size entries = map (λ i. relocation_at order entries (size * i)) (range_with_len 0 (length entries / size))
+entries_in order size entries = entries_at order size entries (range_with_len 0 (length entries / size))
+
+-- as many entries from an index on lie within some bytes
+pub record AreEntriesWithin (size next left len : ℕ) : Type 0 where
+  pub least : 16 ≤ size
+  pub within : 0 < left → size * (next + left) ≤ len
 
 -- the relocations that a section holds for a target
 abbrev pub relocations_from : List ℕ → ByteOrder → ℕ → ℕ → SectionHeader → List Relocation

@@ -5,10 +5,14 @@ mod error;
 mod header;
 mod kind;
 mod order;
+mod relocation;
 mod section;
+mod symbol;
 mod text;
 
 pub use error::ElfError;
 pub use kind::SymbolKind;
 pub use order::ByteOrder;
+pub use relocation::RelocView;
 pub use section::{SectionView, Sections};
+pub use symbol::{SymbolView, Symbols};
