@@ -28,18 +28,17 @@ abbrev pub IsBadSymbolTable : List ℕ → ByteOrder → List ℕ → SectionHea
 IsBadSymbolTable bytes order table header =
     (bytes_at bytes header.offset header.size ≡ None) ⊎ (header.size % 24 ≢ 0) ⊎ (symbol_names_in bytes order table header ≡ None) ⊎ IsSomeAnd (bytes_at bytes header.offset header.size) (HasExtendedIndex order)
 
--- no target section, entries past the end, or cut off
-abbrev pub IsBadRelocationTable : List ℕ → ByteOrder → List ℕ → SectionHeader → Type 0
-IsBadRelocationTable bytes order table header =
-    (section_at order table header.info ≡ None) ⊎ (bytes_at bytes header.offset header.size ≡ None) ⊎ (header.size % entry_size header ≢ 0)
+-- a relocation section of the symbol table of an index, with no target section, entries past the end, or cut off
+pub record IsBadRelocationTable (bytes : List ℕ) (order : ByteOrder) (table : List ℕ) (symbol_table : ℕ) (header : SectionHeader) : Type 0 where
+  pub belongs : is_relocation_table symbol_table header ≡ true
+  pub bad : (section_at order table header.info ≡ None) ⊎ (bytes_at bytes header.offset header.size ≡ None) ⊎ (header.size % entry_size header ≢ 0)
 
--- a bad relocation section of the symbol table
+-- a bad relocation section of the symbol table of an index
 pub record HasBadRelocationTable (bytes : List ℕ) (order : ByteOrder) (table : List ℕ) (symbol_table : ℕ) : Type 0 where
   pub index : ℕ
   pub given : 0 < index
   pub within : index < header_count table
-  pub belongs : is_relocation_table symbol_table (section_header order table index) ≡ true
-  pub bad : IsBadRelocationTable bytes order table (section_header order table index)
+  pub bad : IsBadRelocationTable bytes order table symbol_table (section_header order table index)
 
 -- a condition on the section header table of a file
 abbrev pub OnTable : List ℕ → (ByteOrder → List ℕ → Type 0) → Type 0

@@ -1,5 +1,5 @@
 -- The file header and the section headers, as functions of the file's bytes.
-use Rattle.std.specs.Prelude.{ℕ, ◌+◌, ◌-◌, ◌*◌, ◌/◌, List, [], length, slice_index, nat_le, nat_lt, ◌==◌, ◌||◌, if◌then◌else◌, Option, Some, None, option_and_then}
+use Rattle.std.specs.Prelude.{◌≡◌, ℕ, ◌+◌, ◌-◌, ◌*◌, ◌/◌, List, [], length, slice_index, nat_le, nat_lt, ◌==◌, ◌||◌, if◌then◌else◌, Option, Some, None, option_and_then}
 use Rattle.std.specs.Option.{option_map}
 use Rattle.std.specs.List.{range_with_len}
 use Rattle.std.specs.Int.{w16, w32, w64}
@@ -65,3 +65,9 @@ section_at order table index =
 -- the indexes of the sections
 abbrev pub section_indexes : List ℕ → List ℕ
 section_indexes table = range_with_len 1 (header_count table - 1)
+
+-- a file's header and section header table
+pub record HasHeaders (bytes : List ℕ) (header : FileHeader) (table : List ℕ) : Type 0 where
+  pub orders : order_of bytes ≡ Some header.order
+  pub headers : header_of bytes ≡ Some header
+  pub tables : table_in bytes header ≡ Some table
