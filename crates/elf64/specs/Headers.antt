@@ -1,5 +1,5 @@
 -- The file header and the section headers, as functions of the file's bytes.
-use Rattle.std.specs.Prelude.{◌≡◌, ℕ, ◌+◌, ◌-◌, ◌*◌, ◌/◌, List, [], length, slice_index, nat_le, nat_lt, ◌==◌, ◌||◌, if◌then◌else◌, Option, Some, None, option_and_then}
+use Rattle.std.specs.Prelude.{◌≡◌, ℕ, ◌+◌, ◌-◌, ◌*◌, ◌/◌, List, [], length, slice_get, slice_index, nat_le, nat_lt, ◌==◌, ◌||◌, if◌then◌else◌, Option, Some, None, option_and_then}
 use Rattle.std.specs.Option.{option_map}
 use Rattle.std.specs.List.{range_with_len}
 use Rattle.std.specs.Int.{w16, w32, w64}
@@ -65,6 +65,10 @@ section_at order table index =
 -- the indexes of the sections
 abbrev pub section_indexes : List ℕ → List ℕ
 section_indexes table = range_with_len 1 (header_count table - 1)
+
+-- items in order of index, from index 1 on, with none left out
+pub record AreNumbered {X : Type 0} (items : List X) (index_of : X → ℕ) : Type 0 where
+  pub numbered : (i : ℕ) (item : X) → slice_get items i ≡ Some item → index_of item ≡ i + 1
 
 -- a file's header and section header table
 pub record HasHeaders (bytes : List ℕ) (header : FileHeader) (table : List ℕ) : Type 0 where

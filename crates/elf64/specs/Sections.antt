@@ -66,7 +66,3 @@ has_name name section = option_map_or (λ text. bytes_eq text name) section.name
 -- the first section of a name
 abbrev pub section_named : List ℕ → List ℕ → Option Section
 section_named bytes name = find (has_name name) (sections_of bytes)
-
--- the place of a section in the list is its index less one
-pub record AreNumbered (sections : List Section) : Type 0 where
-  pub index : (i : ℕ) (section : Section) → slice_get sections i ≡ Some section → section.index ≡ i + 1

@@ -104,7 +104,3 @@ symbols_in bytes order table =
 unfoldable pub symbols_of : List ℕ → List Symbol
 symbols_of bytes =
     unwrap_or (option_and_then (λ header. option_map (symbols_in bytes header.order) (table_in bytes header)) (header_of bytes)) []
-
--- the place of a symbol in the list is its index less one
-pub record AreNumbered (symbols : List Symbol) : Type 0 where
-  pub index : (i : ℕ) (symbol : Symbol) → slice_get symbols i ≡ Some symbol → symbol.index ≡ i + 1

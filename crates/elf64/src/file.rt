@@ -1,11 +1,9 @@
 //! A whole file.
 
 ghost use Rattle.std.specs.Prelude.{◌≡◌, ◌+◌, ◌*◌, ◌≤◌, ◌<◌, ℕ, List, length, IfOk, IfErr, Some, find};
-ghost use Rattle.elf64.specs.Headers.{order_of};
-ghost use Rattle.elf64.specs.Sections as sections;
+ghost use Rattle.elf64.specs.Headers.{AreNumbered, order_of};
 ghost use Rattle.elf64.specs.Sections.{sections_of, has_name, section_named};
 ghost use Rattle.elf64.specs.Symbols.{symbols_of};
-ghost use Rattle.elf64.specs.Symbols as symbols;
 ghost use Rattle.elf64.specs.Relocations.{relocations_of};
 ghost use Rattle.elf64.specs.Faults.{HasFault, IsFaultless};
 
@@ -83,7 +81,8 @@ impl<'a> ElfFile<'a> {
     /// The sections, in order of index, without section 0.
     #[tactic(auto, unfolding(crate::specs::Sections::sections_of))]
     pub fn sections(&self) -> Sections<'a>
-        ensures { result ≡ sections_of self.now }
+        ensures value { result ≡ sections_of self.now }
+        ensures numbered { AreNumbered (sections_of self.now) (λ s. s.index) }
     {
         let names = section_names(self.bytes, &self.header, self.table);
         Sections::new(self.bytes, self.header.order, self.table, names)
@@ -104,7 +103,8 @@ impl<'a> ElfFile<'a> {
     /// The symbols of the first symbol table, in order of index, without symbol 0.
     #[tactic(auto, unfolding(crate::specs::Symbols::symbols_of))]
     pub fn symbols(&self) -> Symbols<'a>
-        ensures { result ≡ symbols_of self.now }
+        ensures value { result ≡ symbols_of self.now }
+        ensures numbered { AreNumbered (symbols_of self.now) (λ s. s.index) }
     {
         let order = self.header.order;
         let Some(index) = symbol_table_index(order, self.table) else {
