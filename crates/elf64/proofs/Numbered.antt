@@ -53,6 +53,6 @@ unfolding symbols_of
 symbols_of-AreNumbered bytes =
     AreNumbered-chain (table_in bytes) (λ header table. symbols_in bytes header.order table) (λ s. s.index)
     (λ header table. AreNumbered-unwrap_or (λ i. symbols_from bytes header.order table (section_header header.order table i)) (λ s. s.index)
-        (λ t. AreNumbered-range _ (λ s. s.index) (λ i. symbol_from-index _ i _) _)
-        (symbol_table_index header.order table))
+    (λ t. AreNumbered-range _ (λ s. s.index) (λ i. symbol_from-index _ i _) _)
+    (symbol_table_index header.order table))
     (header_of bytes)

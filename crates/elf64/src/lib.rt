@@ -19,3 +19,6 @@ pub use order::ByteOrder;
 pub use relocation::{RelocView, Relocations};
 pub use section::{SectionView, Sections};
 pub use symbol::{SymbolView, Symbols};
+
+#[cfg(test)]
+mod tests;

@@ -11,9 +11,11 @@ use crate::order::{ByteOrder, bytes_at, u64_at};
 use std::marker::Model;
 
 const RELA: u32 = 4;
+
 const REL: u32 = 9;
 
 const R_BPF_64_64: u64 = 1;
+
 const R_BPF_64_32: u64 = 10;
 
 /// The size of an entry of a relocation section.

@@ -14,7 +14,9 @@ use crate::text::text_at;
 use std::marker::Model;
 
 const PROGBITS: u32 = 1;
+
 const NOBITS: u32 = 8;
+
 const ALLOC_AND_EXECINSTR: u64 = 6;
 
 /// The bytes of a section in the file, where it has some there.

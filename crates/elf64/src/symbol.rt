@@ -17,15 +17,23 @@ use std::marker::Model;
 const LORESERVE: u16 = 0xff00;
 
 const LOCAL: u8 = 0;
+
 const WEAK: u8 = 2;
 
 const NOTYPE: u8 = 0;
+
 const OBJECT: u8 = 1;
+
 const FUNC: u8 = 2;
+
 const SECTION: u8 = 3;
+
 const FILE: u8 = 4;
+
 const COMMON: u8 = 5;
+
 const TLS: u8 = 6;
+
 const GNU_IFUNC: u8 = 10;
 
 /// The binding of a symbol.
@@ -217,11 +225,7 @@ impl<'a> Iterator for Symbols<'a> {
 
 impl<'a> Symbols<'a> {
     /// The symbols of a symbol table's bytes, with its string table.
-    pub(crate) fn new(
-        order: ByteOrder,
-        entries: &'a [u8],
-        names: Option<&'a [u8]>,
-    ) -> Symbols<'a>
+    pub(crate) fn new(order: ByteOrder, entries: &'a [u8], names: Option<&'a [u8]>) -> Symbols<'a>
         ensures { result ≡ symbols_at order entries.now (option_copied names.entry) (range_with_len 1 (length entries.now / 24 - 1)) }
     {
         Symbols {

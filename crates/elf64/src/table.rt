@@ -17,7 +17,9 @@ use crate::relocation::{entry_size, is_relocation_table};
 use crate::section::{contents, file_bytes};
 
 const SYMTAB: u32 = 2;
+
 const SYMBOL_SIZE: u64 = 24;
+
 const XINDEX: u16 = 0xffff;
 
 /// The section that holds the sections' names, as far as its bytes lie in the file.
