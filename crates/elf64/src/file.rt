@@ -1,6 +1,6 @@
 //! A whole file.
 
-ghost use Rattle.std.specs.Prelude.{◌≡◌, ◌+◌, ◌*◌, ◌≤◌, ◌<◌, ℕ, List, length, IfOk, IfErr, Some, find};
+ghost use Rattle.std.specs.Prelude.{◌≡◌, ◌+◌, ◌*◌, ◌≤◌, ◌<◌, ◌^◌, ℕ, List, length, IfOk, IfErr, Some, find};
 ghost use Rattle.elf64.specs.Headers.{AreNumbered, order_of};
 ghost use Rattle.elf64.specs.Sections.{sections_of, has_name, section_named};
 ghost use Rattle.elf64.specs.Symbols.{symbols_of};
@@ -83,6 +83,7 @@ impl<'a> ElfFile<'a> {
     pub fn sections(&self) -> Sections<'a>
         ensures value { result ≡ sections_of self.now }
         ensures numbered { AreNumbered (sections_of self.now) (λ s. s.index) }
+        ensures countable { length result < 2 ^ 64 }
     {
         let names = section_names(self.bytes, &self.header, self.table);
         Sections::new(self.bytes, self.header.order, self.table, names)
@@ -105,6 +106,7 @@ impl<'a> ElfFile<'a> {
     pub fn symbols(&self) -> Symbols<'a>
         ensures value { result ≡ symbols_of self.now }
         ensures numbered { AreNumbered (symbols_of self.now) (λ s. s.index) }
+        ensures countable { length result < 2 ^ 64 }
     {
         let order = self.header.order;
         let Some(index) = symbol_table_index(order, self.table) else {

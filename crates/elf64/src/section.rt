@@ -1,6 +1,6 @@
 //! The sections of a file.
 
-ghost use Rattle.std.specs.Prelude.{◌≡◌, ◌+◌, ◌*◌, ◌≤◌, ℕ, List, length, MatchResult, Some, None};
+ghost use Rattle.std.specs.Prelude.{◌≡◌, ◌+◌, ◌*◌, ◌≤◌, ◌<◌, ◌^◌, ℕ, List, length, MatchResult, Some, None};
 ghost use Rattle.std.specs.Iterator.{YieldsFirst, item_count};
 ghost use Rattle.std.specs.List.{range_with_len};
 ghost use Rattle.std.specs.Option.{option_copied};
@@ -171,7 +171,8 @@ impl<'a> Sections<'a> {
         table: &'a [u8],
         names: Option<&'a [u8]>,
     ) -> Sections<'a>
-        ensures { result ≡ sections_at bytes.now order table.now (option_copied names.entry) (section_indexes table.now) }
+        ensures value { result ≡ sections_at bytes.now order table.now (option_copied names.entry) (section_indexes table.now) }
+        ensures countable { length result < 2 ^ 64 }
     {
         Sections {
             bytes,

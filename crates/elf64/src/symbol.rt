@@ -1,6 +1,6 @@
 //! The symbols of a file.
 
-ghost use Rattle.std.specs.Prelude.{◌≡◌, ◌+◌, ◌-◌, ◌*◌, ◌/◌, ◌≤◌, ℕ, List, length, MatchResult, Some, None};
+ghost use Rattle.std.specs.Prelude.{◌≡◌, ◌+◌, ◌-◌, ◌*◌, ◌/◌, ◌≤◌, ◌<◌, ◌^◌, ℕ, List, length, MatchResult, Some, None};
 ghost use Rattle.std.specs.Iterator.{YieldsFirst, item_count};
 ghost use Rattle.std.specs.List.{range_with_len};
 ghost use Rattle.std.specs.Option.{option_copied};
@@ -226,7 +226,8 @@ impl<'a> Iterator for Symbols<'a> {
 impl<'a> Symbols<'a> {
     /// The symbols of a symbol table's bytes, with its string table.
     pub(crate) fn new(order: ByteOrder, entries: &'a [u8], names: Option<&'a [u8]>) -> Symbols<'a>
-        ensures { result ≡ symbols_at order entries.now (option_copied names.entry) (range_with_len 1 (length entries.now / 24 - 1)) }
+        ensures value { result ≡ symbols_at order entries.now (option_copied names.entry) (range_with_len 1 (length entries.now / 24 - 1)) }
+        ensures countable { length result < 2 ^ 64 }
     {
         Symbols {
             order,
