@@ -86,7 +86,7 @@ impl<'a> ElfFile<'a> {
         ensures countable { length result < 2 ^ 64 }
     {
         let names = section_names(self.bytes, &self.header, self.table);
-        Sections::new(self.bytes, self.header.order, self.table, names)
+        Sections::new(self.bytes, self.order(), self.table, names)
     }
 
     /// The first section of a name. One whose name can't be read is passed over.
@@ -108,7 +108,7 @@ impl<'a> ElfFile<'a> {
         ensures numbered { AreNumbered (symbols_of self.now) (λ s. s.index) }
         ensures countable { length result < 2 ^ 64 }
     {
-        let order = self.header.order;
+        let order = self.order();
         let Some(index) = symbol_table_index(order, self.table) else {
             return Symbols::new(order, &[], None);
         };
@@ -124,7 +124,7 @@ impl<'a> ElfFile<'a> {
     pub fn relocations(&self, section: usize) -> Relocations<'a>
         ensures { result ≡ relocations_of self.now section }
     {
-        let order = self.header.order;
+        let order = self.order();
         let Some(symbol_table) = symbol_table_index(order, self.table) else {
             return Relocations::none(order);
         };

@@ -156,7 +156,7 @@ impl<'a> SymbolView<'a> {
         }
         match symbol_type(&self.entry) {
             OBJECT | FUNC => true,
-            NOTYPE => self.entry.size != 0,
+            NOTYPE => self.size() != 0,
             _ => false,
         }
     }

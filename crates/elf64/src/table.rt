@@ -169,7 +169,8 @@ pub(crate) fn check_relocation_tables(
     ensures accepted { IfOk result (λ _. HasBadRelocationTable bytes.now order table.now symbol_table → ⊥) }
     ensures refused { IfErr result (λ e. (e ≡ ElfError.BadRelocationTable) × HasBadRelocationTable bytes.now order table.now symbol_table) }
 {
-    for index in 1..table.len() / 64 {
+    let count = table.len() / 64;
+    for index in 1..count {
         let header = section_header(order, table, index);
         if is_bad_relocation_table(bytes, order, table, symbol_table, &header) {
             return Err(ElfError::BadRelocationTable);

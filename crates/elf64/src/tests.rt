@@ -3,6 +3,7 @@
 ghost use Rattle.std.specs.Prelude.{◌+◌, ◌≤◌, ◌<◌, length};
 
 use crate::{ByteOrder, ElfError, ElfFile, SymbolKind};
+use std::test::Fail;
 
 const LEN: usize = 568;
 
@@ -301,6 +302,27 @@ fn sections_that_cannot_be_read(rt: HostRuntime) -> Result<(), ElfError> {
             assert_eq!(rt; section.size(), 16);
             assert!(rt; !section.is_text());
         }
+    }
+    Ok(())
+}
+
+#[test]
+fn texts_of_the_errors(rt: HostRuntime) -> Result<(), Fail> {
+    let expected = [
+        (ElfError::NotElf, "not an ELF file"),
+        (ElfError::UnsupportedClass, "not a 64-bit ELF file"),
+        (ElfError::UnsupportedOrder, "unknown ELF byte order"),
+        (ElfError::BadSectionTable, "malformed section header table"),
+        (ElfError::BadSymbolTable, "malformed symbol table"),
+        (ElfError::BadRelocationTable, "malformed relocation table"),
+        (
+            ElfError::SectionData,
+            "section data past the end of the file",
+        ),
+        (ElfError::Name, "unreadable name"),
+    ];
+    for (error, text) in expected {
+        assert_eq!(rt; format!(in rt.alloc(); "{error}")?.as_str(), text);
     }
     Ok(())
 }
