@@ -1,15 +1,13 @@
 -- The sections and the symbols of a file are numbered from 1 on.
-use Rattle.std.proofs.Common.{◌≡◌, ◌≢◌, ℕ, zero, suc, ◌+◌, ◌-◌, ◌/◌, List, [], length, refl, sym, ◌∙◌, arith, Some, None}
+use Rattle.std.proofs.Common.{◌≡◌, ℕ, zero, suc, ◌+◌, List, [], refl, ◌∙◌, arith, Some, None}
 use Rattle.std.specs.Prelude.{map, slice_get, Option, unwrap_or, option_and_then}
 use Rattle.std.specs.Option.{option_map}
 use Rattle.std.specs.List.{range_with_len}
-use Rattle.elf64.specs.declared.order.ByteOrder.{ByteOrder}
-use Rattle.elf64.specs.declared.header.FileHeader.{FileHeader}
 use Rattle.elf64.specs.declared.header.SectionHeader.{SectionHeader}
 use Rattle.elf64.specs.declared.header.SymbolEntry.{SymbolEntry}
-use Rattle.elf64.specs.Headers.{AreNumbered, header_of, table_in, section_indexes, section_header}
-use Rattle.elf64.specs.Sections.{Section, section_from, sections_in, sections_of, section_names_in}
-use Rattle.elf64.specs.Symbols.{Symbol, symbol_entry, symbol_from, symbol_entries_in, symbol_names_in, symbol_table_index, symbols_from, symbols_in, symbols_of}
+use Rattle.elf64.specs.Headers.{AreNumbered, header_of, table_in, section_header}
+use Rattle.elf64.specs.Sections.{section_from, sections_in, sections_of, section_names_in}
+use Rattle.elf64.specs.Symbols.{symbol_from, symbol_table_index, symbols_from, symbols_in, symbols_of}
 
 -- the items of a range of numbers are numbered as the range is
 index_of-range : {X : Type 0} (f : ℕ → X) (index_of : X → ℕ) → ((i : ℕ) → index_of (f i) ≡ i) → (a n i : ℕ) (item : X) → slice_get (map f (range_with_len a n)) i ≡ Some item → index_of item ≡ a + i

@@ -1,5 +1,5 @@
 -- What is wrong with a file, as conditions on its fields.
-use Rattle.std.specs.Prelude.{◌≡◌, ◌≢◌, ℕ, ◌+◌, ◌*◌, ◌/◌, ◌%◌, ◌≤◌, ◌<◌, ◌⊎◌, List, [], ◌∷◌, length, take, slice_index, Some, None, IsSomeAnd, true}
+use Rattle.std.specs.Prelude.{◌≡◌, ◌≢◌, ℕ, ◌/◌, ◌%◌, ◌≤◌, ◌<◌, ◌⊎◌, List, [], ◌∷◌, length, take, slice_index, None, IsSomeAnd, true}
 use Rattle.elf64.specs.declared.order.ByteOrder.{ByteOrder}
 use Rattle.elf64.specs.declared.header.FileHeader.{FileHeader}
 use Rattle.elf64.specs.declared.header.SectionHeader.{SectionHeader}

@@ -1,5 +1,6 @@
--- The file header and the section headers, as functions of the file's bytes.
-use Rattle.std.specs.Prelude.{◌≡◌, ℕ, ◌+◌, ◌-◌, ◌*◌, ◌/◌, List, [], length, slice_get, slice_index, nat_le, nat_lt, ◌==◌, ◌||◌, if◌then◌else◌, Option, Some, None, option_and_then}
+-- The file header and the section headers (ELF-64 object file format, File Header and Sections),
+-- as functions of the file's bytes.
+use Rattle.std.specs.Prelude.{◌≡◌, ℕ, ◌+◌, ◌-◌, ◌*◌, ◌/◌, List, [], length, slice_get, slice_index, nat_le, nat_lt, ◌==◌, ◌||◌, if◌then◌else◌, Option, Some, None}
 use Rattle.std.specs.Option.{option_map}
 use Rattle.std.specs.List.{range_with_len}
 use Rattle.std.specs.Int.{w16, w32, w64}
@@ -36,9 +37,6 @@ abbrev pub table_in : List ℕ → FileHeader → Option (List ℕ)
 table_in bytes header =
     if header.section_headers_offset == 0 then Some [] else
     if header.section_header_size == 64 then bytes_at bytes header.section_headers_offset (64 * header.section_count) else None
-
-abbrev pub table_of : List ℕ → Option (List ℕ)
-table_of bytes = option_and_then (table_in bytes) (header_of bytes)
 
 -- the fields of the section header of an index
 unfoldable pub section_header : ByteOrder → List ℕ → ℕ → SectionHeader

@@ -1,4 +1,5 @@
--- The relocations of a file: the entries of the relocation sections that belong to its symbol table.
+-- The relocations of a file: the entries of the relocation sections that belong to its symbol table
+-- (ELF-64 object file format, Relocation).
 use Rattle.std.specs.Prelude.{ℕ, ◌+◌, ◌*◌, ◌/◌, ◌%◌, ◌^◌, ◌≤◌, ◌<◌, List, [], length, map, flat_map, ◌==◌, ◌&&◌, ◌||◌, not, Bool, if◌then◌else◌, Option, Some, None, unwrap_or, option_and_then}
 use Rattle.std.specs.Option.{option_map}
 use Rattle.std.specs.List.{range_with_len}

@@ -1,5 +1,5 @@
--- The sections of a file, and what can be read of each.
-use Rattle.std.specs.Prelude.{◌≡◌, ℕ, ◌+◌, List, [], map, find, slice_get, ◌==◌, ◌&&◌, Bool, false, if◌then◌else◌, Option, Some, None, unwrap_or, option_and_then, bit_and}
+-- The sections of a file (ELF-64 object file format, Sections), and what can be read of each.
+use Rattle.std.specs.Prelude.{ℕ, List, [], map, find, ◌==◌, ◌&&◌, Bool, false, if◌then◌else◌, Option, Some, None, unwrap_or, option_and_then, bit_and}
 use Rattle.std.specs.Option.{option_map, option_map_or}
 use Rattle.std.specs.Str.{bytes_eq}
 use Rattle.elf64.specs.declared.order.ByteOrder.{ByteOrder}

@@ -1,10 +1,9 @@
--- The symbols of a file: the entries of its first symbol table.
-use Rattle.std.specs.Prelude.{◌≡◌, ℕ, ◌+◌, ◌-◌, ◌*◌, ◌/◌, ◌%◌, List, [], length, map, find, slice_get, slice_index, nat_lt, ◌==◌, ◌&&◌, ◌||◌, not, Bool, if◌then◌else◌, Option, Some, None, is_some, unwrap_or, option_and_then}
+-- The symbols of a file: the entries of its first symbol table (ELF-64 object file format, Symbol Table).
+use Rattle.std.specs.Prelude.{ℕ, ◌+◌, ◌-◌, ◌*◌, ◌/◌, ◌%◌, List, [], length, map, find, slice_index, nat_lt, ◌==◌, ◌&&◌, ◌||◌, not, Bool, if◌then◌else◌, Option, Some, None, is_some, unwrap_or, option_and_then}
 use Rattle.std.specs.Option.{option_map}
 use Rattle.std.specs.List.{range_with_len}
 use Rattle.std.specs.Int.{w16, w32, w64}
 use Rattle.elf64.specs.declared.order.ByteOrder.{ByteOrder}
-use Rattle.elf64.specs.declared.header.FileHeader.{FileHeader}
 use Rattle.elf64.specs.declared.header.SectionHeader.{SectionHeader}
 use Rattle.elf64.specs.declared.header.SymbolEntry.{SymbolEntry}
 use Rattle.elf64.specs.declared.kind.SymbolKind.{SymbolKind}

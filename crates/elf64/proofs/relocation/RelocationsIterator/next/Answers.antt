@@ -1,7 +1,6 @@
-use Rattle.std.proofs.Common.{rules, ◌<◌, ◌≡◌, ◌++◌, [], arith, sym, ◌∙◌}
-use Rattle.std.specs.List.{range_with_len}
+use Rattle.std.proofs.Common.{rules, ◌<◌, arith}
 use Rattle.elf64.specs.Headers.{section_header}
-use Rattle.elf64.specs.Relocations.{relocations_at, relocations_from}
+use Rattle.elf64.specs.Relocations.{relocations_from}
 use Rattle.elf64.proofs.Ranges.{flat_map-range_first}
 use Rattle.elf64.proofs.relocation.RelocationsIterator.next.Goals as goal
 

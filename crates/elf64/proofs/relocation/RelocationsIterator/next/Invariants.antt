@@ -1,6 +1,6 @@
-use Rattle.std.proofs.Common.{◌≡◌, ◌++◌, ◌+◌, ◌*◌, ◌^◌, ◌≤◌, ◌<◌, List, length}
+use Rattle.std.proofs.Common.{◌≡◌, ◌++◌, ◌+◌, ◌*◌, ◌^◌, ◌≤◌, ◌<◌, length}
 use Rattle.std.specs.List.{range_with_len}
-use Rattle.elf64.specs.Relocations.{Relocation, relocations_at}
+use Rattle.elf64.specs.Relocations.{relocations_at}
 use Rattle.elf64.proofs.relocation.RelocationsIterator.next.Given as goal
 
 abbrev pub invariant-loop-relocation : goal.invariant-loop-relocation
