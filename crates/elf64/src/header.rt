@@ -7,6 +7,15 @@ ghost use Rattle.elf64.specs.Symbols.{symbol_entry};
 
 use crate::order::{ByteOrder, bytes_at, u16_at, u32_at, u64_at};
 
+/// The size of a file header.
+pub(crate) const FILE_HEADER_SIZE: usize = 64;
+
+/// The size of a section header.
+pub(crate) const SECTION_HEADER_SIZE: usize = 64;
+
+/// The size of a symbol table entry.
+pub(crate) const SYMBOL_SIZE: usize = 24;
+
 /// The fields of the file header that are read.
 #[derive(Clone, Copy, Debug)]
 pub(crate) struct FileHeader {
@@ -79,13 +88,13 @@ pub(crate) fn section_table<'a>(bytes: &'a [u8], header: &FileHeader) -> Option<
     if header.section_headers_offset == 0 {
         return Some(&[]);
     }
-    if header.section_header_size != 64 {
+    if header.section_header_size as usize != SECTION_HEADER_SIZE {
         return None;
     }
     bytes_at(
         bytes,
         header.section_headers_offset,
-        64 * header.section_count as u64,
+        SECTION_HEADER_SIZE as u64 * header.section_count as u64,
     )
 }
 
@@ -94,7 +103,7 @@ pub(crate) fn section_header(order: ByteOrder, table: &[u8], index: usize) -> Se
     requires { 64 * index + 64 ≤ length table.now }
     ensures { result ≡ section_header order table.now index }
 {
-    let at = 64 * index;
+    let at = SECTION_HEADER_SIZE * index;
     SectionHeader {
         name: u32_at(order, table, at),
         kind: u32_at(order, table, at + 4),
@@ -107,11 +116,18 @@ pub(crate) fn section_header(order: ByteOrder, table: &[u8], index: usize) -> Se
     }
 }
 
+/// How many section headers there are, with that of index 0.
+pub(crate) fn section_header_count(table: &[u8]) -> usize
+    ensures { result ≡ header_count table.now }
+{
+    table.len() / SECTION_HEADER_SIZE
+}
+
 /// The section of an index, where there is one.
 pub(crate) fn section_at(order: ByteOrder, table: &[u8], index: usize) -> Option<SectionHeader>
     ensures { result ≡ section_at order table.now index }
 {
-    if index == 0 || table.len() / 64 <= index {
+    if index == 0 || section_header_count(table) <= index {
         return None;
     }
     Some(section_header(order, table, index))
@@ -122,7 +138,7 @@ pub(crate) fn symbol_entry(order: ByteOrder, entries: &[u8], index: usize) -> Sy
     requires { 24 * index + 24 ≤ length entries.now }
     ensures { result ≡ symbol_entry order entries.now index }
 {
-    let at = 24 * index;
+    let at = SYMBOL_SIZE * index;
     SymbolEntry {
         name: u32_at(order, entries, at),
         info: entries[at + 4],

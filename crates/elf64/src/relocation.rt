@@ -6,13 +6,17 @@ ghost use Rattle.std.specs.List.{range_with_len};
 ghost use Rattle.elf64.specs.Headers.{section_header, section_indexes};
 ghost use Rattle.elf64.specs.Relocations.{symbol_in, width_in, entry_size, is_relocation_table, entries_in, relocations_from, relocations_at};
 
-use crate::header::{SectionHeader, section_header};
+use crate::header::{SectionHeader, section_header, section_header_count};
 use crate::order::{ByteOrder, bytes_at, u64_at};
 use std::marker::Model;
 
 const RELA: u32 = 4;
 
 const REL: u32 = 9;
+
+const RELA_SIZE: u64 = 24;
+
+const REL_SIZE: u64 = 16;
 
 const R_BPF_64_64: u64 = 1;
 
@@ -23,7 +27,11 @@ pub(crate) fn entry_size(header: &SectionHeader) -> u64
     ensures value { result ≡ entry_size header.now }
     ensures least { 16 ≤ result }
 {
-    if header.kind == RELA { 24 } else { 16 }
+    if header.kind == RELA {
+        RELA_SIZE
+    } else {
+        REL_SIZE
+    }
 }
 
 /// Whether a section holds relocations by the symbol table of an index, and has a target.
@@ -129,6 +137,13 @@ impl<'a> Iterator for Entries<'a> {
 }
 
 impl<'a> Entries<'a> {
+    /// No entries.
+    fn none(order: ByteOrder) -> Entries<'a>
+        ensures { result ≡ [] }
+    {
+        Entries::new(order, &[], REL_SIZE as usize)
+    }
+
     /// The entries of some bytes.
     fn new(order: ByteOrder, bytes: &'a [u8], size: usize) -> Entries<'a>
         requires { 16 ≤ size }
@@ -162,11 +177,11 @@ impl<'a> RelocationTables<'a> {
     {
         let header = section_header(self.order, self.table, index);
         if !is_relocation_table(self.symbol_table, &header) || header.info as usize != self.target {
-            return Entries::new(self.order, &[], 16);
+            return Entries::none(self.order);
         }
         match bytes_at(self.bytes, header.offset, header.size) {
             Some(bytes) => Entries::new(self.order, bytes, entry_size(&header) as usize),
-            None => Entries::new(self.order, &[], 16),
+            None => Entries::none(self.order),
         }
     }
 }
@@ -221,9 +236,9 @@ impl<'a> Relocations<'a> {
     {
         Relocations {
             tables,
-            entries: Entries::new(tables.order, &[], 16),
+            entries: Entries::none(tables.order),
             next: 1,
-            left: (tables.table.len() / 64).saturating_sub(1),
+            left: section_header_count(tables.table).saturating_sub(1),
         }
     }
 

@@ -8,7 +8,7 @@ ghost use Rattle.elf64.specs.Headers.{section_indexes};
 ghost use Rattle.elf64.specs.Sections.{contents_in, file_bytes_in, is_executable, section_from, sections_at};
 
 use crate::error::ElfError;
-use crate::header::{SectionHeader, section_header};
+use crate::header::{SectionHeader, section_header, section_header_count};
 use crate::order::{ByteOrder, bytes_at};
 use crate::text::text_at;
 use std::marker::Model;
@@ -180,7 +180,7 @@ impl<'a> Sections<'a> {
             table,
             names,
             next: 1,
-            left: (table.len() / 64).saturating_sub(1),
+            left: section_header_count(table).saturating_sub(1),
         }
     }
 }

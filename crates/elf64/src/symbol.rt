@@ -7,7 +7,7 @@ ghost use Rattle.std.specs.Option.{option_copied};
 ghost use Rattle.elf64.specs.Symbols.{symbols_at, section_of, kind_of, type_of, binding_of};
 
 use crate::error::ElfError;
-use crate::header::{SymbolEntry, symbol_entry};
+use crate::header::{SYMBOL_SIZE, SymbolEntry, symbol_entry};
 use crate::kind::SymbolKind;
 use crate::order::ByteOrder;
 use crate::text::text_at;
@@ -234,7 +234,7 @@ impl<'a> Symbols<'a> {
             entries,
             names,
             next: 1,
-            left: (entries.len() / 24).saturating_sub(1),
+            left: (entries.len() / SYMBOL_SIZE).saturating_sub(1),
         }
     }
 }

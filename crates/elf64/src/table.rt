@@ -10,15 +10,14 @@ ghost use Rattle.elf64.specs.Faults.{HasFault, IsBadSectionTable, HasExtendedInd
 
 use crate::error::ElfError;
 use crate::header::{
-    FileHeader, SectionHeader, file_header, section_at, section_header, section_table, symbol_entry,
+    FILE_HEADER_SIZE, FileHeader, SYMBOL_SIZE, SectionHeader, file_header, section_at,
+    section_header, section_header_count, section_table, symbol_entry,
 };
 use crate::order::{ByteOrder, bytes_at};
 use crate::relocation::{entry_size, is_relocation_table};
 use crate::section::{contents, file_bytes};
 
 const SYMTAB: u32 = 2;
-
-const SYMBOL_SIZE: u64 = 24;
 
 const XINDEX: u16 = 0xffff;
 
@@ -52,7 +51,7 @@ pub(crate) fn symbol_table_index(order: ByteOrder, table: &[u8]) -> Option<usize
     ensures value { result ≡ symbol_table_index order table.now }
     ensures within { IfSome result (λ i. (0 < i) × (64 * i + 64 ≤ length table.now)) }
 {
-    for index in 1..table.len() / 64 {
+    for index in 1..section_header_count(table) {
         if section_header(order, table, index).kind == SYMTAB {
             return Some(index);
         }
@@ -68,7 +67,7 @@ pub(crate) fn check_file_header(bytes: &[u8]) -> Result<FileHeader, ElfError>
     ensures accepted { IfOk result (λ _. (HasFault bytes.now ElfError.NotElf → ⊥) × (HasFault bytes.now ElfError.UnsupportedClass → ⊥) × (HasFault bytes.now ElfError.UnsupportedOrder → ⊥)) }
     ensures refused { IfErr result (HasFault bytes.now) }
 {
-    if bytes.len() < 64 || bytes[..4] != [0x7f, b'E', b'L', b'F'] {
+    if bytes.len() < FILE_HEADER_SIZE || bytes[..4] != [0x7f, b'E', b'L', b'F'] {
         return Err(ElfError::NotElf);
     }
     if bytes[4] != 2 {
@@ -107,7 +106,7 @@ pub(crate) fn check_section_table<'a>(
 fn has_extended_index(order: ByteOrder, entries: &[u8]) -> bool
     ensures { IsTrue result ↔ HasExtendedIndex order entries.now }
 {
-    for index in 1..entries.len() / 24 {
+    for index in 1..entries.len() / SYMBOL_SIZE {
         if symbol_entry(order, entries, index).section == XINDEX {
             return true;
         }
@@ -128,7 +127,7 @@ pub(crate) fn check_symbol_table(
     let Some(entries) = bytes_at(bytes, header.offset, header.size) else {
         return Err(ElfError::BadSymbolTable);
     };
-    if header.size % SYMBOL_SIZE != 0 {
+    if header.size % SYMBOL_SIZE as u64 != 0 {
         return Err(ElfError::BadSymbolTable);
     }
     if symbol_names(bytes, order, table, header).is_none() {
@@ -169,7 +168,7 @@ pub(crate) fn check_relocation_tables(
     ensures accepted { IfOk result (λ _. HasBadRelocationTable bytes.now order table.now symbol_table → ⊥) }
     ensures refused { IfErr result (λ e. (e ≡ ElfError.BadRelocationTable) × HasBadRelocationTable bytes.now order table.now symbol_table) }
 {
-    let count = table.len() / 64;
+    let count = section_header_count(table);
     for index in 1..count {
         let header = section_header(order, table, index);
         if is_bad_relocation_table(bytes, order, table, symbol_table, &header) {

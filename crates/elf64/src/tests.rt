@@ -210,6 +210,29 @@ fn relocations_of_a_target(rt: HostRuntime) -> Result<(), ElfError> {
 }
 
 #[test]
+fn relocations_in_two_sections(rt: HostRuntime) -> Result<(), ElfError> {
+    // Sections 1 and 2 hold relocations of section 4: the second's bytes begin with `e_shoff`.
+    let order = ByteOrder::Little;
+    let mut bytes = object(order);
+    put_section(&mut bytes, order, 248, (1, 9, 0, 72, 16, 3));
+    put_section(&mut bytes, order, 312, (9, 9, 0, 40, 16, 3));
+    put_u32(&mut bytes, order, 292, 4);
+    put_u32(&mut bytes, order, 356, 4);
+    put_u64(&mut bytes, order, 72, 8);
+    put_u64(&mut bytes, order, 80, 0x1_0000_0001);
+    let file = ElfFile::parse(&bytes)?;
+    let mut relocations = file.relocations(4);
+    for (offset, symbol, width) in [(8, Some(1), 64), (184, None, 0)] {
+        let relocation = relocations.next().expect(&rt, "a relocation");
+        assert_eq!(rt; relocation.offset(), offset);
+        assert_eq!(rt; relocation.symbol(), symbol);
+        assert_eq!(rt; relocation.width(), width);
+    }
+    assert!(rt; relocations.next().is_none());
+    Ok(())
+}
+
+#[test]
 fn fronts_of_a_file(rt: HostRuntime) {
     let bytes = object(ByteOrder::Little);
     for len in 0..LEN {
