@@ -1,0 +1,4 @@
+pub mod Error
+pub mod Instruction
+pub mod Slots
+pub mod Watched
