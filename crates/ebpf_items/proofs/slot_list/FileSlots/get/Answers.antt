@@ -1,5 +1,4 @@
-use Rattle.std.proofs.Common.{◌≡◌, ◌+◌, ◌*◌, ◌/◌, ◌≤◌, ◌<◌, length, arith, sym, ◌∙◌}
-use Rattle.std.proofs.lemmas.Option.{slice_get_past}
+use Rattle.std.proofs.Common.{◌/◌, ◌<◌, length, arith}
 use Rattle.ebpf_items.proofs.SlotLists.{length-file_slots, get-file_slots_as_read, get-file_slots_renamed}
 use Rattle.ebpf_items.proofs.slot_list.FileSlots.get.Goals as goal
 
