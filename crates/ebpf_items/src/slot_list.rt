@@ -42,6 +42,37 @@ impl<'a> FileSlots<'a> {
         }
     }
 
+    fn iter(&self) -> SlotIter<'_>
+        ensures { result ≡ file_slots self.now }
+    {
+        SlotIter {
+            rest: Rest::File(*self),
+        }
+    }
+
+    /// Appends the slots, as they are read, to a list.
+    fn append_to(&self, list: &mut Vec<bpf_insn>) -> Result<(), AllocError>
+        ensures ok { OnOk result (list.new.items ≡ list.old.items ++ file_slots self.now) }
+        ensures err { OnErr result (list.new.items ≡ list.old.items) }
+    {
+        let len = list.len();
+        for slot in self.iter() {
+            if list.push(slot).is_err() {
+                list.truncate(len);
+                return Err(AllocError);
+            }
+        }
+        Ok(())
+    }
+
+    fn to_list(&self, alloc: Global) -> Result<Vec<bpf_insn>, AllocError>
+        ensures { IfOk result (λ list. list.items ≡ file_slots self.now) }
+    {
+        let mut list = Vec::new(alloc);
+        self.append_to(&mut list)?;
+        Ok(list)
+    }
+
     /// The slots after the first.
     fn after_first(self) -> FileSlots<'a>
         requires { 8 ≤ length self.bytes.now }
@@ -148,9 +179,7 @@ impl<'a> Slots<'a> {
     {
         match &self.body {
             Body::File(file) => {
-                return SlotIter {
-                    rest: Rest::File(*file),
-                };
+                return file.iter();
             }
             Body::Own(slots) => {
                 return SlotIter {
@@ -158,6 +187,62 @@ impl<'a> Slots<'a> {
                 };
             }
         }
+    }
+
+    /// Writes a slot. A function whose slots stand in the file gets a list of its own first.
+    pub fn set(&mut self, index: usize, slot: bpf_insn) -> Result<(), AllocError>
+        requires { index < length self.old }
+        ensures ok { OnOk result (self.new ≡ slice_set self.old index slot) }
+        ensures err { OnErr result (self.new ≡ self.old) }
+    {
+        match &mut self.body {
+            Body::File(file) => {
+                let mut list = file.to_list(self.alloc)?;
+                list[index] = slot;
+                self.body = Body::Own(list);
+                Ok(())
+            }
+            Body::Own(slots) => {
+                slots[index] = slot;
+                Ok(())
+            }
+        }
+    }
+
+    /// Puts the older helper into each slot that calls a newer one. Takes no memory: slots that
+    /// stand in the file are renamed when they are read.
+    pub fn rename_helpers(&mut self)
+        ensures { self.new ≡ map with_older_helper self.old }
+    {
+        match &mut self.body {
+            Body::File(file) => file.is_renamed = true,
+            Body::Own(slots) => rename_all(slots),
+        }
+    }
+
+    /// Appends the slots to a list.
+    pub fn append_to(&self, list: &mut Vec<bpf_insn>) -> Result<(), AllocError>
+        ensures ok { OnOk result (list.new.items ≡ list.old.items ++ self.now) }
+        ensures err { OnErr result (list.new.items ≡ list.old.items) }
+    {
+        match &self.body {
+            Body::File(file) => file.append_to(list),
+            Body::Own(slots) => list.extend_from_slice(slots),
+        }
+    }
+
+    /// The same slots again; those that stand in the file stay there.
+    pub fn try_clone(&self) -> Result<Slots<'a>, AllocError>
+        ensures { IfOk result (λ slots. slots ≡ self.now) }
+    {
+        let body = match &self.body {
+            Body::File(file) => Body::File(*file),
+            Body::Own(slots) => Body::Own(Vec::from_slice(self.alloc, slots)?),
+        };
+        Ok(Slots {
+            alloc: self.alloc,
+            body,
+        })
     }
 }
 
@@ -215,8 +300,14 @@ pub fn copy_instructions(alloc: Global, bytes: &[u8]) -> Result<Vec<bpf_insn>, P
         return Err(ParseError::InvalidProgramCode);
     };
     let mut list = Vec::new(alloc);
-    for slot in slots.iter() {
-        list.push(slot)?;
-    }
+    slots.append_to(&mut list)?;
     Ok(list)
+}
+
+fn rename_all(slots: &mut [bpf_insn])
+    ensures { slots.new ≡ map with_older_helper slots.old }
+{
+    for slot in slots.iter_mut() {
+        *slot = slot.with_older_helper();
+    }
 }
