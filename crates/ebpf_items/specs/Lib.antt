@@ -1,6 +1,10 @@
+pub mod Attach
+pub mod Bindings
 pub mod Error
 pub mod Instruction
+pub mod Maps
 pub mod ProgramSection
+pub mod RelocationKind
 pub mod SectionKind
 pub mod Slots
 pub mod Watched
