@@ -2,6 +2,7 @@ pub mod Attach
 pub mod Bindings
 pub mod Error
 pub mod Instruction
+pub mod LentContents
 pub mod Maps
 pub mod ProgramSection
 pub mod RelocationKind

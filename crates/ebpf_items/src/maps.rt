@@ -3,6 +3,8 @@
 ghost use Rattle.std.specs.Prelude.{◌≡◌, true, false, IfOk, IfErr};
 ghost use Rattle.std.specs.Option.{option_map};
 ghost use Rattle.std.specs.Result.{result_ok};
+ghost use Rattle.std.specs.Borrow.{sem};
+ghost use Rattle.ebpf_items.specs.LentContents.{LendsContents};
 ghost use Rattle.ebpf_items.specs.Maps.{map_view, with_value_size, with_max_entries, inner_view, bare_view, view_of_info, pinning_of, legacy_words, btf_words};
 
 use crate::section_kind::EbpfSectionKind;
@@ -232,6 +234,17 @@ impl Map {
         match self {
             Map::Legacy(map) => map.contents.as_slice(),
             Map::Btf(map) => map.contents.as_slice(),
+        }
+    }
+
+    /// The bytes of the variables, to be changed.
+    pub fn data_mut(&mut self) -> &mut Vec<u8>
+        ensures* writes_back { sem 𝓛 (LendsContents self.entry result) }
+        ensures shows { result.now.items ≡ (map_view self.old).contents }
+    {
+        match self {
+            Map::Legacy(map) => &mut map.contents,
+            Map::Btf(map) => &mut map.contents,
         }
     }
 
