@@ -2,5 +2,23 @@
 #![tactic(auto)]
 
 mod error;
+mod file;
+mod header;
+mod kind;
+mod order;
+mod relocation;
+mod section;
+mod symbol;
+mod table;
+mod text;
 
 pub use error::ElfError;
+pub use file::ElfFile;
+pub use kind::SymbolKind;
+pub use order::ByteOrder;
+pub use relocation::{RelocView, Relocations};
+pub use section::{SectionView, Sections};
+pub use symbol::{SymbolView, Symbols};
+
+#[cfg(test)]
+mod tests;

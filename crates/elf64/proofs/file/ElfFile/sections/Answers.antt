@@ -1,0 +1,5 @@
+use Rattle.elf64.proofs.Numbered.{sections_of-AreNumbered}
+use Rattle.elf64.proofs.file.ElfFile.sections.Goals as goal
+
+pub returns-clause-numbered : goal.returns-clause-numbered
+returns-clause-numbered c = sections_of-AreNumbered c.args.self.now

@@ -1,0 +1,77 @@
+-- The file header and the section headers, as functions of the file's bytes.
+use Rattle.std.specs.Prelude.{◌≡◌, ℕ, ◌+◌, ◌-◌, ◌*◌, ◌/◌, List, [], length, slice_get, slice_index, nat_le, nat_lt, ◌==◌, ◌||◌, if◌then◌else◌, Option, Some, None, option_and_then}
+use Rattle.std.specs.Option.{option_map}
+use Rattle.std.specs.List.{range_with_len}
+use Rattle.std.specs.Int.{w16, w32, w64}
+use Rattle.elf64.specs.declared.order.ByteOrder.{ByteOrder}
+use Rattle.elf64.specs.declared.order.ByteOrder.TheVariants.{Little, Big}
+use Rattle.elf64.specs.declared.header.FileHeader.{FileHeader}
+use Rattle.elf64.specs.declared.header.SectionHeader.{SectionHeader}
+use Rattle.elf64.specs.Numbers.{number_at, bytes_at}
+
+-- the byte order that EI_DATA names
+abbrev pub order_named : ℕ → Option ByteOrder
+order_named byte = if byte == 1 then Some Little else if byte == 2 then Some Big else None
+
+-- the byte order of a file that is long enough for a file header
+abbrev pub order_of : List ℕ → Option ByteOrder
+order_of bytes = if nat_lt (length bytes) 64 then None else order_named (slice_index bytes 5)
+
+-- the fields of the file header: e_shoff, e_shentsize, e_shnum, e_shstrndx
+unfoldable pub file_header : List ℕ → ByteOrder → FileHeader
+file_header bytes order = record {
+  order = order;
+  section_headers_offset = number_at w64 order bytes 40;
+  section_header_size = number_at w16 order bytes 58;
+  section_count = number_at w16 order bytes 60;
+  names_index = number_at w16 order bytes 62;
+}
+
+-- the file header
+abbrev pub header_of : List ℕ → Option FileHeader
+header_of bytes = option_map (file_header bytes) (order_of bytes)
+
+-- the bytes of the section header table, where it has headers of 64 bytes in the file: none where e_shoff is 0
+abbrev pub table_in : List ℕ → FileHeader → Option (List ℕ)
+table_in bytes header =
+    if header.section_headers_offset == 0 then Some [] else
+    if header.section_header_size == 64 then bytes_at bytes header.section_headers_offset (64 * header.section_count) else None
+
+abbrev pub table_of : List ℕ → Option (List ℕ)
+table_of bytes = option_and_then (table_in bytes) (header_of bytes)
+
+-- the fields of the section header of an index
+unfoldable pub section_header : ByteOrder → List ℕ → ℕ → SectionHeader
+section_header order table index = record {
+  name = number_at w32 order table (64 * index);
+  kind = number_at w32 order table (64 * index + 4);
+  flags = number_at w64 order table (64 * index + 8);
+  address = number_at w64 order table (64 * index + 16);
+  offset = number_at w64 order table (64 * index + 24);
+  size = number_at w64 order table (64 * index + 32);
+  link = number_at w32 order table (64 * index + 40);
+  info = number_at w32 order table (64 * index + 44);
+}
+
+-- how many section headers a table has, with that of index 0
+abbrev pub header_count : List ℕ → ℕ
+header_count table = length table / 64
+
+-- the section of an index, where there is one: index 0 is none
+abbrev pub section_at : ByteOrder → List ℕ → ℕ → Option SectionHeader
+section_at order table index =
+    if index == 0 || nat_le (header_count table) index then None else Some (section_header order table index)
+
+-- the indexes of the sections
+abbrev pub section_indexes : List ℕ → List ℕ
+section_indexes table = range_with_len 1 (header_count table - 1)
+
+-- items in order of index, from index 1 on, with none left out
+pub record AreNumbered {X : Type 0} (items : List X) (index_of : X → ℕ) : Type 0 where
+  pub numbered : (i : ℕ) (item : X) → slice_get items i ≡ Some item → index_of item ≡ i + 1
+
+-- a file's header and section header table
+pub record HasHeaders (bytes : List ℕ) (header : FileHeader) (table : List ℕ) : Type 0 where
+  pub orders : order_of bytes ≡ Some header.order
+  pub headers : header_of bytes ≡ Some header
+  pub tables : table_in bytes header ≡ Some table

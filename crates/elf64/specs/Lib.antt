@@ -1,0 +1,7 @@
+pub mod Numbers
+pub mod Headers
+pub mod Texts
+pub mod Sections
+pub mod Symbols
+pub mod Relocations
+pub mod Faults

@@ -1,0 +1,139 @@
+//! A whole file.
+
+ghost use Rattle.std.specs.Prelude.{◌≡◌, ◌+◌, ◌*◌, ◌≤◌, ◌<◌, ◌^◌, ℕ, List, length, IfOk, IfErr, Some, find};
+ghost use Rattle.elf64.specs.Headers.{AreNumbered, order_of};
+ghost use Rattle.elf64.specs.Sections.{sections_of, has_name, section_named};
+ghost use Rattle.elf64.specs.Symbols.{symbols_of};
+ghost use Rattle.elf64.specs.Relocations.{relocations_of};
+ghost use Rattle.elf64.specs.Faults.{HasFault, IsFaultless};
+
+use crate::error::ElfError;
+use crate::header::{FileHeader, section_header};
+use crate::order::{ByteOrder, bytes_at};
+use crate::relocation::{RelocationTables, Relocations};
+use crate::section::{SectionView, Sections};
+use crate::symbol::Symbols;
+use crate::table::{
+    check_file_header, check_relocation_tables, check_section_table, check_symbol_table,
+    section_names, symbol_names, symbol_table_index,
+};
+use std::marker::Model;
+
+/// An ELF64 file (ELF-64 object file format, "File Header"), whose bytes stay where they are.
+#[derive(Drop, Debug)]
+pub struct ElfFile<'a> {
+    bytes: &'a [u8],
+    header: FileHeader,
+    table: &'a [u8],
+}
+
+impl<'a> Model for ElfFile<'a> {
+    ghost use Rattle.std.specs.Prelude.{List, ℕ};
+    ghost use Rattle.elf64.specs.Headers.{HasHeaders};
+
+    ghost Value = { List ℕ };
+
+    ghost view = { λ f. f.bytes.now };
+
+    ghost invariant = { λ f. HasHeaders f.bytes.now f.header f.table.now };
+}
+
+/// Whether a section has a name.
+fn has_name(section: &SectionView<'_>, name: &str) -> bool
+    ensures { result ≡ has_name name.now section.now }
+{
+    match section.name() {
+        Ok(text) => text == name,
+        Err(_) => false,
+    }
+}
+
+impl<'a> ElfFile<'a> {
+    /// Reads a file's headers, and refuses a file that has one of the faults of [`ElfError`],
+    /// [`ElfError::Name`] and [`ElfError::SectionData`] aside. A file without a section header
+    /// table (`e_shoff` 0) has no sections. `e_machine` and `e_type` aren't looked at.
+    pub fn parse(bytes: &'a [u8]) -> Result<ElfFile<'a>, ElfError>
+        ensures value { IfOk result (λ f. f ≡ bytes.entry.now) }
+        ensures accepted { IfOk result (λ _. IsFaultless bytes.entry.now) }
+        ensures refused { IfErr result (HasFault bytes.entry.now) }
+    {
+        let header = check_file_header(bytes)?;
+        let table = check_section_table(bytes, &header)?;
+        if let Some(index) = symbol_table_index(header.order, table) {
+            let symbols = section_header(header.order, table, index);
+            check_symbol_table(bytes, header.order, table, &symbols)?;
+            check_relocation_tables(bytes, header.order, table, index)?;
+        }
+        Ok(ElfFile {
+            bytes,
+            header,
+            table,
+        })
+    }
+
+    /// The byte order of the file's numbers (`EI_DATA`).
+    pub fn order(&self) -> ByteOrder
+        ensures { order_of self.now ≡ Some result }
+    {
+        self.header.order
+    }
+
+    /// The sections, in order of index, without section 0.
+    #[tactic(auto, unfolding(crate::specs::Sections::sections_of))]
+    pub fn sections(&self) -> Sections<'a>
+        ensures value { result ≡ sections_of self.now }
+        ensures numbered { AreNumbered (sections_of self.now) (λ s. s.index) }
+        ensures countable { length result < 2 ^ 64 }
+    {
+        let names = section_names(self.bytes, &self.header, self.table);
+        Sections::new(self.bytes, self.order(), self.table, names)
+    }
+
+    /// The first section of a name. One whose name can't be read is passed over.
+    pub fn section_by_name(&self, name: &str) -> Option<SectionView<'a>>
+        ensures { result ≡ section_named self.now name.now }
+    {
+        for section in self.sections() {
+            if has_name(&section, name) {
+                return Some(section);
+            }
+        }
+        None
+    }
+
+    /// The symbols of the first symbol table, in order of index, without symbol 0.
+    #[tactic(auto, unfolding(crate::specs::Symbols::symbols_of))]
+    pub fn symbols(&self) -> Symbols<'a>
+        ensures value { result ≡ symbols_of self.now }
+        ensures numbered { AreNumbered (symbols_of self.now) (λ s. s.index) }
+        ensures countable { length result < 2 ^ 64 }
+    {
+        let order = self.order();
+        let Some(index) = symbol_table_index(order, self.table) else {
+            return Symbols::new(order, &[], None);
+        };
+        let header = section_header(order, self.table, index);
+        let names = symbol_names(self.bytes, order, self.table, &header);
+        let entries = bytes_at(self.bytes, header.offset, header.size).unwrap_or(&[]);
+        Symbols::new(order, entries, names)
+    }
+
+    /// The relocations of the section of an index, in order of relocation section and then of
+    /// entry: none for an index that no section has.
+    #[tactic(auto, unfolding(crate::specs::Relocations::relocations_of))]
+    pub fn relocations(&self, section: usize) -> Relocations<'a>
+        ensures { result ≡ relocations_of self.now section }
+    {
+        let order = self.order();
+        let Some(symbol_table) = symbol_table_index(order, self.table) else {
+            return Relocations::none(order);
+        };
+        Relocations::new(RelocationTables {
+            bytes: self.bytes,
+            order,
+            table: self.table,
+            symbol_table,
+            target: section,
+        })
+    }
+}
