@@ -6,6 +6,7 @@ pub mod LentContents
 pub mod Maps
 pub mod ProgramSection
 pub mod RelocationKind
+pub mod Section
 pub mod SectionKind
 pub mod Slots
 pub mod Watched

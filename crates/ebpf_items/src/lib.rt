@@ -9,6 +9,7 @@ mod instruction;
 mod maps;
 mod program_section;
 mod relocation_kind;
+mod section;
 mod section_kind;
 mod slot_list;
 mod watch;
@@ -26,6 +27,7 @@ pub use maps::{
 };
 pub use program_section::{InvalidSection, ProgramSection};
 pub use relocation_kind::RelocationKind;
+pub use section::Section;
 pub use section_kind::EbpfSectionKind;
 pub use slot_list::{SlotIter, Slots, copy_instructions};
 pub use watch::Watched;
