@@ -94,7 +94,7 @@ impl bpf_insn {
         ensures dst { dst_reg_of self.new ≡ reg }
         ensures src { src_reg_of self.new ≡ src_reg_of self.old }
     {
-        self.registers = self.registers / 16 * 16 + reg;
+        self.registers = self.src_reg() * 16 + reg;
     }
 
     /// Sets the number of the source register.
@@ -104,7 +104,7 @@ impl bpf_insn {
         ensures src { src_reg_of self.new ≡ reg }
         ensures dst { dst_reg_of self.new ≡ dst_reg_of self.old }
     {
-        self.registers = reg * 16 + self.registers % 16;
+        self.registers = reg * 16 + self.dst_reg();
     }
 
     /// Whether the slot calls a function of the program: `BPF_JMP | BPF_CALL` with source

@@ -31,3 +31,6 @@ pub use section::Section;
 pub use section_kind::EbpfSectionKind;
 pub use slot_list::{SlotIter, Slots, copy_instructions};
 pub use watch::Watched;
+
+#[cfg(test)]
+mod tests;

@@ -129,3 +129,6 @@ impl<W: Write> Watched<W> {
         let _ = self.write_all(bytes);
     }
 }
+
+#[cfg(test)]
+mod tests;
