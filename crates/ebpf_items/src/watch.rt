@@ -1,0 +1,134 @@
+//! Readers and writers that keep whether they failed.
+
+ghost use Rattle.std.specs.Prelude.{◌≡◌, ◌+◌, ◌-◌, ◌<◌, ◌^◌, ◌↔◌, ◌⊎◌, true, false, length, IfOk, OnOk, OnErr, IsErr};
+ghost use Rattle.std.specs.Io.{ReadsAtMost, WritesAtMost};
+ghost use Rattle.std.specs.Io.KnownBytes.{Appends, ReadConsumes, WriteAppends};
+ghost use Rattle.ebpf_items.specs.Watched.{watched_inner, has_failed, calls_left, AppendsPart, Sends};
+
+use std::io;
+use std::io::{ErrorKind, Read, Write};
+
+/// A reader or a writer that keeps whether it failed. It passes on at most 2^64 - 1 calls. A call
+/// that fails, that answers 0 where there was something to write, or that would be one more sets
+/// the flag `failed` for good, and every later call fails at once.
+#[derive(Debug, Drop)]
+pub struct Watched<T> {
+    inner: T,
+    calls_left: u64,
+    has_failed: bool,
+}
+
+impl<T> Watched<T> {
+    pub fn new(inner: T) -> Self
+        ensures inner { watched_inner result ≡ inner }
+        ensures fresh { has_failed result ≡ false }
+        ensures calls { calls_left result ≡ 2 ^ 64 - 1 }
+    {
+        Watched {
+            inner,
+            calls_left: u64::MAX,
+            has_failed: false,
+        }
+    }
+
+    /// The reader or writer itself.
+    pub fn into_inner(self) -> T
+        ensures { result ≡ watched_inner self }
+    {
+        self.inner
+    }
+
+    /// Whether a call failed.
+    pub fn failed(&self) -> bool
+        ensures { result ≡ has_failed self.now }
+    {
+        self.has_failed
+    }
+}
+
+// What a write comes to: that nothing of something was taken is a failure too.
+fn judged(answer: io::Result<usize>, is_asked: bool) -> io::Result<usize>
+    ensures failed { IsErr result ↔ ((IsErr answer) ⊎ ((answer ≡ Ok 0) × (is_asked ≡ true))) }
+    ensures kept { IfOk result (λ count. answer ≡ Ok count) }
+{
+    match answer {
+        Ok(0) if is_asked => Err(io::Error::from(ErrorKind::WriteZero)),
+        answer => answer,
+    }
+}
+
+impl<R: Read> Watched<R> {
+    /// Reads once. At most `buf.len()` bytes come, and none at the end.
+    pub fn read(&mut self, buf: &mut [u8]) -> io::Result<usize>
+        ensures bound { ReadsAtMost result buf.new }
+        ensures bytes { ReadConsumes (R.remaining (watched_inner self.old)) (R.remaining (watched_inner self.new)) result buf.new }
+        ensures failed { IsErr result ↔ (has_failed self.new ≡ true) }
+        ensures at_once { has_failed self.old ≡ true → self.new ≡ self.old }
+        ensures counted { OnOk result ((calls_left self.new + 1 ≡ calls_left self.old) × (has_failed self.old ≡ false)) }
+        ensures passed_on { has_failed self.old ≡ false → 0 < calls_left self.old → calls_left self.new + 1 ≡ calls_left self.old }
+    {
+        if self.has_failed || self.calls_left == 0 {
+            self.has_failed = true;
+            return Err(io::Error::from(ErrorKind::Other));
+        }
+        self.calls_left -= 1;
+        let count = self.inner.read(buf);
+        if count.is_err() {
+            self.has_failed = true;
+        }
+        count
+    }
+}
+
+impl<W: Write> Watched<W> {
+    /// Writes once. 0 is answered for no bytes alone.
+    pub fn write(&mut self, buf: &[u8]) -> io::Result<usize>
+        ensures bound { WritesAtMost result buf.now }
+        ensures bytes { WriteAppends (W.contents (watched_inner self.old)) (W.contents (watched_inner self.new)) result buf.now }
+        ensures failed { IsErr result ↔ (has_failed self.new ≡ true) }
+        ensures at_once { has_failed self.old ≡ true → self.new ≡ self.old }
+        ensures counted { OnOk result ((calls_left self.new + 1 ≡ calls_left self.old) × (has_failed self.old ≡ false)) }
+        ensures passed_on { has_failed self.old ≡ false → 0 < calls_left self.old → calls_left self.new + 1 ≡ calls_left self.old }
+        ensures moves { IfOk result (λ count. 0 < length buf.now → 0 < count) }
+    {
+        if self.has_failed || self.calls_left == 0 {
+            self.has_failed = true;
+            return Err(io::Error::from(ErrorKind::Other));
+        }
+        self.calls_left -= 1;
+        let count = judged(self.inner.write(buf), !buf.is_empty());
+        if count.is_err() {
+            self.has_failed = true;
+        }
+        count
+    }
+
+    /// Writes all of the bytes, or fails after a beginning of them.
+    pub fn write_all(&mut self, buf: &[u8]) -> io::Result<()>
+        ensures ok { OnOk result (Appends (W.contents (watched_inner self.old)) (W.contents (watched_inner self.new)) buf.now) }
+        ensures part { OnErr result (AppendsPart (W.contents (watched_inner self.old)) (W.contents (watched_inner self.new)) buf.now) }
+        ensures failed { IsErr result ↔ (has_failed self.new ≡ true) }
+        ensures at_once { has_failed self.old ≡ true → self.new ≡ self.old }
+    {
+        if self.has_failed {
+            return Err(io::Error::from(ErrorKind::Other));
+        }
+        let mut rest = buf;
+        while !rest.is_empty() {
+            let count = self.write(rest)?;
+            rest = &rest[count..];
+        }
+        Ok(())
+    }
+
+    /// Writes all of the bytes, unless it has failed or fails at them: ask `failed` when
+    /// everything is sent.
+    pub fn send(&mut self, bytes: &[u8])
+        ensures { Sends W.contents self.old self.new bytes.now }
+    {
+        let _ = self.write_all(bytes);
+    }
+}
+
+#[cfg(test)]
+mod tests;
