@@ -1,0 +1,89 @@
+-- A file in which nothing was found is faultless.
+use Rattle.std.proofs.Common.{◌≡◌, ◌≢◌, ℕ, ◌+◌, ◌-◌, ◌<◌, ◌≤◌, Bool, true, false, List, [], ◌∷◌, length, Option, Some, None, refl, sym, ap, ◌∙◌, arith, ◌||◌, ◌&&◌, ◌⊎◌, inl, inr, ◌==◌}
+use Rattle.std.specs.Prelude.{IfSome, IsSomeAnd}
+use Rattle.std.specs.List.{list_any}
+use Rattle.elf64.specs.declared.error.ElfError.{ElfError}
+use Rattle.elf64.specs.declared.error.ElfError.TheVariants.{Name, SectionData}
+use Rattle.elf64.specs.Faults as elf
+use Rattle.elf64.specs.Sections.{Section}
+use Rattle.elf64.specs.Symbols.{symbols_of}
+use Rattle.ebpf_items.specs.declared.error.ParseError.{ParseError}
+use Rattle.ebpf_items.specs.declared.error.ParseError.TheVariants as error
+use Rattle.btf_records.specs.declared.error.BtfError.TheVariants as btf
+use Rattle.ebpf_object.specs.Faults.{HasFault, IsFaultless, AreSound, HasSoundLicense, HasSoundVersion, is_unnamed, program_sections}
+use Rattle.ebpf_object.specs.License.{IsLicense, IsInvalidLicense, LacksNul, license_bytes}
+use Rattle.ebpf_object.specs.Version.{version_bytes}
+use Rattle.ebpf_object.specs.Reading.{read_sections, is_unreadable, lacks, HasReadingFault}
+
+and-right : (a b : Bool) → (a && b) ≡ true → b ≡ true
+and-right true b h = h
+and-right false b h = absurd (cc)
+
+or-left : (a b : Bool) → a ≡ true → (a || b) ≡ true
+or-left true b h = refl
+or-left false b h = absurd (cc)
+
+or-right : (a b : Bool) → b ≡ true → (a || b) ≡ true
+or-right true b h = refl
+or-right false b h = h
+
+or-none : (a b : Bool) → (a || b) ≡ false → (a ≡ false) × (b ≡ false)
+or-none true b h = absurd (cc)
+or-none false b h = (refl, h)
+
+not-both : (b : Bool) → b ≡ true → b ≡ false → ⊥
+not-both true h k = absurd (cc)
+not-both false h k = absurd (cc)
+
+none-first : (a b c rest : Bool) → a ≡ c → (c ≡ true → b ≡ true) → b ≡ false → (rest ≡ true → ⊥) → (a || rest) ≡ true → ⊥
+none-first a b true rest is weaker none later some = not-both b (weaker refl) none
+none-first a b false rest is weaker none later some = later (rw is at some)
+
+-- what passes one test passes another, so where none passes the other none passes the one
+none-weaker : {X : Type 0} (p q : X → Bool) → ((x : X) → p x ≡ true → q x ≡ true) → (xs : List X) → list_any q xs ≡ false → list_any p xs ≡ true → ⊥
+none-weaker p q weaker [] none some = not-both false some refl
+none-weaker p q weaker (x ∷ xs) none some =
+    let parts = or-none (q x) (list_any q xs) none in
+    none-first (p x) (q x) (p x) (list_any p xs) refl (weaker x) parts.0 (none-weaker p q weaker xs parts.1) some
+
+lacks-unreadable : (section : Section) (e : ElfError) → lacks section e ≡ true → is_unreadable section ≡ true
+lacks-unreadable section Name h = or-left _ _ h
+lacks-unreadable section SectionData h = or-right _ _ h
+lacks-unreadable section _ h = absurd (cc)
+
+-- a sound license has no fault
+license-valid : (bytes : List ℕ) → IsLicense bytes → IsInvalidLicense bytes → ⊥
+license-valid bytes sound (inl short) = absurd (omega (arith, sound.len, short))
+license-valid bytes sound (inr inner) = not-both _ inner sound.text
+
+license-ended : (bytes : List ℕ) → IsLicense bytes → LacksNul bytes → ⊥
+license-ended bytes sound lacking = lacking.1 sound.end
+
+both : {X : Type 0} (o : Option X) (P Q : X → Type 0) → ((x : X) → P x → Q x → ⊥) → IfSome o P → IsSomeAnd o Q → ⊥
+both None P Q apart p q = q
+both (Some x) P Q apart p q = apart x p q
+
+pub faultless : (file : List ℕ) → elf.IsFaultless file → list_any is_unreadable (read_sections file) ≡ false → HasSoundLicense file → HasSoundVersion file → list_any is_unnamed (symbols_of file) ≡ false → AreSound (symbols_of file) (program_sections file) → (e : ParseError) → HasFault file e → ⊥
+faultless file elf readable license version named sound (error.ElfError e) fault = elf.none e fault
+faultless file elf readable license version named sound (error.SectionError index e) fault =
+    none-weaker _ is_unreadable (λ s h. lacks-unreadable s e (and-right _ _ h)) (read_sections file) readable fault
+faultless file elf readable license version named sound (error.InvalidLicense kept) fault =
+    both (license_bytes file) IsLicense _ (λ bytes p q. license-valid bytes p q.1) license fault
+faultless file elf readable license version named sound (error.MissingLicenseNullTerminator kept) fault =
+    both (license_bytes file) IsLicense _ (λ bytes p q. license-ended bytes p q.1) license fault
+faultless file elf readable license version named sound (error.InvalidKernelVersion kept) fault =
+    both (version_bytes file) _ _ (λ bytes p q. q.1 p) version fault
+faultless file elf readable license version named sound (error.BtfError btf.InvalidSymbolName) fault = not-both _ fault named
+faultless file elf readable license version named sound (error.InvalidProgramSection name) fault =
+    none-weaker _ _ (λ s h. and-right _ _ h) (program_sections file) sound.valid fault
+faultless file elf readable license version named sound (error.NoSymbolsForSection name) fault =
+    none-weaker _ _ (λ s h. and-right _ _ h) (program_sections file) sound.filled fault
+faultless file elf readable license version named sound error.InvalidProgramCode fault = not-both _ fault sound.whole
+faultless file elf readable license version named sound _ fault = fault
+
+-- a file whose headers and sections can be read has no fault of reading
+pub readable : (file : List ℕ) → elf.IsFaultless file → list_any is_unreadable (read_sections file) ≡ false → (e : ParseError) → HasReadingFault file e → ⊥
+readable file elf none (error.ElfError e) fault = elf.none e fault
+readable file elf none (error.SectionError index e) fault =
+    none-weaker _ is_unreadable (λ s h. lacks-unreadable s e (and-right _ _ h)) (read_sections file) none fault
+readable file elf none _ fault = fault

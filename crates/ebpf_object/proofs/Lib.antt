@@ -1,0 +1,3 @@
+pub mod ByBytes
+pub mod Faultless
+pub mod ProgramFaults

@@ -1,0 +1,11 @@
+pub mod Content
+pub mod Faults
+pub mod License
+pub mod Names
+pub mod ObjectFile
+pub mod Programs
+pub mod Reading
+pub mod Served
+pub mod Symbols
+pub mod SymbolTable
+pub mod Version

@@ -1,0 +1,100 @@
+-- The programs of an object and their functions.
+use Rattle.std.specs.Prelude.{◌≡◌, ℕ, ◌+◌, ◌%◌, List, [], length, take, drop, fold, ◌==◌, ◌&&◌, ◌||◌, not, nat_lt, Bool, true, false, if◌then◌else◌, Option, Some, None, is_none, option_and_then, unwrap_or}
+use Rattle.std.specs.List.{list_any}
+use Rattle.std.specs.Option.{option_map_or}
+use Rattle.std.specs.Ordering.{nat_cmp, ordering_then}
+use Rattle.std.specs.declared.cmp.Ordering.{Ordering}
+use Rattle.std.specs.Cmp.Lexicographic.{slice_cmp}
+use Rattle.std.specs.BTreeMap.{insert_entry}
+use Rattle.elf64.specs.declared.kind.SymbolKind.{SymbolKind}
+use Rattle.elf64.specs.declared.kind.SymbolKind.TheVariants as symbol
+use Rattle.elf64.specs.Sections.{Section}
+use Rattle.elf64.specs.Symbols.{Symbol}
+use Rattle.ebpf_items.specs.Instruction.{slots_of}
+use Rattle.ebpf_items.specs.ProgramSection.{kind_of_name}
+use Rattle.ebpf_items.specs.SectionKind.{kind_of_section}
+use Rattle.ebpf_items.specs.declared.program_section.ProgramSection.{ProgramSection}
+use Rattle.ebpf_items.specs.declared.section_kind.EbpfSectionKind.{EbpfSectionKind}
+use Rattle.ebpf_items.specs.declared.section_kind.EbpfSectionKind.TheVariants as kind
+use Rattle.ebpf_object.specs.Content.{ProgramContent, FunctionContent}
+use Rattle.ebpf_object.specs.Symbols.{symbols_in}
+
+-- the kind of a section whose name can be read
+abbrev pub kind_of : Section → EbpfSectionKind
+kind_of section = kind_of_section (unwrap_or section.name []) section.is_text section.size
+
+abbrev pub is_program_kind : EbpfSectionKind → Bool
+is_program_kind kind.Program = true
+is_program_kind _ = false
+
+abbrev pub is_program : Section → Bool
+is_program section = is_program_kind (kind_of section)
+
+-- the kind of program that a section's name names
+abbrev pub program_kind : Section → Option ProgramSection
+program_kind section = option_and_then kind_of_name section.name
+
+-- a function of a program section: a symbol of kind Text whose name isn't empty
+abbrev pub is_text : SymbolKind → Bool
+is_text symbol.Text = true
+is_text _ = false
+
+abbrev pub is_function : Symbol → Bool
+is_function s = is_text s.kind && option_map_or (λ name. not (length name == 0)) s.name false
+
+-- The code of a symbol: as many bytes as its size says from its value on. None where that isn't whole slots, goes past
+-- the bytes, or begins below the section's address.
+abbrev pub code_in : List ℕ → ℕ → Symbol → Option (List ℕ)
+code_in bytes address s =
+    if nat_lt s.address address || nat_lt (length bytes) (s.address + s.size) || not (s.size % 8 == 0) then None
+    else Some (take s.size (drop s.address bytes))
+
+abbrev pub code_of : Section → Symbol → Option (List ℕ)
+code_of section s = option_and_then (λ bytes. code_in bytes section.address s) section.contents
+
+-- a function without code
+abbrev pub lacks_code : Section → Symbol → Bool
+lacks_code section s = is_function s && is_none (code_of section s)
+
+-- keys by section index, then by address
+abbrev pub key_cmp : (ℕ × ℕ) → (ℕ × ℕ) → Ordering
+key_cmp a b = ordering_then (nat_cmp a.0 b.0) (nat_cmp a.1 b.1)
+
+-- what is entered for a function of a section
+abbrev pub program_of : List ℕ → Option ℕ → Section → ProgramSection → Symbol → ProgramContent
+program_of license version section kind s = record {
+  license = license;
+  kernel_version = version;
+  section = kind;
+  section_index = section.index;
+  address = s.address;
+}
+
+abbrev pub function_of : Section → Symbol → FunctionContent
+function_of section s = record {
+  address = s.address;
+  name = unwrap_or s.name [];
+  section_index = section.index;
+  section_offset = s.address;
+  instructions = slots_of (unwrap_or (code_of section s) []);
+}
+
+-- the programs with that of one more function: it takes the place of an earlier one of its name
+abbrev pub with_program : List ℕ → Option ℕ → Section → ProgramSection → List (List ℕ × ProgramContent) → Symbol → List (List ℕ × ProgramContent)
+with_program license version section kind programs s =
+    if is_function s
+    then insert_entry (slice_cmp nat_cmp) programs (unwrap_or s.name []) (program_of license version section kind s)
+    else programs
+
+-- the functions with one more: it takes the place of an earlier one of its key
+abbrev pub with_function : Section → List ((ℕ × ℕ) × FunctionContent) → Symbol → List ((ℕ × ℕ) × FunctionContent)
+with_function section functions s =
+    if is_function s then insert_entry key_cmp functions (section.index, s.address) (function_of section s) else functions
+
+-- the programs and the functions with those of one more section, in order of symbol
+abbrev pub with_programs : List ℕ → Option ℕ → List Symbol → List (List ℕ × ProgramContent) → Section → List (List ℕ × ProgramContent)
+with_programs license version symbols programs section =
+    option_map_or (λ kind. fold (with_program license version section kind) programs (symbols_in symbols section.index)) (program_kind section) programs
+
+abbrev pub with_functions : List Symbol → List ((ℕ × ℕ) × FunctionContent) → Section → List ((ℕ × ℕ) × FunctionContent)
+with_functions symbols functions section = fold (with_function section) functions (symbols_in symbols section.index)

@@ -1,0 +1,72 @@
+//! An object file, opened.
+
+ghost use Rattle.std.specs.Prelude.{◌≡◌, ◌≢◌, [], IfOk, IfErr, OnOk};
+ghost use Rattle.std.specs.Option.{option_copied, option_map_or};
+ghost use Rattle.elf64.specs.Symbols.{symbols_of};
+ghost use Rattle.ebpf_items.specs.declared.error.ParseError.TheVariants.{OutOfMemory};
+ghost use Rattle.ebpf_object.specs.Reading.{HasReadingFault, IsReadable, contents_named};
+ghost use Rattle.ebpf_object.specs.Symbols.{symbols_in};
+
+use crate::reading::read_sections;
+use crate::symbols::SymbolTable;
+use ebpf_items::ParseError;
+use elf64::{ElfFile, SectionView, SymbolView};
+use std::alloc::Global;
+use std::marker::Model;
+
+/// An object file whose sections could be read.
+#[derive(Debug, Drop)]
+pub struct ObjectFile<'a> {
+    pub(crate) elf: ElfFile<'a>,
+    pub(crate) sections: Vec<SectionView<'a>>,
+    pub(crate) symbols: SymbolTable<'a>,
+}
+
+impl<'a> Model for ObjectFile<'a> {
+    ghost use Rattle.std.specs.Prelude.{List, ℕ};
+    ghost use Rattle.ebpf_object.specs.ObjectFile.{IsOpened};
+
+    ghost Value = { List ℕ };
+
+    ghost view = { λ f. f.elf };
+
+    ghost invariant = { λ f. IsOpened f.elf f.sections.items f.symbols };
+}
+
+impl<'a> ObjectFile<'a> {
+    /// Reads the headers of a file, and the names and bytes of its sections.
+    ///
+    /// # Errors
+    ///
+    /// `ElfError` where the file isn't an ELF64 file that can be read, `SectionError` where a
+    /// section's name or bytes can't be read, `OutOfMemory`.
+    pub fn parse(alloc: Global, bytes: &'a [u8]) -> Result<ObjectFile<'a>, ParseError>
+        ensures value { IfOk result (λ f. f ≡ bytes.entry.now) }
+        ensures accepted { OnOk result (IsReadable bytes.entry.now) }
+        ensures refused { IfErr result (λ e. e ≢ OutOfMemory → HasReadingFault bytes.entry.now e) }
+    {
+        let elf = ElfFile::parse(bytes)?;
+        let sections = read_sections(alloc, &elf)?;
+        let symbols = SymbolTable::read(alloc, &elf)?;
+        Ok(ObjectFile {
+            elf,
+            sections,
+            symbols,
+        })
+    }
+
+    /// The symbols that lie in the section of an index, in order, if there are any.
+    pub(crate) fn symbols_in(&self, index: usize) -> Option<&Vec<SymbolView<'a>>>
+        ensures { option_map_or (λ v. v.now.items) result [] ≡ symbols_in (symbols_of self.now) index }
+    {
+        self.symbols.in_section(index)
+    }
+
+    /// The bytes of the first section of a name.
+    pub(crate) fn contents_of(&self, name: &str) -> Option<&'a [u8]>
+        ensures { option_copied result ≡ contents_named self.now name.now }
+    {
+        let section = self.elf.section_by_name(name)?;
+        section.data().ok()
+    }
+}

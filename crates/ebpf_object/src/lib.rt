@@ -1,0 +1,17 @@
+//! Parsed eBPF objects.
+#![tactic(auto)]
+
+mod by_name;
+mod file;
+mod license;
+mod object;
+mod program;
+mod reading;
+mod served;
+mod symbols;
+mod version;
+
+pub use by_name::Programs;
+pub use file::ObjectFile;
+pub use object::Object;
+pub use program::{Function, Program};

@@ -1,0 +1,93 @@
+//! Which objects are served so far.
+
+ghost use Rattle.std.specs.Prelude.{◌≡◌, [], ◌==◌};
+ghost use Rattle.std.specs.List.{list_any, list_all};
+ghost use Rattle.std.specs.Option.{option_map_or};
+ghost use Rattle.ebpf_items.specs.Instruction.{is_pseudo_call};
+ghost use Rattle.ebpf_object.specs.Programs.{kind_of};
+ghost use Rattle.ebpf_object.specs.Served.{has_call, is_served_kind, is_served_section, is_served};
+
+use crate::file::ObjectFile;
+use crate::object::{code_of, function_name, section_kind};
+use ebpf_items::{EbpfSectionKind, Slots};
+use elf64::{SectionView, SymbolView};
+use std::alloc::Global;
+
+/// Whether a slot calls another function.
+fn has_pseudo_call(slots: &Slots<'_>) -> bool
+    ensures { result ≡ list_any is_pseudo_call slots.now }
+{
+    for slot in slots.iter() {
+        if slot.is_pseudo_call() {
+            return true;
+        }
+    }
+    false
+}
+
+/// Whether a symbol of a section is a function with a slot that calls another.
+fn has_call(alloc: Global, section: &SectionView<'_>, symbol: &SymbolView<'_>) -> bool
+    ensures { result ≡ has_call section.now symbol.now }
+{
+    if function_name(symbol).is_none() {
+        return false;
+    }
+    let Some(code) = code_of(section, symbol) else {
+        return false;
+    };
+    match Slots::borrowed(alloc, code) {
+        Some(slots) => has_pseudo_call(&slots),
+        None => false,
+    }
+}
+
+/// Whether a function of a section calls another.
+fn any_call(alloc: Global, section: &SectionView<'_>, symbols: &[SymbolView<'_>]) -> bool
+    ensures { result ≡ list_any (has_call section.now) symbols.now }
+{
+    for symbol in symbols {
+        if has_call(alloc, section, symbol) {
+            return true;
+        }
+    }
+    false
+}
+
+impl<'a> ObjectFile<'a> {
+    /// Whether a section is served: it has no relocations, and holds a license, a version, nothing
+    /// that is looked at, or functions that call no other.
+    fn is_served_section(&self, alloc: Global, section: &SectionView<'a>) -> bool
+        ensures { result ≡ is_served_section self.now section.now }
+    {
+        if self.elf.relocations(section.index()).next().is_some() {
+            return false;
+        }
+        match section_kind(section) {
+            EbpfSectionKind::License | EbpfSectionKind::Version | EbpfSectionKind::Undefined => true,
+            EbpfSectionKind::Text => section.size() == 0,
+            EbpfSectionKind::Program => match self.symbols.in_section(section.index()) {
+                Some(symbols) => !any_call(alloc, section, symbols.as_slice()),
+                None => true,
+            },
+            _ => false,
+        }
+    }
+
+    fn are_served(&self, alloc: Global, sections: &[SectionView<'a>]) -> bool
+        ensures { result ≡ list_all (is_served_section self.now) sections.now }
+    {
+        for section in sections {
+            if !self.is_served_section(alloc, section) {
+                return false;
+            }
+        }
+        true
+    }
+
+    /// Whether each section of the object is served so far.
+    pub fn is_served(&self, alloc: Global) -> bool
+        ensures { result ≡ is_served self.now }
+    {
+        self.are_served(alloc, self.sections.as_slice())
+    }
+}

@@ -1,0 +1,13 @@
+use Rattle.std.proofs.Common.{◌≡◌, ◌<◌, ◌∷◌, [], length, arith, sym, subst}
+use Rattle.ebpf_items.specs.Watched.{Sends}
+use Rattle.ebpf_items.specs.Watched.{Sends-none, Sends-then}
+use Rattle.load_plan.proofs.Texts.{encode_lower-nil, encode_lower-more, slot_digits-more, program_lines-more, hex_word-slots, hex_word-some, program_lines-parts, text_of-parts}
+use Rattle.load_plan.proofs.writing.send_digits.Goals as goal
+
+pub loop-byte-init : goal.loop-byte-init
+loop-byte-init g c = rw encode_lower-nil (Sends-none _ _)
+
+pub loop-byte-preserved : goal.loop-byte-preserved
+loop-byte-preserved g c =
+    let within : c.loop-byte.byte-index < length c.args.bytes.now = omega arith in
+    rw (encode_lower-more c.args.bytes.now c.loop-byte.byte-index within) (Sends-then _ _ _ _ _ _ c.loop-byte.invariant c.send_byte.ensures)

@@ -1,0 +1,36 @@
+-- What a load plan says.
+use Rattle.std.specs.Prelude.{◌≡◌, ◌≢◌, ℕ, ◌==◌, false, List, map, Option, IfSome}
+use Rattle.std.specs.List.{list_any}
+use Rattle.std.specs.List.Sorted.{IsStrictlySortedBy}
+use Rattle.std.specs.Ordering.{nat_cmp}
+use Rattle.std.specs.Cmp.Lexicographic.{slice_cmp}
+use Rattle.ebpf_items.specs.declared.instruction.bpf_insn.{bpf_insn}
+use Rattle.ebpf_items.specs.declared.program_section.ProgramSection.{ProgramSection}
+
+-- a program of the plan: its name's bytes, its kind, its slots
+pub record ProgramContent : Type 0 where
+  pub name : List ℕ
+  pub section : ProgramSection
+  pub slots : List bpf_insn
+
+-- a plan: the license without its NUL, the kernel version (none stands for any), the programs
+pub record PlanContent : Type 0 where
+  pub license : List ℕ
+  pub version : Option ℕ
+  pub programs : List ProgramContent
+
+-- the number that stands for any version
+abbrev pub any_version : ℕ
+any_version = 0xffff_fffe
+
+-- no byte is a NUL
+abbrev pub IsText : List ℕ → Type 0
+IsText bytes = list_any (λ b. b == 0) bytes ≡ false
+
+-- a version that is named isn't the number for any
+abbrev pub IsKnownVersion : Option ℕ → Type 0
+IsKnownVersion version = IfSome version (λ v. v ≢ any_version)
+
+-- names strictly rise by bytes
+abbrev pub AreRising : List ProgramContent → Type 0
+AreRising programs = IsStrictlySortedBy (slice_cmp nat_cmp) (map (λ p. p.name) programs)

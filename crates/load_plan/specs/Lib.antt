@@ -1,0 +1,4 @@
+pub mod Content
+pub mod Planned
+pub mod ProgramKinds
+pub mod Text

@@ -1,0 +1,12 @@
+//! Load plans: what a loader hands to one kernel, and their text.
+#![tactic(auto)]
+
+mod error;
+mod plan;
+mod planning;
+mod program_kind;
+mod writing;
+
+pub use error::PrepareError;
+pub use plan::{Plan, PlanProgram};
+pub use planning::prepare;
