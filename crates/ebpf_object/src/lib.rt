@@ -3,10 +3,12 @@
 
 mod by_name;
 mod file;
+mod function;
 mod license;
 mod object;
 mod program;
 mod reading;
+mod reading_programs;
 mod served;
 mod symbols;
 mod version;
@@ -15,3 +17,6 @@ pub use by_name::Programs;
 pub use file::ObjectFile;
 pub use object::Object;
 pub use program::{Function, Program};
+
+#[cfg(test)]
+mod tests;

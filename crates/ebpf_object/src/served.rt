@@ -8,7 +8,7 @@ ghost use Rattle.ebpf_object.specs.Programs.{kind_of};
 ghost use Rattle.ebpf_object.specs.Served.{has_call, is_served_kind, is_served_section, is_served};
 
 use crate::file::ObjectFile;
-use crate::object::{code_of, function_name, section_kind};
+use crate::function::{code_of, function_name, section_kind};
 use ebpf_items::{EbpfSectionKind, Slots};
 use elf64::{SectionView, SymbolView};
 use std::alloc::Global;
@@ -63,7 +63,8 @@ impl<'a> ObjectFile<'a> {
             return false;
         }
         match section_kind(section) {
-            EbpfSectionKind::License | EbpfSectionKind::Version | EbpfSectionKind::Undefined => true,
+            EbpfSectionKind::License | EbpfSectionKind::Version | EbpfSectionKind::Undefined =>
+                true,
             EbpfSectionKind::Text => section.size() == 0,
             EbpfSectionKind::Program => match self.symbols.in_section(section.index()) {
                 Some(symbols) => !any_call(alloc, section, symbols.as_slice()),

@@ -10,3 +10,6 @@ mod writing;
 pub use error::PrepareError;
 pub use plan::{Plan, PlanProgram};
 pub use planning::prepare;
+
+#[cfg(test)]
+mod tests;

@@ -8,7 +8,7 @@ returns-clause-accepted c =
     let same : c.as_slice.result.now ≡ read_sections c.args.file.now = c.as_slice.ensures.value ∙ c.file.invariant.read ∙ ap read_sections c.file.view_is in
     record {
       none =
-        faultless c.args.file.now (rw c.file.view_is at c.file.invariant.faultless) (rw c.file.view_is at c.file.invariant.readable)
-        c.in_ok-license.ensures.accepted c.in_ok-kernel_version.ensures.accepted c.in_ok-check_symbols.ensures.accepted
-        (rw same at c.in_ok-read_sections.ensures.accepted);
+          faultless c.args.file.now (rw c.file.view_is at c.file.invariant.faultless) (rw c.file.view_is at c.file.invariant.readable)
+          c.in_ok-license.ensures.accepted c.in_ok-kernel_version.ensures.accepted c.in_ok-check_symbols.ensures.accepted
+          (rw same at c.in_ok-read_sections.ensures.accepted);
     }
