@@ -43,10 +43,7 @@ pub enum ProgramError {
     Usage,
     /// The object's file can't be read.
     #[error("can't read `{name}`: {error}")]
-    Read {
-        name: String,
-        error: io::Error,
-    },
+    Read { name: String, error: io::Error },
     /// There is no memory to begin with.
     #[error("out of memory")]
     OutOfMemory,

@@ -3,9 +3,11 @@
 
 mod error;
 mod running;
+#[cfg(test)]
+mod tests;
 
-use error::{ProgramError, RunError};
 use ebpf_items::Watched;
+use error::{ProgramError, RunError};
 use running::run;
 use std::io::{BufWriter, Write};
 use std::process::ExitCode;

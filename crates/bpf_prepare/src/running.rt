@@ -20,11 +20,7 @@ use std::io::Write;
 /// [`RunError::Parse`] and [`RunError::NotYet`] where the object is refused, and
 /// [`RunError::Output`] where the writer fails or takes nothing; a beginning of the text went out
 /// then.
-pub fn run<W: Write>(
-    alloc: Global,
-    object: &[u8],
-    out: &mut Watched<W>,
-) -> Result<(), RunError>
+pub fn run<W: Write>(alloc: Global, object: &[u8], out: &mut Watched<W>) -> Result<(), RunError>
     // Exactly the text of the plan went out, of an object in which no fault stands.
     ensures prepared { OnOk result (IsPrepared object.now) }
     ensures written { OnOk result (Appends (W.contents (watched_inner out.old)) (W.contents (watched_inner out.new)) (text_of object.now)) }

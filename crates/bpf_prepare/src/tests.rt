@@ -1,0 +1,99 @@
+//! Runs over whole, cut and changed objects.
+
+use crate::error::RunError;
+use crate::running::run;
+use ebpf_items::{ParseError, Watched};
+use sample_objects::ONE_PROGRAM;
+use std::alloc::Global;
+use std::test::Fail;
+
+/// The text of the plan of the object of one program.
+const TEXT: &[u8] =
+    b"bpf-plan 1\nlicense 47504c\nversion any\ntypes none\nprogram 666f6f 1 0 0\nslots b7000000000000009500000000000000\nend\n";
+
+/// What a run writes, where it isn't refused.
+fn text_of(alloc: Global, object: &[u8]) -> Result<Vec<u8>, RunError> {
+    let mut out = Watched::new(Vec::new(alloc));
+    run(alloc, object, &mut out)?;
+    Ok(out.into_inner())
+}
+
+/// Whether memory ran out, for the run or for its text.
+fn is_memory(error: &RunError) -> bool {
+    matches!(
+        error,
+        RunError::Parse(ParseError::OutOfMemory) | RunError::Output
+    )
+}
+
+fn is_hex(word: &str) -> bool {
+    word == "-"
+        || word.len() % 2 == 0
+            && !word.is_empty()
+            && word.bytes().all(|b| matches!(b, b'0'..=b'9' | b'a'..=b'f'))
+}
+
+fn is_decimal(word: &str) -> bool {
+    !word.is_empty()
+        && (word == "0" || !word.starts_with('0'))
+        && word.bytes().all(|b| matches!(b, b'0'..=b'9'))
+}
+
+/// Whether a line is one of a plan without maps, types, features and records.
+fn is_line(line: &str) -> bool {
+    let mut words = line.split(' ');
+    let (first, second, third) = (words.next(), words.next(), words.next());
+    let (fourth, fifth, sixth) = (words.next(), words.next(), words.next());
+    match (first, second, third, fourth, fifth, sixth) {
+        (Some("bpf-plan"), Some("1"), None, _, _, _) => true,
+        (Some("license" | "slots"), Some(word), None, _, _, _) => is_hex(word),
+        (Some("version"), Some(word), None, _, _, _) => word == "any" || is_decimal(word),
+        (Some("types"), Some("none"), None, _, _, _) => true,
+        (Some("program"), Some(name), Some(kind), Some(a), Some(b), None) => {
+            is_hex(name) && is_decimal(kind) && is_decimal(a) && is_decimal(b)
+        }
+        (Some("end"), None, _, _, _, _) => true,
+        _ => false,
+    }
+}
+
+/// Whether a text is made of lines of a plan, each ended by a line feed.
+fn are_lines(text: &[u8]) -> bool {
+    match std::str::from_utf8(text) {
+        Ok(text) => text.ends_with("\nend\n") && text.lines().all(|line| is_line(line)),
+        Err(_) => false,
+    }
+}
+
+#[test]
+fn one_program(rt: HostRuntime) {
+    match text_of(rt.alloc(), &ONE_PROGRAM) {
+        Ok(text) => assert_eq!(rt; text.as_slice(), TEXT),
+        Err(error) => assert!(rt; is_memory(&error)),
+    }
+}
+
+#[test]
+fn fronts(rt: HostRuntime) {
+    for len in 0..ONE_PROGRAM.len() {
+        let result = text_of(rt.alloc(), &ONE_PROGRAM[..len]);
+        assert!(rt; matches!(result, Err(RunError::Parse(ParseError::ElfError(_)))));
+    }
+}
+
+#[test]
+fn changed_bytes(rt: HostRuntime) -> Result<(), Fail> {
+    let mut accepted = 0u32;
+    for byte in [0u8, 0xff] {
+        for at in 0..ONE_PROGRAM.len() {
+            let mut object = ONE_PROGRAM;
+            object[at] = byte;
+            if let Ok(text) = text_of(rt.alloc(), &object) {
+                assert!(rt; are_lines(text.as_slice()));
+                accepted = accepted.wrapping_add(1);
+            }
+        }
+    }
+    assert!(rt; accepted > 0);
+    Ok(())
+}
