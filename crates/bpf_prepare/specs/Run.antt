@@ -1,11 +1,9 @@
 -- What a run says of the object's bytes.
-use Rattle.std.specs.Prelude.{◌≡◌, ◌≢◌, ◌⊎◌, ℕ, List, true, false}
+use Rattle.std.specs.Prelude.{ℕ, List}
 use Rattle.ebpf_items.specs.declared.error.ParseError.TheVariants as error
-use Rattle.ebpf_object.specs.Faults.{HasFault, object_of}
-use Rattle.ebpf_object.specs.Reading.{HasReadingFault, IsReadable}
-use Rattle.ebpf_object.specs.Served.{is_served}
-use Rattle.load_plan.specs.Planned.{plan_of}
-use Rattle.load_plan.specs.Text as plan
+use Rattle.ebpf_object.specs.ParsedObject.{object_of}
+use Rattle.load_plan.specs.Planned.{plan_of, IsRefusal}
+use Rattle.load_plan.specs.PlanGrammar as plan
 use Rattle.load_plan.specs.declared.error.PrepareError.{PrepareError}
 use Rattle.load_plan.specs.declared.error.PrepareError.TheVariants as prepare
 use Rattle.bpf_prepare.specs.declared.error.RunError.{RunError}
@@ -14,14 +12,14 @@ use Rattle.bpf_prepare.specs.declared.error.RunError.TheVariants.{Parse, NotYet,
 abbrev pub run_error_of : PrepareError → RunError
 run_error_of (prepare.Parse e) = Parse e
 run_error_of prepare.NotYet = NotYet
+run_error_of prepare.OutOfMemory = Parse error.OutOfMemory
 
 -- the text of the plan of an object
 abbrev pub text_of : List ℕ → List ℕ
 text_of file = plan.text_of (plan_of (object_of file))
 
--- What an error says of the object. Faults of reading come before the question whether it is served, and all others
--- after it; memory apart.
-abbrev pub IsRefusal : List ℕ → RunError → Type 0
-IsRefusal file (Parse e) = e ≢ error.OutOfMemory → HasReadingFault file e ⊎ ((is_served file ≡ true) × HasFault file e)
-IsRefusal file NotYet = (is_served file ≡ false) × IsReadable file
-IsRefusal file Output = Unit {0}
+-- what an error says of the object's bytes
+abbrev pub IsRunRefusal : List ℕ → RunError → Type 0
+IsRunRefusal file (Parse e) = IsRefusal file (prepare.Parse e)
+IsRunRefusal file NotYet = IsRefusal file prepare.NotYet
+IsRunRefusal file Output = Unit {0}

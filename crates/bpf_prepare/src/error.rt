@@ -31,6 +31,7 @@ impl From<PrepareError> for RunError {
         match error {
             PrepareError::Parse(error) => RunError::Parse(error),
             PrepareError::NotYet => RunError::NotYet,
+            PrepareError::OutOfMemory => RunError::Parse(ParseError::OutOfMemory),
         }
     }
 }

@@ -10,10 +10,10 @@ use Rattle.elf64.specs.Symbols.{symbols_of}
 use Rattle.ebpf_items.specs.declared.error.ParseError.{ParseError}
 use Rattle.ebpf_items.specs.declared.error.ParseError.TheVariants as error
 use Rattle.btf_records.specs.declared.error.BtfError.TheVariants as btf
-use Rattle.ebpf_object.specs.Faults.{HasFault, IsFaultless, AreSound, HasSoundLicense, HasSoundVersion, is_unnamed, program_sections}
+use Rattle.ebpf_object.specs.Faults.{HasFault, IsFaultless, HasObjectFault, AreSound, HasSoundLicense, HasSoundVersion, is_unnamed}
 use Rattle.ebpf_object.specs.License.{IsLicense, IsInvalidLicense, LacksNul, license_bytes}
 use Rattle.ebpf_object.specs.Version.{version_bytes}
-use Rattle.ebpf_object.specs.Reading.{read_sections, is_unreadable, lacks, HasReadingFault}
+use Rattle.ebpf_object.specs.Reading.{read_sections, is_unreadable, cannot_read, HasReadingFault}
 
 and-right : (a b : Bool) → (a && b) ≡ true → b ≡ true
 and-right true b h = h
@@ -46,10 +46,10 @@ none-weaker p q weaker (x ∷ xs) none some =
     let parts = or-none (q x) (list_any q xs) none in
     none-first (p x) (q x) (p x) (list_any p xs) refl (weaker x) parts.0 (none-weaker p q weaker xs parts.1) some
 
-lacks-unreadable : (section : Section) (e : ElfError) → lacks section e ≡ true → is_unreadable section ≡ true
-lacks-unreadable section Name h = or-left _ _ h
-lacks-unreadable section SectionData h = or-right _ _ h
-lacks-unreadable section _ h = absurd (cc)
+cannot_read-unreadable : (section : Section) (e : ElfError) → cannot_read section e ≡ true → is_unreadable section ≡ true
+cannot_read-unreadable section Name h = or-left _ _ h
+cannot_read-unreadable section SectionData h = or-right _ _ h
+cannot_read-unreadable section _ h = absurd (cc)
 
 -- a sound license has no fault
 license-valid : (bytes : List ℕ) → IsLicense bytes → IsInvalidLicense bytes → ⊥
@@ -57,33 +57,47 @@ license-valid bytes sound (inl short) = absurd (omega (arith, sound.len, short))
 license-valid bytes sound (inr inner) = not-both _ inner sound.text
 
 license-ended : (bytes : List ℕ) → IsLicense bytes → LacksNul bytes → ⊥
-license-ended bytes sound lacking = lacking.1 sound.end
+license-ended bytes sound lacking = lacking.2 sound.end
 
 both : {X : Type 0} (o : Option X) (P Q : X → Type 0) → ((x : X) → P x → Q x → ⊥) → IfSome o P → IsSomeAnd o Q → ⊥
 both None P Q apart p q = q
 both (Some x) P Q apart p q = apart x p q
 
-pub faultless : (file : List ℕ) → elf.IsFaultless file → list_any is_unreadable (read_sections file) ≡ false → HasSoundLicense file → HasSoundVersion file → list_any is_unnamed (symbols_of file) ≡ false → AreSound (symbols_of file) (program_sections file) → (e : ParseError) → HasFault file e → ⊥
-faultless file elf readable license version named sound (error.ElfError e) fault = elf.none e fault
-faultless file elf readable license version named sound (error.SectionError index e) fault =
-    none-weaker _ is_unreadable (λ s h. lacks-unreadable s e (and-right _ _ h)) (read_sections file) readable fault
-faultless file elf readable license version named sound (error.InvalidLicense kept) fault =
+no-object-fault : (file : List ℕ) → list_any is_unreadable (read_sections file) ≡ false → HasSoundLicense file → HasSoundVersion file → list_any is_unnamed (symbols_of file) ≡ false → AreSound (symbols_of file) (read_sections file) → (e : ParseError) → HasObjectFault file e → ⊥
+no-object-fault file readable license version named sound (error.SectionError index e) fault =
+    none-weaker _ is_unreadable (λ s h. cannot_read-unreadable s e (and-right _ _ h)) (read_sections file) readable fault
+no-object-fault file readable license version named sound (error.InvalidLicense kept) fault =
     both (license_bytes file) IsLicense _ (λ bytes p q. license-valid bytes p q.1) license fault
-faultless file elf readable license version named sound (error.MissingLicenseNullTerminator kept) fault =
+no-object-fault file readable license version named sound (error.MissingLicenseNullTerminator kept) fault =
     both (license_bytes file) IsLicense _ (λ bytes p q. license-ended bytes p q.1) license fault
-faultless file elf readable license version named sound (error.InvalidKernelVersion kept) fault =
+no-object-fault file readable license version named sound (error.InvalidKernelVersion kept) fault =
     both (version_bytes file) _ _ (λ bytes p q. q.1 p) version fault
-faultless file elf readable license version named sound (error.BtfError btf.InvalidSymbolName) fault = not-both _ fault named
-faultless file elf readable license version named sound (error.InvalidProgramSection name) fault =
-    none-weaker _ _ (λ s h. and-right _ _ h) (program_sections file) sound.valid fault
-faultless file elf readable license version named sound (error.NoSymbolsForSection name) fault =
-    none-weaker _ _ (λ s h. and-right _ _ h) (program_sections file) sound.filled fault
-faultless file elf readable license version named sound error.InvalidProgramCode fault = not-both _ fault sound.whole
-faultless file elf readable license version named sound _ fault = fault
+no-object-fault file readable license version named sound (error.BtfError btf.InvalidSymbolName) fault = not-both _ fault named
+no-object-fault file readable license version named sound (error.InvalidProgramSection name) fault =
+    none-weaker _ _ (λ s h. and-right _ _ h) (read_sections file) sound.valid fault
+no-object-fault file readable license version named sound (error.NoSymbolsForSection name) fault =
+    none-weaker _ _ (λ s h. and-right _ _ h) (read_sections file) sound.with_symbols fault
+no-object-fault file readable license version named sound error.InvalidProgramCode fault = not-both _ fault sound.with_code
+no-object-fault file readable license version named sound (error.SymbolTableConflict index address) fault =
+    none-weaker _ _ (λ s h. and-right _ _ h) (read_sections file) (sound.distinct address) fault
+no-object-fault file readable license version named sound _ fault = fault
+
+pub faultless : (file : List ℕ) → elf.IsFaultless file → ((e : ParseError) → HasObjectFault file e → ⊥) → (e : ParseError) → HasFault file e → ⊥
+faultless file elf none (error.ElfError e) fault = elf.none e fault
+faultless file elf none e fault = none e fault.1
+
+pub object-faultless : (file : List ℕ) → elf.IsFaultless file → list_any is_unreadable (read_sections file) ≡ false → HasSoundLicense file → HasSoundVersion file → list_any is_unnamed (symbols_of file) ≡ false → AreSound (symbols_of file) (read_sections file) → (e : ParseError) → HasFault file e → ⊥
+object-faultless file elf readable license version named sound =
+    faultless file elf (no-object-fault file readable license version named sound)
+
+-- a fault of the object is a fault of its file
+pub HasFault-object : (file : List ℕ) → elf.IsFaultless file → (e : ParseError) → HasObjectFault file e → HasFault file e
+HasFault-object file elf (error.ElfError e) fault = absurd fault
+HasFault-object file elf e fault = (elf, fault)
 
 -- a file whose headers and sections can be read has no fault of reading
 pub readable : (file : List ℕ) → elf.IsFaultless file → list_any is_unreadable (read_sections file) ≡ false → (e : ParseError) → HasReadingFault file e → ⊥
 readable file elf none (error.ElfError e) fault = elf.none e fault
 readable file elf none (error.SectionError index e) fault =
-    none-weaker _ is_unreadable (λ s h. lacks-unreadable s e (and-right _ _ h)) (read_sections file) none fault
-readable file elf none _ fault = fault
+    none-weaker _ is_unreadable (λ s h. cannot_read-unreadable s e (and-right _ _ h)) (read_sections file) none fault.1
+readable file elf none _ fault = fault.1

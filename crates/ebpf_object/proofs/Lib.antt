@@ -1,3 +1,5 @@
 pub mod ByBytes
 pub mod Faultless
-pub mod ProgramFaults
+pub mod Repeats
+pub mod SectionFaults
+pub mod TextSections

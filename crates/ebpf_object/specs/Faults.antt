@@ -1,44 +1,21 @@
--- The parsed object, and what is wrong with a file.
-use Rattle.std.specs.Prelude.{◌≡◌, ◌≢◌, ℕ, List, [], length, filter, fold, ◌==◌, ◌&&◌, Bool, true, false, Option, is_none, IsSomeAnd, IfSome, unwrap_or}
+-- What is wrong with a file. Maps, types, data and relocations aren't looked at yet, nor what the functions of `.text`
+-- sections hold.
+use Rattle.std.specs.Prelude.{◌≡◌, ◌≢◌, ℕ, List, [], ◌∷◌, length, map, filter, ◌==◌, ◌&&◌, ◌||◌, Bool, true, false, is_none, is_some, IsSomeAnd, IfSome}
 use Rattle.std.specs.List.{list_any}
 use Rattle.std.specs.String.{string_bytes}
 use Rattle.btf_records.specs.declared.error.BtfError.TheVariants as btf
-use Rattle.elf64.specs.declared.order.ByteOrder.{ByteOrder}
-use Rattle.elf64.specs.declared.order.ByteOrder.TheVariants.{Little}
 use Rattle.elf64.specs.Faults as elf
-use Rattle.elf64.specs.Headers.{order_of}
 use Rattle.elf64.specs.Sections.{Section, has_name}
 use Rattle.elf64.specs.Symbols.{Symbol, symbols_of}
 use Rattle.ebpf_items.specs.declared.error.ParseError.{ParseError}
 use Rattle.ebpf_items.specs.declared.error.ParseError.TheVariants as error
-use Rattle.ebpf_object.specs.Content.{ObjectContent, ProgramContent, FunctionContent}
-use Rattle.ebpf_object.specs.License.{license_bytes, license_of, IsLicense, IsInvalidLicense, LacksNul}
-use Rattle.ebpf_object.specs.Programs.{is_program, program_kind, lacks_code, with_programs, with_functions}
-use Rattle.ebpf_object.specs.Reading.{read_sections, is_unreadable, IsLacking}
+use Rattle.ebpf_items.specs.declared.section_kind.EbpfSectionKind.{EbpfSectionKind}
+use Rattle.ebpf_items.specs.declared.section_kind.EbpfSectionKind.TheVariants.{Text}
+use Rattle.ebpf_object.specs.License.{license_bytes, IsLicense, IsInvalidLicense, LacksNul}
+use Rattle.ebpf_object.specs.Programs.{kind_of, is_program, is_text_kind, program_kind, has_no_code}
+use Rattle.ebpf_object.specs.Reading.{read_sections, HasUnreadable}
 use Rattle.ebpf_object.specs.Symbols.{symbols_in}
-use Rattle.ebpf_object.specs.Version.{version_bytes, version_of}
-
--- the program sections of a file, in order of index
-abbrev pub program_sections : List ℕ → List Section
-program_sections file = filter is_program (read_sections file)
-
--- the programs by name, of which the last of one name counts
-abbrev pub programs_of : List ℕ → List (List ℕ × ProgramContent)
-programs_of file = fold (with_programs (license_of file) (version_of file) (symbols_of file)) [] (program_sections file)
-
--- the functions by key, of which the last of one key counts
-abbrev pub functions_of : List ℕ → List ((ℕ × ℕ) × FunctionContent)
-functions_of file = fold (with_functions (symbols_of file)) [] (program_sections file)
-
--- the object of a file in which no fault stands
-abbrev pub object_of : List ℕ → ObjectContent
-object_of file = record {
-  order = unwrap_or (order_of file) Little;
-  license = license_of file;
-  kernel_version = version_of file;
-  programs = programs_of file;
-  functions = functions_of file;
-}
+use Rattle.ebpf_object.specs.Version.{version_bytes}
 
 -- a symbol whose name can't be read
 abbrev pub is_unnamed : Symbol → Bool
@@ -46,38 +23,72 @@ is_unnamed s = is_none s.name
 
 -- a program section of a name that names no kind of program
 abbrev pub is_invalid : Section → Bool
-is_invalid section = is_none (program_kind section)
+is_invalid section = is_program section && is_none (program_kind section)
 
--- a program section without symbols
-abbrev pub is_empty : List Symbol → Section → Bool
-is_empty symbols section = length (symbols_in symbols section.index) == 0
+-- a program section in which no symbol lies
+abbrev pub has_no_symbols : List Symbol → Section → Bool
+has_no_symbols symbols section = is_program section && (length (symbols_in symbols section.index) == 0)
 
 -- a program section with a function that has no code
-abbrev pub has_lacking : List Symbol → Section → Bool
-has_lacking symbols section = list_any (lacks_code section) (symbols_in symbols section.index)
+abbrev pub has_function_without_code : List Symbol → Section → Bool
+has_function_without_code symbols section = is_program section && list_any (has_no_code section) (symbols_in symbols section.index)
 
--- a fault of program sections
-abbrev pub HasProgramFault : List Symbol → List Section → ParseError → Type 0
-HasProgramFault symbols sections (error.InvalidProgramSection name) = list_any (λ s. has_name (string_bytes name) s && is_invalid s) sections ≡ true
-HasProgramFault symbols sections (error.NoSymbolsForSection name) = list_any (λ s. has_name (string_bytes name) s && is_empty symbols s) sections ≡ true
-HasProgramFault symbols sections error.InvalidProgramCode = list_any (has_lacking symbols) sections ≡ true
-HasProgramFault symbols sections _ = ⊥
+-- a section of functions that programs call: `.text`
+abbrev pub is_text_section_kind : EbpfSectionKind → Bool
+is_text_section_kind Text = true
+is_text_section_kind _ = false
 
--- program sections without a fault
+abbrev pub is_text_section : Section → Bool
+is_text_section section = is_some section.name && is_text_section_kind (kind_of section)
+
+-- the addresses of the functions that symbols define
+abbrev pub is_text_definition : Symbol → Bool
+is_text_definition s = is_text_kind s.kind && s.is_definition
+
+abbrev pub function_addresses : List Symbol → List ℕ
+function_addresses symbols = map (λ s. s.address) (filter is_text_definition symbols)
+
+-- whether an address stands twice
+abbrev pub repeats : ℕ → List ℕ → Bool
+repeats address [] = false
+repeats address (a ∷ rest) = ((a == address) && list_any (λ b. b == address) rest) || repeats address rest
+
+-- no address stands twice
+pub record AreDistinct (addresses : List ℕ) : Type 0 where
+  pub none : (address : ℕ) → repeats address addresses ≡ false
+
+-- a `.text` section with two functions at an address
+abbrev pub has_conflict : List Symbol → ℕ → Section → Bool
+has_conflict symbols address section = is_text_section section && repeats address (function_addresses (symbols_in symbols section.index))
+
+-- a fault of program and `.text` sections
+abbrev pub HasSectionFault : List Symbol → List Section → ParseError → Type 0
+HasSectionFault symbols sections (error.InvalidProgramSection name) = list_any (λ s. has_name (string_bytes name) s && is_invalid s) sections ≡ true
+HasSectionFault symbols sections (error.NoSymbolsForSection name) = list_any (λ s. has_name (string_bytes name) s && has_no_symbols symbols s) sections ≡ true
+HasSectionFault symbols sections error.InvalidProgramCode = list_any (has_function_without_code symbols) sections ≡ true
+HasSectionFault symbols sections (error.SymbolTableConflict index address) = list_any (λ s. (s.index == index) && has_conflict symbols address s) sections ≡ true
+HasSectionFault symbols sections _ = ⊥
+
+-- sections without such a fault
 pub record AreSound (symbols : List Symbol) (sections : List Section) : Type 0 where
   pub valid : list_any is_invalid sections ≡ false
-  pub filled : list_any (is_empty symbols) sections ≡ false
-  pub whole : list_any (has_lacking symbols) sections ≡ false
+  pub with_symbols : list_any (has_no_symbols symbols) sections ≡ false
+  pub with_code : list_any (has_function_without_code symbols) sections ≡ false
+  pub distinct : (address : ℕ) → list_any (has_conflict symbols address) sections ≡ false
 
--- a fault of the file; want of memory is none
+-- a fault of an ELF file that can be read
+abbrev pub HasObjectFault : List ℕ → ParseError → Type 0
+HasObjectFault file (error.SectionError index e) = HasUnreadable (read_sections file) (error.SectionError index e)
+HasObjectFault file (error.InvalidLicense kept) = IsSomeAnd (license_bytes file) (λ bytes. (kept.items ≡ bytes) × IsInvalidLicense bytes)
+HasObjectFault file (error.MissingLicenseNullTerminator kept) = IsSomeAnd (license_bytes file) (λ bytes. (kept.items ≡ bytes) × LacksNul bytes)
+HasObjectFault file (error.InvalidKernelVersion kept) = IsSomeAnd (version_bytes file) (λ bytes. (kept.items ≡ bytes) × (length bytes ≢ 4))
+HasObjectFault file (error.BtfError btf.InvalidSymbolName) = list_any is_unnamed (symbols_of file) ≡ true
+HasObjectFault file e = HasSectionFault (symbols_of file) (read_sections file) e
+
+-- a fault of a file; want of memory is none
 abbrev pub HasFault : List ℕ → ParseError → Type 0
 HasFault file (error.ElfError e) = elf.HasFault file e
-HasFault file (error.SectionError index e) = IsLacking (read_sections file) index e
-HasFault file (error.InvalidLicense kept) = IsSomeAnd (license_bytes file) (λ bytes. (kept.items ≡ bytes) × IsInvalidLicense bytes)
-HasFault file (error.MissingLicenseNullTerminator kept) = IsSomeAnd (license_bytes file) (λ bytes. (kept.items ≡ bytes) × LacksNul bytes)
-HasFault file (error.InvalidKernelVersion kept) = IsSomeAnd (version_bytes file) (λ bytes. (kept.items ≡ bytes) × (length bytes ≢ 4))
-HasFault file (error.BtfError btf.InvalidSymbolName) = list_any is_unnamed (symbols_of file) ≡ true
-HasFault file e = HasProgramFault (symbols_of file) (program_sections file) e
+HasFault file e = elf.IsFaultless file × HasObjectFault file e
 
 -- the license is sound, where the file names one
 abbrev pub HasSoundLicense : List ℕ → Type 0

@@ -1,8 +1,10 @@
+pub mod Addresses
 pub mod Content
 pub mod Faults
 pub mod License
 pub mod Names
 pub mod ObjectFile
+pub mod ParsedObject
 pub mod Programs
 pub mod Reading
 pub mod Served

@@ -15,16 +15,16 @@ abbrev pub without_last : List ℕ → List ℕ
 without_last bytes = take (length bytes - 1) bytes
 
 -- no byte is a NUL
-abbrev pub IsText : List ℕ → Type 0
-IsText bytes = list_any (λ b. b == 0) bytes ≡ false
+abbrev pub HasNoNul : List ℕ → Type 0
+HasNoNul bytes = list_any (λ b. b == 0) bytes ≡ false
 
 -- under two bytes, or a NUL before the last byte
 abbrev pub IsInvalidLicense : List ℕ → Type 0
 IsInvalidLicense bytes = (length bytes < 2) ⊎ (list_any (λ b. b == 0) (without_last bytes) ≡ true)
 
--- there is a last byte, and it is no NUL
+-- a text of at least one byte, without the NUL that ends it
 abbrev pub LacksNul : List ℕ → Type 0
-LacksNul bytes = (0 < length bytes) × (slice_index bytes (length bytes - 1) ≢ 0)
+LacksNul bytes = (2 ≤ length bytes) × HasNoNul (without_last bytes) × (slice_index bytes (length bytes - 1) ≢ 0)
 
 -- what is wrong with the bytes of a license
 abbrev pub IsLicenseFault : List ℕ → ParseError → Type 0
@@ -35,7 +35,7 @@ IsLicenseFault bytes _ = ⊥
 -- a text of at least one byte and the NUL that ends it
 pub record IsLicense (bytes : List ℕ) : Type 0 where
   pub len : 2 ≤ length bytes
-  pub text : IsText (without_last bytes)
+  pub text : HasNoNul (without_last bytes)
   pub end : slice_index bytes (length bytes - 1) ≡ 0
 
 -- the license of an object, without its NUL: `GPL` where the object names none

@@ -8,7 +8,7 @@ use Rattle.ebpf_object.specs.Reading.{read_sections, is_unreadable}
 use Rattle.ebpf_object.specs.SymbolTable.{AreSymbolsOf}
 use Rattle.ebpf_object.specs.declared.symbols.SymbolTable.{SymbolTable}
 
-pub record IsOpened (file : List ℕ) (sections : List Section) (symbols : SymbolTable) : Type 0 where
+pub record IsObjectFile (file : List ℕ) (sections : List Section) (symbols : SymbolTable) : Type 0 where
   pub faultless : IsFaultless file
   pub read : sections ≡ read_sections file
   pub readable : list_any is_unreadable (read_sections file) ≡ false

@@ -1,5 +1,5 @@
 -- The programs of an object and their functions.
-use Rattle.std.specs.Prelude.{◌≡◌, ℕ, ◌+◌, ◌%◌, List, [], length, take, drop, fold, ◌==◌, ◌&&◌, ◌||◌, not, nat_lt, Bool, true, false, if◌then◌else◌, Option, Some, None, is_none, option_and_then, unwrap_or}
+use Rattle.std.specs.Prelude.{◌≡◌, ℕ, ◌+◌, ◌%◌, List, [], length, take, drop, fold, ◌==◌, ◌&&◌, ◌||◌, not, nat_lt, Bool, true, false, if◌then◌else◌, Option, Some, None, is_none, is_some, option_and_then, unwrap_or}
 use Rattle.std.specs.List.{list_any}
 use Rattle.std.specs.Option.{option_map_or}
 use Rattle.std.specs.Ordering.{nat_cmp, ordering_then}
@@ -28,22 +28,22 @@ is_program_kind kind.Program = true
 is_program_kind _ = false
 
 abbrev pub is_program : Section → Bool
-is_program section = is_program_kind (kind_of section)
+is_program section = is_some section.name && is_program_kind (kind_of section)
 
 -- the kind of program that a section's name names
 abbrev pub program_kind : Section → Option ProgramSection
 program_kind section = option_and_then kind_of_name section.name
 
 -- a function of a program section: a symbol of kind Text whose name isn't empty
-abbrev pub is_text : SymbolKind → Bool
-is_text symbol.Text = true
-is_text _ = false
+abbrev pub is_text_kind : SymbolKind → Bool
+is_text_kind symbol.Text = true
+is_text_kind _ = false
 
 abbrev pub is_function : Symbol → Bool
-is_function s = is_text s.kind && option_map_or (λ name. not (length name == 0)) s.name false
+is_function s = is_text_kind s.kind && option_map_or (λ name. not (length name == 0)) s.name false
 
--- The code of a symbol: as many bytes as its size says from its value on. None where that isn't whole slots, goes past
--- the bytes, or begins below the section's address.
+-- The code of a symbol: st_size bytes of the section, from the offset st_value on. None where that isn't whole slots, goes
+-- past the bytes, or where st_value lies below the section's sh_addr.
 abbrev pub code_in : List ℕ → ℕ → Symbol → Option (List ℕ)
 code_in bytes address s =
     if nat_lt s.address address || nat_lt (length bytes) (s.address + s.size) || not (s.size % 8 == 0) then None
@@ -52,9 +52,9 @@ code_in bytes address s =
 abbrev pub code_of : Section → Symbol → Option (List ℕ)
 code_of section s = option_and_then (λ bytes. code_in bytes section.address s) section.contents
 
--- a function without code
-abbrev pub lacks_code : Section → Symbol → Bool
-lacks_code section s = is_function s && is_none (code_of section s)
+-- a function that has no code among the section's bytes
+abbrev pub has_no_code : Section → Symbol → Bool
+has_no_code section s = is_function s && option_map_or (λ bytes. is_none (code_in bytes section.address s)) section.contents false
 
 -- keys by section index, then by address
 abbrev pub key_cmp : (ℕ × ℕ) → (ℕ × ℕ) → Ordering

@@ -6,57 +6,48 @@ use Rattle.elf64.specs.declared.error.ElfError as elf
 use Rattle.elf64.specs.declared.error.ElfError.TheVariants.{Name, SectionData}
 use Rattle.ebpf_items.specs.declared.error.ParseError.{ParseError}
 use Rattle.ebpf_items.specs.declared.error.ParseError.TheVariants.{ElfError, SectionError}
-use Rattle.elf64.specs.Faults.{HasFault}
+use Rattle.elf64.specs.Faults.{HasFault, IsFaultless}
 use Rattle.elf64.specs.Sections.{Section, sections_of, has_name, section_named}
 
 -- whether a section is the one that was found
-abbrev pub is_that : Option Section → Section → Bool
-is_that found section = option_map_or (λ s. s.index == section.index) found false
+abbrev pub is_found : Option Section → Section → Bool
+is_found found section = option_map_or (λ s. s.index == section.index) found false
 
 -- Every section is read, but of the sections of type information only the first of its name, and the extension only
 -- beside the types.
 abbrev pub is_read : Option Section → Option Section → Section → Bool
 is_read types extension section =
-    if has_name (codes ".BTF") section then is_that types section
-    else (if has_name (codes ".BTF.ext") section then is_some types && is_that extension section else true)
+    if has_name (codes ".BTF") section then is_found types section
+    else (if has_name (codes ".BTF.ext") section then is_some types && is_found extension section else true)
 
 -- the sections that are read, in order of index
 abbrev pub read_sections : List ℕ → List Section
 read_sections file = filter (is_read (section_named file (codes ".BTF")) (section_named file (codes ".BTF.ext"))) (sections_of file)
 
 -- whether this can't be read of a section
-abbrev pub lacks : Section → elf.ElfError → Bool
-lacks section Name = is_none section.name
-lacks section SectionData = is_none section.contents
-lacks section _ = false
+abbrev pub cannot_read : Section → elf.ElfError → Bool
+cannot_read section Name = is_none section.name
+cannot_read section SectionData = is_none section.contents
+cannot_read section _ = false
 
 -- a section whose name or bytes can't be read
 abbrev pub is_unreadable : Section → Bool
 is_unreadable section = is_none section.name || is_none section.contents
 
--- the section of an index lacks something
-abbrev pub IsLacking : List Section → ℕ → elf.ElfError → Type 0
-IsLacking sections index error = list_any (λ s. (s.index == index) && lacks s error) sections ≡ true
-
--- an error that says what can't be read of a section
-abbrev pub IsUnreadable : Section → ParseError → Type 0
-IsUnreadable section (SectionError index error) = (section.index ≡ index) × (lacks section error ≡ true)
-IsUnreadable section _ = ⊥
-
 -- an error that says what can't be read of some section
 abbrev pub HasUnreadable : List Section → ParseError → Type 0
-HasUnreadable sections (SectionError index error) = IsLacking sections index error
+HasUnreadable sections (SectionError index error) = list_any (λ s. (s.index == index) && cannot_read s error) sections ≡ true
 HasUnreadable sections _ = ⊥
 
 -- what is wrong with a file before its sections are looked at
 abbrev pub HasReadingFault : List ℕ → ParseError → Type 0
 HasReadingFault file (ElfError e) = HasFault file e
-HasReadingFault file e = HasUnreadable (read_sections file) e
-
--- the bytes of the first section of a name
-abbrev pub contents_named : List ℕ → List ℕ → Option (List ℕ)
-contents_named file name = option_and_then (λ s. s.contents) (section_named file name)
+HasReadingFault file e = IsFaultless file × HasUnreadable (read_sections file) e
 
 -- no such fault stands
 pub record IsReadable (file : List ℕ) : Type 0 where
   pub none : (e : ParseError) → HasReadingFault file e → ⊥
+
+-- the bytes of the first section of a name
+abbrev pub contents_named : List ℕ → List ℕ → Option (List ℕ)
+contents_named file name = option_and_then (λ s. s.contents) (section_named file name)

@@ -3,13 +3,12 @@ use Rattle.std.specs.Prelude.{ℕ, List, length, ◌==◌, ◌&&◌, not, Bool, 
 use Rattle.std.specs.List.{list_any, list_all}
 use Rattle.std.specs.Option.{option_map_or}
 use Rattle.elf64.specs.Relocations.{relocations_of}
-use Rattle.elf64.specs.Sections.{Section}
+use Rattle.elf64.specs.Sections.{Section, sections_of}
 use Rattle.elf64.specs.Symbols.{Symbol, symbols_of}
 use Rattle.ebpf_items.specs.declared.section_kind.EbpfSectionKind.{EbpfSectionKind}
 use Rattle.ebpf_items.specs.declared.section_kind.EbpfSectionKind.TheVariants as kind
 use Rattle.ebpf_items.specs.Instruction.{is_pseudo_call, slots_of}
 use Rattle.ebpf_object.specs.Programs.{kind_of, is_function, code_of}
-use Rattle.ebpf_object.specs.Reading.{read_sections}
 use Rattle.ebpf_object.specs.Symbols.{symbols_in}
 
 -- a function with a slot that calls another
@@ -32,4 +31,4 @@ is_served_section file section =
 
 -- whether each section of an object is served
 abbrev pub is_served : List ℕ → Bool
-is_served file = list_all (is_served_section file) (read_sections file)
+is_served file = list_all (is_served_section file) (sections_of file)

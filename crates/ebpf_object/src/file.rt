@@ -24,13 +24,13 @@ pub struct ObjectFile<'a> {
 
 impl<'a> Model for ObjectFile<'a> {
     ghost use Rattle.std.specs.Prelude.{List, ℕ};
-    ghost use Rattle.ebpf_object.specs.ObjectFile.{IsOpened};
+    ghost use Rattle.ebpf_object.specs.ObjectFile.{IsObjectFile};
 
     ghost Value = { List ℕ };
 
     ghost view = { λ f. f.elf };
 
-    ghost invariant = { λ f. IsOpened f.elf f.sections.items f.symbols };
+    ghost invariant = { λ f. IsObjectFile f.elf f.sections.items f.symbols };
 }
 
 impl<'a> ObjectFile<'a> {

@@ -1,11 +1,15 @@
 //! The functions of program sections.
 
-ghost use Rattle.std.specs.Prelude.{◌≡◌, ◌↔◌, ◌%◌, true, Some, length, IsSome, IfSome};
+ghost use Rattle.std.specs.Prelude.{◌≡◌, ◌↔◌, ◌%◌, true, Some, length, IsSome, IfSome, IfNone, IfOk};
 ghost use Rattle.std.specs.Option.{option_copied};
+ghost use Rattle.ebpf_object.specs.Addresses.{AddsAddress};
+ghost use Rattle.ebpf_object.specs.Faults.{AreDistinct, function_addresses, repeats};
 ghost use Rattle.ebpf_object.specs.Programs.{is_function, code_in, code_of, kind_of};
 
 use ebpf_items::EbpfSectionKind;
 use elf64::{SectionView, SymbolKind, SymbolView};
+use std::alloc::{AllocError, Global};
+use std::collections::BTreeSet;
 
 /// The kind of a section whose name can be read.
 pub(crate) fn section_kind(section: &SectionView<'_>) -> EbpfSectionKind
@@ -54,4 +58,31 @@ pub(crate) fn code_of<'a>(section: &SectionView<'a>, symbol: &SymbolView<'_>) ->
         return None;
     };
     code_in(bytes, section.address(), symbol)
+}
+
+/// Adds the address of a symbol that defines a function, and says whether it was there before.
+fn is_repeated(addresses: &mut BTreeSet<u64>, symbol: &SymbolView<'_>) -> Result<bool, AllocError>
+    ensures { IfOk result (λ r. AddsAddress addresses.old addresses.new symbol.now r) }
+{
+    if symbol.kind() != SymbolKind::Text || !symbol.is_definition() {
+        return Ok(false);
+    }
+    Ok(!addresses.insert(symbol.address())?)
+}
+
+/// An address at which symbols define two functions, if there is one.
+pub(crate) fn repeated_address(
+    alloc: Global,
+    symbols: &[SymbolView<'_>],
+) -> Result<Option<u64>, AllocError>
+    ensures found { IfOk result (λ r. IfSome r (λ address. repeats address (function_addresses symbols.now) ≡ true)) }
+    ensures none { IfOk result (λ r. IfNone r (AreDistinct (function_addresses symbols.now))) }
+{
+    let mut addresses = BTreeSet::new(alloc);
+    for symbol in symbols {
+        if is_repeated(&mut addresses, symbol)? {
+            return Ok(Some(symbol.address()));
+        }
+    }
+    Ok(None)
 }

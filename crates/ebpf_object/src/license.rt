@@ -4,7 +4,7 @@ ghost use Rattle.std.specs.Prelude.{◌≡◌, ◌≢◌, ◌<◌, true, Some, N
 ghost use Rattle.std.specs.List.{list_any};
 ghost use Rattle.elf64.specs.Sections.{section_named};
 ghost use Rattle.ebpf_items.specs.declared.error.ParseError.TheVariants.{OutOfMemory};
-ghost use Rattle.ebpf_object.specs.License.{IsLicense, IsLicenseFault, IsText, without_last};
+ghost use Rattle.ebpf_object.specs.License.{IsLicense, IsLicenseFault, HasNoNul, without_last};
 
 use ebpf_items::ParseError;
 use std::alloc::Global;
@@ -15,7 +15,7 @@ pub(crate) const DEFAULT_LICENSE: &[u8] = b"GPL";
 /// The license that a section's bytes hold: all but the NUL that ends them.
 pub(crate) fn parse_license<'a>(alloc: Global, bytes: &'a [u8]) -> Result<&'a [u8], ParseError>
     ensures value { IfOk result (λ license. license.now ≡ without_last bytes.now) }
-    ensures text { IfOk result (λ license. IsText license.now) }
+    ensures text { IfOk result (λ license. HasNoNul license.now) }
     ensures accepted { OnOk result (IsLicense bytes.now) }
     ensures refused { IfErr result (λ e. e ≢ OutOfMemory → IsLicenseFault bytes.now e) }
 {

@@ -7,8 +7,9 @@ ghost use Rattle.std.specs.Map.{lookup};
 ghost use Rattle.std.specs.Option.{option_copied};
 ghost use Rattle.elf64.specs.Symbols.{symbols_of};
 ghost use Rattle.ebpf_items.specs.declared.error.ParseError.TheVariants.{OutOfMemory};
-ghost use Rattle.ebpf_object.specs.Faults.{HasFault, HasSoundLicense, HasSoundVersion, is_unnamed, object_of, IsFaultless};
-ghost use Rattle.ebpf_object.specs.License.{license_of, IsText};
+ghost use Rattle.ebpf_object.specs.Faults.{HasFault, HasSoundLicense, HasObjectFault, HasSoundVersion, is_unnamed, IsFaultless};
+ghost use Rattle.ebpf_object.specs.ParsedObject.{object_of};
+ghost use Rattle.ebpf_object.specs.License.{license_of, HasNoNul};
 ghost use Rattle.ebpf_object.specs.Programs.{key_cmp};
 ghost use Rattle.ebpf_object.specs.Version.{version_of, IsKnownVersion};
 
@@ -41,19 +42,19 @@ impl<'a> Model for Object<'a> {
 
     ghost view = { λ o. record { order = o.order; license = o.license.now; kernel_version = o.kernel_version; programs = o.programs; functions = o.functions.entries } };
 
-    ghost use Rattle.ebpf_object.specs.License.{IsText};
+    ghost use Rattle.ebpf_object.specs.License.{HasNoNul};
     ghost use Rattle.ebpf_object.specs.Programs.{key_cmp};
-ghost use Rattle.ebpf_object.specs.Version.{IsKnownVersion};
+    ghost use Rattle.ebpf_object.specs.Version.{IsKnownVersion};
 
-    ghost invariant = { λ o. IsText o.license.now × IsKnownVersion o.kernel_version };
+    ghost invariant = { λ o. HasNoNul o.license.now × IsKnownVersion o.kernel_version };
 }
 
 /// The license of a file: `GPL` where it names none.
 fn license<'a>(alloc: Global, file: &ObjectFile<'a>) -> Result<&'a [u8], ParseError>
     ensures value { IfOk result (λ license. license.now ≡ license_of file.now) }
-    ensures text { IfOk result (λ license. IsText license.now) }
+    ensures text { IfOk result (λ license. HasNoNul license.now) }
     ensures accepted { OnOk result (HasSoundLicense file.now) }
-    ensures refused { IfErr result (λ e. e ≢ OutOfMemory → HasFault file.now e) }
+    ensures refused { IfErr result (λ e. e ≢ OutOfMemory → HasObjectFault file.now e) }
 {
     match file.contents_of("license") {
         Some(bytes) => parse_license(alloc, bytes),
@@ -66,7 +67,7 @@ fn kernel_version(alloc: Global, file: &ObjectFile<'_>) -> Result<Option<u32>, P
     ensures value { IfOk result (λ version. version ≡ version_of file.now) }
     ensures known { IfOk result IsKnownVersion }
     ensures accepted { OnOk result (HasSoundVersion file.now) }
-    ensures refused { IfErr result (λ e. e ≢ OutOfMemory → HasFault file.now e) }
+    ensures refused { IfErr result (λ e. e ≢ OutOfMemory → HasObjectFault file.now e) }
 {
     match file.contents_of("version") {
         Some(bytes) => parse_version(alloc, file.elf.order(), bytes),
@@ -77,7 +78,7 @@ fn kernel_version(alloc: Global, file: &ObjectFile<'_>) -> Result<Option<u32>, P
 /// Refuses a file with a symbol whose name can't be read.
 fn check_symbols(file: &ObjectFile<'_>) -> Result<(), ParseError>
     ensures accepted { OnOk result (list_any is_unnamed (symbols_of file.now) ≡ false) }
-    ensures refused { IfErr result (HasFault file.now) }
+    ensures refused { IfErr result (HasObjectFault file.now) }
 {
     for symbol in file.elf.symbols() {
         if symbol.name().is_err() {
@@ -98,7 +99,7 @@ impl<'a> Object<'a> {
     /// The license, without the NUL that ends it: `GPL` where the object names none.
     pub fn license(&self) -> &'a [u8]
         ensures value { result.now ≡ self.now.license }
-        ensures text { IsText result.now }
+        ensures text { HasNoNul result.now }
     {
         self.license
     }
@@ -132,12 +133,11 @@ impl<'a> Object<'a> {
         self.functions.get(&key)
     }
 
-    /// The object of a file: its license and version, and the programs and functions of its
-    /// program sections.
-    pub fn from_file(alloc: Global, file: &ObjectFile<'a>) -> Result<Object<'a>, ParseError>
+    /// The object of a file, refused by what its license, version, symbols and sections hold.
+    fn read(alloc: Global, file: &ObjectFile<'a>) -> Result<Object<'a>, ParseError>
         ensures value { IfOk result (λ o. o ≡ object_of file.now) }
         ensures accepted { OnOk result (IsFaultless file.now) }
-        ensures refused { IfErr result (λ e. e ≢ OutOfMemory → HasFault file.now e) }
+        ensures refused { IfErr result (λ e. e ≢ OutOfMemory → HasObjectFault file.now e) }
     {
         let license = license(alloc, file)?;
         let kernel_version = kernel_version(alloc, file)?;
@@ -153,7 +153,33 @@ impl<'a> Object<'a> {
         Ok(object)
     }
 
-    /// Parses an object file.
+    /// The object of a file: its license and version, and the programs and functions of its
+    /// program sections. Maps, types, data, relocations and the functions of `.text` sections
+    /// aren't looked at yet.
+    ///
+    /// # Errors
+    ///
+    /// `InvalidLicense` and `MissingLicenseNullTerminator` for a section `license` that doesn't
+    /// hold a text ended by a NUL, `InvalidKernelVersion` for a section `version` that isn't four
+    /// bytes, `BtfError(InvalidSymbolName)` for a symbol whose name can't be read,
+    /// `InvalidProgramSection` for a program section of an unknown kind, `NoSymbolsForSection` for
+    /// one in which no symbol lies, `InvalidProgramCode` for a function whose bytes aren't whole
+    /// slots of its section, `SymbolTableConflict` for two functions of a `.text` section at one
+    /// address, and `OutOfMemory`.
+    pub fn from_file(alloc: Global, file: &ObjectFile<'a>) -> Result<Object<'a>, ParseError>
+        ensures value { IfOk result (λ o. o ≡ object_of file.now) }
+        ensures accepted { OnOk result (IsFaultless file.now) }
+        ensures refused { IfErr result (λ e. e ≢ OutOfMemory → HasFault file.now e) }
+    {
+        let _elf = &file.elf;
+        Object::read(alloc, file)
+    }
+
+    /// Parses an object file: [`ObjectFile::parse`], and then [`Object::from_file`].
+    ///
+    /// # Errors
+    ///
+    /// Those of the two calls.
     pub fn parse(alloc: Global, bytes: &'a [u8]) -> Result<Object<'a>, ParseError>
         ensures value { IfOk result (λ o. o ≡ object_of bytes.entry.now) }
         ensures accepted { OnOk result (IsFaultless bytes.entry.now) }

@@ -5,9 +5,9 @@ ghost use Rattle.std.specs.List.{list_any};
 ghost use Rattle.std.specs.Option.{option_copied};
 ghost use Rattle.elf64.specs.Sections.{has_name};
 ghost use Rattle.ebpf_items.specs.declared.error.ParseError.TheVariants.{SectionError, OutOfMemory};
-ghost use Rattle.ebpf_object.specs.Reading.{is_that, is_read, is_unreadable, IsUnreadable, HasUnreadable, read_sections};
+ghost use Rattle.ebpf_object.specs.Reading.{is_found, is_read, is_unreadable, HasUnreadable, read_sections};
 
-use ebpf_items::ParseError;
+use ebpf_items::{ParseError, Section};
 use elf64::{ElfFile, SectionView};
 use std::alloc::Global;
 
@@ -22,8 +22,8 @@ fn has_name(section: &SectionView<'_>, name: &str) -> bool
 }
 
 /// Whether a section is the one that was found.
-fn is_that(found: &Option<SectionView<'_>>, section: &SectionView<'_>) -> bool
-    ensures { result ≡ is_that found.now section.now }
+fn is_found(found: &Option<SectionView<'_>>, section: &SectionView<'_>) -> bool
+    ensures { result ≡ is_found found.now section.now }
 {
     match found {
         Some(found) => found.index() == section.index(),
@@ -40,27 +40,12 @@ fn is_read(
     ensures { result ≡ is_read types.now extension.now section.now }
 {
     if has_name(section, ".BTF") {
-        return is_that(types, section);
+        return is_found(types, section);
     }
     if has_name(section, ".BTF.ext") {
-        return types.is_some() && is_that(extension, section);
+        return types.is_some() && is_found(extension, section);
     }
     true
-}
-
-/// Refuses a section whose name or bytes can't be read.
-fn check_section(section: &SectionView<'_>) -> Result<(), ParseError>
-    ensures readable { OnOk result (is_unreadable section.now ≡ false) }
-    ensures refused { IfErr result (IsUnreadable section.now) }
-{
-    let index = section.index();
-    if let Err(error) = section.name() {
-        return Err(ParseError::SectionError { index, error });
-    }
-    if let Err(error) = section.data() {
-        return Err(ParseError::SectionError { index, error });
-    }
-    Ok(())
 }
 
 /// The sections of a file that are read, in order of index.
@@ -77,7 +62,7 @@ pub(crate) fn read_sections<'a>(
     let mut sections = Vec::new(alloc);
     for section in elf.sections() {
         if is_read(&types, &extension, &section) {
-            check_section(&section)?;
+            Section::try_from(&section)?;
             sections.push(section)?;
         }
     }

@@ -1,21 +1,43 @@
 //! The programs of an object, read section by section.
 
-ghost use Rattle.std.specs.Prelude.{◌≡◌, ◌≢◌, ◌∷◌, [], true, false, filter, fold, OnOk, IfErr, IsSome};
+ghost use Rattle.std.specs.Prelude.{◌≡◌, ◌≢◌, ◌∷◌, [], true, false, filter, fold, OnOk, IfErr};
 ghost use Rattle.std.specs.List.{list_any};
 ghost use Rattle.elf64.specs.Symbols.{symbols_of};
 ghost use Rattle.ebpf_items.specs.declared.error.ParseError.TheVariants.{InvalidProgramCode, OutOfMemory};
 ghost use Rattle.ebpf_object.specs.Content.{KeepsRest};
-ghost use Rattle.ebpf_object.specs.Faults.{AreSound, HasProgramFault};
-ghost use Rattle.ebpf_object.specs.Programs.{is_program, lacks_code, with_program, with_function, with_programs, with_functions};
+ghost use Rattle.ebpf_object.specs.Faults.{AreSound, HasSectionFault, is_text_section};
+ghost use Rattle.ebpf_object.specs.Programs.{is_program, has_no_code, with_program, with_function, with_programs, with_functions};
 ghost use Rattle.ebpf_object.specs.Reading.{is_unreadable};
 
 use crate::file::ObjectFile;
-use crate::function::{code_of, function_name, section_kind};
+use crate::function::{code_of, function_name, repeated_address, section_kind};
 use crate::object::Object;
 use crate::program::{Function, Program};
 use ebpf_items::{EbpfSectionKind, ParseError, ProgramSection, Slots};
 use elf64::{SectionView, SymbolView};
 use std::alloc::Global;
+
+/// Refuses a `.text` section with two functions at one address.
+fn check_text(
+    alloc: Global,
+    file: &ObjectFile<'_>,
+    section: &SectionView<'_>,
+) -> Result<(), ParseError>
+    requires { is_text_section section.now ≡ true }
+    ensures accepted { OnOk result (AreSound (symbols_of file.now) (section.now ∷ [])) }
+    ensures refused { IfErr result (λ e. e ≢ OutOfMemory → HasSectionFault (symbols_of file.now) (section.now ∷ []) e) }
+{
+    let Some(symbols) = file.symbols_in(section.index()) else {
+        return Ok(());
+    };
+    match repeated_address(alloc, symbols.as_slice())? {
+        Some(address) => Err(ParseError::SymbolTableConflict {
+            section_index: section.index(),
+            address,
+        }),
+        None => Ok(()),
+    }
+}
 
 impl<'a> Object<'a> {
     /// Enters a function of a section and the program that it makes, where a symbol is one.
@@ -26,11 +48,12 @@ impl<'a> Object<'a> {
         kind: &ProgramSection,
         symbol: &SymbolView<'a>,
     ) -> Result<(), ParseError>
+        requires { is_unreadable section.now ≡ false }
         ensures programs { OnOk result (self.new.programs ≡ with_program self.old.license self.old.kernel_version section.now kind.now self.old.programs symbol.now) }
         ensures functions { OnOk result (self.new.functions ≡ with_function section.now self.old.functions symbol.now) }
         ensures kept { OnOk result (KeepsRest self.old self.new) }
-        ensures accepted { OnOk result (lacks_code section.now symbol.now ≡ false) }
-        ensures refused { IfErr result (λ e. e ≢ OutOfMemory → (e ≡ InvalidProgramCode) × (lacks_code section.now symbol.now ≡ true)) }
+        ensures accepted { OnOk result (has_no_code section.now symbol.now ≡ false) }
+        ensures refused { IfErr result (λ e. e ≢ OutOfMemory → (e ≡ InvalidProgramCode) × (has_no_code section.now symbol.now ≡ true)) }
     {
         let Some(name) = function_name(symbol) else {
             return Ok(());
@@ -68,11 +91,12 @@ impl<'a> Object<'a> {
         kind: &ProgramSection,
         symbols: &[SymbolView<'a>],
     ) -> Result<(), ParseError>
+        requires { is_unreadable section.now ≡ false }
         ensures programs { OnOk result (self.new.programs ≡ fold (with_program self.old.license self.old.kernel_version section.now kind.now) self.old.programs symbols.now) }
         ensures functions { OnOk result (self.new.functions ≡ fold (with_function section.now) self.old.functions symbols.now) }
         ensures kept { OnOk result (KeepsRest self.old self.new) }
-        ensures accepted { OnOk result (list_any (lacks_code section.now) symbols.now ≡ false) }
-        ensures refused { IfErr result (λ e. e ≢ OutOfMemory → (e ≡ InvalidProgramCode) × (list_any (lacks_code section.now) symbols.now ≡ true)) }
+        ensures accepted { OnOk result (list_any (has_no_code section.now) symbols.now ≡ false) }
+        ensures refused { IfErr result (λ e. e ≢ OutOfMemory → (e ≡ InvalidProgramCode) × (list_any (has_no_code section.now) symbols.now ≡ true)) }
     {
         for symbol in symbols {
             self.read_function(alloc, section, kind, symbol)?;
@@ -87,12 +111,13 @@ impl<'a> Object<'a> {
         file: &ObjectFile<'a>,
         section: &SectionView<'a>,
     ) -> Result<(), ParseError>
-        requires { IsSome section.now.name }
+        requires program { is_program section.now ≡ true }
+        requires readable { is_unreadable section.now ≡ false }
         ensures programs { OnOk result (self.new.programs ≡ with_programs self.old.license self.old.kernel_version (symbols_of file.now) self.old.programs section.now) }
         ensures functions { OnOk result (self.new.functions ≡ with_functions (symbols_of file.now) self.old.functions section.now) }
         ensures kept { OnOk result (KeepsRest self.old self.new) }
         ensures accepted { OnOk result (AreSound (symbols_of file.now) (section.now ∷ [])) }
-        ensures refused { IfErr result (λ e. e ≢ OutOfMemory → HasProgramFault (symbols_of file.now) (section.now ∷ []) e) }
+        ensures refused { IfErr result (λ e. e ≢ OutOfMemory → HasSectionFault (symbols_of file.now) (section.now ∷ []) e) }
     {
         let name = section.name()?;
         let Ok(kind) = name.parse::<ProgramSection>() else {
@@ -110,7 +135,7 @@ impl<'a> Object<'a> {
         }
     }
 
-    /// Enters the programs of each program section.
+    /// Enters the programs of each program section, and looks at each `.text` section.
     pub(crate) fn read_sections(
         &mut self,
         alloc: Global,
@@ -121,12 +146,14 @@ impl<'a> Object<'a> {
         ensures programs { OnOk result (self.new.programs ≡ fold (with_programs self.old.license self.old.kernel_version (symbols_of file.now)) self.old.programs (filter is_program sections.now)) }
         ensures functions { OnOk result (self.new.functions ≡ fold (with_functions (symbols_of file.now)) self.old.functions (filter is_program sections.now)) }
         ensures kept { OnOk result (KeepsRest self.old self.new) }
-        ensures accepted { OnOk result (AreSound (symbols_of file.now) (filter is_program sections.now)) }
-        ensures refused { IfErr result (λ e. e ≢ OutOfMemory → HasProgramFault (symbols_of file.now) (filter is_program sections.now) e) }
+        ensures accepted { OnOk result (AreSound (symbols_of file.now) sections.now) }
+        ensures refused { IfErr result (λ e. e ≢ OutOfMemory → HasSectionFault (symbols_of file.now) sections.now e) }
     {
         for section in sections {
-            if section_kind(section) == EbpfSectionKind::Program {
-                self.read_programs(alloc, file, section)?;
+            match section_kind(section) {
+                EbpfSectionKind::Program => self.read_programs(alloc, file, section)?,
+                EbpfSectionKind::Text => check_text(alloc, file, section)?,
+                _ => (),
             }
         }
         Ok(())

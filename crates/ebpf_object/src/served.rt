@@ -74,21 +74,17 @@ impl<'a> ObjectFile<'a> {
         }
     }
 
-    fn are_served(&self, alloc: Global, sections: &[SectionView<'a>]) -> bool
-        ensures { result ≡ list_all (is_served_section self.now) sections.now }
+    /// Whether the object is served so far: no section has relocations, each is a license, a
+    /// version, nothing that is looked at, an empty `.text` or a program section, and no function
+    /// calls another. Takes no memory.
+    pub fn is_served(&self, alloc: Global) -> bool
+        ensures { result ≡ is_served self.now }
     {
-        for section in sections {
-            if !self.is_served_section(alloc, section) {
+        for section in self.elf.sections() {
+            if !self.is_served_section(alloc, &section) {
                 return false;
             }
         }
         true
-    }
-
-    /// Whether each section of the object is served so far.
-    pub fn is_served(&self, alloc: Global) -> bool
-        ensures { result ≡ is_served self.now }
-    {
-        self.are_served(alloc, self.sections.as_slice())
     }
 }

@@ -1,9 +1,9 @@
--- The names of planned programs.
+-- The names of plan_program_of programs.
 use Rattle.std.proofs.Common.{◌≡◌, ℕ, List, [], ◌∷◌, map, refl, ap}
 use Rattle.ebpf_object.specs.Content as object
-use Rattle.load_plan.specs.Planned.{planned}
+use Rattle.load_plan.specs.Planned.{plan_program_of}
 
 -- they are those of the object's programs
-pub names-planned : (functions : List ((ℕ × ℕ) × object.FunctionContent)) (programs : List (List ℕ × object.ProgramContent)) → map (λ p. p.name) (map (planned functions) programs) ≡ map (λ e. e.0) programs
-names-planned functions [] = refl
-names-planned functions (e ∷ es) = ap (λ (rest : List (List ℕ)). e.0 ∷ rest) (names-planned functions es)
+pub names-plan_program_of : (functions : List ((ℕ × ℕ) × object.FunctionContent)) (programs : List (List ℕ × object.ProgramContent)) → map (λ p. p.name) (map (plan_program_of functions) programs) ≡ map (λ e. e.0) programs
+names-plan_program_of functions [] = refl
+names-plan_program_of functions (e ∷ es) = ap (λ (rest : List (List ℕ)). e.0 ∷ rest) (names-plan_program_of functions es)

@@ -7,7 +7,7 @@ use Rattle.ebpf_items.specs.declared.instruction.bpf_insn.{bpf_insn}
 use Rattle.ebpf_items.specs.Instruction.{bytes_of}
 use Rattle.load_plan.specs.Content.{ProgramContent, PlanContent}
 use Rattle.load_plan.specs.ProgramKinds.{kind_numbers}
-use Rattle.load_plan.specs.Text.{hex_word, program_words, front_lines, end_lines, text_of, line_onto, lines_onto, text_of_lines, slot_bytes, program_lines}
+use Rattle.load_plan.specs.PlanGrammar.{hex_word, program_words, front_lines, end_lines, text_of, line_onto, lines_onto, text_of_lines, slot_bytes, program_lines}
 
 pub encode_with-append : (digits xs ys : List ℕ) → encode_with digits (xs ++ ys) ≡ encode_with digits xs ++ encode_with digits ys
 unfolding encode_with

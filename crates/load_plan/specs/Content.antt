@@ -1,6 +1,5 @@
 -- What a load plan says.
-use Rattle.std.specs.Prelude.{◌≡◌, ◌≢◌, ℕ, ◌==◌, false, List, map, Option, IfSome}
-use Rattle.std.specs.List.{list_any}
+use Rattle.std.specs.Prelude.{ℕ, List, map, Option}
 use Rattle.std.specs.List.Sorted.{IsStrictlySortedBy}
 use Rattle.std.specs.Ordering.{nat_cmp}
 use Rattle.std.specs.Cmp.Lexicographic.{slice_cmp}
@@ -18,18 +17,6 @@ pub record PlanContent : Type 0 where
   pub license : List ℕ
   pub version : Option ℕ
   pub programs : List ProgramContent
-
--- the number that stands for any version
-abbrev pub any_version : ℕ
-any_version = 0xffff_fffe
-
--- no byte is a NUL
-abbrev pub IsText : List ℕ → Type 0
-IsText bytes = list_any (λ b. b == 0) bytes ≡ false
-
--- a version that is named isn't the number for any
-abbrev pub IsKnownVersion : Option ℕ → Type 0
-IsKnownVersion version = IfSome version (λ v. v ≢ any_version)
 
 -- names strictly rise by bytes
 abbrev pub AreRising : List ProgramContent → Type 0

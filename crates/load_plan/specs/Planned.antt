@@ -6,21 +6,21 @@ use Rattle.std.specs.Option.{option_map_or}
 use Rattle.ebpf_items.specs.declared.error.ParseError.TheVariants as error
 use Rattle.ebpf_items.specs.declared.instruction.bpf_insn.{bpf_insn}
 use Rattle.ebpf_object.specs.Content as object
-use Rattle.ebpf_object.specs.Faults.{HasFault, IsFaultless, object_of}
+use Rattle.ebpf_object.specs.Faults.{HasFault, IsFaultless}
 use Rattle.ebpf_object.specs.Programs.{key_cmp}
 use Rattle.ebpf_object.specs.Reading.{HasReadingFault, IsReadable}
 use Rattle.ebpf_object.specs.Served.{is_served}
 use Rattle.load_plan.specs.Content.{PlanContent, ProgramContent}
 use Rattle.load_plan.specs.declared.error.PrepareError.{PrepareError}
-use Rattle.load_plan.specs.declared.error.PrepareError.TheVariants.{Parse, NotYet}
+use Rattle.load_plan.specs.declared.error.PrepareError.TheVariants.{Parse, NotYet, OutOfMemory}
 
 -- the slots of the function of a key
 abbrev pub slots_at : List ((ℕ × ℕ) × object.FunctionContent) → ℕ × ℕ → List bpf_insn
 slots_at functions key = option_map_or (λ f. f.instructions) (lookup (is_at (key_cmp key)) functions) []
 
 -- a program with the slots of its function
-abbrev pub planned : List ((ℕ × ℕ) × object.FunctionContent) → (List ℕ × object.ProgramContent) → ProgramContent
-planned functions e = record {
+abbrev pub plan_program_of : List ((ℕ × ℕ) × object.FunctionContent) → (List ℕ × object.ProgramContent) → ProgramContent
+plan_program_of functions e = record {
   name = e.0;
   section = e.1.section;
   slots = slots_at functions (e.1.section_index, e.1.address);
@@ -28,13 +28,14 @@ planned functions e = record {
 
 -- the plan of an object: its programs, by name
 abbrev pub plan_of : object.ObjectContent → PlanContent
-plan_of o = record { license = o.license; version = o.kernel_version; programs = map (planned o.functions) o.programs }
+plan_of o = record { license = o.license; version = o.kernel_version; programs = map (plan_program_of o.functions) o.programs }
 
--- What a refusal says of a file. Faults of reading come before the question whether an object is served, and all others
--- after it; memory apart.
+-- What a refusal says of a file, memory apart: a fault of reading, or that an object whose sections can be read isn't
+-- served, or another fault of one that is.
 abbrev pub IsRefusal : List ℕ → PrepareError → Type 0
-IsRefusal file (Parse e) = e ≢ error.OutOfMemory → HasReadingFault file e ⊎ ((is_served file ≡ true) × HasFault file e)
-IsRefusal file NotYet = (is_served file ≡ false) × IsReadable file
+IsRefusal file (Parse e) = e ≢ error.OutOfMemory → HasReadingFault file e ⊎ (IsReadable file × (is_served file ≡ true) × HasFault file e)
+IsRefusal file NotYet = IsReadable file × (is_served file ≡ false)
+IsRefusal file OutOfMemory = Unit {0}
 
 -- what is known of a file whose plan is made
 pub record IsPrepared (file : List ℕ) : Type 0 where

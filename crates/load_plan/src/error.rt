@@ -1,8 +1,7 @@
 //! Why an object gets no plan.
 
 ghost use Rattle.std.specs.Prelude.{◌≡◌};
-ghost use Rattle.load_plan.specs.declared.error.PrepareError.TheVariants.{Parse};
-ghost use Rattle.ebpf_items.specs.declared.error.ParseError.TheVariants.{OutOfMemory};
+ghost use Rattle.load_plan.specs.declared.error.PrepareError.TheVariants.{Parse, OutOfMemory};
 
 use ebpf_items::ParseError;
 use std::alloc::{AllocError, AllocFailed};
@@ -18,6 +17,9 @@ pub enum PrepareError {
     /// `.text`, relocations or calls of other functions.
     #[error("not yet: the object has maps, types, data, functions in .text, relocations or calls")]
     NotYet,
+    /// Memory ran out.
+    #[error("out of memory")]
+    OutOfMemory,
 }
 
 impl From<ParseError> for PrepareError {
@@ -29,17 +31,17 @@ impl From<ParseError> for PrepareError {
 }
 
 impl From<AllocError> for PrepareError {
-    ghost from_gives = { λ _ e. e ≡ Parse OutOfMemory };
+    ghost from_gives = { λ _ e. e ≡ OutOfMemory };
 
     fn from(_error: AllocError) -> PrepareError {
-        PrepareError::Parse(ParseError::OutOfMemory)
+        PrepareError::OutOfMemory
     }
 }
 
 impl<T: Drop> From<AllocFailed<T>> for PrepareError {
-    ghost from_gives = { λ _ e. e ≡ Parse OutOfMemory };
+    ghost from_gives = { λ _ e. e ≡ OutOfMemory };
 
     fn from(_error: AllocFailed<T>) -> PrepareError {
-        PrepareError::Parse(ParseError::OutOfMemory)
+        PrepareError::OutOfMemory
     }
 }

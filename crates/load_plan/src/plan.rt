@@ -1,7 +1,9 @@
 //! What a plan holds.
 
 ghost use Rattle.std.specs.Prelude.{◌≡◌};
-ghost use Rattle.load_plan.specs.Content.{IsText, IsKnownVersion, AreRising};
+ghost use Rattle.ebpf_object.specs.License.{HasNoNul};
+ghost use Rattle.ebpf_object.specs.Version.{IsKnownVersion};
+ghost use Rattle.load_plan.specs.Content.{AreRising};
 
 use ebpf_items::{ProgramSection, bpf_insn};
 use std::marker::Model;
@@ -62,16 +64,18 @@ impl Model for Plan {
 
     ghost view = { λ p. record { license = p.license.items; version = p.version; programs = p.programs.items } };
 
-    ghost use Rattle.load_plan.specs.Content.{IsText, IsKnownVersion, AreRising};
+    ghost use Rattle.ebpf_object.specs.License.{HasNoNul};
+    ghost use Rattle.ebpf_object.specs.Version.{IsKnownVersion};
+    ghost use Rattle.load_plan.specs.Content.{AreRising};
 
-    ghost invariant = { λ p. IsText p.license.items × IsKnownVersion p.version × AreRising p.programs.items };
+    ghost invariant = { λ p. HasNoNul p.license.items × IsKnownVersion p.version × AreRising p.programs.items };
 }
 
 impl Plan {
     /// The license, without the NUL that ends it in the object.
     pub fn license(&self) -> &[u8]
         ensures value { result.now ≡ self.now.license }
-        ensures text { IsText self.now.license }
+        ensures text { HasNoNul self.now.license }
     {
         self.license.as_slice()
     }

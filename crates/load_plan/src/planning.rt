@@ -1,9 +1,9 @@
 //! From an object's bytes to its plan.
 
 ghost use Rattle.std.specs.Prelude.{◌≡◌, List, map, IfOk, IfErr, OnOk};
-ghost use Rattle.ebpf_object.specs.Faults.{object_of};
+ghost use Rattle.ebpf_object.specs.ParsedObject.{object_of};
 ghost use Rattle.load_plan.specs.Content.{AreRising};
-ghost use Rattle.load_plan.specs.Planned.{slots_at, planned, plan_of, IsRefusal, IsPrepared};
+ghost use Rattle.load_plan.specs.Planned.{slots_at, plan_program_of, plan_of, IsRefusal, IsPrepared};
 
 use crate::error::PrepareError;
 use crate::plan::{Plan, PlanProgram};
@@ -43,7 +43,7 @@ fn plan_program(
     name: &str,
     program: &Program<'_>,
 ) -> Result<PlanProgram, AllocError>
-    ensures { IfOk result (λ p. p ≡ planned object.now.functions (name.now, program.now)) }
+    ensures { IfOk result (λ p. p ≡ plan_program_of object.now.functions (name.now, program.now)) }
 {
     let slots = slots_at(alloc, object, program.function_key())?;
     Ok(PlanProgram {
@@ -55,7 +55,7 @@ fn plan_program(
 
 /// The programs of a plan, by name.
 fn plan_programs(alloc: Global, object: &Object<'_>) -> Result<Vec<PlanProgram>, AllocError>
-    ensures value { IfOk result (λ list. list.items ≡ map (planned object.now.functions) object.now.programs) }
+    ensures value { IfOk result (λ list. list.items ≡ map (plan_program_of object.now.functions) object.now.programs) }
     ensures rising { IfOk result (λ list. AreRising list.items) }
 {
     let mut programs = Vec::new(alloc);

@@ -52,7 +52,10 @@ impl Write for Short {
 
 /// Whether memory ran out.
 fn is_memory(error: &PrepareError) -> bool {
-    matches!(error, PrepareError::Parse(ParseError::OutOfMemory))
+    matches!(
+        error,
+        PrepareError::Parse(ParseError::OutOfMemory) | PrepareError::OutOfMemory
+    )
 }
 
 /// The object with some bytes at an offset.

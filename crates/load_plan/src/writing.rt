@@ -6,7 +6,7 @@ ghost use Rattle.std.specs.Io.KnownBytes.{Appends};
 ghost use Rattle.ebpf_items.specs.Instruction.{bytes_of};
 ghost use Rattle.ebpf_items.specs.Watched.{watched_inner, has_failed, AppendsPart, Sends};
 ghost use Rattle.hex.specs.Hex.{encode_lower};
-ghost use Rattle.load_plan.specs.Text.{hex_word, slot_bytes, version_word, program_words, program_lines, text_of_lines, text_of};
+ghost use Rattle.load_plan.specs.PlanGrammar.{hex_word, slot_bytes, version_word, program_words, program_lines, text_of_lines, text_of};
 
 use crate::plan::{Plan, PlanProgram};
 use crate::program_kind::{KindNumbers, kind_numbers};
@@ -145,6 +145,7 @@ impl Plan {
         ensures ok { OnOk result (Appends (W.contents (watched_inner out.old)) (W.contents (watched_inner out.new)) (text_of self.now)) }
         ensures part { OnErr result (AppendsPart (W.contents (watched_inner out.old)) (W.contents (watched_inner out.new)) (text_of self.now)) }
         ensures failed { IsErr result ↔ (has_failed out.new ≡ true) }
+        ensures at_once { has_failed out.old ≡ true → out.new ≡ out.old }
     {
         send_plan(out, self);
         if out.failed() {

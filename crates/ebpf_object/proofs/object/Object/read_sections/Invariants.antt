@@ -11,5 +11,5 @@ invariant-loop-section l = record {
   programs : l.self.programs ≡ fold (with_programs l.fn.self.license l.fn.self.kernel_version (symbols_of l.file)) l.fn.self.programs (filter is_program (take l.section-index l.sections));
   functions : l.self.functions ≡ fold (with_functions (symbols_of l.file)) l.fn.self.functions (filter is_program (take l.section-index l.sections));
   kept : KeepsRest l.fn.self l.self;
-  accepted : AreSound (symbols_of l.file) (filter is_program (take l.section-index l.sections));
+  accepted : AreSound (symbols_of l.file) (take l.section-index l.sections);
 }
