@@ -121,7 +121,8 @@ impl<'a> ElfFile<'a> {
     /// The relocation sections of the first symbol table that have a target, in order of index.
     #[tactic(auto, unfolding(crate::specs::Relocations::relocation_sections_of))]
     pub fn relocation_sections(&self) -> RelocationSections<'a>
-        ensures { result ≡ relocation_sections_of self.now }
+        ensures value { result ≡ relocation_sections_of self.now }
+        ensures countable { length result < 2 ^ 64 }
     {
         let order = self.order();
         match symbol_table_index(order, self.table) {

@@ -83,7 +83,8 @@ impl<'a> RelocationSections<'a> {
         table: &'a [u8],
         symbol_table: usize,
     ) -> RelocationSections<'a>
-        ensures { result ≡ relocation_sections_at bytes.now order table.now symbol_table (section_indexes table.now) }
+        ensures value { result ≡ relocation_sections_at bytes.now order table.now symbol_table (section_indexes table.now) }
+        ensures countable { length result < 2 ^ 64 }
     {
         RelocationSections {
             bytes,
