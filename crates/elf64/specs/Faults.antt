@@ -1,12 +1,12 @@
 -- What is wrong with a file, as conditions on its fields.
-use Rattle.std.specs.Prelude.{◌≡◌, ◌≢◌, ℕ, ◌/◌, ◌%◌, ◌≤◌, ◌<◌, ◌⊎◌, List, [], ◌∷◌, length, take, slice_index, None, IsSomeAnd, true}
+use Rattle.std.specs.Prelude.{◌≡◌, ◌≢◌, ℕ, ◌/◌, ◌%◌, ◌<◌, ◌⊎◌, List, length, None, IsSomeAnd, true, false}
 use Rattle.elf64.specs.declared.order.ByteOrder.{ByteOrder}
 use Rattle.elf64.specs.declared.header.FileHeader.{FileHeader}
 use Rattle.elf64.specs.declared.header.SectionHeader.{SectionHeader}
 use Rattle.elf64.specs.declared.error.ElfError.{ElfError}
 use Rattle.elf64.specs.declared.error.ElfError.TheVariants.{NotElf, UnsupportedClass, UnsupportedOrder, BadSectionTable, BadSymbolTable, BadRelocationTable, Name, SectionData}
 use Rattle.elf64.specs.Numbers.{bytes_at}
-use Rattle.elf64.specs.Headers.{order_of, header_of, table_in, header_count, section_header, section_at}
+use Rattle.elf64.specs.Headers.{is_elf, is_elf64, order_of, header_of, table_in, header_count, section_header, section_at}
 use Rattle.elf64.specs.Sections.{section_names_in}
 use Rattle.elf64.specs.Symbols.{symbol_entry, symbol_table_index, symbol_names_in}
 use Rattle.elf64.specs.Relocations.{is_relocation_table, entry_size}
@@ -50,9 +50,9 @@ OnSymbolTable bytes P = OnTable bytes (λ order table. IsSomeAnd (symbol_table_i
 
 -- a fault of the file; a section's bytes and a name are judged when they are asked for
 abbrev pub HasFault : List ℕ → ElfError → Type 0
-HasFault bytes NotElf = (length bytes < 64) ⊎ (take 4 bytes ≢ 0x7f ∷ 0x45 ∷ 0x4c ∷ 0x46 ∷ [])
-HasFault bytes UnsupportedClass = (64 ≤ length bytes) × (slice_index bytes 4 ≢ 2)
-HasFault bytes UnsupportedOrder = (64 ≤ length bytes) × (order_of bytes ≡ None)
+HasFault bytes NotElf = is_elf bytes ≡ false
+HasFault bytes UnsupportedClass = (is_elf bytes ≡ true) × (is_elf64 bytes ≡ false)
+HasFault bytes UnsupportedOrder = (is_elf64 bytes ≡ true) × (order_of bytes ≡ None)
 HasFault bytes BadSectionTable = IsSomeAnd (header_of bytes) (IsBadSectionTable bytes)
 HasFault bytes BadSymbolTable = OnSymbolTable bytes (λ order table index. IsBadSymbolTable bytes order table (section_header order table index))
 HasFault bytes BadRelocationTable = OnSymbolTable bytes (HasBadRelocationTable bytes)

@@ -1,9 +1,10 @@
 -- The file header and the section headers (ELF-64 object file format, File Header and Sections),
 -- as functions of the file's bytes.
-use Rattle.std.specs.Prelude.{◌≡◌, ℕ, ◌+◌, ◌-◌, ◌*◌, ◌/◌, List, [], length, slice_get, slice_index, nat_le, nat_lt, ◌==◌, ◌||◌, if◌then◌else◌, Option, Some, None}
+use Rattle.std.specs.Prelude.{◌≡◌, ℕ, ◌+◌, ◌-◌, ◌*◌, ◌/◌, List, [], ◌∷◌, length, take, slice_get, slice_index, nat_le, Bool, ◌==◌, ◌&&◌, ◌||◌, if◌then◌else◌, Option, Some, None}
 use Rattle.std.specs.Option.{option_map}
 use Rattle.std.specs.List.{range_with_len}
 use Rattle.std.specs.Int.{w16, w32, w64}
+use Rattle.std.specs.Str.{bytes_eq}
 use Rattle.elf64.specs.declared.order.ByteOrder.{ByteOrder}
 use Rattle.elf64.specs.declared.order.ByteOrder.TheVariants.{Little, Big}
 use Rattle.elf64.specs.declared.header.FileHeader.{FileHeader}
@@ -14,9 +15,17 @@ use Rattle.elf64.specs.Numbers.{number_at, bytes_at}
 abbrev pub order_named : ℕ → Option ByteOrder
 order_named byte = if byte == 1 then Some Little else if byte == 2 then Some Big else None
 
--- the byte order of a file that is long enough for a file header
+-- the ELF magic, in a file that is long enough for a file header
+abbrev pub is_elf : List ℕ → Bool
+is_elf bytes = nat_le 64 (length bytes) && bytes_eq (take 4 bytes) (0x7f ∷ 0x45 ∷ 0x4c ∷ 0x46 ∷ [])
+
+-- EI_CLASS is ELFCLASS64
+abbrev pub is_elf64 : List ℕ → Bool
+is_elf64 bytes = is_elf bytes && (slice_index bytes 4 == 2)
+
+-- the byte order of an ELF64 file
 abbrev pub order_of : List ℕ → Option ByteOrder
-order_of bytes = if nat_lt (length bytes) 64 then None else order_named (slice_index bytes 5)
+order_of bytes = if is_elf64 bytes then order_named (slice_index bytes 5) else None
 
 -- the fields of the file header: e_shoff, e_shentsize, e_shnum, e_shstrndx
 unfoldable pub file_header : List ℕ → ByteOrder → FileHeader

@@ -1,6 +1,6 @@
 -- The relocations of a file: the entries of the relocation sections that belong to its symbol table
 -- (ELF-64 object file format, Relocation).
-use Rattle.std.specs.Prelude.{ℕ, ◌+◌, ◌*◌, ◌/◌, ◌%◌, ◌^◌, ◌≤◌, ◌<◌, List, [], length, map, flat_map, ◌==◌, ◌&&◌, ◌||◌, not, Bool, if◌then◌else◌, Option, Some, None, unwrap_or, option_and_then}
+use Rattle.std.specs.Prelude.{ℕ, ◌+◌, ◌*◌, ◌/◌, ◌%◌, ◌^◌, ◌≤◌, ◌<◌, List, [], length, map, filter, flat_map, ◌==◌, ◌&&◌, ◌||◌, not, Bool, if◌then◌else◌, Option, Some, None, unwrap_or, option_and_then}
 use Rattle.std.specs.Option.{option_map}
 use Rattle.std.specs.List.{range_with_len}
 use Rattle.std.specs.Int.{w64}
@@ -54,23 +54,36 @@ pub record AreEntriesWithin (size next left len : ℕ) : Type 0 where
   pub least : 16 ≤ size
   pub within : 0 < left → size * (next + left) ≤ len
 
--- the relocations that a section holds for a target
-abbrev pub relocations_from : List ℕ → ByteOrder → ℕ → ℕ → SectionHeader → List Relocation
-relocations_from bytes order symbol_table target header =
-    if is_relocation_table symbol_table header && (header.info == target)
-    then entries_in order (entry_size header) (unwrap_or (bytes_at bytes header.offset header.size) [])
-    else []
+-- what a relocation section shows: the index of the section that its entries apply to, and these
+pub record RelocationSection : Type 0 where
+  pub target : ℕ
+  pub relocations : List Relocation
 
--- the relocations of a target in the sections of some indexes
-abbrev pub relocations_at : List ℕ → ByteOrder → List ℕ → ℕ → ℕ → List ℕ → List Relocation
-relocations_at bytes order table symbol_table target indexes =
-    flat_map (λ i. relocations_from bytes order symbol_table target (section_header order table i)) indexes
+-- a relocation section, by the file's bytes and its header
+unfoldable pub relocation_section_from : List ℕ → ByteOrder → SectionHeader → RelocationSection
+relocation_section_from bytes order header = record {
+  target = header.info;
+  relocations = entries_in order (entry_size header) (unwrap_or (bytes_at bytes header.offset header.size) []);
+}
 
-abbrev pub relocations_in : List ℕ → ByteOrder → ℕ → List ℕ → List Relocation
-relocations_in bytes order target table =
-    unwrap_or (option_map (λ symbol_table. relocations_at bytes order table symbol_table target (section_indexes table)) (symbol_table_index order table)) []
+-- the relocation sections of a symbol table among the sections of some indexes
+abbrev pub relocation_sections_at : List ℕ → ByteOrder → List ℕ → ℕ → List ℕ → List RelocationSection
+relocation_sections_at bytes order table symbol_table indexes =
+    map (relocation_section_from bytes order) (filter (is_relocation_table symbol_table) (map (section_header order table) indexes))
+
+abbrev pub relocation_sections_in : List ℕ → ByteOrder → List ℕ → List RelocationSection
+relocation_sections_in bytes order table =
+    unwrap_or (option_map (λ symbol_table. relocation_sections_at bytes order table symbol_table (section_indexes table)) (symbol_table_index order table)) []
+
+-- the relocation sections of a file's symbol table, in order of index
+unfoldable pub relocation_sections_of : List ℕ → List RelocationSection
+relocation_sections_of bytes =
+    unwrap_or (option_and_then (λ header. option_map (relocation_sections_in bytes header.order) (table_in bytes header)) (header_of bytes)) []
+
+-- the relocations that some relocation sections hold for a target
+abbrev pub relocations_to : ℕ → List RelocationSection → List Relocation
+relocations_to target sections = flat_map (λ s. s.relocations) (filter (λ s. s.target == target) sections)
 
 -- the relocations of the section of an index, by relocation section and then by entry
 unfoldable pub relocations_of : List ℕ → ℕ → List Relocation
-relocations_of bytes target =
-    unwrap_or (option_and_then (λ header. option_map (relocations_in bytes header.order target) (table_in bytes header)) (header_of bytes)) []
+relocations_of bytes target = relocations_to target (relocation_sections_of bytes)

@@ -4,13 +4,13 @@ ghost use Rattle.std.specs.Prelude.{◌≡◌, ◌+◌, ◌*◌, ◌≤◌, ◌<
 ghost use Rattle.elf64.specs.Headers.{AreNumbered, order_of};
 ghost use Rattle.elf64.specs.Sections.{sections_of, has_name, section_named};
 ghost use Rattle.elf64.specs.Symbols.{symbols_of};
-ghost use Rattle.elf64.specs.Relocations.{relocations_of};
+ghost use Rattle.elf64.specs.Relocations.{relocation_sections_of, relocations_of};
 ghost use Rattle.elf64.specs.Faults.{HasFault, IsFaultless};
 
 use crate::error::ElfError;
 use crate::header::{FileHeader, section_header};
 use crate::order::{ByteOrder, bytes_at};
-use crate::relocation::{RelocationTables, Relocations};
+use crate::relocation_section::{RelocationSections, Relocations};
 use crate::section::{SectionView, Sections};
 use crate::symbol::Symbols;
 use crate::table::{
@@ -118,22 +118,26 @@ impl<'a> ElfFile<'a> {
         Symbols::new(order, entries, names)
     }
 
+    /// The relocation sections of the first symbol table that have a target, in order of index.
+    #[tactic(auto, unfolding(crate::specs::Relocations::relocation_sections_of))]
+    pub fn relocation_sections(&self) -> RelocationSections<'a>
+        ensures value { result ≡ relocation_sections_of self.now }
+        ensures countable { length result < 2 ^ 64 }
+    {
+        let order = self.order();
+        match symbol_table_index(order, self.table) {
+            Some(index) => RelocationSections::new(self.bytes, order, self.table, index),
+            None => RelocationSections::none(order),
+        }
+    }
+
     /// The relocations of the section of an index, in order of relocation section and then of
-    /// entry: none for an index that no section has.
+    /// entry: none for an index that no section has. For those of many sections, go over
+    /// [`ElfFile::relocation_sections`] once.
     #[tactic(auto, unfolding(crate::specs::Relocations::relocations_of))]
     pub fn relocations(&self, section: usize) -> Relocations<'a>
         ensures { result ≡ relocations_of self.now section }
     {
-        let order = self.order();
-        let Some(symbol_table) = symbol_table_index(order, self.table) else {
-            return Relocations::none(order);
-        };
-        Relocations::new(RelocationTables {
-            bytes: self.bytes,
-            order,
-            table: self.table,
-            symbol_table,
-            target: section,
-        })
+        Relocations::of_target(self.relocation_sections(), section)
     }
 }

@@ -7,6 +7,7 @@ mod header;
 mod kind;
 mod order;
 mod relocation;
+mod relocation_section;
 mod section;
 mod symbol;
 mod table;
@@ -16,7 +17,8 @@ pub use error::ElfError;
 pub use file::ElfFile;
 pub use kind::SymbolKind;
 pub use order::ByteOrder;
-pub use relocation::{RelocView, Relocations};
+pub use relocation::RelocView;
+pub use relocation_section::{RelocationSectionView, RelocationSections, Relocations};
 pub use section::{SectionView, Sections};
 pub use symbol::{SymbolView, Symbols};
 

@@ -3,8 +3,8 @@
 ghost use Rattle.std.specs.Prelude.{◌≡◌, ◌+◌, ◌-◌, ◌*◌, ◌/◌, ◌≤◌, ◌<◌, ℕ, List, [], length, Some, None};
 ghost use Rattle.std.specs.Iterator.{YieldsFirst, item_count};
 ghost use Rattle.std.specs.List.{range_with_len};
-ghost use Rattle.elf64.specs.Headers.{section_header, section_indexes};
-ghost use Rattle.elf64.specs.Relocations.{symbol_in, width_in, entry_size, is_relocation_table, entries_in, relocations_from, relocations_at};
+ghost use Rattle.std.specs.List.{range_with_len};
+ghost use Rattle.elf64.specs.Relocations.{symbol_in, width_in, entry_size, is_relocation_table, entries_in};
 
 use crate::header::{SectionHeader, section_header, section_header_count};
 use crate::order::{ByteOrder, bytes_at, u64_at};
@@ -94,7 +94,7 @@ impl RelocView {
 
 /// The entries of one relocation section.
 #[derive(Drop, Debug)]
-struct Entries<'a> {
+pub(crate) struct Entries<'a> {
     order: ByteOrder,
     bytes: &'a [u8],
     size: usize,
@@ -138,14 +138,14 @@ impl<'a> Iterator for Entries<'a> {
 
 impl<'a> Entries<'a> {
     /// No entries.
-    fn none(order: ByteOrder) -> Entries<'a>
+    pub(crate) fn none(order: ByteOrder) -> Entries<'a>
         ensures { result ≡ [] }
     {
         Entries::new(order, &[], REL_SIZE as usize)
     }
 
     /// The entries of some bytes.
-    fn new(order: ByteOrder, bytes: &'a [u8], size: usize) -> Entries<'a>
+    pub(crate) fn new(order: ByteOrder, bytes: &'a [u8], size: usize) -> Entries<'a>
         requires { 16 ≤ size }
         ensures { result ≡ entries_in order size bytes.now }
     {
@@ -156,102 +156,5 @@ impl<'a> Entries<'a> {
             next: 0,
             left: bytes.len() / size,
         }
-    }
-}
-
-/// The relocation sections of a file, of which those with one target are wanted.
-#[derive(Clone, Copy, Debug)]
-pub(crate) struct RelocationTables<'a> {
-    pub bytes: &'a [u8],
-    pub order: ByteOrder,
-    pub table: &'a [u8],
-    pub symbol_table: usize,
-    pub target: usize,
-}
-
-impl<'a> RelocationTables<'a> {
-    /// The relocations that the section of an index holds for the target.
-    fn entries(&self, index: usize) -> Entries<'a>
-        requires { 64 * index + 64 ≤ length self.now.table.now }
-        ensures { result ≡ relocations_from self.now.bytes.now self.now.order self.now.symbol_table self.now.target (section_header self.now.order self.now.table.now index) }
-    {
-        let header = section_header(self.order, self.table, index);
-        if !is_relocation_table(self.symbol_table, &header) || header.info as usize != self.target {
-            return Entries::none(self.order);
-        }
-        match bytes_at(self.bytes, header.offset, header.size) {
-            Some(bytes) => Entries::new(self.order, bytes, entry_size(&header) as usize),
-            None => Entries::none(self.order),
-        }
-    }
-}
-
-/// The relocations of a section, by relocation section and then by entry.
-#[derive(Drop, Debug)]
-pub struct Relocations<'a> {
-    tables: RelocationTables<'a>,
-    entries: Entries<'a>,
-    next: usize,
-    left: usize,
-}
-
-impl<'a> Model for Relocations<'a> {
-    ghost use Rattle.std.specs.Prelude.{List, length, ◌++◌, ◌+◌, ◌*◌, ◌^◌, ◌≤◌, ◌<◌};
-    ghost use Rattle.std.specs.List.{range_with_len};
-    ghost use Rattle.elf64.specs.Relocations.{Relocation, relocations_at};
-
-    ghost Value = { List Relocation };
-
-    ghost view = { λ s. s.entries ++ relocations_at s.tables.bytes.now s.tables.order s.tables.table.now s.tables.symbol_table s.tables.target (range_with_len s.next s.left) };
-
-    ghost invariant = { λ s. (0 < s.left → 64 * (s.next + s.left) ≤ length s.tables.table.now) × (length s.tables.table.now < 2 ^ 64) };
-}
-
-impl<'a> Iterator for Relocations<'a> {
-    type Item = RelocView;
-
-    ghost next_gives = { YieldsFirst (λ s. s) };
-
-    ghost remaining = { item_count (λ s. s) };
-
-    fn next(&mut self) -> Option<RelocView> {
-        loop {
-            if let Some(relocation) = self.entries.next() {
-                return Some(relocation);
-            }
-            if self.left == 0 {
-                return None;
-            }
-            self.entries = self.tables.entries(self.next);
-            self.next += 1;
-            self.left -= 1;
-        }
-    }
-}
-
-impl<'a> Relocations<'a> {
-    /// The relocations in all sections of a file.
-    pub(crate) fn new(tables: RelocationTables<'a>) -> Relocations<'a>
-        ensures { result ≡ relocations_at tables.entry.bytes.now tables.entry.order tables.entry.table.now tables.entry.symbol_table tables.entry.target (section_indexes tables.entry.table.now) }
-    {
-        Relocations {
-            tables,
-            entries: Entries::none(tables.order),
-            next: 1,
-            left: section_header_count(tables.table).saturating_sub(1),
-        }
-    }
-
-    /// No relocations.
-    pub(crate) fn none(order: ByteOrder) -> Relocations<'a>
-        ensures { result ≡ [] }
-    {
-        Relocations::new(RelocationTables {
-            bytes: &[],
-            order,
-            table: &[],
-            symbol_table: 0,
-            target: 0,
-        })
     }
 }

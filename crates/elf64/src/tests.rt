@@ -229,6 +229,18 @@ fn relocations_in_two_sections(rt: HostRuntime) -> Result<(), ElfError> {
         assert_eq!(rt; relocation.width(), width);
     }
     assert!(rt; relocations.next().is_none());
+    let mut sections = file.relocation_sections();
+    for offset in [8, 184] {
+        let section = sections.next().expect(&rt, "a relocation section");
+        assert_eq!(rt; section.target(), 4);
+        let mut relocations = section.relocations();
+        assert_eq!(rt;
+            relocations.next().map(|relocation| relocation.offset()),
+            Some(offset)
+        );
+        assert!(rt; relocations.next().is_none());
+    }
+    assert!(rt; sections.next().is_none());
     Ok(())
 }
 
