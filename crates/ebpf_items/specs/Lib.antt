@@ -1,12 +1,12 @@
-pub mod Attach
-pub mod Bindings
 pub mod Error
 pub mod Instruction
 pub mod LentContents
 pub mod Maps
-pub mod ProgramSection
 pub mod RelocationKind
 pub mod Section
-pub mod SectionKind
 pub mod Slots
 pub mod Watched
+pub use Rattle.program_kinds.specs.Attach
+pub use Rattle.program_kinds.specs.Bindings
+pub use Rattle.program_kinds.specs.ProgramSection
+pub use Rattle.program_kinds.specs.SectionKind

@@ -1,8 +1,8 @@
 -- Maps, as contracts see them.
 use Rattle.std.specs.Prelude.{ℕ, ◌==◌, Bool, true, false, List, [], Option, Some, None, if◌then◌else◌}
 use Rattle.std.specs.Option.{option_map}
-use Rattle.ebpf_items.specs.declared.section_kind.EbpfSectionKind.{EbpfSectionKind}
-use Rattle.ebpf_items.specs.declared.section_kind.EbpfSectionKind.TheVariants.{Undefined, BtfMaps}
+use Rattle.program_kinds.specs.declared.section_kind.EbpfSectionKind.{EbpfSectionKind}
+use Rattle.program_kinds.specs.declared.section_kind.EbpfSectionKind.TheVariants.{Undefined, BtfMaps}
 use Rattle.ebpf_items.specs.declared.maps.PinningType.{PinningType}
 use Rattle.ebpf_items.specs.declared.maps.PinningType.TheVariants as pinning
 use Rattle.ebpf_items.specs.declared.maps.bpf_map_def.{bpf_map_def}

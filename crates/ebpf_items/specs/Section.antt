@@ -5,7 +5,7 @@ use Rattle.elf64.specs.declared.error.ElfError.TheVariants.{Name, SectionData}
 use Rattle.ebpf_items.specs.declared.section.Section.{Section}
 use Rattle.ebpf_items.specs.declared.error.ParseError.{ParseError}
 use Rattle.ebpf_items.specs.declared.error.ParseError.TheVariants.{SectionError}
-use Rattle.ebpf_items.specs.SectionKind.{kind_of_section}
+use Rattle.program_kinds.specs.SectionKind.{kind_of_section}
 
 -- a section with the name, the bytes and the numbers that the file gives it
 pub record IsSectionOf (view : View) (section : Section) : Type 0 where

@@ -7,7 +7,7 @@ ghost use Rattle.std.specs.Borrow.{sem};
 ghost use Rattle.ebpf_items.specs.LentContents.{LendsContents};
 ghost use Rattle.ebpf_items.specs.Maps.{map_view, with_value_size, with_max_entries, inner_view, bare_view, view_of_info, pinning_of, legacy_words, btf_words};
 
-use crate::section_kind::EbpfSectionKind;
+use program_kinds::EbpfSectionKind;
 use std::alloc::{AllocError, Global};
 use thiserror::Error;
 

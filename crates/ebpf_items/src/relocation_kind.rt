@@ -5,7 +5,6 @@ ghost use Rattle.std.specs.Result.{result_ok};
 ghost use Rattle.ebpf_items.specs.RelocationKind.{relocation_kinds};
 ghost use Rattle.btf_records.specs.declared.error.BtfError.TheVariants.{InvalidRelocationKind};
 
-use crate::bindings::entry;
 use btf_records::BtfError;
 
 /// What a type relocation asks of the kernel's types: `enum bpf_core_relo_kind` of the kernel's
@@ -59,6 +58,12 @@ impl TryFrom<u32> for RelocationKind {
     ghost try_from_gives = { λ kind r. (result_ok r ≡ slice_get relocation_kinds kind) × IfErr r (λ e. e ≡ InvalidRelocationKind kind) };
 
     fn try_from(kind: u32) -> Result<RelocationKind, BtfError> {
-        entry(&RELOCATION_KINDS, kind).ok_or(BtfError::InvalidRelocationKind { kind })
+        kind_numbered(kind).ok_or(BtfError::InvalidRelocationKind { kind })
     }
+}
+
+fn kind_numbered(kind: u32) -> Option<RelocationKind>
+    ensures { result ≡ slice_get relocation_kinds kind }
+{
+    RELOCATION_KINDS.get(kind as usize).copied()
 }

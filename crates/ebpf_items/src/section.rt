@@ -3,8 +3,8 @@
 ghost use Rattle.ebpf_items.specs.Section.{Reads};
 
 use crate::error::ParseError;
-use crate::section_kind::EbpfSectionKind;
 use elf64::SectionView;
+use program_kinds::EbpfSectionKind;
 
 /// A section whose name and bytes can be read.
 #[derive(Debug, Drop)]

@@ -1,14 +1,13 @@
 //! Worked slots, names and numbers, and memory that runs out.
 
-ghost use Rattle.std.specs.Prelude.{◌≡◌, take};
+ghost use Rattle.std.specs.Prelude.{◌≡◌, ◌+◌, ◌≤◌, length, take};
 ghost use Rattle.ebpf_items.specs.Maps.{map_view};
 
 use crate::{
-    CgroupSkbAttachType, CgroupSockAttachType, EbpfSectionKind, LegacyMap, Map, ParseError,
-    PinningError, PinningType, ProgramSection, RelocationKind, Slots, XdpAttachType,
-    bpf_attach_type, bpf_insn, bpf_map_def, bpf_map_info, bpf_map_type, bpf_prog_type,
-    copy_instructions, parse_map_info,
+    EbpfSectionKind, LegacyMap, Map, ParseError, PinningError, PinningType, RelocationKind,
+    Section, Slots, bpf_insn, bpf_map_def, bpf_map_info, copy_instructions, parse_map_info,
 };
+use elf64::{ElfError, ElfFile};
 use std::alloc::Global;
 use std::test::Fail;
 
@@ -107,237 +106,8 @@ fn copies_whole_slots(rt: HostRuntime) -> Result<(), Fail> {
     Ok(())
 }
 
-// The kind's place in the list of kinds, and its fields: 0 or 1, or places in the lists of attach
-// types.
-fn numbers(kind: &ProgramSection) -> (u8, u8, u8) {
-    match kind {
-        ProgramSection::KRetProbe => (0, 0, 0),
-        ProgramSection::KProbe => (1, 0, 0),
-        ProgramSection::UProbe { sleepable, multi } => (2, *sleepable as u8, *multi as u8),
-        ProgramSection::URetProbe { sleepable, multi } => (3, *sleepable as u8, *multi as u8),
-        ProgramSection::TracePoint => (4, 0, 0),
-        ProgramSection::SocketFilter => (5, 0, 0),
-        ProgramSection::Xdp { frags, attach_type } => (6, *frags as u8, *attach_type as u8),
-        ProgramSection::SkMsg => (7, 0, 0),
-        ProgramSection::SkSkbStream { kind } => (8, *kind as u8, 0),
-        ProgramSection::SockOps => (9, 0, 0),
-        ProgramSection::SchedClassifier => (10, 0, 0),
-        ProgramSection::CgroupSkb { attach_type } => (11, direction(*attach_type), 0),
-        ProgramSection::CgroupSockAddr { attach_type } => (12, *attach_type as u8, 0),
-        ProgramSection::CgroupSysctl => (13, 0, 0),
-        ProgramSection::CgroupSockopt { attach_type } => (14, *attach_type as u8, 0),
-        ProgramSection::LircMode2 => (15, 0, 0),
-        ProgramSection::PerfEvent => (16, 0, 0),
-        ProgramSection::RawTracePoint => (17, 0, 0),
-        ProgramSection::Lsm { sleepable } => (18, *sleepable as u8, 0),
-        ProgramSection::LsmCgroup => (19, 0, 0),
-        ProgramSection::BtfTracePoint => (20, 0, 0),
-        ProgramSection::FEntry { sleepable } => (21, *sleepable as u8, 0),
-        ProgramSection::FExit { sleepable } => (22, *sleepable as u8, 0),
-        ProgramSection::FlowDissector => (23, 0, 0),
-        ProgramSection::Extension => (24, 0, 0),
-        ProgramSection::SkLookup => (25, 0, 0),
-        ProgramSection::SkReuseport { attach_type } => (26, *attach_type as u8, 0),
-        ProgramSection::CgroupSock { attach_type } => (27, *attach_type as u8, 0),
-        ProgramSection::CgroupDevice => (28, 0, 0),
-        ProgramSection::Iter { sleepable } => (29, *sleepable as u8, 0),
-    }
-}
-
-fn direction(attach_type: Option<CgroupSkbAttachType>) -> u8 {
-    match attach_type {
-        None => 0,
-        Some(CgroupSkbAttachType::Ingress) => 1,
-        Some(CgroupSkbAttachType::Egress) => 2,
-    }
-}
-
-static KINDS: [(&str, (u8, u8, u8)); 66] = [
-    ("kretprobe", (0, 0, 0)),
-    ("kprobe/do_unlinkat", (1, 0, 0)),
-    ("uprobe", (2, 0, 0)),
-    ("uprobe.s/", (2, 1, 0)),
-    ("uprobe.multi", (2, 0, 1)),
-    ("uprobe.multi.s/f", (2, 1, 1)),
-    ("uretprobe/a/b", (3, 0, 0)),
-    ("uretprobe.s", (3, 1, 0)),
-    ("uretprobe.multi", (3, 0, 1)),
-    ("uretprobe.multi.s", (3, 1, 1)),
-    ("tracepoint/syscalls/sys_enter_open", (4, 0, 0)),
-    ("tp", (4, 0, 0)),
-    ("socket", (5, 0, 0)),
-    ("xdp", (6, 0, 0)),
-    ("xdp/cpumap", (6, 0, 1)),
-    ("xdp/devmap/foo", (6, 0, 2)),
-    ("xdp.frags", (6, 1, 0)),
-    ("xdp.frags/cpumap", (6, 1, 1)),
-    ("xdp.frags/devmap", (6, 1, 2)),
-    ("sk_msg", (7, 0, 0)),
-    ("sk_skb/stream_parser/my_parser", (8, 0, 0)),
-    ("sk_skb/stream_verdict", (8, 1, 0)),
-    ("sockops", (9, 0, 0)),
-    ("classifier", (10, 0, 0)),
-    ("cgroup/skb", (11, 0, 0)),
-    ("cgroup_skb/ingress", (11, 1, 0)),
-    ("cgroup_skb/egress", (11, 2, 0)),
-    ("cgroup/bind4", (12, 0, 0)),
-    ("cgroup/bind6", (12, 1, 0)),
-    ("cgroup/connect4/foo", (12, 2, 0)),
-    ("cgroup/connect6", (12, 3, 0)),
-    ("cgroup/getpeername4", (12, 4, 0)),
-    ("cgroup/getpeername6", (12, 5, 0)),
-    ("cgroup/getsockname4", (12, 6, 0)),
-    ("cgroup/getsockname6", (12, 7, 0)),
-    ("cgroup/sendmsg4", (12, 8, 0)),
-    ("cgroup/sendmsg6", (12, 9, 0)),
-    ("cgroup/recvmsg4", (12, 10, 0)),
-    ("cgroup/recvmsg6", (12, 11, 0)),
-    ("cgroup/sysctl", (13, 0, 0)),
-    ("cgroup/getsockopt", (14, 0, 0)),
-    ("cgroup/setsockopt", (14, 1, 0)),
-    ("lirc_mode2", (15, 0, 0)),
-    ("perf_event", (16, 0, 0)),
-    ("raw_tp", (17, 0, 0)),
-    ("raw_tracepoint", (17, 0, 0)),
-    ("lsm", (18, 0, 0)),
-    ("lsm.s/foo", (18, 1, 0)),
-    ("lsm_cgroup/foo", (19, 0, 0)),
-    ("tp_btf", (20, 0, 0)),
-    ("fentry", (21, 0, 0)),
-    ("fentry.s", (21, 1, 0)),
-    ("fexit", (22, 0, 0)),
-    ("fexit.s", (22, 1, 0)),
-    ("flow_dissector", (23, 0, 0)),
-    ("freplace", (24, 0, 0)),
-    ("sk_lookup", (25, 0, 0)),
-    ("sk_reuseport", (26, 0, 0)),
-    ("sk_reuseport/migrate", (26, 1, 0)),
-    ("cgroup/post_bind4", (27, 0, 0)),
-    ("cgroup/post_bind6", (27, 1, 0)),
-    ("cgroup/sock", (27, 2, 0)),
-    ("cgroup/sock_create", (27, 2, 0)),
-    ("cgroup/sock_release", (27, 3, 0)),
-    ("cgroup/dev", (28, 0, 0)),
-    ("iter", (29, 0, 0)),
-];
-
 #[test]
-fn names_each_kind_of_program(rt: HostRuntime) -> Result<(), Fail> {
-    for (name, expected) in KINDS.iter() {
-        let kind: ProgramSection = name.parse().map_err(|_| "no kind")?;
-        assert_eq!(rt; numbers(&kind), *expected, "{name}");
-    }
-    let iter: ProgramSection = "iter.s/task".parse().map_err(|_| "no kind")?;
-    assert_eq!(rt; numbers(&iter), (29, 1, 0));
-    Ok(())
-}
-
-#[test]
-fn refuses_other_names(rt: HostRuntime) {
-    for name in [
-        "",
-        "/kprobe",
-        "kprobe.s",
-        "kprobe.multi",
-        "kretprobe.s",
-        "xdp/foo",
-        "xdp/",
-        "xdp.s",
-        "sk_skb",
-        "sk_skb/",
-        "sk_skb/stream_parser_",
-        "sk_reuseport/",
-        "cgroup_skb",
-        "cgroup_skb/skb",
-        "cgroup",
-        "cgroup/",
-        "cgroup/bind",
-        "lsm_cgroup.s",
-        "iter.multi",
-        "Kprobe",
-        "kprob",
-    ] {
-        assert!(rt; name.parse::<ProgramSection>().is_err(), "{name}");
-    }
-}
-
-#[test]
-fn names_kinds_of_sections(rt: HostRuntime) {
-    for (name, kind) in [
-        ("license2", EbpfSectionKind::License),
-        ("version", EbpfSectionKind::Version),
-        ("maps/foo", EbpfSectionKind::Maps),
-        (".maps", EbpfSectionKind::BtfMaps),
-        (".text.unlikely", EbpfSectionKind::Text),
-        (".bss", EbpfSectionKind::Bss),
-        (".data.rel", EbpfSectionKind::Data),
-        (".rodata.str1.1", EbpfSectionKind::Rodata),
-        (".BTF", EbpfSectionKind::Btf),
-        (".BTF.ext", EbpfSectionKind::BtfExt),
-        (".BTF.", EbpfSectionKind::Undefined),
-        ("kprobe", EbpfSectionKind::Undefined),
-    ] {
-        assert_eq!(rt; EbpfSectionKind::from_name(name), kind, "{name}");
-    }
-    assert_eq!(rt;
-        EbpfSectionKind::of_section("kprobe", true, 16),
-        EbpfSectionKind::Program
-    );
-    assert_eq!(rt;
-        EbpfSectionKind::of_section("kprobe", true, 0),
-        EbpfSectionKind::Undefined
-    );
-    assert_eq!(rt;
-        EbpfSectionKind::of_section("kprobe", false, 16),
-        EbpfSectionKind::Undefined
-    );
-    assert_eq!(rt;
-        EbpfSectionKind::of_section(".text", true, 16),
-        EbpfSectionKind::Text
-    );
-}
-
-#[test]
-fn numbers_bindings(rt: HostRuntime) {
-    assert!(rt;
-        matches!(
-            bpf_map_type::try_from(0),
-            Ok(bpf_map_type::BPF_MAP_TYPE_UNSPEC)
-        )
-    );
-    assert!(rt;
-        matches!(
-            bpf_map_type::try_from(27),
-            Ok(bpf_map_type::BPF_MAP_TYPE_RINGBUF)
-        )
-    );
-    assert!(rt;
-        matches!(
-            bpf_map_type::try_from(34),
-            Ok(bpf_map_type::BPF_MAP_TYPE_INSN_ARRAY)
-        )
-    );
-    assert!(rt; matches!(bpf_map_type::try_from(35), Err(error) if error.value == 35));
-    assert!(rt;
-        matches!(
-            bpf_prog_type::try_from(2),
-            Ok(bpf_prog_type::BPF_PROG_TYPE_KPROBE)
-        )
-    );
-    assert!(rt;
-        matches!(
-            bpf_prog_type::try_from(32),
-            Ok(bpf_prog_type::BPF_PROG_TYPE_NETFILTER)
-        )
-    );
-    assert!(rt; matches!(bpf_prog_type::try_from(33), Err(error) if error.value == 33));
-    assert_eq!(rt; bpf_map_type::BPF_MAP_TYPE_INSN_ARRAY as u32, 34);
-    assert_eq!(rt; bpf_prog_type::BPF_PROG_TYPE_NETFILTER as u32, 32);
-    assert_eq!(rt; bpf_attach_type::from(XdpAttachType::Interface) as u32, 37);
-    assert_eq!(rt;
-        bpf_attach_type::from(CgroupSockAttachType::default()) as u32,
-        2
-    );
+fn numbers_kinds(rt: HostRuntime) {
     assert!(rt;
         matches!(
             RelocationKind::try_from(0),
@@ -472,5 +242,68 @@ fn says_what_is_wrong(rt: HostRuntime) -> Result<(), Fail> {
     if let Ok(text) = format!(in rt.alloc(); "{error}") {
         assert_eq!(rt; text.as_str(), "no function of section 2 at address 0x8");
     }
+    Ok(())
+}
+
+const LEN: usize = 272;
+
+fn put(file: &mut [u8; LEN], at: usize, bytes: &[u8])
+    requires { at + length bytes.now ≤ LEN }
+{
+    file[at..at + bytes.len()].copy_from_slice(bytes);
+}
+
+// A file whose section 1, `kprobe`, holds eight bytes of code from an offset on. Section 2 holds
+// the names.
+fn object(offset: u8) -> [u8; LEN] {
+    let mut file = [0; LEN];
+    put(&mut file, 0, &[0x7f, b'E', b'L', b'F', 2, 1]);
+    put(&mut file, 40, &[80]);
+    put(&mut file, 58, &[64, 0, 3, 0, 2]);
+    put(&mut file, 64, b"\0kprobe\0");
+    put(&mut file, 72, &[0x95]);
+    put(&mut file, 144, &[1, 0, 0, 0, 1, 0, 0, 0, 6]);
+    put(&mut file, 144 + 16, &[0x20]);
+    put(&mut file, 144 + 24, &[offset]);
+    put(&mut file, 144 + 32, &[8]);
+    put(&mut file, 208 + 4, &[3]);
+    put(&mut file, 208 + 24, &[64]);
+    put(&mut file, 208 + 32, &[8]);
+    file
+}
+
+#[test]
+fn reads_a_section(rt: HostRuntime) -> Result<(), Fail> {
+    let bytes = object(72);
+    let file = ElfFile::parse(&bytes)?;
+    let view = file.section_by_name("kprobe").ok_or("no section")?;
+    let section = Section::try_from(&view)?;
+    assert_eq!(rt;
+        (section.index, section.name, section.size),
+        (1, "kprobe", 8)
+    );
+    assert_eq!(rt;
+        (section.kind, section.address),
+        (EbpfSectionKind::Program, 0x20)
+    );
+    assert_eq!(rt; section.bytes, [0x95, 0, 0, 0, 0, 0, 0, 0].as_slice());
+    Ok(())
+}
+
+#[test]
+fn refuses_a_section_past_the_end(rt: HostRuntime) -> Result<(), Fail> {
+    let mut bytes = object(72);
+    bytes[144 + 25] = 1;
+    let file = ElfFile::parse(&bytes)?;
+    let view = file.section_by_name("kprobe").ok_or("no section")?;
+    assert!(rt;
+        matches!(
+            Section::try_from(&view),
+            Err(ParseError::SectionError {
+                index: 1,
+                error: ElfError::SectionData
+            })
+        )
+    );
     Ok(())
 }

@@ -4,8 +4,8 @@ use Rattle.std.proofs.Math.Bool.{and-false}
 use Rattle.std.specs.Prelude.{is_some}
 use Rattle.elf64.specs.Sections.{Section}
 use Rattle.elf64.specs.Symbols.{Symbol}
-use Rattle.ebpf_items.specs.declared.section_kind.EbpfSectionKind.{EbpfSectionKind}
-use Rattle.ebpf_items.specs.declared.section_kind.EbpfSectionKind.TheVariants.{Text, Program}
+use Rattle.program_kinds.specs.declared.section_kind.EbpfSectionKind.{EbpfSectionKind}
+use Rattle.program_kinds.specs.declared.section_kind.EbpfSectionKind.TheVariants.{Text, Program}
 use Rattle.ebpf_object.specs.Faults.{AreSound, AreDistinct, function_addresses, is_text_section, is_text_section_kind}
 use Rattle.ebpf_object.specs.Programs.{is_program, is_program_kind, kind_of}
 use Rattle.ebpf_object.specs.Symbols.{symbols_in}

@@ -2,7 +2,7 @@
 use Rattle.std.specs.Prelude.{◌≡◌, ℕ, List, Option}
 use Rattle.elf64.specs.declared.order.ByteOrder.{ByteOrder}
 use Rattle.ebpf_items.specs.declared.instruction.bpf_insn.{bpf_insn}
-use Rattle.ebpf_items.specs.declared.program_section.ProgramSection.{ProgramSection}
+use Rattle.program_kinds.specs.declared.program_section.ProgramSection.{ProgramSection}
 
 -- a program: its license and version are those of the object, its section and address are its function's key
 pub record ProgramContent : Type 0 where

@@ -9,8 +9,8 @@ use Rattle.elf64.specs.Sections.{Section, has_name}
 use Rattle.elf64.specs.Symbols.{Symbol, symbols_of}
 use Rattle.ebpf_items.specs.declared.error.ParseError.{ParseError}
 use Rattle.ebpf_items.specs.declared.error.ParseError.TheVariants as error
-use Rattle.ebpf_items.specs.declared.section_kind.EbpfSectionKind.{EbpfSectionKind}
-use Rattle.ebpf_items.specs.declared.section_kind.EbpfSectionKind.TheVariants.{Text}
+use Rattle.program_kinds.specs.declared.section_kind.EbpfSectionKind.{EbpfSectionKind}
+use Rattle.program_kinds.specs.declared.section_kind.EbpfSectionKind.TheVariants.{Text}
 use Rattle.ebpf_object.specs.License.{license_bytes, IsLicense, IsInvalidLicense, LacksNul}
 use Rattle.ebpf_object.specs.Programs.{kind_of, is_program, is_text_kind, program_kind, has_no_code}
 use Rattle.ebpf_object.specs.Reading.{read_sections, HasUnreadable}

@@ -11,11 +11,11 @@ use Rattle.elf64.specs.declared.kind.SymbolKind.TheVariants as symbol
 use Rattle.elf64.specs.Sections.{Section}
 use Rattle.elf64.specs.Symbols.{Symbol}
 use Rattle.ebpf_items.specs.Instruction.{slots_of}
-use Rattle.ebpf_items.specs.ProgramSection.{kind_of_name}
-use Rattle.ebpf_items.specs.SectionKind.{kind_of_section}
-use Rattle.ebpf_items.specs.declared.program_section.ProgramSection.{ProgramSection}
-use Rattle.ebpf_items.specs.declared.section_kind.EbpfSectionKind.{EbpfSectionKind}
-use Rattle.ebpf_items.specs.declared.section_kind.EbpfSectionKind.TheVariants as kind
+use Rattle.program_kinds.specs.ProgramSection.{kind_of_name}
+use Rattle.program_kinds.specs.SectionKind.{kind_of_section}
+use Rattle.program_kinds.specs.declared.program_section.ProgramSection.{ProgramSection}
+use Rattle.program_kinds.specs.declared.section_kind.EbpfSectionKind.{EbpfSectionKind}
+use Rattle.program_kinds.specs.declared.section_kind.EbpfSectionKind.TheVariants as kind
 use Rattle.ebpf_object.specs.Content.{ProgramContent, FunctionContent}
 use Rattle.ebpf_object.specs.Symbols.{symbols_in}
 

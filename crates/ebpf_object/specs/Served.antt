@@ -2,11 +2,11 @@
 use Rattle.std.specs.Prelude.{ℕ, List, length, ◌==◌, ◌&&◌, not, Bool, true, false}
 use Rattle.std.specs.List.{list_any, list_all}
 use Rattle.std.specs.Option.{option_map_or}
-use Rattle.elf64.specs.Relocations.{relocations_of}
+use Rattle.elf64.specs.Relocations.{relocation_sections_of}
 use Rattle.elf64.specs.Sections.{Section, sections_of}
 use Rattle.elf64.specs.Symbols.{Symbol, symbols_of}
-use Rattle.ebpf_items.specs.declared.section_kind.EbpfSectionKind.{EbpfSectionKind}
-use Rattle.ebpf_items.specs.declared.section_kind.EbpfSectionKind.TheVariants as kind
+use Rattle.program_kinds.specs.declared.section_kind.EbpfSectionKind.{EbpfSectionKind}
+use Rattle.program_kinds.specs.declared.section_kind.EbpfSectionKind.TheVariants as kind
 use Rattle.ebpf_items.specs.Instruction.{is_pseudo_call, slots_of}
 use Rattle.ebpf_object.specs.Programs.{kind_of, is_function, code_of}
 use Rattle.ebpf_object.specs.Symbols.{symbols_in}
@@ -24,11 +24,10 @@ is_served_kind symbols section kind.Text = section.size == 0
 is_served_kind symbols section kind.Program = not (list_any (has_call section) symbols)
 is_served_kind symbols section _ = false
 
--- a section that is served has no relocations either
 abbrev pub is_served_section : List ℕ → Section → Bool
-is_served_section file section =
-    (length (relocations_of file section.index) == 0) && is_served_kind (symbols_in (symbols_of file) section.index) section (kind_of section)
+is_served_section file section = is_served_kind (symbols_in (symbols_of file) section.index) section (kind_of section)
 
--- whether each section of an object is served
+-- whether each section of an object is served, and no section has a relocation
 abbrev pub is_served : List ℕ → Bool
-is_served file = list_all (is_served_section file) (sections_of file)
+is_served file =
+    list_all (λ r. length r.relocations == 0) (relocation_sections_of file) && list_all (is_served_section file) (sections_of file)

@@ -1,8 +1,10 @@
 //! Which objects are served so far.
 
-ghost use Rattle.std.specs.Prelude.{◌≡◌, [], ◌==◌};
+ghost use Rattle.std.specs.Prelude.{◌≡◌, [], ◌==◌, length};
 ghost use Rattle.std.specs.List.{list_any, list_all};
 ghost use Rattle.std.specs.Option.{option_map_or};
+ghost use Rattle.elf64.specs.Relocations.{relocation_sections_of};
+ghost use Rattle.elf64.specs.Sections.{sections_of};
 ghost use Rattle.ebpf_items.specs.Instruction.{is_pseudo_call};
 ghost use Rattle.ebpf_object.specs.Programs.{kind_of};
 ghost use Rattle.ebpf_object.specs.Served.{has_call, is_served_kind, is_served_section, is_served};
@@ -54,14 +56,11 @@ fn any_call(alloc: Global, section: &SectionView<'_>, symbols: &[SymbolView<'_>]
 }
 
 impl<'a> ObjectFile<'a> {
-    /// Whether a section is served: it has no relocations, and holds a license, a version, nothing
-    /// that is looked at, or functions that call no other.
+    /// Whether a section is served: it holds a license, a version, nothing that is looked at, or
+    /// functions that call no other.
     fn is_served_section(&self, alloc: Global, section: &SectionView<'a>) -> bool
         ensures { result ≡ is_served_section self.now section.now }
     {
-        if self.elf.relocations(section.index()).next().is_some() {
-            return false;
-        }
         match section_kind(section) {
             EbpfSectionKind::License | EbpfSectionKind::Version | EbpfSectionKind::Undefined =>
                 true,
@@ -74,11 +73,20 @@ impl<'a> ObjectFile<'a> {
         }
     }
 
-    /// Whether the object is served so far: no section has relocations, each is a license, a
-    /// version, nothing that is looked at, an empty `.text` or a program section, and no function
-    /// calls another. Takes no memory.
-    pub fn is_served(&self, alloc: Global) -> bool
-        ensures { result ≡ is_served self.now }
+    /// Whether no section has a relocation.
+    fn has_no_relocations(&self) -> bool
+        ensures { result ≡ list_all (λ r. length r.relocations == 0) (relocation_sections_of self.now) }
+    {
+        for section in self.elf.relocation_sections() {
+            if section.relocations().next().is_some() {
+                return false;
+            }
+        }
+        true
+    }
+
+    fn are_sections_served(&self, alloc: Global) -> bool
+        ensures { result ≡ list_all (is_served_section self.now) (sections_of self.now) }
     {
         for section in self.elf.sections() {
             if !self.is_served_section(alloc, &section) {
@@ -86,5 +94,14 @@ impl<'a> ObjectFile<'a> {
             }
         }
         true
+    }
+
+    /// Whether the object is served so far: no section has relocations, each is a license, a
+    /// version, nothing that is looked at, an empty `.text` or a program section, and no function
+    /// calls another. Takes no memory.
+    pub fn is_served(&self, alloc: Global) -> bool
+        ensures { result ≡ is_served self.now }
+    {
+        self.has_no_relocations() && self.are_sections_served(alloc)
     }
 }

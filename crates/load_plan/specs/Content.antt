@@ -4,7 +4,7 @@ use Rattle.std.specs.List.Sorted.{IsStrictlySortedBy}
 use Rattle.std.specs.Ordering.{nat_cmp}
 use Rattle.std.specs.Cmp.Lexicographic.{slice_cmp}
 use Rattle.ebpf_items.specs.declared.instruction.bpf_insn.{bpf_insn}
-use Rattle.ebpf_items.specs.declared.program_section.ProgramSection.{ProgramSection}
+use Rattle.program_kinds.specs.declared.program_section.ProgramSection.{ProgramSection}
 
 -- a program of the plan: its name's bytes, its kind, its slots
 pub record ProgramContent : Type 0 where

@@ -1,21 +1,21 @@
 -- The numbers that stand for a kind of program in a plan's text.
 use Rattle.std.specs.Prelude.{ℕ, Bool, if◌then◌else◌, Option, Some, None}
-use Rattle.ebpf_items.specs.declared.attach.CgroupSkbAttachType.{CgroupSkbAttachType}
-use Rattle.ebpf_items.specs.declared.attach.CgroupSkbAttachType.TheVariants as skb
-use Rattle.ebpf_items.specs.declared.attach.CgroupSockAddrAttachType.{CgroupSockAddrAttachType}
-use Rattle.ebpf_items.specs.declared.attach.CgroupSockAddrAttachType.TheVariants as sock_addr
-use Rattle.ebpf_items.specs.declared.attach.CgroupSockAttachType.{CgroupSockAttachType}
-use Rattle.ebpf_items.specs.declared.attach.CgroupSockAttachType.TheVariants as sock
-use Rattle.ebpf_items.specs.declared.attach.CgroupSockoptAttachType.{CgroupSockoptAttachType}
-use Rattle.ebpf_items.specs.declared.attach.CgroupSockoptAttachType.TheVariants as sockopt
-use Rattle.ebpf_items.specs.declared.attach.SkReuseportAttachType.{SkReuseportAttachType}
-use Rattle.ebpf_items.specs.declared.attach.SkReuseportAttachType.TheVariants as reuseport
-use Rattle.ebpf_items.specs.declared.attach.SkSkbKind.{SkSkbKind}
-use Rattle.ebpf_items.specs.declared.attach.SkSkbKind.TheVariants as sk_skb
-use Rattle.ebpf_items.specs.declared.attach.XdpAttachType.{XdpAttachType}
-use Rattle.ebpf_items.specs.declared.attach.XdpAttachType.TheVariants as xdp
-use Rattle.ebpf_items.specs.declared.program_section.ProgramSection.{ProgramSection}
-use Rattle.ebpf_items.specs.declared.program_section.ProgramSection.TheVariants as kind
+use Rattle.program_kinds.specs.declared.attach.CgroupSkbAttachType.{CgroupSkbAttachType}
+use Rattle.program_kinds.specs.declared.attach.CgroupSkbAttachType.TheVariants as skb
+use Rattle.program_kinds.specs.declared.attach.CgroupSockAddrAttachType.{CgroupSockAddrAttachType}
+use Rattle.program_kinds.specs.declared.attach.CgroupSockAddrAttachType.TheVariants as sock_addr
+use Rattle.program_kinds.specs.declared.attach.CgroupSockAttachType.{CgroupSockAttachType}
+use Rattle.program_kinds.specs.declared.attach.CgroupSockAttachType.TheVariants as sock
+use Rattle.program_kinds.specs.declared.attach.CgroupSockoptAttachType.{CgroupSockoptAttachType}
+use Rattle.program_kinds.specs.declared.attach.CgroupSockoptAttachType.TheVariants as sockopt
+use Rattle.program_kinds.specs.declared.attach.SkReuseportAttachType.{SkReuseportAttachType}
+use Rattle.program_kinds.specs.declared.attach.SkReuseportAttachType.TheVariants as reuseport
+use Rattle.program_kinds.specs.declared.attach.SkSkbKind.{SkSkbKind}
+use Rattle.program_kinds.specs.declared.attach.SkSkbKind.TheVariants as sk_skb
+use Rattle.program_kinds.specs.declared.attach.XdpAttachType.{XdpAttachType}
+use Rattle.program_kinds.specs.declared.attach.XdpAttachType.TheVariants as xdp
+use Rattle.program_kinds.specs.declared.program_section.ProgramSection.{ProgramSection}
+use Rattle.program_kinds.specs.declared.program_section.ProgramSection.TheVariants as kind
 use Rattle.load_plan.specs.declared.program_kind.KindNumbers.{KindNumbers}
 
 -- a flag

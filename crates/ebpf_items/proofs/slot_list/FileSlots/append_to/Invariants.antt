@@ -1,4 +1,4 @@
-use Rattle.std.proofs.Common.{◌≡◌, ◌++◌, vec_len}
+use Rattle.std.proofs.Common.{◌≡◌, ◌++◌}
 use Rattle.ebpf_items.specs.Slots.{file_slots}
 use Rattle.ebpf_items.proofs.slot_list.FileSlots.append_to.Given as goal
 

@@ -1,0 +1,4 @@
+pub mod Attach
+pub mod Bindings
+pub mod ProgramSection
+pub mod SectionKind

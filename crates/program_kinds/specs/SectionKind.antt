@@ -1,0 +1,39 @@
+-- Kinds of sections, by their names.
+use Rattle.std.specs.Prelude.{ℕ, nat_eq, ◌==◌, ◌&&◌, not, Bool, List, [], ◌∷◌, codes, Option, bytes_eq, unwrap_or, if◌then◌else◌}
+use Rattle.std.specs.List.{starts_with}
+use Rattle.std.specs.Map.{lookup}
+use Rattle.std.specs.Option.{option_or}
+use Rattle.program_kinds.specs.declared.section_kind.EbpfSectionKind.{EbpfSectionKind}
+use Rattle.program_kinds.specs.declared.section_kind.EbpfSectionKind.TheVariants.{Undefined, Maps, BtfMaps, Program, Data, Rodata, Bss, Text, Btf, BtfExt, License, Version}
+
+-- kinds by the beginning of the name, of which the first counts
+abbrev pub kinds_by_beginning : List (List ℕ × EbpfSectionKind)
+kinds_by_beginning =
+    (codes "license", License)
+    ∷ (codes "version", Version)
+    ∷ (codes "maps", Maps)
+    ∷ (codes ".maps", BtfMaps)
+    ∷ (codes ".text", Text)
+    ∷ (codes ".bss", Bss)
+    ∷ (codes ".data", Data)
+    ∷ (codes ".rodata", Rodata)
+    ∷ []
+
+-- kinds by the whole name
+abbrev pub kinds_by_name : List (List ℕ × EbpfSectionKind)
+kinds_by_name =
+    (codes ".BTF", Btf)
+    ∷ (codes ".BTF.ext", BtfExt)
+    ∷ []
+
+-- the kind that a name alone decides
+abbrev pub kind_decided : List ℕ → Option EbpfSectionKind
+kind_decided name = option_or (lookup (starts_with nat_eq name) kinds_by_beginning) (lookup (bytes_eq name) kinds_by_name)
+
+abbrev pub kind_named : List ℕ → EbpfSectionKind
+kind_named name = unwrap_or (kind_decided name) Undefined
+
+-- a section of no such name holds programs if it is executable text of nonzero size
+abbrev pub kind_of_section : List ℕ → Bool → ℕ → EbpfSectionKind
+kind_of_section name is_text size =
+    unwrap_or (kind_decided name) (if is_text && not (size == 0) then Program else Undefined)

@@ -1,0 +1,18 @@
+//! Kinds of sections, programs and maps, by their names and by the kernel's numbers.
+#![tactic(auto)]
+
+pub mod attach;
+pub mod bindings;
+pub mod program_section;
+pub mod section_kind;
+
+pub use attach::{
+    CgroupSkbAttachType, CgroupSockAddrAttachType, CgroupSockAttachType, CgroupSockoptAttachType,
+    SkReuseportAttachType, SkSkbKind, XdpAttachType,
+};
+pub use bindings::{InvalidTypeBinding, bpf_attach_type, bpf_map_type, bpf_prog_type};
+pub use program_section::{InvalidSection, ProgramSection};
+pub use section_kind::EbpfSectionKind;
+
+#[cfg(test)]
+mod tests;
