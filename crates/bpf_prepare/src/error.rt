@@ -43,7 +43,7 @@ pub enum ProgramError {
     #[error("usage: bpf_prepare OBJECT")]
     Usage,
     /// The object's file can't be read.
-    #[error("can't read `{name}`: {error}")]
+    #[error("can't read {name:?}: {error}")]
     Read { name: String, error: io::Error },
     /// There is no memory to begin with.
     #[error("out of memory")]

@@ -43,7 +43,7 @@ pub enum ParseError {
     #[error("relocation without a symbol")]
     UnsupportedRelocationTarget,
     /// A section's name names no kind of program.
-    #[error("invalid program section `{section}`")]
+    #[error("invalid program section {section:?}")]
     InvalidProgramSection {
         section: String,
     },
@@ -51,7 +51,7 @@ pub enum ParseError {
     #[error("invalid program code")]
     InvalidProgramCode,
     /// A map's definition doesn't fit its section, or its size doesn't fit 32 bits.
-    #[error("invalid definition of map `{name}`")]
+    #[error("invalid definition of map {name:?}")]
     InvalidMapDefinition {
         name: String,
     },
@@ -74,12 +74,12 @@ pub enum ParseError {
         name: Option<String>,
     },
     /// No symbol has this name.
-    #[error("no symbol named `{name}`")]
+    #[error("no symbol named {name:?}")]
     SymbolNotFound {
         name: String,
     },
     /// A global variable's value doesn't fit its symbol, or the symbol lies outside its map.
-    #[error("invalid data for global `{name}`: {data_size} bytes for a symbol of {sym_size}")]
+    #[error("invalid data for global {name:?}: {data_size} bytes for a symbol of {sym_size}")]
     InvalidGlobalData {
         name: String,
         sym_size: u64,
@@ -96,7 +96,7 @@ pub enum ParseError {
         i: usize,
     },
     /// No symbol lies in this section.
-    #[error("no symbols in section `{section_name}`")]
+    #[error("no symbols in section {section_name:?}")]
     NoSymbolsForSection {
         section_name: String,
     },
