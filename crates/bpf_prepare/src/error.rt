@@ -5,8 +5,7 @@ ghost use Rattle.bpf_prepare.specs.Run.{run_error_of};
 ghost use Rattle.bpf_prepare.specs.declared.error.ProgramError.TheVariants.{Run};
 ghost use Rattle.bpf_prepare.specs.Program.{status_of};
 
-use ebpf_items::ParseError;
-use load_plan::PrepareError;
+use load_plan::{ParseError, PrepareError};
 use std::io;
 use thiserror::Error;
 

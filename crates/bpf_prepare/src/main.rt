@@ -6,8 +6,8 @@ mod running;
 #[cfg(test)]
 mod tests;
 
-use ebpf_items::Watched;
 use error::{ProgramError, RunError};
+use load_plan::Watched;
 use running::run;
 use std::io::{BufWriter, Write};
 use std::process::ExitCode;

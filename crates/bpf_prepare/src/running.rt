@@ -8,8 +8,7 @@ ghost use Rattle.bpf_prepare.specs.Run.{text_of, IsRunRefusal};
 ghost use Rattle.bpf_prepare.specs.declared.error.RunError.TheVariants.{Output};
 
 use crate::error::RunError;
-use ebpf_items::Watched;
-use load_plan::prepare;
+use load_plan::{Watched, prepare};
 use std::alloc::Global;
 use std::io::Write;
 

@@ -2,7 +2,7 @@
 
 use crate::error::RunError;
 use crate::running::run;
-use ebpf_items::{ParseError, Watched};
+use load_plan::{ParseError, Watched};
 use sample_objects::ONE_PROGRAM;
 use std::alloc::Global;
 use std::test::Fail;

@@ -14,6 +14,14 @@ mod symbols;
 mod version;
 
 pub use by_name::Programs;
+pub use ebpf_items::{
+    BtfMap, BtfMapDef, CgroupSkbAttachType, CgroupSockAddrAttachType, CgroupSockAttachType,
+    CgroupSockoptAttachType, EbpfSectionKind, InvalidSection, InvalidTypeBinding, LegacyMap, Map,
+    ParseError, PinningError, PinningType, ProgramSection, RelocationKind, Section,
+    SkReuseportAttachType, SkSkbKind, SlotIter, Slots, Watched, XdpAttachType, bpf_attach_type,
+    bpf_insn, bpf_map_def, bpf_map_info, bpf_map_type, bpf_prog_type, copy_instructions,
+    parse_map_info,
+};
 pub use file::ObjectFile;
 pub use object::Object;
 pub use program::{Function, Program};

@@ -7,6 +7,7 @@ mod planning;
 mod program_kind;
 mod writing;
 
+pub use ebpf_object::{ParseError, ProgramSection, Watched, bpf_insn};
 pub use error::PrepareError;
 pub use plan::{Plan, PlanProgram};
 pub use planning::prepare;
