@@ -1,1 +1,3 @@
+pub mod Encodings
 pub mod Kinds
+pub mod Words

@@ -2,10 +2,14 @@
 //! (Documentation/bpf/btf.rst, "Type Encoding").
 #![tactic(auto)]
 
+mod encoding;
 mod error;
 mod feature;
 mod kind;
+mod word;
 
+pub use encoding::{FuncLinkage, IntEncoding, VarLinkage};
 pub use error::BtfError;
 pub use feature::BtfFeature;
 pub use kind::BtfKind;
+pub use word::Endianness;
