@@ -1,3 +1,4 @@
 pub mod Encodings
+pub mod Items
 pub mod Kinds
 pub mod Words

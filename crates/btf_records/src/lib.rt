@@ -5,11 +5,15 @@
 mod encoding;
 mod error;
 mod feature;
+mod item;
+mod items;
 mod kind;
 mod word;
 
 pub use encoding::{FuncLinkage, IntEncoding, VarLinkage};
 pub use error::BtfError;
 pub use feature::BtfFeature;
+pub use item::{BtfArray, BtfEnum, BtfEnum64, BtfMember, BtfParam, DataSecEntry};
+pub use items::Items;
 pub use kind::BtfKind;
 pub use word::Endianness;
