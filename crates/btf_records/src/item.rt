@@ -2,7 +2,7 @@
 
 ghost use Rattle.std.specs.Prelude.{◌≡◌, ◌++◌, ◌+◌, ◌*◌, ◌/◌, ◌%◌, ◌<◌, ◌≤◌, ◌^◌, ℕ, List, All, length, take, OnOk, OnErr};
 ghost use Rattle.btf_records.specs.Words.{words_bytes};
-ghost use Rattle.btf_records.specs.Items.{entry_in, entry_words, enum64_in, enum64_words, member_in, member_words, param_in, param_words, value_of, variant_in, variant_words};
+ghost use Rattle.btf_records.specs.Items.{array_in, array_words, entry_in, entry_words, enum64_in, enum64_words, member_in, member_words, param_in, param_words, value_of, variant_in, variant_words};
 ghost use Rattle.btf_records.specs.declared.word.Endianness.{Endianness};
 
 use crate::word::{Endianness, push_word, word};
@@ -92,7 +92,8 @@ pub struct DataSecEntry {
     pub size: u32,
 }
 
-/// An item of the list that follows a record's first three words.
+/// What is spelled by a fixed number of words behind a record's first three: an item of its list,
+/// or its array.
 pub(crate) trait Item: Copy {
     ghost SIZE: { ℕ };
     ghost item_in: { Endianness → List ℕ → Self };
@@ -215,5 +216,27 @@ impl Item for DataSecEntry {
         push_word(out, order, self.btf_type)?;
         push_word(out, order, self.offset)?;
         push_word(out, order, self.size)
+    }
+}
+
+impl Item for BtfArray {
+    ghost SIZE = { 12 };
+    ghost item_in = { array_in };
+    ghost words = { array_words };
+
+    const SIZE: usize = 12;
+
+    fn read(order: Endianness, bytes: &[u8]) -> BtfArray {
+        BtfArray {
+            element_type: word(order, bytes, 0),
+            index_type: word(order, bytes, 4),
+            len: word(order, bytes, 8),
+        }
+    }
+
+    fn write(self, order: Endianness, out: &mut Vec<u8>) -> Result<(), AllocError> {
+        push_word(out, order, self.element_type)?;
+        push_word(out, order, self.index_type)?;
+        push_word(out, order, self.len)
     }
 }

@@ -8,6 +8,7 @@ mod feature;
 mod item;
 mod items;
 mod kind;
+mod types;
 mod word;
 
 pub use encoding::{FuncLinkage, IntEncoding, VarLinkage};
@@ -16,4 +17,8 @@ pub use feature::BtfFeature;
 pub use item::{BtfArray, BtfEnum, BtfEnum64, BtfMember, BtfParam, DataSecEntry};
 pub use items::Items;
 pub use kind::BtfKind;
+pub use types::{
+    Array, BtfType, Const, DataSec, DeclTag, Enum, Enum64, Enum64Fallback, Float, Func, FuncProto,
+    Fwd, InfoBits, Int, Ptr, Restrict, Struct, TypeTag, Typedef, Union, Var, Volatile,
+};
 pub use word::Endianness;
