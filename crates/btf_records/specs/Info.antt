@@ -10,7 +10,7 @@ abbrev pub kind_number_in : ℕ → ℕ
 kind_number_in info = info / 16777216 % 32
 
 -- what is neither count nor kind
-abbrev pub bits_in : ℕ → InfoBits
+unfoldable pub bits_in : ℕ → InfoBits
 bits_in info = record {
   flag = info / 2147483648 % 2 == 1;
   bit_30 = info / 1073741824 % 2 == 1;
@@ -22,7 +22,7 @@ abbrev pub bit : Bool → ℕ
 bit b = if b then 1 else 0
 
 -- the info word of a kind and a count, with these other bits
-abbrev pub info_of : ℕ → ℕ → InfoBits → ℕ
+unfoldable pub info_of : ℕ → ℕ → InfoBits → ℕ
 info_of kind count bits = count + 65536 * bits.bits_16_to_23 + 16777216 * kind + 536870912 * bit bits.bit_29 + 1073741824 * bit bits.bit_30 + 2147483648 * bit bits.flag
 
 -- no bit but the flag

@@ -11,7 +11,7 @@ abbrev pub kind_count : ℕ
 kind_count = 20
 
 -- the kind of a number below 20
-abbrev pub kind_of : ℕ → BtfKind
+unfoldable pub kind_of : ℕ → BtfKind
 kind_of n = slice_index_or all_kinds n Unknown
 
 abbrev pub number_of : BtfKind → ℕ

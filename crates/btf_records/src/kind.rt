@@ -60,7 +60,8 @@ const KINDS: [BtfKind; 20] = [
 impl BtfKind {
     /// The number that stands for this kind in a record's info word.
     pub(crate) fn number(self) -> u32
-        ensures { result ≡ number_of self }
+        ensures value { result ≡ number_of self }
+        ensures bounded { result < kind_count }
     {
         self as u32
     }
@@ -99,6 +100,7 @@ impl TryFrom<u32> for BtfKind {
 
     ghost try_from_gives = { λ n r. MatchResult r (λ kind. (n < kind_count) × (kind ≡ kind_of n)) (λ e. (kind_count ≤ n) × (e ≡ InvalidTypeKind n)) };
 
+    #[tactic(auto, unfolding(crate::specs::Kinds::kind_of))]
     fn try_from(kind: u32) -> Result<BtfKind, BtfError> {
         match KINDS.get(kind as usize) {
             Some(found) => Ok(*found),

@@ -1,13 +1,15 @@
 //! Type records, and their constructors.
 
 ghost use Rattle.std.specs.Prelude.{◌≡◌, ◌+◌, ◌*◌, ◌%◌, ◌<◌, None, false, length, option_copied};
-ghost use Rattle.std.specs.Int.{w32, cast_unsigned};
-ghost use Rattle.btf_records.specs.Encodings.{func_linkage_of, number_of_encoding, number_of_func_linkage};
-ghost use Rattle.btf_records.specs.Info.{flagged, int_word_of};
+ghost use Rattle.std.specs.Int.{w32, cast_signed, cast_unsigned};
+ghost use Rattle.btf_records.specs.Encodings.{encoding_of, func_linkage_of, number_of_encoding, number_of_func_linkage};
+ghost use Rattle.btf_records.specs.Kinds.{number_of};
+ghost use Rattle.btf_records.specs.Info.{bit_count_in, bits_in, encoding_in, flagged, info_of, int_word_of, offset_in};
 
 use crate::encoding::{FuncLinkage, IntEncoding, VarLinkage};
 use crate::item::{BtfArray, BtfEnum, BtfEnum64, BtfMember, BtfParam, DataSecEntry};
 use crate::items::Items;
+use crate::kind::BtfKind;
 
 /// The bits of a record's info word that are neither its kind nor its count.
 #[derive(Clone, Copy, Debug)]
@@ -33,6 +35,31 @@ impl InfoBits {
             bit_29: false,
             bits_16_to_23: 0,
         }
+    }
+
+    #[tactic(auto, unfolding(crate::specs::Info::bits_in))]
+    pub(crate) fn of_word(info: u32) -> InfoBits
+        ensures { result ≡ bits_in info }
+    {
+        InfoBits {
+            flag: info / 0x8000_0000 % 2 == 1,
+            bit_30: info / 0x4000_0000 % 2 == 1,
+            bit_29: info / 0x2000_0000 % 2 == 1,
+            bits_16_to_23: (info / 0x1_0000 % 256) as u8,
+        }
+    }
+
+    /// The info word of a kind and a count with these bits.
+    #[tactic(auto, unfolding(crate::specs::Info::info_of))]
+    pub(crate) fn word(self, kind: BtfKind, count: u16) -> u32
+        ensures { result ≡ info_of (number_of kind) count self }
+    {
+        u32::from(count)
+            + u32::from(self.bits_16_to_23) * 0x1_0000
+            + kind.number() * 0x100_0000
+            + u32::from(self.bit_29) * 0x2000_0000
+            + u32::from(self.bit_30) * 0x4000_0000
+            + u32::from(self.flag) * 0x8000_0000
     }
 }
 
@@ -297,6 +324,26 @@ impl Int {
             int_word: encoding.number() * 0x100_0000 + offset % 256 * 0x1_0000 + bits,
         }
     }
+
+    pub fn encoding(&self) -> IntEncoding
+        ensures { result ≡ encoding_of (encoding_in self.now.int_word) }
+    {
+        IntEncoding::from(self.int_word / 0x100_0000 % 16)
+    }
+
+    /// The offset of its first bit.
+    pub fn offset(&self) -> u32
+        ensures { result ≡ offset_in self.now.int_word }
+    {
+        self.int_word / 0x1_0000 % 256
+    }
+
+    /// The number of its bits.
+    pub fn bits(&self) -> u32
+        ensures { result ≡ bit_count_in self.now.int_word }
+    {
+        self.int_word % 256
+    }
 }
 
 /// A `BTF_KIND_ENUM`, signed if the flag is set.
@@ -530,21 +577,28 @@ pub struct DeclTag {
     pub info: InfoBits,
     /// The id of the record that it tags.
     pub btf_type: u32,
-    /// The member or parameter that it tags, from 0, or -1 for the whole.
-    pub component_index: i32,
+    /// The word after its type: the member or parameter that it tags, from 0, or -1 for the whole.
+    pub index_word: u32,
 }
 
 impl DeclTag {
     pub fn new(name_offset: u32, btf_type: u32, component_index: i32) -> DeclTag
-        ensures { result ≡ record { name_offset = name_offset; vlen = 0; info = flagged false; btf_type = btf_type; component_index = component_index } }
+        ensures { result ≡ record { name_offset = name_offset; vlen = 0; info = flagged false; btf_type = btf_type; index_word = cast_unsigned w32 component_index } }
     {
         DeclTag {
             name_offset,
             vlen: 0,
             info: InfoBits::flagged(false),
             btf_type,
-            component_index,
+            index_word: component_index.cast_unsigned(),
         }
+    }
+
+    /// The member or parameter that it tags, from 0, or -1 for the whole.
+    pub fn component_index(&self) -> i32
+        ensures { result ≡ cast_signed w32 self.now.index_word }
+    {
+        self.index_word.cast_signed()
     }
 }
 
