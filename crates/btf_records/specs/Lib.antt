@@ -1,4 +1,5 @@
 pub mod Encodings
+pub mod Fields
 pub mod Info
 pub mod Items
 pub mod Kinds

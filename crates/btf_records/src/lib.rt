@@ -9,6 +9,7 @@ mod item;
 mod items;
 mod kind;
 mod types;
+mod view;
 mod word;
 
 pub use encoding::{FuncLinkage, IntEncoding, VarLinkage};
@@ -21,4 +22,5 @@ pub use types::{
     Array, BtfType, Const, DataSec, DeclTag, Enum, Enum64, Enum64Fallback, Float, Func, FuncProto,
     Fwd, InfoBits, Int, Ptr, Restrict, Struct, TypeTag, Typedef, Union, Var, Volatile,
 };
+pub use view::{TypeRef, record_len};
 pub use word::Endianness;

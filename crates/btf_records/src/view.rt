@@ -1,0 +1,107 @@
+//! Records read where they lie.
+
+ghost use Rattle.std.specs.Prelude.{◌≡◌, ◌+◌, ◌*◌, ◌<◌, ◌≤◌, IfOk, IfErr, OnOk, Option, Some, None, length};
+ghost use Rattle.std.specs.Option.{option_copied};
+ghost use Rattle.btf_records.specs.Fields.{kind_of_type, name_offset_of, size_of, type_of};
+ghost use Rattle.btf_records.specs.Records.{HasRecord, RecordFault, bits_of, kind_at, len_behind, record_len, type_in};
+
+use crate::error::BtfError;
+use crate::kind::BtfKind;
+use crate::types::{Enum64Fallback, InfoBits};
+use crate::word::{Endianness, word};
+use std::marker::Model;
+
+/// The bytes of a record of a kind behind its first three words.
+fn bytes_behind(kind: BtfKind, count: usize) -> usize
+    requires { count < 65536 }
+    ensures { result ≡ len_behind kind count }
+{
+    match kind {
+        BtfKind::Int | BtfKind::Var | BtfKind::DeclTag => 4,
+        BtfKind::Array => 12,
+        BtfKind::Struct | BtfKind::Union | BtfKind::DataSec | BtfKind::Enum64 => 12 * count,
+        BtfKind::Enum | BtfKind::FuncProto => 8 * count,
+        BtfKind::Unknown
+        | BtfKind::Ptr
+        | BtfKind::Fwd
+        | BtfKind::Typedef
+        | BtfKind::Volatile
+        | BtfKind::Const
+        | BtfKind::Restrict
+        | BtfKind::Func
+        | BtfKind::Float
+        | BtfKind::TypeTag => 0,
+    }
+}
+
+/// The number of bytes of the record that the bytes begin with.
+///
+/// `InvalidTypeInfo` where they are cut off, `InvalidTypeKind` where no record has the kind.
+pub fn record_len(order: Endianness, bytes: &[u8]) -> Result<usize, BtfError>
+    ensures value { IfOk result (λ len. len ≡ record_len order bytes.now) }
+    ensures found { OnOk result (HasRecord order bytes.now) }
+    ensures refused { IfErr result (RecordFault order bytes.now) }
+{
+    if bytes.len() < 12 {
+        return Err(BtfError::InvalidTypeInfo);
+    }
+    let info = word(order, bytes, 4);
+    let kind = BtfKind::try_from(info / 0x100_0000 % 32)?;
+    let len = 12 + bytes_behind(kind, (info % 0x1_0000) as usize);
+    if bytes.len() < len {
+        return Err(BtfError::InvalidTypeInfo);
+    }
+    Ok(len)
+}
+
+/// A type record, read where it lies.
+#[derive(Debug, Drop)]
+pub struct TypeRef<'a> {
+    order: Endianness,
+    bytes: &'a [u8],
+    fallback: Option<&'a Enum64Fallback>,
+}
+
+impl<'a> Model for TypeRef<'a> {
+    ghost use Rattle.std.specs.Option.{option_copied};
+    ghost use Rattle.btf_records.specs.declared.types.BtfType.{BtfType};
+    ghost use Rattle.btf_records.specs.Records.{HasRecord, type_in, with_fallback};
+
+    ghost Value = { BtfType };
+
+    ghost view = { λ t. with_fallback (option_copied t.fallback) (type_in t.order t.bytes.now) };
+
+    ghost invariant = { λ t. HasRecord t.order t.bytes.now };
+}
+
+impl<'a> TypeRef<'a> {
+    /// The record that the bytes begin with; what follows it doesn't count.
+    ///
+    /// `InvalidTypeInfo` where it is cut off, `InvalidTypeKind` where no record has its kind.
+    pub fn read(order: Endianness, bytes: &'a [u8]) -> Result<TypeRef<'a>, BtfError>
+        ensures value { IfOk result (λ t. t ≡ type_in order bytes.now) }
+        ensures found { OnOk result (HasRecord order bytes.now) }
+        ensures refused { IfErr result (RecordFault order bytes.now) }
+    {
+        let _len = record_len(order, bytes)?;
+        Ok(TypeRef {
+            order,
+            bytes,
+            fallback: None,
+        })
+    }
+
+    pub fn kind(&self) -> BtfKind
+        ensures { result ≡ kind_of_type self.now }
+    {
+        kind_of(self.order, self.bytes)
+    }
+}
+
+fn kind_of(order: Endianness, bytes: &[u8]) -> BtfKind
+    requires { HasRecord order bytes.now }
+    ensures { result ≡ kind_at order bytes.now }
+{
+    let number = word(order, bytes, 4) / 0x100_0000 % 32;
+    BtfKind::try_from(number).unwrap()
+}
