@@ -1,14 +1,18 @@
 //! Records read where they lie.
 
-ghost use Rattle.std.specs.Prelude.{◌≡◌, ◌+◌, ◌*◌, ◌<◌, ◌≤◌, IfOk, IfErr, OnOk, Option, Some, None, length};
+ghost use Rattle.std.specs.Prelude.{◌≡◌, ◌+◌, ◌*◌, ◌<◌, ◌≤◌, IfOk, IfErr, OnOk, Option, Some, None, drop, length, slice_get};
 ghost use Rattle.std.specs.Option.{option_copied};
 ghost use Rattle.btf_records.specs.Fields.{kind_of_type, name_offset_of, size_of, type_of};
-ghost use Rattle.btf_records.specs.Records.{HasRecord, RecordFault, bits_of, count_of, kind_at, len_behind, record_len, type_in};
+ghost use Rattle.btf_records.specs.Items.{items_in};
+ghost use Rattle.btf_records.specs.Records.{HasRecord, RecordFault, bits_of, count_at, count_of, kind_at, len_behind, record_len, type_in};
 
 use crate::error::BtfError;
+use crate::item::Item;
+use crate::items::Items;
 use crate::kind::BtfKind;
 use crate::types::{Enum64Fallback, InfoBits};
-use crate::word::{Endianness, word};
+use crate::word::{Endianness, behind, word};
+use std::alloc::{AllocError, Global};
 use std::marker::Model;
 
 /// The bytes of a record of a kind behind its first three words.
@@ -168,6 +172,37 @@ impl<'a> TypeRef<'a> {
             _ => None,
         }
     }
+}
+
+/// The item at a place in the list behind a record's first three words.
+fn item<T: Item>(order: Endianness, bytes: &[u8], index: usize) -> Option<T>
+    requires head { 12 ≤ length bytes.now }
+    requires whole { 12 + T.SIZE * count_at order bytes.now ≤ length bytes.now }
+    ensures { result ≡ slice_get (items_in (T.item_in order) T.SIZE (count_at order bytes.now) (drop 12 bytes.now)) index }
+{
+    let count = (word(order, bytes, 4) % 0x1_0000) as usize;
+    if index < count {
+        let list = behind(bytes, 12);
+        Some(T::read(order, behind(list, T::SIZE * index)))
+    } else {
+        None
+    }
+}
+
+/// The list behind a record's first three words.
+fn items<T: Item>(alloc: Global, order: Endianness, bytes: &[u8]) -> Result<Items<T>, AllocError>
+    requires head { 12 ≤ length bytes.now }
+    requires whole { 12 + T.SIZE * count_at order bytes.now ≤ length bytes.now }
+    ensures { IfOk result (λ items. items ≡ items_in (T.item_in order) T.SIZE (count_at order bytes.now) (drop 12 bytes.now)) }
+{
+    let count = (word(order, bytes, 4) % 0x1_0000) as usize;
+    let mut items = Items::new(alloc);
+    let mut rest = behind(bytes, 12);
+    for _ in 0..count {
+        items.push(T::read(order, rest))?;
+        rest = behind(rest, T::SIZE);
+    }
+    Ok(items)
 }
 
 fn kind_of(order: Endianness, bytes: &[u8]) -> BtfKind
