@@ -8,6 +8,7 @@ mod feature;
 mod item;
 mod items;
 mod kind;
+mod reading;
 mod types;
 mod view;
 mod word;
@@ -18,9 +19,10 @@ pub use feature::BtfFeature;
 pub use item::{BtfArray, BtfEnum, BtfEnum64, BtfMember, BtfParam, DataSecEntry};
 pub use items::Items;
 pub use kind::BtfKind;
+pub use reading::record_len;
 pub use types::{
     Array, BtfType, Const, DataSec, DeclTag, Enum, Enum64, Enum64Fallback, Float, Func, FuncProto,
     Fwd, InfoBits, Int, Ptr, Restrict, Struct, TypeTag, Typedef, Union, Var, Volatile,
 };
-pub use view::{TypeRef, record_len};
+pub use view::TypeRef;
 pub use word::Endianness;

@@ -1,5 +1,5 @@
 use Rattle.std.proofs.Common.{◌≡◌, sym, ◌∙◌}
-use Rattle.btf_records.proofs.Reading.{count_read}
+use Rattle.btf_records.proofs.InBytes.{count_read}
 use Rattle.btf_records.proofs.view.TypeRef.count.Goals as goal
 
 pub returns-in_default : goal.returns-in_default

@@ -1,7 +1,7 @@
 use Rattle.std.proofs.Common.{◌≡◌, ℕ, List, [], ◌∷◌, ◌+◌, ◌*◌, length, drop, refl, arith, add-one, ◌∙◌, ap, length-append}
 use Rattle.std.proofs.lemmas.List.{drop-drop}
-use Rattle.btf_records.proofs.Reading.{items_in-suc}
-use Rattle.btf_records.proofs.view.items.Goals as goal
+use Rattle.btf_records.proofs.InBytes.{items_in-suc}
+use Rattle.btf_records.proofs.reading.items.Goals as goal
 
 pub loop-preserved : goal.loop-preserved
 loop-preserved g c = record {

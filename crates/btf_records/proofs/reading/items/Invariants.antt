@@ -1,6 +1,6 @@
 use Rattle.std.proofs.Common.{◌≡◌, ◌+◌, ◌*◌, ◌<◌, ◌≤◌, length, drop}
 use Rattle.btf_records.specs.Items.{items_in}
-use Rattle.btf_records.proofs.view.items.Given as goal
+use Rattle.btf_records.proofs.reading.items.Given as goal
 
 abbrev pub invariant-loop : goal.invariant-loop
 invariant-loop g l = record {

@@ -2,8 +2,8 @@ use Rattle.std.proofs.Common.{◌≡◌, ◌≤◌, ◌<◌, sym, length, drop, 
 use Rattle.std.proofs.lemmas.Option.{slice_get_past}
 use Rattle.btf_records.specs.Items.{items_in}
 use Rattle.btf_records.specs.Records.{count_at}
-use Rattle.btf_records.proofs.Reading.{get-items_in, length-items_in}
-use Rattle.btf_records.proofs.view.item.Goals as goal
+use Rattle.btf_records.proofs.InBytes.{get-items_in, length-items_in}
+use Rattle.btf_records.proofs.reading.item.Goals as goal
 
 pub returns-then-index-count : goal.returns-then-index-count
 returns-then-index-count g c =
