@@ -96,7 +96,9 @@ pub struct DataSecEntry {
 /// or its array.
 pub(crate) trait Item: Copy {
     ghost SIZE: { ℕ };
+
     ghost item_in: { Endianness → List ℕ → Self };
+
     ghost words: { Self → List ℕ };
 
     /// Bytes of an item.
@@ -115,7 +117,9 @@ pub(crate) trait Item: Copy {
 
 impl Item for BtfMember {
     ghost SIZE = { 12 };
+
     ghost item_in = { member_in };
+
     ghost words = { member_words };
 
     const SIZE: usize = 12;
@@ -137,7 +141,9 @@ impl Item for BtfMember {
 
 impl Item for BtfEnum {
     ghost SIZE = { 8 };
+
     ghost item_in = { variant_in };
+
     ghost words = { variant_words };
 
     const SIZE: usize = 8;
@@ -157,7 +163,9 @@ impl Item for BtfEnum {
 
 impl Item for BtfEnum64 {
     ghost SIZE = { 12 };
+
     ghost item_in = { enum64_in };
+
     ghost words = { enum64_words };
 
     const SIZE: usize = 12;
@@ -179,7 +187,9 @@ impl Item for BtfEnum64 {
 
 impl Item for BtfParam {
     ghost SIZE = { 8 };
+
     ghost item_in = { param_in };
+
     ghost words = { param_words };
 
     const SIZE: usize = 8;
@@ -199,7 +209,9 @@ impl Item for BtfParam {
 
 impl Item for DataSecEntry {
     ghost SIZE = { 12 };
+
     ghost item_in = { entry_in };
+
     ghost words = { entry_words };
 
     const SIZE: usize = 12;
@@ -221,7 +233,9 @@ impl Item for DataSecEntry {
 
 impl Item for BtfArray {
     ghost SIZE = { 12 };
+
     ghost item_in = { array_in };
+
     ghost words = { array_words };
 
     const SIZE: usize = 12;

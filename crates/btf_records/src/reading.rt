@@ -4,10 +4,15 @@ ghost use Rattle.std.specs.Prelude.{◌≡◌, ◌+◌, ◌*◌, ◌<◌, ◌≤
 ghost use Rattle.btf_records.specs.Items.{items_in};
 ghost use Rattle.btf_records.specs.Records.{HasRecord, RecordFault, count_at, kind_at, len_behind, record_len, type_in};
 
+use crate::encoding::VarLinkage;
 use crate::error::BtfError;
-use crate::item::Item;
+use crate::item::{BtfArray, Item};
 use crate::items::Items;
 use crate::kind::BtfKind;
+use crate::types::{
+    Array, BtfType, Const, DataSec, DeclTag, Enum, Enum64, Float, Func, FuncProto, Fwd, InfoBits,
+    Int, Ptr, Restrict, Struct, TypeTag, Typedef, Union, Var, Volatile,
+};
 use crate::word::{Endianness, behind, word};
 use std::alloc::{AllocError, Global};
 
@@ -94,3 +99,138 @@ pub(crate) fn kind_of(order: Endianness, bytes: &[u8]) -> BtfKind
     BtfKind::try_from(number).unwrap()
 }
 
+/// The record that the bytes begin with.
+pub(crate) fn read_type(
+    alloc: Global,
+    order: Endianness,
+    bytes: &[u8],
+) -> Result<BtfType, AllocError>
+    requires { HasRecord order bytes.now }
+    ensures { IfOk result (λ t. t ≡ type_in order bytes.now) }
+{
+    let name_offset = word(order, bytes, 0);
+    let info_word = word(order, bytes, 4);
+    let vlen = (info_word % 0x1_0000) as u16;
+    let info = InfoBits::of_word(info_word);
+    let third = word(order, bytes, 8);
+    match kind_of(order, bytes) {
+        BtfKind::Unknown => Ok(BtfType::Unknown),
+        BtfKind::Int => Ok(BtfType::Int(Int {
+            name_offset,
+            vlen,
+            info,
+            size: third,
+            int_word: word(order, bytes, 12),
+        })),
+        BtfKind::Ptr => Ok(BtfType::Ptr(Ptr {
+            name_offset,
+            vlen,
+            info,
+            btf_type: third,
+        })),
+        BtfKind::Array => Ok(BtfType::Array(Array {
+            name_offset,
+            vlen,
+            info,
+            array: BtfArray::read(order, behind(bytes, 12)),
+        })),
+        BtfKind::Struct => Ok(BtfType::Struct(Struct {
+            name_offset,
+            info,
+            size: third,
+            members: items(alloc, order, bytes)?,
+        })),
+        BtfKind::Union => Ok(BtfType::Union(Union {
+            name_offset,
+            info,
+            size: third,
+            members: items(alloc, order, bytes)?,
+            fallback: None,
+        })),
+        BtfKind::Enum => Ok(BtfType::Enum(Enum {
+            name_offset,
+            info,
+            size: third,
+            variants: items(alloc, order, bytes)?,
+        })),
+        BtfKind::Fwd => Ok(BtfType::Fwd(Fwd {
+            name_offset,
+            vlen,
+            info,
+        })),
+        BtfKind::Typedef => Ok(BtfType::Typedef(Typedef {
+            name_offset,
+            vlen,
+            info,
+            btf_type: third,
+        })),
+        BtfKind::Volatile => Ok(BtfType::Volatile(Volatile {
+            name_offset,
+            vlen,
+            info,
+            btf_type: third,
+        })),
+        BtfKind::Const => Ok(BtfType::Const(Const {
+            name_offset,
+            vlen,
+            info,
+            btf_type: third,
+        })),
+        BtfKind::Restrict => Ok(BtfType::Restrict(Restrict {
+            name_offset,
+            vlen,
+            info,
+            btf_type: third,
+        })),
+        BtfKind::Func => Ok(BtfType::Func(Func {
+            name_offset,
+            vlen,
+            info,
+            btf_type: third,
+        })),
+        BtfKind::FuncProto => Ok(BtfType::FuncProto(FuncProto {
+            name_offset,
+            info,
+            return_type: third,
+            params: items(alloc, order, bytes)?,
+        })),
+        BtfKind::Var => Ok(BtfType::Var(Var {
+            name_offset,
+            vlen,
+            info,
+            btf_type: third,
+            linkage: VarLinkage::from(word(order, bytes, 12)),
+        })),
+        BtfKind::DataSec => Ok(BtfType::DataSec(DataSec {
+            name_offset,
+            info,
+            size: third,
+            entries: items(alloc, order, bytes)?,
+        })),
+        BtfKind::Float => Ok(BtfType::Float(Float {
+            name_offset,
+            vlen,
+            info,
+            size: third,
+        })),
+        BtfKind::DeclTag => Ok(BtfType::DeclTag(DeclTag {
+            name_offset,
+            vlen,
+            info,
+            btf_type: third,
+            index_word: word(order, bytes, 12),
+        })),
+        BtfKind::TypeTag => Ok(BtfType::TypeTag(TypeTag {
+            name_offset,
+            vlen,
+            info,
+            btf_type: third,
+        })),
+        BtfKind::Enum64 => Ok(BtfType::Enum64(Enum64 {
+            name_offset,
+            info,
+            size: third,
+            variants: items(alloc, order, bytes)?,
+        })),
+    }
+}

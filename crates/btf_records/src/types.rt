@@ -417,7 +417,11 @@ impl Array {
             name_offset,
             vlen: 0,
             info: InfoBits::flagged(false),
-            array: BtfArray { element_type, index_type, len },
+            array: BtfArray {
+                element_type,
+                index_type,
+                len,
+            },
         }
     }
 }

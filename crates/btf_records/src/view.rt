@@ -8,8 +8,8 @@ ghost use Rattle.btf_records.specs.Records.{HasRecord, RecordFault, bits_of, cou
 
 use crate::error::BtfError;
 use crate::kind::BtfKind;
-use crate::types::{Enum64Fallback, InfoBits};
 use crate::reading::{kind_of, record_len};
+use crate::types::{Enum64Fallback, InfoBits};
 use crate::word::{Endianness, word};
 use std::marker::Model;
 
@@ -128,4 +128,3 @@ impl<'a> TypeRef<'a> {
         }
     }
 }
-
