@@ -1,16 +1,18 @@
 //! Records read where they lie.
 
-ghost use Rattle.std.specs.Prelude.{◌≡◌, ◌+◌, ◌*◌, ◌<◌, ◌≤◌, IfOk, IfErr, OnOk, Option, Some, None, drop, length, slice_get};
+ghost use Rattle.std.specs.Prelude.{◌≡◌, IfOk, IfErr, OnOk, Option, Some, None, slice_get};
 ghost use Rattle.std.specs.Option.{option_copied};
-ghost use Rattle.btf_records.specs.Fields.{kind_of_type, name_offset_of, size_of, type_of};
-ghost use Rattle.btf_records.specs.Items.{items_in};
-ghost use Rattle.btf_records.specs.Records.{HasRecord, RecordFault, bits_of, count_at, count_of, kind_at, len_behind, record_len, type_in};
+ghost use Rattle.btf_records.specs.Fields.{array_of, entries_of, fallback_of, func_linkage_of_type, int_word_of_type, kind_of_type, members_of, name_offset_of, params_of, size_of, type_of, var_linkage_of_type, variants_of, variants64_of};
+ghost use Rattle.btf_records.specs.Records.{HasRecord, RecordFault, bits_of, count_of, type_in, with_fallback};
 
+use crate::encoding::{FuncLinkage, VarLinkage};
 use crate::error::BtfError;
+use crate::item::{BtfArray, BtfEnum, BtfEnum64, BtfMember, BtfParam, DataSecEntry, Item};
 use crate::kind::BtfKind;
-use crate::reading::{kind_of, record_len};
-use crate::types::{Enum64Fallback, InfoBits};
-use crate::word::{Endianness, word};
+use crate::reading::{item, kind_of, read_type, record_len};
+use crate::types::{BtfType, Enum64Fallback, InfoBits, Union};
+use crate::word::{Endianness, behind, word};
+use std::alloc::{AllocError, Global};
 use std::marker::Model;
 
 /// A type record, read where it lies.
@@ -48,6 +50,17 @@ impl<'a> TypeRef<'a> {
             bytes,
             fallback: None,
         })
+    }
+
+    /// The same union, which stands for this enum; a record of another kind stays as it is.
+    pub fn with_fallback(self, fallback: &'a Enum64Fallback) -> TypeRef<'a>
+        ensures { result ≡ with_fallback (Some fallback.now) self.entry }
+    {
+        TypeRef {
+            order: self.order,
+            bytes: self.bytes,
+            fallback: Some(fallback),
+        }
     }
 
     pub fn kind(&self) -> BtfKind
@@ -125,6 +138,119 @@ impl<'a> TypeRef<'a> {
             | BtfKind::DeclTag
             | BtfKind::TypeTag => Some(word(self.order, self.bytes, 8)),
             _ => None,
+        }
+    }
+
+    /// Member `index` of a struct or union.
+    pub fn member(&self, index: usize) -> Option<BtfMember>
+        ensures { result ≡ slice_get (members_of self.now) index }
+    {
+        match self.kind() {
+            BtfKind::Struct | BtfKind::Union => item(self.order, self.bytes, index),
+            _ => None,
+        }
+    }
+
+    /// Variant `index` of an enum.
+    pub fn variant(&self, index: usize) -> Option<BtfEnum>
+        ensures { result ≡ slice_get (variants_of self.now) index }
+    {
+        match self.kind() {
+            BtfKind::Enum => item(self.order, self.bytes, index),
+            _ => None,
+        }
+    }
+
+    /// Variant `index` of a 64-bit enum.
+    pub fn variant64(&self, index: usize) -> Option<BtfEnum64>
+        ensures { result ≡ slice_get (variants64_of self.now) index }
+    {
+        match self.kind() {
+            BtfKind::Enum64 => item(self.order, self.bytes, index),
+            _ => None,
+        }
+    }
+
+    /// Parameter `index` of a function's signature.
+    pub fn param(&self, index: usize) -> Option<BtfParam>
+        ensures { result ≡ slice_get (params_of self.now) index }
+    {
+        match self.kind() {
+            BtfKind::FuncProto => item(self.order, self.bytes, index),
+            _ => None,
+        }
+    }
+
+    /// Entry `index` of a section.
+    pub fn entry(&self, index: usize) -> Option<DataSecEntry>
+        ensures { result ≡ slice_get (entries_of self.now) index }
+    {
+        match self.kind() {
+            BtfKind::DataSec => item(self.order, self.bytes, index),
+            _ => None,
+        }
+    }
+
+    /// An array's element, index and number of elements.
+    pub fn array(&self) -> Option<BtfArray>
+        ensures { result ≡ array_of self.now }
+    {
+        match self.kind() {
+            BtfKind::Array => Some(BtfArray::read(self.order, behind(self.bytes, 12))),
+            _ => None,
+        }
+    }
+
+    /// The word of an integer that holds its encoding, offset and number of bits.
+    pub fn int_word(&self) -> Option<u32>
+        ensures { result ≡ int_word_of_type self.now }
+    {
+        match self.kind() {
+            BtfKind::Int => Some(word(self.order, self.bytes, 12)),
+            _ => None,
+        }
+    }
+
+    /// The linkage of a function.
+    pub fn func_linkage(&self) -> Option<FuncLinkage>
+        ensures { result ≡ func_linkage_of_type self.now }
+    {
+        match self.kind() {
+            BtfKind::Func => Some(FuncLinkage::from(word(self.order, self.bytes, 4) % 0x1_0000)),
+            _ => None,
+        }
+    }
+
+    /// The linkage of a variable.
+    pub fn var_linkage(&self) -> Option<VarLinkage>
+        ensures { result ≡ var_linkage_of_type self.now }
+    {
+        match self.kind() {
+            BtfKind::Var => Some(VarLinkage::from(word(self.order, self.bytes, 12))),
+            _ => None,
+        }
+    }
+
+    /// The 64-bit enum that a union stands for.
+    pub fn enum64_fallback(&self) -> Option<&Enum64Fallback>
+        ensures { option_copied result ≡ fallback_of self.now }
+    {
+        match self.kind() {
+            BtfKind::Union => self.fallback,
+            _ => None,
+        }
+    }
+
+    /// The record by itself.
+    pub fn to_type(&self, alloc: Global) -> Result<BtfType, AllocError>
+        ensures { IfOk result (λ t. t ≡ self.now) }
+    {
+        match (read_type(alloc, self.order, self.bytes)?, self.fallback) {
+            (BtfType::Union(union), Some(fallback)) => Ok(BtfType::Union(Union {
+                fallback: Some(fallback.clone()?),
+                ..union
+            })),
+            (t, _) => Ok(t),
         }
     }
 }
