@@ -1,1 +1,2 @@
 pub mod InBytes
+pub mod Written

@@ -12,6 +12,7 @@ mod reading;
 mod types;
 mod view;
 mod word;
+mod writing;
 
 pub use encoding::{FuncLinkage, IntEncoding, VarLinkage};
 pub use error::BtfError;

@@ -52,7 +52,8 @@ impl InfoBits {
     /// The info word of a kind and a count with these bits.
     #[tactic(auto, unfolding(crate::specs::Info::info_of))]
     pub(crate) fn word(self, kind: BtfKind, count: u16) -> u32
-        ensures { result ≡ info_of (number_of kind) count self }
+        ensures value { result ≡ info_of (number_of kind) count self }
+        ensures bits { self.bits_16_to_23 < 256 }
     {
         u32::from(count)
             + u32::from(self.bits_16_to_23) * 0x1_0000
