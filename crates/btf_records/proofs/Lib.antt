@@ -1,2 +1,3 @@
 pub mod InBytes
+pub mod RoundTrip
 pub mod Written

@@ -27,3 +27,4 @@ pub use types::{
 };
 pub use view::TypeRef;
 pub use word::Endianness;
+pub use writing::push_type;

@@ -135,3 +135,20 @@ fn push_fields(out: &mut Vec<u8>, order: Endianness, t: &BtfType) -> Result<(), 
         }
     }
 }
+
+/// Writes a record's bytes behind what is there: the third word of `BTF_KIND_FWD` and
+/// `BTF_KIND_ARRAY` as 0, an unknown linkage of a `BTF_KIND_VAR` as 3, `BTF_KIND_UNKN` as zeros.
+pub fn push_type(out: &mut Vec<u8>, order: Endianness, t: &BtfType) -> Result<(), AllocError>
+    ensures ok { OnOk result (out.new.items ≡ out.old.items ++ record_bytes order t.now) }
+    ensures read_back { OnOk result (ReadsBack order t.now) }
+    ensures err { OnErr result (out.new.items ≡ out.old.items) }
+{
+    let len = out.len();
+    match push_fields(out, order, t) {
+        Ok(()) => Ok(()),
+        Err(error) => {
+            out.truncate(len);
+            Err(error)
+        }
+    }
+}
