@@ -1,3 +1,4 @@
 pub mod InBytes
 pub mod RoundTrip
+pub mod WhateverFollows
 pub mod Written

@@ -205,6 +205,12 @@ pub record ReadsBack (order : Endianness) (t : BtfType) : Type 0 where
   pub same : (behind : List ℕ) → type_in order (record_bytes order t ++ behind) ≡ without_fallback t
   pub len : (behind : List ℕ) → record_len order (record_bytes order t ++ behind) ≡ length (record_bytes order t)
 
+-- the record that the bytes begin with is read the same, and as long, whatever follows them
+pub record ReadsSame (order : Endianness) (bytes : List ℕ) : Type 0 where
+  pub begins : (behind : List ℕ) → HasRecord order (bytes ++ behind)
+  pub same : (behind : List ℕ) → type_in order (bytes ++ behind) ≡ type_in order bytes
+  pub len : (behind : List ℕ) → record_len order (bytes ++ behind) ≡ record_len order bytes
+
 -- the bytes begin with these records, one behind the other, and then the rest comes
 abbrev pub Begins : Endianness → List BtfType → List ℕ → List ℕ → Type 0
 Begins order [] rest bytes = bytes ≡ rest

@@ -2,7 +2,7 @@
 
 ghost use Rattle.std.specs.Prelude.{◌≡◌, ◌+◌, ◌*◌, ◌<◌, ◌≤◌, IfOk, IfErr, OnOk, IfSome, Option, Some, None, drop, length, slice_get};
 ghost use Rattle.btf_records.specs.Items.{items_in};
-ghost use Rattle.btf_records.specs.Records.{HasRecord, RecordFault, count_at, kind_at, len_behind, record_len, type_in};
+ghost use Rattle.btf_records.specs.Records.{HasRecord, ReadsSame, RecordFault, count_at, kind_at, len_behind, record_len, type_in};
 
 use crate::encoding::VarLinkage;
 use crate::error::BtfError;
@@ -42,9 +42,11 @@ fn bytes_behind(kind: BtfKind, count: usize) -> usize
 /// The number of bytes of the record that the bytes begin with.
 ///
 /// `InvalidTypeInfo` where they are cut off, `InvalidTypeKind` where no record has the kind.
+#[tactic(auto, using(crate::proofs::WhateverFollows::reads_same))]
 pub fn record_len(order: Endianness, bytes: &[u8]) -> Result<usize, BtfError>
     ensures value { IfOk result (λ len. len ≡ record_len order bytes.now) }
     ensures found { OnOk result (HasRecord order bytes.now) }
+    ensures alone { OnOk result (ReadsSame order bytes.now) }
     ensures refused { IfErr result (RecordFault order bytes.now) }
 {
     if bytes.len() < 12 {
