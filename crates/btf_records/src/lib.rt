@@ -20,7 +20,7 @@ pub use feature::BtfFeature;
 pub use item::{BtfArray, BtfEnum, BtfEnum64, BtfMember, BtfParam, DataSecEntry};
 pub use items::Items;
 pub use kind::BtfKind;
-pub use reading::record_len;
+pub use reading::{count_types, record_len};
 pub use types::{
     Array, BtfType, Const, DataSec, DeclTag, Enum, Enum64, Enum64Fallback, Float, Func, FuncProto,
     Fwd, InfoBits, Int, Ptr, Restrict, Struct, TypeTag, Typedef, Union, Var, Volatile,
