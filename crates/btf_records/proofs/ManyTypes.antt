@@ -1,9 +1,12 @@
 -- Bytes that are records, one behind the other.
-use Rattle.std.proofs.Common.{◌≡◌, ℕ, suc, ◌+◌, ◌<◌, ◌≤◌, List, [], ◌∷◌, length, drop, refl, sym, ap, subst, ◌∙◌, arith, inl, inr}
+use Rattle.std.proofs.Common.{◌≡◌, ℕ, suc, ◌+◌, ◌<◌, ◌≤◌, List, [], ◌∷◌, ◌++◌, length, drop, refl, sym, ap, subst, ◌∙◌, arith, inl, inr}
+use Rattle.std.proofs.Math.Seq.{drop-length}
+use Rattle.std.proofs.lemmas.List.{drop-append-le}
 use Rattle.btf_records.specs.Records.{AreTypes, Begins, HasRecord, RecordFault, Spells, TypesFault, record_len, type_in}
 use Rattle.btf_records.specs.declared.error.BtfError.{BtfError}
 use Rattle.btf_records.specs.declared.error.BtfError.TheVariants.{InvalidTypeInfo, InvalidTypeKind}
 use Rattle.btf_records.specs.declared.types.BtfType.{BtfType}
+use Rattle.btf_records.proofs.WhateverFollows.{reads_same}
 use Rattle.btf_records.specs.declared.word.Endianness.{Endianness}
 
 no_fault : (order : Endianness) (bytes : List ℕ) (e : BtfError) → HasRecord order bytes → RecordFault order bytes e → ⊥
@@ -70,3 +73,13 @@ empty (b ∷ bs) h = absurd (omega (arith, h))
 
 pub are_at_end : (order : Endianness) (bytes : List ℕ) → length bytes ≡ 0 → AreTypes order bytes 0
 are_at_end order bytes h = subst (λ (bs : List ℕ). AreTypes order bs 0) (sym (empty bytes h)) (are_none order)
+
+-- a record written behind others is one more
+pub follows : (order : Endianness) (t : BtfType) (new : List ℕ) → HasRecord order new → type_in order new ≡ t → record_len order new ≡ length new → (front : List BtfType) (bytes : List ℕ) → Spells order front bytes → Spells order (front ++ t ∷ []) (bytes ++ new)
+follows order t new has same len [] bytes s =
+    let all : drop (record_len order new) new ≡ [] = rw len (drop-length new) in
+    subst (λ (bs : List ℕ). Spells order (t ∷ []) (bs ++ new)) (sym s) (has, same, all)
+follows order t new has same len (f ∷ fs) bytes s =
+    let stable = reads_same order bytes s.0 in
+    let left : drop (record_len order (bytes ++ new)) (bytes ++ new) ≡ drop (record_len order bytes) bytes ++ new = rw (stable.len new) (drop-append-le (record_len order bytes) bytes new s.0.whole) in
+    (stable.begins new, stable.same new ∙ s.1, subst (λ (bs : List ℕ). Begins order (fs ++ t ∷ []) [] bs) (sym left) (follows order t new has same len fs (drop (record_len order bytes) bytes) s.2))

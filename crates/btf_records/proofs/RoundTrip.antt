@@ -1,5 +1,5 @@
 -- A written record is read as itself.
-use Rattle.std.proofs.Common.{◌≡◌, ℕ, zero, suc, ◌+◌, ◌*◌, ◌/◌, ◌%◌, ◌^◌, ◌<◌, ◌≤◌, Bool, true, false, List, [], ◌∷◌, ◌++◌, length, drop, refl, sym, ap, subst, ◌∙◌, arith, length-append, append_assoc, nat_eq}
+use Rattle.std.proofs.Common.{◌≡◌, ℕ, zero, suc, ◌+◌, ◌*◌, ◌/◌, ◌%◌, ◌^◌, ◌<◌, ◌≤◌, Bool, true, false, List, [], ◌∷◌, ◌++◌, length, drop, refl, sym, ap, subst, ◌∙◌, arith, length-append, append_assoc, append-nil, nat_eq}
 use Rattle.std.specs.Prelude.{All}
 use Rattle.std.specs.List.{flat_map}
 use Rattle.std.proofs.lemmas.List.Elements.{All-head, All-tail}
@@ -9,8 +9,9 @@ use Rattle.btf_records.specs.Encodings.{number_of_var_linkage, var_linkage_of}
 use Rattle.btf_records.specs.Fields.{kind_of_type, name_offset_of}
 use Rattle.btf_records.specs.Items.{array_in, array_words, entry_in, entry_words, enum64_in, enum64_words, items_in, member_in, member_words, param_in, param_words, variant_in, variant_words}
 use Rattle.btf_records.specs.Kinds.{kind_of, number_of}
-use Rattle.btf_records.specs.Records.{HasRecord, IsInRange, ReadsBack, bits_of, count_at, count_of, kind_at, kind_number_at, len_behind, record_bytes, record_len, type_as, type_in, without_fallback, words_of}
+use Rattle.btf_records.specs.Records.{HasRecord, IsInRange, ReadsBack, Spells, bits_of, count_at, count_of, kind_at, kind_number_at, len_behind, record_bytes, record_len, type_as, type_in, without_fallback, words_of}
 use Rattle.btf_records.specs.Words.{word_at, word_bytes, words_bytes}
+use Rattle.btf_records.proofs.ManyTypes.{follows}
 use Rattle.btf_records.specs.declared.encoding.VarLinkage.{VarLinkage}
 use Rattle.btf_records.specs.declared.encoding.VarLinkage.TheVariants as variables
 use Rattle.btf_records.specs.declared.item.BtfArray.{BtfArray}
@@ -468,10 +469,20 @@ begins order t behind r =
       whole = omega (arith, whole, long);
     }
 
+follows_written : (order : Endianness) (t : BtfType) → IsInRange t → (front : List BtfType) (bytes : List ℕ) → Spells order front bytes → Spells order (front ++ without_fallback t ∷ []) (bytes ++ words_bytes order (words_of t))
+follows_written order t r =
+    let head : HeadIs order (words_bytes order (words_of t) ++ []) t (words_bytes order (words_behind t) ++ []) = head_written order t [] r in
+    let alone : words_bytes order (words_of t) ++ [] ≡ words_bytes order (words_of t) = append-nil (words_bytes order (words_of t)) in
+    follows order (without_fallback t) (words_bytes order (words_of t))
+    (subst (λ (bs : List ℕ). HasRecord order bs) alone (begins order t [] r))
+    (subst (λ (bs : List ℕ). type_in order bs ≡ without_fallback t) alone (same order t _ [] head (fit_parts t r).1.1.1))
+    (subst (λ (bs : List ℕ). record_len order bs ≡ length (words_bytes order (words_of t))) alone (len order t _ _ head))
+
 pub read_back : (order : Endianness) (t : BtfType) → IsInRange t → ReadsBack order t
 unfolding record_bytes
 read_back order t r = record {
   begins = λ behind. begins order t behind r;
   same = λ behind. same order t _ behind (head_written order t behind r) (fit_parts t r).1.1.1;
   len = λ behind. len order t _ _ (head_written order t behind r);
+  follows = follows_written order t r;
 }

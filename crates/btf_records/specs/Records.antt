@@ -199,12 +199,6 @@ pub record IsInRange (t : BtfType) : Type 0 where
   pub count : count_of t < 65536
   pub bits : (bits_of t).bits_16_to_23 < 256
 
--- wherever the bytes of a record stand, they are read as it, and as no more bytes
-pub record ReadsBack (order : Endianness) (t : BtfType) : Type 0 where
-  pub begins : (behind : List ℕ) → HasRecord order (record_bytes order t ++ behind)
-  pub same : (behind : List ℕ) → type_in order (record_bytes order t ++ behind) ≡ without_fallback t
-  pub len : (behind : List ℕ) → record_len order (record_bytes order t ++ behind) ≡ length (record_bytes order t)
-
 -- the record that the bytes begin with is read the same, and as long, whatever follows them
 pub record ReadsSame (order : Endianness) (bytes : List ℕ) : Type 0 where
   pub begins : (behind : List ℕ) → HasRecord order (bytes ++ behind)
@@ -219,6 +213,14 @@ Begins order (t ∷ ts) rest bytes = HasRecord order bytes × (type_in order byt
 -- the bytes are these records
 abbrev pub Spells : Endianness → List BtfType → List ℕ → Type 0
 Spells order ts bytes = Begins order ts [] bytes
+
+-- wherever the bytes of a record stand, they are read as it, and as no more bytes; written behind
+-- records, they are one more
+pub record ReadsBack (order : Endianness) (t : BtfType) : Type 0 where
+  pub begins : (behind : List ℕ) → HasRecord order (record_bytes order t ++ behind)
+  pub same : (behind : List ℕ) → type_in order (record_bytes order t ++ behind) ≡ without_fallback t
+  pub len : (behind : List ℕ) → record_len order (record_bytes order t ++ behind) ≡ length (record_bytes order t)
+  pub follows : (front : List BtfType) (bytes : List ℕ) → Spells order front bytes → Spells order (front ++ without_fallback t ∷ []) (bytes ++ record_bytes order t)
 
 -- behind some records stands something that begins with none
 pub record TypesFault (order : Endianness) (bytes : List ℕ) (e : BtfError) : Type 0 where
