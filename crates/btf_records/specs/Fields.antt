@@ -1,8 +1,5 @@
 -- What is read of a record: its kind, its name, its size or type, and its lists.
 use Rattle.std.specs.Prelude.{ℕ, List, [], Option, None, Some}
-use Rattle.btf_records.specs.Encodings.{func_linkage_of}
-use Rattle.btf_records.specs.declared.encoding.FuncLinkage.{FuncLinkage}
-use Rattle.btf_records.specs.declared.encoding.VarLinkage.{VarLinkage}
 use Rattle.btf_records.specs.declared.item.BtfArray.{BtfArray}
 use Rattle.btf_records.specs.declared.item.BtfEnum.{BtfEnum}
 use Rattle.btf_records.specs.declared.item.BtfEnum64.{BtfEnum64}
@@ -14,6 +11,9 @@ use Rattle.btf_records.specs.declared.kind.BtfKind.TheVariants as kinds
 use Rattle.btf_records.specs.declared.types.BtfType.{BtfType}
 use Rattle.btf_records.specs.declared.types.BtfType.TheVariants as types
 use Rattle.btf_records.specs.declared.types.Enum64Fallback.{Enum64Fallback}
+use Rattle.btf_records.specs.declared.types.Func.{Func}
+use Rattle.btf_records.specs.declared.types.Int.{Int}
+use Rattle.btf_records.specs.declared.types.Var.{Var}
 
 abbrev pub kind_of_type : BtfType → BtfKind
 kind_of_type types.Unknown = kinds.Unknown
@@ -110,17 +110,17 @@ abbrev pub array_of : BtfType → Option BtfArray
 array_of (types.Array t) = Some t.array
 array_of _ = None
 
-abbrev pub int_word_of_type : BtfType → Option ℕ
-int_word_of_type (types.Int t) = Some t.int_word
-int_word_of_type _ = None
+abbrev pub int_of : BtfType → Option Int
+int_of (types.Int t) = Some t
+int_of _ = None
 
-abbrev pub func_linkage_of_type : BtfType → Option FuncLinkage
-func_linkage_of_type (types.Func t) = Some (func_linkage_of t.vlen)
-func_linkage_of_type _ = None
+abbrev pub func_of : BtfType → Option Func
+func_of (types.Func t) = Some t
+func_of _ = None
 
-abbrev pub var_linkage_of_type : BtfType → Option VarLinkage
-var_linkage_of_type (types.Var t) = Some t.linkage
-var_linkage_of_type _ = None
+abbrev pub var_of : BtfType → Option Var
+var_of (types.Var t) = Some t
+var_of _ = None
 
 -- the enum that a UNION stands for
 abbrev pub fallback_of : BtfType → Option Enum64Fallback

@@ -1,5 +1,5 @@
 -- The items of the lists that follow a record's first three words, and their words.
-use Rattle.std.specs.Prelude.{ℕ, zero, suc, ◌+◌, ◌*◌, ◌^◌, List, [], ◌∷◌, drop}
+use Rattle.std.specs.Prelude.{ℕ, zero, suc, ◌+◌, ◌*◌, ◌/◌, ◌%◌, ◌^◌, Bool, if◌then◌else◌, List, [], ◌∷◌, drop}
 use Rattle.btf_records.specs.Words.{word_at}
 use Rattle.btf_records.specs.declared.word.Endianness.{Endianness}
 use Rattle.btf_records.specs.declared.item.BtfMember.{BtfMember}
@@ -15,6 +15,13 @@ member_in order bytes = record { name_offset = word_at order bytes 0; btf_type =
 
 abbrev pub member_words : BtfMember → List ℕ
 member_words m = m.name_offset ∷ m.btf_type ∷ m.offset ∷ []
+
+-- its offset in bits and the size of its bit field, in a record whose flag is set or not ("BTF_KIND_STRUCT")
+abbrev pub bit_offset_of : Bool → BtfMember → ℕ
+bit_offset_of flag m = if flag then m.offset % 2 ^ 24 else m.offset
+
+abbrev pub bit_size_of : Bool → BtfMember → ℕ
+bit_size_of flag m = if flag then m.offset / 2 ^ 24 else 0
 
 -- a variant: name, value
 abbrev pub variant_in : Endianness → List ℕ → BtfEnum

@@ -2,7 +2,7 @@
 
 ghost use Rattle.std.specs.Prelude.{◌≡◌, ◌++◌, ◌+◌, ◌*◌, ◌/◌, ◌%◌, ◌<◌, ◌≤◌, ◌^◌, ℕ, List, All, length, take, OnOk, OnErr};
 ghost use Rattle.btf_records.specs.Words.{words_bytes};
-ghost use Rattle.btf_records.specs.Items.{array_in, array_words, entry_in, entry_words, enum64_in, enum64_words, member_in, member_words, param_in, param_words, value_of, variant_in, variant_words};
+ghost use Rattle.btf_records.specs.Items.{array_in, array_words, bit_offset_of, bit_size_of, entry_in, entry_words, enum64_in, enum64_words, member_in, member_words, param_in, param_words, value_of, variant_in, variant_words};
 ghost use Rattle.btf_records.specs.declared.word.Endianness.{Endianness};
 
 use crate::word::{Endianness, push_word, word};
@@ -18,6 +18,26 @@ pub struct BtfMember {
     /// Its offset in bits; if the record's flag is set, bits 24 to 31 are the size of its bit
     /// field and bits 0 to 23 the offset.
     pub offset: u32,
+}
+
+impl BtfMember {
+    /// Its offset in bits, by its record's flag.
+    pub fn bit_offset(self, flag: bool) -> u32
+        ensures { result ≡ bit_offset_of flag self }
+    {
+        if flag {
+            self.offset % 0x100_0000
+        } else {
+            self.offset
+        }
+    }
+
+    /// The bits of its bit field, by its record's flag; 0 if it is none.
+    pub fn bit_size(self, flag: bool) -> u32
+        ensures { result ≡ bit_size_of flag self }
+    {
+        if flag { self.offset / 0x100_0000 } else { 0 }
+    }
 }
 
 /// The element, the index and the number of elements of a `BTF_KIND_ARRAY`.

@@ -1,8 +1,9 @@
 //! Type records, and their constructors.
 
-ghost use Rattle.std.specs.Prelude.{◌≡◌, ◌+◌, ◌*◌, ◌%◌, ◌<◌, None, false, length, option_copied};
+ghost use Rattle.std.specs.Prelude.{◌≡◌, ◌+◌, ◌*◌, ◌%◌, ◌<◌, None, IfOk, false, length, option_copied};
 ghost use Rattle.std.specs.Int.{w32, cast_signed, cast_unsigned};
 ghost use Rattle.btf_records.specs.Encodings.{encoding_of, func_linkage_of, number_of_encoding, number_of_func_linkage};
+ghost use Rattle.btf_records.specs.Fields.{kind_of_type, name_offset_of};
 ghost use Rattle.btf_records.specs.Kinds.{number_of};
 ghost use Rattle.btf_records.specs.Info.{bit_count_in, bits_in, encoding_in, flagged, info_of, int_word_of, offset_in};
 
@@ -10,6 +11,7 @@ use crate::encoding::{FuncLinkage, IntEncoding, VarLinkage};
 use crate::item::{BtfArray, BtfEnum, BtfEnum64, BtfMember, BtfParam, DataSecEntry};
 use crate::items::Items;
 use crate::kind::BtfKind;
+use std::alloc::AllocError;
 
 /// The bits of a record's info word that are neither its kind nor its count.
 #[derive(Clone, Copy, Debug)]
@@ -293,6 +295,16 @@ impl Func {
         ensures { result ≡ func_linkage_of self.now.vlen }
     {
         FuncLinkage::from(u32::from(self.vlen))
+    }
+
+    /// The same function with another linkage.
+    pub fn with_linkage(self, linkage: FuncLinkage) -> Func
+        ensures { result ≡ record self { vlen = number_of_func_linkage linkage } }
+    {
+        Func {
+            vlen: linkage.number(),
+            ..self
+        }
     }
 }
 
@@ -631,4 +643,68 @@ pub enum BtfType {
     DeclTag(DeclTag),
     TypeTag(TypeTag),
     Enum64(Enum64),
+}
+
+impl BtfType {
+    pub fn kind(&self) -> BtfKind
+        ensures { result ≡ kind_of_type self.now }
+    {
+        match self {
+            BtfType::Unknown => BtfKind::Unknown,
+            BtfType::Int(_) => BtfKind::Int,
+            BtfType::Ptr(_) => BtfKind::Ptr,
+            BtfType::Array(_) => BtfKind::Array,
+            BtfType::Struct(_) => BtfKind::Struct,
+            BtfType::Union(_) => BtfKind::Union,
+            BtfType::Enum(_) => BtfKind::Enum,
+            BtfType::Fwd(_) => BtfKind::Fwd,
+            BtfType::Typedef(_) => BtfKind::Typedef,
+            BtfType::Volatile(_) => BtfKind::Volatile,
+            BtfType::Const(_) => BtfKind::Const,
+            BtfType::Restrict(_) => BtfKind::Restrict,
+            BtfType::Func(_) => BtfKind::Func,
+            BtfType::FuncProto(_) => BtfKind::FuncProto,
+            BtfType::Var(_) => BtfKind::Var,
+            BtfType::DataSec(_) => BtfKind::DataSec,
+            BtfType::Float(_) => BtfKind::Float,
+            BtfType::DeclTag(_) => BtfKind::DeclTag,
+            BtfType::TypeTag(_) => BtfKind::TypeTag,
+            BtfType::Enum64(_) => BtfKind::Enum64,
+        }
+    }
+
+    /// The offset of its name in the strings; 0 for a record without fields.
+    pub fn name_offset(&self) -> u32
+        ensures { result ≡ name_offset_of self.now }
+    {
+        match self {
+            BtfType::Unknown => 0,
+            BtfType::Int(t) => t.name_offset,
+            BtfType::Ptr(t) => t.name_offset,
+            BtfType::Array(t) => t.name_offset,
+            BtfType::Struct(t) => t.name_offset,
+            BtfType::Union(t) => t.name_offset,
+            BtfType::Enum(t) => t.name_offset,
+            BtfType::Fwd(t) => t.name_offset,
+            BtfType::Typedef(t) => t.name_offset,
+            BtfType::Volatile(t) => t.name_offset,
+            BtfType::Const(t) => t.name_offset,
+            BtfType::Restrict(t) => t.name_offset,
+            BtfType::Func(t) => t.name_offset,
+            BtfType::FuncProto(t) => t.name_offset,
+            BtfType::Var(t) => t.name_offset,
+            BtfType::DataSec(t) => t.name_offset,
+            BtfType::Float(t) => t.name_offset,
+            BtfType::DeclTag(t) => t.name_offset,
+            BtfType::TypeTag(t) => t.name_offset,
+            BtfType::Enum64(t) => t.name_offset,
+        }
+    }
+
+    /// A record with the same content.
+    pub fn try_clone(&self) -> Result<BtfType, AllocError>
+        ensures { IfOk result (λ t. t ≡ self.now) }
+    {
+        self.clone()
+    }
 }

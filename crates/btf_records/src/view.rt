@@ -2,15 +2,15 @@
 
 ghost use Rattle.std.specs.Prelude.{◌≡◌, IfOk, IfErr, OnOk, Option, Some, None, slice_get};
 ghost use Rattle.std.specs.Option.{option_copied};
-ghost use Rattle.btf_records.specs.Fields.{array_of, entries_of, fallback_of, func_linkage_of_type, int_word_of_type, kind_of_type, members_of, name_offset_of, params_of, size_of, type_of, var_linkage_of_type, variants_of, variants64_of};
+ghost use Rattle.btf_records.specs.Fields.{array_of, entries_of, fallback_of, func_of, int_of, kind_of_type, members_of, name_offset_of, params_of, size_of, type_of, var_of, variants_of, variants64_of};
 ghost use Rattle.btf_records.specs.Records.{HasRecord, RecordFault, bits_of, count_of, type_in, with_fallback};
 
-use crate::encoding::{FuncLinkage, VarLinkage};
+use crate::encoding::VarLinkage;
 use crate::error::BtfError;
 use crate::item::{BtfArray, BtfEnum, BtfEnum64, BtfMember, BtfParam, DataSecEntry, Item};
 use crate::kind::BtfKind;
 use crate::reading::{item, kind_of, read_type, record_len};
-use crate::types::{BtfType, Enum64Fallback, InfoBits, Union};
+use crate::types::{BtfType, Enum64Fallback, Func, InfoBits, Int, Union, Var};
 use crate::word::{Endianness, behind, word};
 use std::alloc::{AllocError, Global};
 use std::marker::Model;
@@ -100,9 +100,15 @@ impl<'a> TypeRef<'a> {
     pub fn count(&self) -> usize
         ensures { result ≡ count_of self.now }
     {
+        usize::from(self.vlen())
+    }
+
+    fn vlen(&self) -> u16
+        ensures { result ≡ count_of self.now }
+    {
         match self.kind() {
             BtfKind::Unknown => 0,
-            _ => (word(self.order, self.bytes, 4) % 0x1_0000) as usize,
+            _ => (word(self.order, self.bytes, 4) % 0x1_0000) as u16,
         }
     }
 
@@ -201,32 +207,49 @@ impl<'a> TypeRef<'a> {
         }
     }
 
-    /// The word of an integer that holds its encoding, offset and number of bits.
-    pub fn int_word(&self) -> Option<u32>
-        ensures { result ≡ int_word_of_type self.now }
+    /// The integer that this record is.
+    pub fn int(&self) -> Option<Int>
+        ensures { result ≡ int_of self.now }
     {
         match self.kind() {
-            BtfKind::Int => Some(word(self.order, self.bytes, 12)),
+            BtfKind::Int => Some(Int {
+                name_offset: word(self.order, self.bytes, 0),
+                vlen: self.vlen(),
+                info: self.info(),
+                size: word(self.order, self.bytes, 8),
+                int_word: word(self.order, self.bytes, 12),
+            }),
             _ => None,
         }
     }
 
-    /// The linkage of a function.
-    pub fn func_linkage(&self) -> Option<FuncLinkage>
-        ensures { result ≡ func_linkage_of_type self.now }
+    /// The function that this record is.
+    pub fn func(&self) -> Option<Func>
+        ensures { result ≡ func_of self.now }
     {
         match self.kind() {
-            BtfKind::Func => Some(FuncLinkage::from(word(self.order, self.bytes, 4) % 0x1_0000)),
+            BtfKind::Func => Some(Func {
+                name_offset: word(self.order, self.bytes, 0),
+                vlen: self.vlen(),
+                info: self.info(),
+                btf_type: word(self.order, self.bytes, 8),
+            }),
             _ => None,
         }
     }
 
-    /// The linkage of a variable.
-    pub fn var_linkage(&self) -> Option<VarLinkage>
-        ensures { result ≡ var_linkage_of_type self.now }
+    /// The variable that this record is.
+    pub fn var(&self) -> Option<Var>
+        ensures { result ≡ var_of self.now }
     {
         match self.kind() {
-            BtfKind::Var => Some(VarLinkage::from(word(self.order, self.bytes, 12))),
+            BtfKind::Var => Some(Var {
+                name_offset: word(self.order, self.bytes, 0),
+                vlen: self.vlen(),
+                info: self.info(),
+                btf_type: word(self.order, self.bytes, 8),
+                linkage: VarLinkage::from(word(self.order, self.bytes, 12)),
+            }),
             _ => None,
         }
     }

@@ -10,10 +10,10 @@ loop-rest-preserved c =
     let one : (n : ℕ) → suc n + c.loop-rest.count ≡ n + (c.loop-rest.count + 1) = λ n. omega arith in
     record {
       counted = λ n are.
-        subst (λ (k : ℕ). AreTypes c.args.order c.args.bytes.now k) (one n)
-        (c.loop-rest.invariant.counted (suc n) (are_more c.args.order c.loop-rest.rest.now n c.in_ok-len.ensures.found (subst (λ (b : List ℕ). AreTypes c.args.order b n) left are)));
+          subst (λ (k : ℕ). AreTypes c.args.order c.args.bytes.now k) (one n)
+          (c.loop-rest.invariant.counted (suc n) (are_more c.args.order c.loop-rest.rest.now n c.in_ok-len.ensures.found (subst (λ (b : List ℕ). AreTypes c.args.order b n) left are)));
       refused = λ e fault.
-        c.loop-rest.invariant.refused e (fault_more c.args.order c.loop-rest.rest.now e c.in_ok-len.ensures.found (subst (λ (b : List ℕ). TypesFault c.args.order b e) left fault));
+          c.loop-rest.invariant.refused e (fault_more c.args.order c.loop-rest.rest.now e c.in_ok-len.ensures.found (subst (λ (b : List ℕ). TypesFault c.args.order b e) left fault));
       bounded = omega (arith, c.loop-rest.invariant.bounded, c.behind-rest.ensures.length, c.in_ok-len.ensures.value);
     }
 
