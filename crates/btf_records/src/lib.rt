@@ -9,6 +9,8 @@ mod item;
 mod items;
 mod kind;
 mod reading;
+#[cfg(test)]
+mod tests;
 mod types;
 mod view;
 mod word;
