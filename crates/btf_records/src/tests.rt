@@ -6,7 +6,7 @@ use crate::{
     IntEncoding, Ptr, Restrict, Struct, TypeRef, TypeTag, Typedef, Union, Var, VarLinkage,
     Volatile, count_types, push_type, record_len,
 };
-use std::alloc::Global;
+use std::alloc::{AllocError, Global};
 use std::process::Abort;
 use std::test::Fail;
 
@@ -64,59 +64,48 @@ fn check_normal(rt: &impl Abort, alloc: Global, words: &[u32], normal: &[u32]) -
 }
 
 #[test]
-fn fixed_records(rt: HostRuntime) -> Result<(), Fail> {
-    let int = Int::new(1, 4, IntEncoding::Signed, 0);
-    check(&rt, rt.alloc(), &BtfType::Unknown, &[0, 0, 0])?;
-    check(
-        &rt,
-        rt.alloc(),
-        &BtfType::Int(int),
-        &[1, 0x0100_0000, 4, 0x0100_0020],
-    )?;
-    check(
-        &rt,
-        rt.alloc(),
-        &BtfType::Ptr(Ptr::new(0, 1)),
-        &[0, 0x0200_0000, 1],
-    )?;
+fn plain_types(rt: HostRuntime) -> Result<(), Fail> {
+    let alloc = rt.alloc();
+    check(&rt, alloc, &BtfType::Unknown, &[0, 0, 0])?;
+    let int = BtfType::Int(Int::new(1, 4, IntEncoding::Signed, 0));
+    check(&rt, alloc, &int, &[1, 0x0100_0000, 4, 0x0100_0020])?;
+    let pointer = BtfType::Ptr(Ptr::new(0, 1));
+    check(&rt, alloc, &pointer, &[0, 0x0200_0000, 1])?;
     let array = BtfType::Array(Array::new(0, 2, 3, 16));
-    check(&rt, rt.alloc(), &array, &[0, 0x0300_0000, 0, 2, 3, 16])?;
-    check(
-        &rt,
-        rt.alloc(),
-        &BtfType::Fwd(Fwd::new(8)),
-        &[8, 0x0700_0000, 0],
-    )?;
-    let named = BtfType::Typedef(Typedef::new(8, 1));
-    check(&rt, rt.alloc(), &named, &[8, 0x0800_0000, 1])?;
-    let volatile = BtfType::Volatile(Volatile::new(1));
-    check(&rt, rt.alloc(), &volatile, &[0, 0x0900_0000, 1])?;
-    check(
-        &rt,
-        rt.alloc(),
-        &BtfType::Const(Const::new(1)),
-        &[0, 0x0a00_0000, 1],
-    )?;
-    let restrict = BtfType::Restrict(Restrict::new(1));
-    check(&rt, rt.alloc(), &restrict, &[0, 0x0b00_0000, 1])?;
-    let func = BtfType::Func(Func::new(8, 3, FuncLinkage::Global));
-    check(&rt, rt.alloc(), &func, &[8, 0x0c00_0001, 3])?;
-    let var = BtfType::Var(Var::new(9, 1, VarLinkage::Extern));
-    check(&rt, rt.alloc(), &var, &[9, 0x0e00_0000, 1, 2])?;
-    check(
-        &rt,
-        rt.alloc(),
-        &BtfType::Float(Float::new(9, 8)),
-        &[9, 0x1000_0000, 8],
-    )?;
-    let tag = BtfType::DeclTag(DeclTag::new(9, 2, -1));
-    check(&rt, rt.alloc(), &tag, &[9, 0x1100_0000, 2, 0xffff_ffff])?;
-    let type_tag = BtfType::TypeTag(TypeTag::new(9, 2));
-    check(&rt, rt.alloc(), &type_tag, &[9, 0x1200_0000, 2])
+    check(&rt, alloc, &array, &[0, 0x0300_0000, 0, 2, 3, 16])?;
+    let float = BtfType::Float(Float::new(9, 8));
+    check(&rt, alloc, &float, &[9, 0x1000_0000, 8])
 }
 
 #[test]
-fn records_with_lists(rt: HostRuntime) -> Result<(), Fail> {
+fn modifiers(rt: HostRuntime) -> Result<(), Fail> {
+    let alloc = rt.alloc();
+    let named = BtfType::Typedef(Typedef::new(8, 1));
+    check(&rt, alloc, &named, &[8, 0x0800_0000, 1])?;
+    let volatile = BtfType::Volatile(Volatile::new(1));
+    check(&rt, alloc, &volatile, &[0, 0x0900_0000, 1])?;
+    let constant = BtfType::Const(Const::new(1));
+    check(&rt, alloc, &constant, &[0, 0x0a00_0000, 1])?;
+    let restrict = BtfType::Restrict(Restrict::new(1));
+    check(&rt, alloc, &restrict, &[0, 0x0b00_0000, 1])?;
+    let type_tag = BtfType::TypeTag(TypeTag::new(9, 2));
+    check(&rt, alloc, &type_tag, &[9, 0x1200_0000, 2])
+}
+
+#[test]
+fn declarations(rt: HostRuntime) -> Result<(), Fail> {
+    let alloc = rt.alloc();
+    let forward = BtfType::Fwd(Fwd::new(8));
+    check(&rt, alloc, &forward, &[8, 0x0700_0000, 0])?;
+    let func = BtfType::Func(Func::new(8, 3, FuncLinkage::Global));
+    check(&rt, alloc, &func, &[8, 0x0c00_0001, 3])?;
+    let var = BtfType::Var(Var::new(9, 1, VarLinkage::Extern));
+    check(&rt, alloc, &var, &[9, 0x0e00_0000, 1, 2])?;
+    let tag = BtfType::DeclTag(DeclTag::new(9, 2, -1));
+    check(&rt, alloc, &tag, &[9, 0x1100_0000, 2, 0xffff_ffff])
+}
+
+fn pair(alloc: Global) -> Result<BtfType, AllocError> {
     let first = BtfMember {
         name_offset: 7,
         btf_type: 1,
@@ -127,24 +116,27 @@ fn records_with_lists(rt: HostRuntime) -> Result<(), Fail> {
         btf_type: 2,
         offset: 64,
     };
-    let members = vec![in rt.alloc(); first, second]?;
-    let pair = BtfType::Struct(Struct::new(5, members, 12));
-    check(
-        &rt,
-        rt.alloc(),
-        &pair,
-        &[5, 0x0400_0002, 12, 7, 1, 0, 9, 2, 64],
-    )?;
-    let either = BtfType::Union(Union::new(0, vec![in rt.alloc(); first]?, 4));
-    check(&rt, rt.alloc(), &either, &[0, 0x0500_0001, 4, 7, 1, 0])?;
-    let signs = vec![in rt.alloc(); BtfEnum::new(4, 0xffff_ffff), BtfEnum::new(6, 1)]?;
-    let sign = BtfType::Enum(Enum::new(3, true, signs));
-    check(
-        &rt,
-        rt.alloc(),
-        &sign,
-        &[3, 0x8600_0002, 4, 4, 0xffff_ffff, 6, 1],
-    )?;
+    let members = Vec::from_array(alloc, [first, second])?;
+    Ok(BtfType::Struct(Struct::new(5, members, 12)))
+}
+
+fn either(alloc: Global) -> Result<BtfType, AllocError> {
+    let member = BtfMember {
+        name_offset: 7,
+        btf_type: 1,
+        offset: 0,
+    };
+    let members = Vec::from_array(alloc, [member])?;
+    Ok(BtfType::Union(Union::new(0, members, 4)))
+}
+
+fn sign(alloc: Global) -> Result<BtfType, AllocError> {
+    let below = BtfEnum::new(4, 0xffff_ffff);
+    let variants = Vec::from_array(alloc, [below, BtfEnum::new(6, 1)])?;
+    Ok(BtfType::Enum(Enum::new(3, true, variants)))
+}
+
+fn print(alloc: Global) -> Result<BtfType, AllocError> {
     let number = BtfParam {
         name_offset: 5,
         btf_type: 2,
@@ -153,27 +145,64 @@ fn records_with_lists(rt: HostRuntime) -> Result<(), Fail> {
         name_offset: 0,
         btf_type: 0,
     };
-    let print = BtfType::FuncProto(FuncProto::new(vec![in rt.alloc(); number, more]?, 1));
-    check(&rt, rt.alloc(), &print, &[0, 0x0d00_0002, 1, 5, 2, 0, 0])?;
+    let params = Vec::from_array(alloc, [number, more])?;
+    Ok(BtfType::FuncProto(FuncProto::new(params, 1)))
+}
+
+fn data_section(alloc: Global) -> Result<BtfType, AllocError> {
     let entry = DataSecEntry {
         btf_type: 7,
         offset: 0,
         size: 4,
     };
-    let data = BtfType::DataSec(DataSec::new(9, vec![in rt.alloc(); entry]?, 4));
-    check(&rt, rt.alloc(), &data, &[9, 0x0f00_0001, 4, 7, 0, 4])
+    let entries = Vec::from_array(alloc, [entry])?;
+    Ok(BtfType::DataSec(DataSec::new(9, entries, 4)))
+}
+
+fn wide(alloc: Global, signed: bool, value: u64) -> Result<BtfType, AllocError> {
+    let variants = Vec::from_array(alloc, [BtfEnum64::new(4, value)])?;
+    Ok(BtfType::Enum64(Enum64::new(9, signed, variants)))
+}
+
+#[test]
+fn structs_and_unions(rt: HostRuntime) -> Result<(), Fail> {
+    let alloc = rt.alloc();
+    let words = [5, 0x0400_0002, 12, 7, 1, 0, 9, 2, 64];
+    check(&rt, alloc, &pair(alloc)?, &words)?;
+    let words = [0, 0x0500_0001, 4, 7, 1, 0];
+    check(&rt, alloc, &either(alloc)?, &words)
+}
+
+#[test]
+fn enums_and_signatures(rt: HostRuntime) -> Result<(), Fail> {
+    let alloc = rt.alloc();
+    let words = [3, 0x8600_0002, 4, 4, 0xffff_ffff, 6, 1];
+    check(&rt, alloc, &sign(alloc)?, &words)?;
+    let words = [0, 0x0d00_0002, 1, 5, 2, 0, 0];
+    check(&rt, alloc, &print(alloc)?, &words)
+}
+
+#[test]
+fn sections(rt: HostRuntime) -> Result<(), Fail> {
+    let alloc = rt.alloc();
+    let words = [9, 0x0f00_0001, 4, 7, 0, 4];
+    check(&rt, alloc, &data_section(alloc)?, &words)
 }
 
 #[test]
 fn enums_of_64_bits(rt: HostRuntime) -> Result<(), Fail> {
-    let high = vec![in rt.alloc(); BtfEnum64::new(4, 0x0123_4567_89ab_cdef)]?;
-    let unsigned = BtfType::Enum64(Enum64::new(9, false, high));
+    let alloc = rt.alloc();
+    let unsigned = wide(alloc, false, 0x0123_4567_89ab_cdef)?;
     let words = [9, 0x1300_0001, 8, 4, 0x89ab_cdef, 0x0123_4567];
-    check(&rt, rt.alloc(), &unsigned, &words)?;
-    let low = vec![in rt.alloc(); BtfEnum64::new(4, 0xffff_ffff_ffff_fffe)]?;
-    let signed = BtfType::Enum64(Enum64::new(9, true, low));
+    check(&rt, alloc, &unsigned, &words)?;
+    let signed = wide(alloc, true, 0xffff_ffff_ffff_fffe)?;
     let words = [9, 0x9300_0001, 8, 4, 0xffff_fffe, 0xffff_ffff];
-    check(&rt, rt.alloc(), &signed, &words)?;
+    check(&rt, alloc, &signed, &words)
+}
+
+#[test]
+fn variants_by_place(rt: HostRuntime) -> Result<(), Fail> {
+    let words = [9, 0x9300_0001, 8, 4, 0xffff_fffe, 0xffff_ffff];
     let bytes = spelled(rt.alloc(), Endianness::Big, &words)?;
     let view = TypeRef::read(Endianness::Big, bytes.as_slice())?;
     assert!(rt; view.flag());
