@@ -27,28 +27,32 @@ kind_at order bytes = kind_of (kind_number_at order bytes)
 abbrev pub count_at : Endianness → List ℕ → ℕ
 count_at order bytes = count_in (word_at order bytes 4)
 
+-- the other parts of the first three words, and what is behind them
+abbrev pub name_at : Endianness → List ℕ → ℕ
+name_at order bytes = word_at order bytes 0
+
+abbrev pub bits_at : Endianness → List ℕ → InfoBits
+bits_at order bytes = bits_in (word_at order bytes 4)
+
+abbrev pub third_at : Endianness → List ℕ → ℕ
+third_at order bytes = word_at order bytes 8
+
+abbrev pub behind_in : List ℕ → List ℕ
+behind_in bytes = drop 12 bytes
+
 -- the bytes of a record of a kind behind its first three words
 abbrev pub len_behind : BtfKind → ℕ → ℕ
-len_behind kinds.Unknown count = 0
 len_behind kinds.Int count = 4
-len_behind kinds.Ptr count = 0
 len_behind kinds.Array count = 12
 len_behind kinds.Struct count = 12 * count
 len_behind kinds.Union count = 12 * count
 len_behind kinds.Enum count = 8 * count
-len_behind kinds.Fwd count = 0
-len_behind kinds.Typedef count = 0
-len_behind kinds.Volatile count = 0
-len_behind kinds.Const count = 0
-len_behind kinds.Restrict count = 0
-len_behind kinds.Func count = 0
 len_behind kinds.FuncProto count = 8 * count
 len_behind kinds.Var count = 4
 len_behind kinds.DataSec count = 12 * count
-len_behind kinds.Float count = 0
 len_behind kinds.DeclTag count = 4
-len_behind kinds.TypeTag count = 0
 len_behind kinds.Enum64 count = 12 * count
+len_behind _ count = 0
 
 abbrev pub record_len : Endianness → List ℕ → ℕ
 record_len order bytes = 12 + len_behind (kind_at order bytes) (count_at order bytes)
@@ -69,25 +73,25 @@ RecordFault order bytes _ = ⊥
 -- nor anything of UNKNOWN
 abbrev pub type_as : BtfKind → Endianness → List ℕ → BtfType
 type_as kinds.Unknown order bytes = types.Unknown
-type_as kinds.Int order bytes = types.Int (record { name_offset = word_at order bytes 0; vlen = count_in (word_at order bytes 4); info = bits_in (word_at order bytes 4); size = word_at order bytes 8; int_word = word_at order bytes 12 })
-type_as kinds.Ptr order bytes = types.Ptr (record { name_offset = word_at order bytes 0; vlen = count_in (word_at order bytes 4); info = bits_in (word_at order bytes 4); btf_type = word_at order bytes 8 })
-type_as kinds.Array order bytes = types.Array (record { name_offset = word_at order bytes 0; vlen = count_in (word_at order bytes 4); info = bits_in (word_at order bytes 4); array = array_in order (drop 12 bytes) })
-type_as kinds.Struct order bytes = types.Struct (record { name_offset = word_at order bytes 0; info = bits_in (word_at order bytes 4); size = word_at order bytes 8; members = items_in (member_in order) 12 (count_in (word_at order bytes 4)) (drop 12 bytes) })
-type_as kinds.Union order bytes = types.Union (record { name_offset = word_at order bytes 0; info = bits_in (word_at order bytes 4); size = word_at order bytes 8; members = items_in (member_in order) 12 (count_in (word_at order bytes 4)) (drop 12 bytes); fallback = None })
-type_as kinds.Enum order bytes = types.Enum (record { name_offset = word_at order bytes 0; info = bits_in (word_at order bytes 4); size = word_at order bytes 8; variants = items_in (variant_in order) 8 (count_in (word_at order bytes 4)) (drop 12 bytes) })
-type_as kinds.Fwd order bytes = types.Fwd (record { name_offset = word_at order bytes 0; vlen = count_in (word_at order bytes 4); info = bits_in (word_at order bytes 4) })
-type_as kinds.Typedef order bytes = types.Typedef (record { name_offset = word_at order bytes 0; vlen = count_in (word_at order bytes 4); info = bits_in (word_at order bytes 4); btf_type = word_at order bytes 8 })
-type_as kinds.Volatile order bytes = types.Volatile (record { name_offset = word_at order bytes 0; vlen = count_in (word_at order bytes 4); info = bits_in (word_at order bytes 4); btf_type = word_at order bytes 8 })
-type_as kinds.Const order bytes = types.Const (record { name_offset = word_at order bytes 0; vlen = count_in (word_at order bytes 4); info = bits_in (word_at order bytes 4); btf_type = word_at order bytes 8 })
-type_as kinds.Restrict order bytes = types.Restrict (record { name_offset = word_at order bytes 0; vlen = count_in (word_at order bytes 4); info = bits_in (word_at order bytes 4); btf_type = word_at order bytes 8 })
-type_as kinds.Func order bytes = types.Func (record { name_offset = word_at order bytes 0; vlen = count_in (word_at order bytes 4); info = bits_in (word_at order bytes 4); btf_type = word_at order bytes 8 })
-type_as kinds.FuncProto order bytes = types.FuncProto (record { name_offset = word_at order bytes 0; info = bits_in (word_at order bytes 4); return_type = word_at order bytes 8; params = items_in (param_in order) 8 (count_in (word_at order bytes 4)) (drop 12 bytes) })
-type_as kinds.Var order bytes = types.Var (record { name_offset = word_at order bytes 0; vlen = count_in (word_at order bytes 4); info = bits_in (word_at order bytes 4); btf_type = word_at order bytes 8; linkage = var_linkage_of (word_at order bytes 12) })
-type_as kinds.DataSec order bytes = types.DataSec (record { name_offset = word_at order bytes 0; info = bits_in (word_at order bytes 4); size = word_at order bytes 8; entries = items_in (entry_in order) 12 (count_in (word_at order bytes 4)) (drop 12 bytes) })
-type_as kinds.Float order bytes = types.Float (record { name_offset = word_at order bytes 0; vlen = count_in (word_at order bytes 4); info = bits_in (word_at order bytes 4); size = word_at order bytes 8 })
-type_as kinds.DeclTag order bytes = types.DeclTag (record { name_offset = word_at order bytes 0; vlen = count_in (word_at order bytes 4); info = bits_in (word_at order bytes 4); btf_type = word_at order bytes 8; index_word = word_at order bytes 12 })
-type_as kinds.TypeTag order bytes = types.TypeTag (record { name_offset = word_at order bytes 0; vlen = count_in (word_at order bytes 4); info = bits_in (word_at order bytes 4); btf_type = word_at order bytes 8 })
-type_as kinds.Enum64 order bytes = types.Enum64 (record { name_offset = word_at order bytes 0; info = bits_in (word_at order bytes 4); size = word_at order bytes 8; variants = items_in (enum64_in order) 12 (count_in (word_at order bytes 4)) (drop 12 bytes) })
+type_as kinds.Int order bytes = types.Int (record { name_offset = name_at order bytes; vlen = count_at order bytes; info = bits_at order bytes; size = third_at order bytes; int_word = word_at order bytes 12 })
+type_as kinds.Ptr order bytes = types.Ptr (record { name_offset = name_at order bytes; vlen = count_at order bytes; info = bits_at order bytes; btf_type = third_at order bytes })
+type_as kinds.Array order bytes = types.Array (record { name_offset = name_at order bytes; vlen = count_at order bytes; info = bits_at order bytes; array = array_in order (behind_in bytes) })
+type_as kinds.Struct order bytes = types.Struct (record { name_offset = name_at order bytes; info = bits_at order bytes; size = third_at order bytes; members = items_in (member_in order) 12 (count_at order bytes) (behind_in bytes) })
+type_as kinds.Union order bytes = types.Union (record { name_offset = name_at order bytes; info = bits_at order bytes; size = third_at order bytes; members = items_in (member_in order) 12 (count_at order bytes) (behind_in bytes); fallback = None })
+type_as kinds.Enum order bytes = types.Enum (record { name_offset = name_at order bytes; info = bits_at order bytes; size = third_at order bytes; variants = items_in (variant_in order) 8 (count_at order bytes) (behind_in bytes) })
+type_as kinds.Fwd order bytes = types.Fwd (record { name_offset = name_at order bytes; vlen = count_at order bytes; info = bits_at order bytes })
+type_as kinds.Typedef order bytes = types.Typedef (record { name_offset = name_at order bytes; vlen = count_at order bytes; info = bits_at order bytes; btf_type = third_at order bytes })
+type_as kinds.Volatile order bytes = types.Volatile (record { name_offset = name_at order bytes; vlen = count_at order bytes; info = bits_at order bytes; btf_type = third_at order bytes })
+type_as kinds.Const order bytes = types.Const (record { name_offset = name_at order bytes; vlen = count_at order bytes; info = bits_at order bytes; btf_type = third_at order bytes })
+type_as kinds.Restrict order bytes = types.Restrict (record { name_offset = name_at order bytes; vlen = count_at order bytes; info = bits_at order bytes; btf_type = third_at order bytes })
+type_as kinds.Func order bytes = types.Func (record { name_offset = name_at order bytes; vlen = count_at order bytes; info = bits_at order bytes; btf_type = third_at order bytes })
+type_as kinds.FuncProto order bytes = types.FuncProto (record { name_offset = name_at order bytes; info = bits_at order bytes; return_type = third_at order bytes; params = items_in (param_in order) 8 (count_at order bytes) (behind_in bytes) })
+type_as kinds.Var order bytes = types.Var (record { name_offset = name_at order bytes; vlen = count_at order bytes; info = bits_at order bytes; btf_type = third_at order bytes; linkage = var_linkage_of (word_at order bytes 12) })
+type_as kinds.DataSec order bytes = types.DataSec (record { name_offset = name_at order bytes; info = bits_at order bytes; size = third_at order bytes; entries = items_in (entry_in order) 12 (count_at order bytes) (behind_in bytes) })
+type_as kinds.Float order bytes = types.Float (record { name_offset = name_at order bytes; vlen = count_at order bytes; info = bits_at order bytes; size = third_at order bytes })
+type_as kinds.DeclTag order bytes = types.DeclTag (record { name_offset = name_at order bytes; vlen = count_at order bytes; info = bits_at order bytes; btf_type = third_at order bytes; index_word = word_at order bytes 12 })
+type_as kinds.TypeTag order bytes = types.TypeTag (record { name_offset = name_at order bytes; vlen = count_at order bytes; info = bits_at order bytes; btf_type = third_at order bytes })
+type_as kinds.Enum64 order bytes = types.Enum64 (record { name_offset = name_at order bytes; info = bits_at order bytes; size = third_at order bytes; variants = items_in (enum64_in order) 12 (count_at order bytes) (behind_in bytes) })
 
 -- the record that the bytes begin with
 abbrev pub type_in : Endianness → List ℕ → BtfType
@@ -124,25 +128,7 @@ record_bytes order t = words_bytes order (words_of t)
 -- a record whose UNION stands for this enum
 abbrev pub with_fallback : Option Enum64Fallback → BtfType → BtfType
 with_fallback fallback (types.Union t) = types.Union (record t { fallback = fallback })
-with_fallback fallback types.Unknown = types.Unknown
-with_fallback fallback (types.Int t) = types.Int t
-with_fallback fallback (types.Ptr t) = types.Ptr t
-with_fallback fallback (types.Array t) = types.Array t
-with_fallback fallback (types.Struct t) = types.Struct t
-with_fallback fallback (types.Enum t) = types.Enum t
-with_fallback fallback (types.Fwd t) = types.Fwd t
-with_fallback fallback (types.Typedef t) = types.Typedef t
-with_fallback fallback (types.Volatile t) = types.Volatile t
-with_fallback fallback (types.Const t) = types.Const t
-with_fallback fallback (types.Restrict t) = types.Restrict t
-with_fallback fallback (types.Func t) = types.Func t
-with_fallback fallback (types.FuncProto t) = types.FuncProto t
-with_fallback fallback (types.Var t) = types.Var t
-with_fallback fallback (types.DataSec t) = types.DataSec t
-with_fallback fallback (types.Float t) = types.Float t
-with_fallback fallback (types.DeclTag t) = types.DeclTag t
-with_fallback fallback (types.TypeTag t) = types.TypeTag t
-with_fallback fallback (types.Enum64 t) = types.Enum64 t
+with_fallback fallback t = t
 
 -- what is read again of a written record
 abbrev pub without_fallback : BtfType → BtfType
