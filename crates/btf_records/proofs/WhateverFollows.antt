@@ -1,15 +1,14 @@
 -- A record is read the same, whatever follows it.
-use Rattle.std.proofs.Common.{◌≡◌, ℕ, zero, suc, ◌+◌, ◌*◌, ◌<◌, ◌≤◌, List, [], ◌∷◌, ◌++◌, length, take, drop, refl, sym, ap, subst, ◌∙◌, arith, length-append, length-drop}
+use Rattle.std.proofs.Common.{◌≡◌, ℕ, zero, suc, ◌+◌, ◌*◌, ◌≤◌, List, ◌++◌, length, take, drop, refl, ap, ◌∙◌, arith, length-append, length-drop}
 use Rattle.std.proofs.lemmas.List.{drop-append-le, take-append-le}
 use Rattle.std.specs.Int.{w32, from_le_bytes, from_be_bytes}
 use Rattle.btf_records.specs.Info.{kind_number_in}
 use Rattle.btf_records.specs.Items.{array_in, entry_in, enum64_in, items_in, member_in, param_in, variant_in}
-use Rattle.btf_records.specs.Kinds.{kind_count, kind_of}
-use Rattle.btf_records.specs.Records.{HasRecord, ReadsSame, count_at, kind_at, kind_number_at, len_behind, record_len, type_as, type_in}
+use Rattle.btf_records.specs.Kinds.{kind_of}
+use Rattle.btf_records.specs.Records.{HasRecord, ReadsSame, count_at, kind_at, kind_number_at, len_behind, record_len, type_as}
 use Rattle.btf_records.specs.Words.{word_at}
 use Rattle.btf_records.specs.declared.kind.BtfKind.{BtfKind}
 use Rattle.btf_records.specs.declared.kind.BtfKind.TheVariants as kinds
-use Rattle.btf_records.specs.declared.types.BtfType.{BtfType}
 use Rattle.btf_records.specs.declared.word.Endianness.{Endianness}
 use Rattle.btf_records.specs.declared.word.Endianness.TheVariants.{Little, Big}
 

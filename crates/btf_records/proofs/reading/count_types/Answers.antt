@@ -1,6 +1,5 @@
-use Rattle.std.proofs.Common.{◌≡◌, ℕ, suc, ◌+◌, List, length, drop, ap, sym, subst, ◌∙◌, arith, rules, zero-add}
+use Rattle.std.proofs.Common.{◌≡◌, ℕ, suc, ◌+◌, List, length, drop, ap, subst, ◌∙◌, arith, rules, zero-add}
 use Rattle.btf_records.specs.Records.{AreTypes, TypesFault, record_len}
-use Rattle.btf_records.specs.declared.error.BtfError.{BtfError}
 use Rattle.btf_records.proofs.ManyTypes.{are_at_end, are_more, fault_more}
 use Rattle.btf_records.proofs.reading.count_types.Goals as goal
 

@@ -1,4 +1,4 @@
-use Rattle.std.proofs.Common.{◌≡◌, ◌≤◌, ◌<◌, sym, length, drop, arith}
+use Rattle.std.proofs.Common.{◌≤◌, ◌<◌, sym, length, drop}
 use Rattle.std.proofs.lemmas.Option.{slice_get_past}
 use Rattle.btf_records.specs.Items.{items_in}
 use Rattle.btf_records.specs.Records.{count_at}

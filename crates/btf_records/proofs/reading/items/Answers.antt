@@ -1,4 +1,4 @@
-use Rattle.std.proofs.Common.{◌≡◌, ℕ, List, [], ◌∷◌, ◌+◌, ◌*◌, length, drop, refl, arith, add-one, ◌∙◌, ap, length-append}
+use Rattle.std.proofs.Common.{ℕ, [], ◌∷◌, ◌*◌, drop, refl, arith, add-one, ◌∙◌, ap, length-append}
 use Rattle.std.proofs.lemmas.List.{drop-drop}
 use Rattle.btf_records.proofs.InBytes.{items_in-suc}
 use Rattle.btf_records.proofs.reading.items.Goals as goal

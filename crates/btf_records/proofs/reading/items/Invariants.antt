@@ -1,4 +1,4 @@
-use Rattle.std.proofs.Common.{◌≡◌, ◌+◌, ◌*◌, ◌<◌, ◌≤◌, length, drop}
+use Rattle.std.proofs.Common.{◌≡◌, ◌*◌, ◌<◌, length, drop}
 use Rattle.btf_records.specs.Items.{items_in}
 use Rattle.btf_records.proofs.reading.items.Given as goal
 

@@ -1,6 +1,5 @@
-use Rattle.std.proofs.Common.{◌≡◌, ◌∷◌, [], refl}
+use Rattle.std.proofs.Common.{◌∷◌, [], refl}
 use Rattle.std.specs.List.{flat_map}
-use Rattle.btf_records.specs.Encodings.{number_of_var_linkage}
 use Rattle.btf_records.specs.Items.{array_words, entry_words, enum64_words, param_words}
 use Rattle.btf_records.specs.Records.{words_of}
 use Rattle.btf_records.proofs.Written.{on_ok, fit_behind, fit_same}

@@ -1,9 +1,7 @@
-use Rattle.std.proofs.Common.{◌≡◌, ℕ, ◌+◌, ◌<◌, ◌^◌, ◌++◌, List, take, length, ◌∙◌, sym, ap, append_assoc, add-one}
-use Rattle.std.specs.Prelude.{All}
+use Rattle.std.proofs.Common.{◌≡◌, ℕ, ◌+◌, ◌<◌, ◌^◌, ◌++◌, take, append_assoc}
 use Rattle.std.specs.List.{flat_map}
 use Rattle.std.proofs.lemmas.Grind.{flat_map-append}
 use Rattle.std.proofs.lemmas.List.Elements.{All-append}
-use Rattle.btf_records.specs.Words.{word_bytes, words_bytes}
 use Rattle.btf_records.proofs.Written.{flat_map-take_more, kept, on_err}
 use Rattle.btf_records.proofs.writing.push_items.Goals as goal
 

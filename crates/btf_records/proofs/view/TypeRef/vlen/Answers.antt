@@ -1,4 +1,4 @@
-use Rattle.std.proofs.Common.{◌≡◌, sym, ◌∙◌}
+use Rattle.std.proofs.Common.{sym, ◌∙◌}
 use Rattle.btf_records.proofs.InBytes.{count_read}
 use Rattle.btf_records.proofs.view.TypeRef.vlen.Goals as goal
 
