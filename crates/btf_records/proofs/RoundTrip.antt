@@ -12,6 +12,7 @@ use Rattle.btf_records.specs.Kinds.{kind_of, number_of}
 use Rattle.btf_records.specs.Records.{HasRecord, IsInRange, ReadsBack, Spells, bits_of, count_at, count_of, kind_at, kind_number_at, len_behind, record_bytes, record_len, type_as, type_in, without_fallback, words_of}
 use Rattle.btf_records.specs.Words.{word_at, word_bytes, words_bytes}
 use Rattle.btf_records.proofs.ManyTypes.{follows}
+use Rattle.btf_records.proofs.WhateverFollows.{reads_same}
 use Rattle.btf_records.specs.declared.encoding.VarLinkage.{VarLinkage}
 use Rattle.btf_records.specs.declared.encoding.VarLinkage.TheVariants as variables
 use Rattle.btf_records.specs.declared.item.BtfArray.{BtfArray}
@@ -484,5 +485,6 @@ read_back order t r = record {
   begins = λ behind. begins order t behind r;
   same = λ behind. same order t _ behind (head_written order t behind r) (fit_parts t r).1.1.1;
   len = λ behind. len order t _ _ (head_written order t behind r);
+  alone = reads_same order (words_bytes order (words_of t)) (subst (λ (bs : List ℕ). HasRecord order bs) (append-nil (words_bytes order (words_of t))) (begins order t [] r));
   follows = follows_written order t r;
 }

@@ -206,6 +206,7 @@ pub record ReadsBack (order : Endianness) (t : BtfType) : Type 0 where
   pub begins : (behind : List ℕ) → HasRecord order (record_bytes order t ++ behind)
   pub same : (behind : List ℕ) → type_in order (record_bytes order t ++ behind) ≡ without_fallback t
   pub len : (behind : List ℕ) → record_len order (record_bytes order t ++ behind) ≡ length (record_bytes order t)
+  pub alone : ReadsSame order (record_bytes order t)
   pub follows : (front : List BtfType) (bytes : List ℕ) → Spells order front bytes → Spells order (front ++ without_fallback t ∷ []) (bytes ++ record_bytes order t)
 
 -- behind some records stands something that begins with none

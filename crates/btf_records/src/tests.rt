@@ -260,6 +260,7 @@ fn no_kind(rt: HostRuntime) -> Result<(), Fail> {
         let cut = record_len(order, &bytes.as_slice()[..11]);
         assert!(rt; matches!(cut, Err(BtfError::InvalidTypeInfo)));
     }
+    assert_eq!(rt; TypeRef::void().kind(), BtfKind::Unknown);
     let proto = BtfKind::try_from(13)?;
     assert_eq!(rt; format!(in rt.alloc(); "{proto}")?.as_str(), "[FUNC_PROTO]");
     Ok(())

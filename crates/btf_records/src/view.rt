@@ -1,6 +1,6 @@
 //! Records read where they lie.
 
-ghost use Rattle.std.specs.Prelude.{◌≡◌, IfOk, IfErr, OnOk, Option, Some, None, slice_get};
+ghost use Rattle.std.specs.Prelude.{◌≡◌, ◌<◌, IfOk, IfErr, OnOk, Option, Some, None, slice_get};
 ghost use Rattle.std.specs.Option.{option_copied};
 ghost use Rattle.btf_records.specs.Fields.{array_of, entries_of, fallback_of, func_of, int_of, kind_of_type, members_of, name_offset_of, params_of, size_of, type_of, var_of, variants_of, variants64_of};
 ghost use Rattle.btf_records.specs.Records.{HasRecord, RecordFault, bits_of, count_of, type_in, with_fallback};
@@ -35,7 +35,34 @@ impl<'a> Model for TypeRef<'a> {
     ghost invariant = { λ t. HasRecord t.order t.bytes.now };
 }
 
+/// The bytes of a `BTF_KIND_UNKN`.
+const VOID: [u8; 12] = [0; 12];
+
 impl<'a> TypeRef<'a> {
+    /// The type of id 0, void.
+    #[tactic(auto, unfolding(crate::specs::Words::word_at, crate::specs::Kinds::kind_of))]
+    pub fn void() -> TypeRef<'a>
+        ensures { result ≡ BtfType.Unknown }
+    {
+        TypeRef {
+            order: Endianness::Little,
+            bytes: &VOID,
+            fallback: None,
+        }
+    }
+
+    /// The record that the bytes are known to begin with; what follows it doesn't count.
+    pub fn new(order: Endianness, bytes: &'a [u8]) -> TypeRef<'a>
+        requires { HasRecord order bytes.now }
+        ensures { result ≡ type_in order bytes.now }
+    {
+        TypeRef {
+            order,
+            bytes,
+            fallback: None,
+        }
+    }
+
     /// The record that the bytes begin with; what follows it doesn't count.
     ///
     /// `InvalidTypeInfo` where it is cut off, `InvalidTypeKind` where no record has its kind.
@@ -45,11 +72,7 @@ impl<'a> TypeRef<'a> {
         ensures refused { IfErr result (RecordFault order bytes.now) }
     {
         let _len = record_len(order, bytes)?;
-        Ok(TypeRef {
-            order,
-            bytes,
-            fallback: None,
-        })
+        Ok(TypeRef::new(order, bytes))
     }
 
     /// The same union, which stands for this enum; a record of another kind stays as it is.
@@ -98,7 +121,8 @@ impl<'a> TypeRef<'a> {
 
     /// The count of its info word: of a kind with a list the list's length.
     pub fn count(&self) -> usize
-        ensures { result ≡ count_of self.now }
+        ensures value { result ≡ count_of self.now }
+        ensures bounded { result < 65536 }
     {
         usize::from(self.vlen())
     }
