@@ -25,7 +25,7 @@ use Rattle.btf_records.specs.declared.kind.BtfKind.{BtfKind}
 use Rattle.btf_records.specs.declared.kind.BtfKind.TheVariants as kinds
 use Rattle.btf_records.specs.declared.types.BtfType.{BtfType}
 use Rattle.btf_records.specs.declared.types.BtfType.TheVariants as types
-use Rattle.btf_records.specs.declared.types.InfoBits.{InfoBits}
+use Rattle.btf_records.specs.declared.info.InfoBits.{InfoBits}
 use Rattle.btf_records.specs.declared.word.Endianness.{Endianness}
 use Rattle.btf_records.specs.declared.word.Endianness.TheVariants.{Little, Big}
 

@@ -10,10 +10,10 @@ use Rattle.btf_records.specs.declared.kind.BtfKind.{BtfKind}
 use Rattle.btf_records.specs.declared.kind.BtfKind.TheVariants as kinds
 use Rattle.btf_records.specs.declared.types.BtfType.{BtfType}
 use Rattle.btf_records.specs.declared.types.BtfType.TheVariants as types
-use Rattle.btf_records.specs.declared.types.Enum64Fallback.{Enum64Fallback}
-use Rattle.btf_records.specs.declared.types.Func.{Func}
-use Rattle.btf_records.specs.declared.types.Int.{Int}
-use Rattle.btf_records.specs.declared.types.Var.{Var}
+use Rattle.btf_records.specs.declared.compound.Enum64Fallback.{Enum64Fallback}
+use Rattle.btf_records.specs.declared.functions.Func.{Func}
+use Rattle.btf_records.specs.declared.scalars.Int.{Int}
+use Rattle.btf_records.specs.declared.variables.Var.{Var}
 
 abbrev pub kind_of_type : BtfType → BtfKind
 kind_of_type types.Unknown = kinds.Unknown

@@ -1,7 +1,7 @@
 -- The info word of a record ("Type Encoding"): bits 0 to 15 are the count, bits 24 to 28 the kind,
 -- bit 31 the flag; and the word of an integer ("BTF_KIND_INT").
 use Rattle.std.specs.Prelude.{ℕ, ◌+◌, ◌*◌, ◌/◌, ◌%◌, Bool, false, ◌==◌, if◌then◌else◌}
-use Rattle.btf_records.specs.declared.types.InfoBits.{InfoBits}
+use Rattle.btf_records.specs.declared.info.InfoBits.{InfoBits}
 
 abbrev pub count_in : ℕ → ℕ
 count_in info = info % 65536

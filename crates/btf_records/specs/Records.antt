@@ -13,8 +13,8 @@ use Rattle.btf_records.specs.declared.kind.BtfKind.{BtfKind}
 use Rattle.btf_records.specs.declared.kind.BtfKind.TheVariants as kinds
 use Rattle.btf_records.specs.declared.types.BtfType.{BtfType}
 use Rattle.btf_records.specs.declared.types.BtfType.TheVariants as types
-use Rattle.btf_records.specs.declared.types.Enum64Fallback.{Enum64Fallback}
-use Rattle.btf_records.specs.declared.types.InfoBits.{InfoBits}
+use Rattle.btf_records.specs.declared.compound.Enum64Fallback.{Enum64Fallback}
+use Rattle.btf_records.specs.declared.info.InfoBits.{InfoBits}
 use Rattle.btf_records.specs.declared.word.Endianness.{Endianness}
 
 -- the kind in the second word of these bytes, and the count

@@ -4,15 +4,18 @@ ghost use Rattle.std.specs.Prelude.{◌≡◌, ◌+◌, ◌*◌, ◌<◌, ◌≤
 ghost use Rattle.btf_records.specs.Items.{items_in};
 ghost use Rattle.btf_records.specs.Records.{AreTypes, HasRecord, ReadsSame, RecordFault, TypesFault, count_at, kind_at, len_behind, record_len, type_in};
 
+use crate::compound::{Array, Fwd, Struct, Union};
 use crate::encoding::VarLinkage;
 use crate::error::BtfError;
+use crate::functions::{Func, FuncProto};
+use crate::info::InfoBits;
 use crate::item::{BtfArray, Item};
 use crate::items::Items;
 use crate::kind::BtfKind;
-use crate::types::{
-    Array, BtfType, Const, DataSec, DeclTag, Enum, Enum64, Float, Func, FuncProto, Fwd, InfoBits,
-    Int, Ptr, Restrict, Struct, TypeTag, Typedef, Union, Var, Volatile,
-};
+use crate::references::{Const, DeclTag, Ptr, Restrict, TypeTag, Typedef, Volatile};
+use crate::scalars::{Enum, Enum64, Float, Int};
+use crate::types::BtfType;
+use crate::variables::{DataSec, Var};
 use crate::word::{Endianness, behind, word};
 use std::alloc::{AllocError, Global};
 

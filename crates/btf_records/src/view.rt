@@ -5,12 +5,17 @@ ghost use Rattle.std.specs.Option.{option_copied};
 ghost use Rattle.btf_records.specs.Fields.{array_of, entries_of, fallback_of, func_of, int_of, kind_of_type, members_of, name_offset_of, params_of, size_of, type_of, var_of, variants_of, variants64_of};
 ghost use Rattle.btf_records.specs.Records.{HasRecord, RecordFault, bits_of, count_of, type_in, with_fallback};
 
+use crate::compound::{Enum64Fallback, Union};
 use crate::encoding::VarLinkage;
 use crate::error::BtfError;
+use crate::functions::Func;
+use crate::info::InfoBits;
 use crate::item::{BtfArray, BtfEnum, BtfEnum64, BtfMember, BtfParam, DataSecEntry, Item};
 use crate::kind::BtfKind;
 use crate::reading::{item, kind_of, read_type, record_len};
-use crate::types::{BtfType, Enum64Fallback, Func, InfoBits, Int, Union, Var};
+use crate::scalars::Int;
+use crate::types::BtfType;
+use crate::variables::Var;
 use crate::word::{Endianness, behind, word};
 use std::alloc::{AllocError, Global};
 use std::marker::Model;
