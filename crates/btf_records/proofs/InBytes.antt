@@ -8,7 +8,7 @@ use Rattle.btf_records.specs.declared.kind.BtfKind.{BtfKind}
 use Rattle.btf_records.specs.declared.kind.BtfKind.TheVariants as kinds
 use Rattle.btf_records.specs.declared.types.BtfType.{BtfType}
 use Rattle.btf_records.specs.declared.compound.Enum64Fallback.{Enum64Fallback}
-use Rattle.btf_records.specs.declared.word.Endianness.{Endianness}
+use Rattle.btf_records.specs.declared.words.Endianness.{Endianness}
 
 pub length-items_in : {T : Type 0} (item : List ℕ → T) (size n : ℕ) (bytes : List ℕ) → length (items_in item size n bytes) ≡ n
 length-items_in item size zero bytes = refl

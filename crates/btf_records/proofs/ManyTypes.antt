@@ -7,7 +7,7 @@ use Rattle.btf_records.specs.declared.error.BtfError.{BtfError}
 use Rattle.btf_records.specs.declared.error.BtfError.TheVariants.{InvalidTypeInfo, InvalidTypeKind}
 use Rattle.btf_records.specs.declared.types.BtfType.{BtfType}
 use Rattle.btf_records.proofs.WhateverFollows.{reads_same}
-use Rattle.btf_records.specs.declared.word.Endianness.{Endianness}
+use Rattle.btf_records.specs.declared.words.Endianness.{Endianness}
 
 no_fault : (order : Endianness) (bytes : List ℕ) (e : BtfError) → HasRecord order bytes → RecordFault order bytes e → ⊥
 no_fault order bytes InvalidTypeInfo h (inl short) = omega (arith, h.head)

@@ -26,8 +26,8 @@ use Rattle.btf_records.specs.declared.kind.BtfKind.TheVariants as kinds
 use Rattle.btf_records.specs.declared.types.BtfType.{BtfType}
 use Rattle.btf_records.specs.declared.types.BtfType.TheVariants as types
 use Rattle.btf_records.specs.declared.info.InfoBits.{InfoBits}
-use Rattle.btf_records.specs.declared.word.Endianness.{Endianness}
-use Rattle.btf_records.specs.declared.word.Endianness.TheVariants.{Little, Big}
+use Rattle.btf_records.specs.declared.words.Endianness.{Endianness}
+use Rattle.btf_records.specs.declared.words.Endianness.TheVariants.{Little, Big}
 
 length-word : (order : Endianness) (n : ℕ) → length (word_bytes order n) ≡ 4
 unfolding word_bytes

@@ -9,8 +9,8 @@ use Rattle.btf_records.specs.Records.{HasRecord, ReadsSame, count_at, kind_at, k
 use Rattle.btf_records.specs.Words.{word_at}
 use Rattle.btf_records.specs.declared.kind.BtfKind.{BtfKind}
 use Rattle.btf_records.specs.declared.kind.BtfKind.TheVariants as kinds
-use Rattle.btf_records.specs.declared.word.Endianness.{Endianness}
-use Rattle.btf_records.specs.declared.word.Endianness.TheVariants.{Little, Big}
+use Rattle.btf_records.specs.declared.words.Endianness.{Endianness}
+use Rattle.btf_records.specs.declared.words.Endianness.TheVariants.{Little, Big}
 
 four_same : (bytes x : List ℕ) (offset : ℕ) → offset + 4 ≤ length bytes → take 4 (drop offset (bytes ++ x)) ≡ take 4 (drop offset bytes)
 four_same bytes x offset h =

@@ -1,7 +1,7 @@
 -- The items of the lists that follow a record's first three words, and their words.
 use Rattle.std.specs.Prelude.{ℕ, zero, suc, ◌+◌, ◌*◌, ◌/◌, ◌%◌, ◌^◌, Bool, if◌then◌else◌, List, [], ◌∷◌, drop}
 use Rattle.btf_records.specs.Words.{word_at}
-use Rattle.btf_records.specs.declared.word.Endianness.{Endianness}
+use Rattle.btf_records.specs.declared.words.Endianness.{Endianness}
 use Rattle.btf_records.specs.declared.item.BtfMember.{BtfMember}
 use Rattle.btf_records.specs.declared.item.BtfArray.{BtfArray}
 use Rattle.btf_records.specs.declared.item.BtfEnum.{BtfEnum}

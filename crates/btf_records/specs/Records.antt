@@ -15,7 +15,7 @@ use Rattle.btf_records.specs.declared.types.BtfType.{BtfType}
 use Rattle.btf_records.specs.declared.types.BtfType.TheVariants as types
 use Rattle.btf_records.specs.declared.compound.Enum64Fallback.{Enum64Fallback}
 use Rattle.btf_records.specs.declared.info.InfoBits.{InfoBits}
-use Rattle.btf_records.specs.declared.word.Endianness.{Endianness}
+use Rattle.btf_records.specs.declared.words.Endianness.{Endianness}
 
 -- the kind in the second word of these bytes, and the count
 abbrev pub kind_number_at : Endianness → List ℕ → ℕ

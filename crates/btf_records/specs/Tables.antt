@@ -1,15 +1,14 @@
 -- A table of types and strings, and the section that holds it ("BTF Type and String Encoding").
 use Rattle.std.specs.Prelude.{◌≡◌, ℕ, ◌+◌, ◌-◌, ◌<◌, ◌≤◌, ◌⊎◌, List, [], ◌∷◌, ◌++◌, length, take, drop, slice_index, slice_get, Option, Some, ◌==◌, if◌then◌else◌}
 use Rattle.std.specs.List.{flat_map}
-use Rattle.std.specs.Int.{w16, to_le_bytes, to_be_bytes, from_le_bytes, from_be_bytes}
-use Rattle.btf_records.specs.Words.{word_at, words_bytes}
+use Rattle.btf_records.specs.Words.{half_at, half_bytes, word_at, words_bytes}
 use Rattle.btf_records.specs.Records.{Spells, TypesFault, record_bytes}
 use Rattle.btf_records.specs.declared.error.BtfError.{BtfError}
 use Rattle.btf_records.specs.declared.error.BtfError.TheVariants.{InvalidHeader, InvalidTypeInfo, InvalidTypeKind}
 use Rattle.btf_records.specs.declared.types.BtfType.{BtfType}
 use Rattle.btf_records.specs.declared.types.BtfType.TheVariants as types
-use Rattle.btf_records.specs.declared.word.Endianness.{Endianness}
-use Rattle.btf_records.specs.declared.word.Endianness.TheVariants.{Little, Big}
+use Rattle.btf_records.specs.declared.words.Endianness.{Endianness}
+use Rattle.btf_records.specs.declared.words.Endianness.TheVariants.{Little}
 
 pub record Table : Type 0 where
   pub order : Endianness
@@ -22,15 +21,6 @@ pub record Table : Type 0 where
 -- ids count from 1; id 0 is void
 abbrev pub type_by_id : Table → ℕ → Option BtfType
 type_by_id table id = if id == 0 then Some types.Unknown else slice_get table.types (id - 1)
-
--- the two bytes of the magic
-unfoldable pub half_bytes : Endianness → ℕ → List ℕ
-half_bytes Little n = to_le_bytes w16 n
-half_bytes Big n = to_be_bytes w16 n
-
-unfoldable pub half_at : Endianness → List ℕ → ℕ → ℕ
-half_at Little bytes offset = from_le_bytes w16 (take 2 (drop offset bytes))
-half_at Big bytes offset = from_be_bytes w16 (take 2 (drop offset bytes))
 
 -- the header: magic, version, flags, its own length, and where the types and the strings lie, from
 -- its end on

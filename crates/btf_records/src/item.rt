@@ -3,9 +3,9 @@
 ghost use Rattle.std.specs.Prelude.{◌≡◌, ◌++◌, ◌+◌, ◌*◌, ◌/◌, ◌%◌, ◌<◌, ◌≤◌, ◌^◌, ℕ, List, All, length, take, OnOk, OnErr};
 ghost use Rattle.btf_records.specs.Words.{words_bytes};
 ghost use Rattle.btf_records.specs.Items.{array_in, array_words, bit_offset_of, bit_size_of, entry_in, entry_words, enum64_in, enum64_words, member_in, member_words, param_in, param_words, value_of, variant_in, variant_words};
-ghost use Rattle.btf_records.specs.declared.word.Endianness.{Endianness};
+ghost use Rattle.btf_records.specs.declared.words.Endianness.{Endianness};
 
-use crate::word::{Endianness, push_word, word};
+use crate::words::{Endianness, push_word, word};
 use std::alloc::AllocError;
 
 /// A member of a `BTF_KIND_STRUCT` or `BTF_KIND_UNION`.

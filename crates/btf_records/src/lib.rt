@@ -19,7 +19,7 @@ mod tests;
 mod types;
 mod variables;
 mod view;
-mod word;
+mod words;
 mod writing;
 
 pub use compound::{Array, Enum64Fallback, Fwd, Struct, Union};
@@ -37,5 +37,5 @@ pub use scalars::{Enum, Enum64, Float, Int};
 pub use types::BtfType;
 pub use variables::{DataSec, Var};
 pub use view::TypeRef;
-pub use word::Endianness;
+pub use words::{Endianness, half_word, push_half_word, push_word, word};
 pub use writing::push_type;

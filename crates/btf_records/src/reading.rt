@@ -16,7 +16,7 @@ use crate::references::{Const, DeclTag, Ptr, Restrict, TypeTag, Typedef, Volatil
 use crate::scalars::{Enum, Enum64, Float, Int};
 use crate::types::BtfType;
 use crate::variables::{DataSec, Var};
-use crate::word::{Endianness, behind, word};
+use crate::words::{Endianness, behind, word};
 use std::alloc::{AllocError, Global};
 
 /// The bytes of a record of a kind behind its first three words.

@@ -4,7 +4,7 @@ use crate::{
     Array, BtfEnum, BtfEnum64, BtfError, BtfKind, BtfMember, BtfParam, BtfType, Const, DataSec,
     DataSecEntry, DeclTag, Endianness, Enum, Enum64, Float, Func, FuncLinkage, FuncProto, Fwd, Int,
     IntEncoding, Ptr, Restrict, Struct, TypeRef, TypeTag, Typedef, Union, Var, VarLinkage,
-    Volatile, count_types, push_type, record_len,
+    Volatile, count_types, half_word, push_half_word, push_type, record_len,
 };
 use std::alloc::{AllocError, Global};
 use std::process::Abort;
@@ -288,6 +288,19 @@ fn shortest_and_longest_lists(rt: HostRuntime) -> Result<(), Fail> {
         let cut = bytes.len() - 1;
         let read = TypeRef::read(order, &bytes.as_slice()[..cut]);
         assert!(rt; matches!(read, Err(BtfError::InvalidTypeInfo)));
+    }
+    Ok(())
+}
+
+#[test]
+fn magic(rt: HostRuntime) -> Result<(), Fail> {
+    let mut out = Vec::new(rt.alloc());
+    push_half_word(&mut out, Endianness::Big, 0xeb9f)?;
+    push_half_word(&mut out, Endianness::Little, 0xeb9f)?;
+    assert_eq!(rt; out.as_slice(), [0xeb, 0x9f, 0x9f, 0xeb].as_slice());
+    if out.len() == 4 {
+        let first = half_word(Endianness::Big, out.as_slice(), 0);
+        assert_eq!(rt; first, half_word(Endianness::Little, out.as_slice(), 2));
     }
     Ok(())
 }

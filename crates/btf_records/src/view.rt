@@ -16,7 +16,7 @@ use crate::reading::{item, kind_of, read_type, record_len};
 use crate::scalars::Int;
 use crate::types::BtfType;
 use crate::variables::Var;
-use crate::word::{Endianness, behind, word};
+use crate::words::{Endianness, behind, word};
 use std::alloc::{AllocError, Global};
 use std::marker::Model;
 

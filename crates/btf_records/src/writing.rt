@@ -8,7 +8,7 @@ ghost use Rattle.btf_records.specs.Records.{IsInRange, ReadsBack, bits_of, count
 use crate::item::Item;
 use crate::kind::BtfKind;
 use crate::types::BtfType;
-use crate::word::{Endianness, push_word};
+use crate::words::{Endianness, push_word};
 use std::alloc::AllocError;
 
 /// Writes words behind what is there.

@@ -1,7 +1,7 @@
-//! Words of 32 bits in a byte order.
+//! Words of 32 bits, and of 16, in a byte order.
 
 ghost use Rattle.std.specs.Prelude.{◌≡◌, ◌++◌, ◌+◌, ◌≤◌, drop, length, OnOk, OnErr};
-ghost use Rattle.btf_records.specs.Words.{word_at, word_bytes};
+ghost use Rattle.btf_records.specs.Words.{half_at, half_bytes, word_at, word_bytes};
 
 use std::alloc::AllocError;
 
@@ -17,7 +17,7 @@ pub enum Endianness {
 
 /// The word that the four bytes at an offset stand for.
 #[tactic(auto, unfolding(crate::specs::Words::word_at))]
-pub(crate) fn word(order: Endianness, bytes: &[u8], offset: usize) -> u32
+pub fn word(order: Endianness, bytes: &[u8], offset: usize) -> u32
     requires { offset + 4 ≤ length bytes.now }
     ensures { result ≡ word_at order bytes.now offset }
 {
@@ -40,12 +40,38 @@ pub(crate) fn behind(bytes: &[u8], len: usize) -> &[u8]
 
 /// Writes a word behind what is there.
 #[tactic(auto, unfolding(crate::specs::Words::word_bytes))]
-pub(crate) fn push_word(out: &mut Vec<u8>, order: Endianness, word: u32) -> Result<(), AllocError>
+pub fn push_word(out: &mut Vec<u8>, order: Endianness, word: u32) -> Result<(), AllocError>
     ensures ok { OnOk result (out.new.items ≡ out.old.items ++ word_bytes order word) }
     ensures err { OnErr result (out.new.items ≡ out.old.items) }
 {
     match order {
         Endianness::Little => out.extend_from_slice(&word.to_le_bytes()),
         Endianness::Big => out.extend_from_slice(&word.to_be_bytes()),
+    }
+}
+
+/// The half word that the two bytes at an offset stand for.
+#[tactic(auto, unfolding(crate::specs::Words::half_at))]
+pub fn half_word(order: Endianness, bytes: &[u8], offset: usize) -> u16
+    requires { offset + 2 ≤ length bytes.now }
+    ensures { result ≡ half_at order bytes.now offset }
+{
+    let rest = &bytes[offset..];
+    let two = [rest[0], rest[1]];
+    match order {
+        Endianness::Little => u16::from_le_bytes(two),
+        Endianness::Big => u16::from_be_bytes(two),
+    }
+}
+
+/// Writes a half word behind what is there.
+#[tactic(auto, unfolding(crate::specs::Words::half_bytes))]
+pub fn push_half_word(out: &mut Vec<u8>, order: Endianness, half: u16) -> Result<(), AllocError>
+    ensures ok { OnOk result (out.new.items ≡ out.old.items ++ half_bytes order half) }
+    ensures err { OnErr result (out.new.items ≡ out.old.items) }
+{
+    match order {
+        Endianness::Little => out.extend_from_slice(&half.to_le_bytes()),
+        Endianness::Big => out.extend_from_slice(&half.to_be_bytes()),
     }
 }
