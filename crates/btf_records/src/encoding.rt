@@ -1,0 +1,99 @@
+//! Linkages, and how an integer is to be read.
+
+ghost use Rattle.std.specs.Prelude.{◌≡◌};
+ghost use Rattle.btf_records.specs.Encodings.{encoding_of, func_linkage_of, number_of_encoding, number_of_func_linkage, number_of_var_linkage, var_linkage_of};
+
+/// The linkage of a `BTF_KIND_FUNC`, in the count bits of its info word.
+#[derive(Clone, Copy, Debug, PartialEq, Eq)]
+pub enum FuncLinkage {
+    Static,
+    Global,
+    Extern,
+    /// Any number above 2; written as 3.
+    Unknown,
+}
+
+impl FuncLinkage {
+    pub(crate) fn number(self) -> u16
+        ensures { result ≡ number_of_func_linkage self }
+    {
+        self as u16
+    }
+}
+
+impl From<u32> for FuncLinkage {
+    ghost from_gives = { λ n linkage. linkage ≡ func_linkage_of n };
+
+    fn from(linkage: u32) -> FuncLinkage {
+        match linkage {
+            0 => FuncLinkage::Static,
+            1 => FuncLinkage::Global,
+            2 => FuncLinkage::Extern,
+            _ => FuncLinkage::Unknown,
+        }
+    }
+}
+
+/// The linkage of a `BTF_KIND_VAR`, in the word after its type.
+#[derive(Clone, Copy, Debug, PartialEq, Eq)]
+pub enum VarLinkage {
+    Static,
+    Global,
+    Extern,
+    /// Any number above 2; written as 3.
+    Unknown,
+}
+
+impl VarLinkage {
+    pub(crate) fn number(self) -> u32
+        ensures { result ≡ number_of_var_linkage self }
+    {
+        self as u32
+    }
+}
+
+impl From<u32> for VarLinkage {
+    ghost from_gives = { λ n linkage. linkage ≡ var_linkage_of n };
+
+    fn from(linkage: u32) -> VarLinkage {
+        match linkage {
+            0 => VarLinkage::Static,
+            1 => VarLinkage::Global,
+            2 => VarLinkage::Extern,
+            _ => VarLinkage::Unknown,
+        }
+    }
+}
+
+/// The encoding of a `BTF_KIND_INT`, bits 24 to 27 of the word after its size.
+#[derive(Clone, Copy, Debug, PartialEq, Eq)]
+pub enum IntEncoding {
+    None,
+    Signed,
+    Char,
+    Bool = 4,
+    /// Any other number; written as 5.
+    Unknown,
+}
+
+impl IntEncoding {
+    pub(crate) fn number(self) -> u32
+        ensures { result ≡ number_of_encoding self }
+    {
+        self as u32
+    }
+}
+
+impl From<u32> for IntEncoding {
+    ghost from_gives = { λ n encoding. encoding ≡ encoding_of n };
+
+    fn from(encoding: u32) -> IntEncoding {
+        match encoding {
+            0 => IntEncoding::None,
+            1 => IntEncoding::Signed,
+            2 => IntEncoding::Char,
+            4 => IntEncoding::Bool,
+            _ => IntEncoding::Unknown,
+        }
+    }
+}
