@@ -58,7 +58,7 @@ pub enum BtfError {
         type_id: u32,
     },
     /// No type of the wanted kind has this name.
-    #[error("no BTF type named `{type_name}`")]
+    #[error("no BTF type named {type_name:?}")]
     UnknownBtfTypeName {
         type_name: String,
     },
@@ -68,7 +68,7 @@ pub enum BtfError {
         type_id: u32,
     },
     /// A variable has no symbol.
-    #[error("no symbol offset for `{symbol_name}`")]
+    #[error("no symbol offset for {symbol_name:?}")]
     SymbolOffsetNotFound {
         symbol_name: String,
     },
@@ -76,7 +76,7 @@ pub enum BtfError {
     #[error("invalid BTF section record")]
     InvalidDatasec,
     /// A section record names a section that the object doesn't have.
-    #[error("unknown size of section `{section_name}`")]
+    #[error("unknown size of section {section_name:?}")]
     UnknownSectionSize {
         section_name: String,
     },
@@ -84,17 +84,17 @@ pub enum BtfError {
     #[error("invalid symbol name")]
     InvalidSymbolName,
     /// The definition of an inner map sets `pinning`.
-    #[error("inner map of `{name}` can't be pinned")]
+    #[error("inner map of {name:?} can't be pinned")]
     InnerMapCannotBePinned {
         name: String,
     },
     /// The definition of an inner map sets `values`.
-    #[error("inner map of `{name}` can't hold maps")]
+    #[error("inner map of {name:?} can't hold maps")]
     MultiLevelMapInMapNotSupported {
         name: String,
     },
     /// The member `values` of a map definition is of an unknown shape.
-    #[error("invalid `values` of map `{name}`")]
+    #[error("invalid `values` of map {name:?}")]
     InvalidValuesSpec {
         name: String,
     },

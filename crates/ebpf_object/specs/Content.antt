@@ -1,6 +1,6 @@
 -- What a parsed object holds.
 use Rattle.std.specs.Prelude.{◌≡◌, ℕ, List, Option}
-use Rattle.elf64.specs.declared.order.ByteOrder.{ByteOrder}
+use Rattle.btf_records.specs.declared.words.Endianness.{Endianness}
 use Rattle.ebpf_items.specs.declared.instruction.bpf_insn.{bpf_insn}
 use Rattle.program_kinds.specs.declared.program_section.ProgramSection.{ProgramSection}
 
@@ -22,7 +22,7 @@ pub record FunctionContent : Type 0 where
 
 -- an object: programs by name, functions by section index and address, both in order
 pub record ObjectContent : Type 0 where
-  pub order : ByteOrder
+  pub endianness : Endianness
   pub license : List ℕ
   pub kernel_version : Option ℕ
   pub programs : List (List ℕ × ProgramContent)
@@ -30,6 +30,6 @@ pub record ObjectContent : Type 0 where
 
 -- all but the programs and the functions stays
 pub record KeepsRest (old new : ObjectContent) : Type 0 where
-  pub order : new.order ≡ old.order
+  pub endianness : new.endianness ≡ old.endianness
   pub license : new.license ≡ old.license
   pub kernel_version : new.kernel_version ≡ old.kernel_version

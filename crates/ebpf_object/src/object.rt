@@ -8,7 +8,7 @@ ghost use Rattle.std.specs.Option.{option_copied};
 ghost use Rattle.elf64.specs.Symbols.{symbols_of};
 ghost use Rattle.ebpf_items.specs.declared.error.ParseError.TheVariants.{OutOfMemory};
 ghost use Rattle.ebpf_object.specs.Faults.{HasFault, HasSoundLicense, HasObjectFault, HasSoundVersion, is_unnamed, IsFaultless};
-ghost use Rattle.ebpf_object.specs.ParsedObject.{object_of};
+ghost use Rattle.ebpf_object.specs.ParsedObject.{endianness_of, object_of};
 ghost use Rattle.ebpf_object.specs.License.{license_of, HasNoNul};
 ghost use Rattle.ebpf_object.specs.Programs.{key_cmp};
 ghost use Rattle.ebpf_object.specs.Version.{version_of, IsKnownVersion};
@@ -18,7 +18,7 @@ use crate::file::ObjectFile;
 use crate::license::{DEFAULT_LICENSE, parse_license};
 use crate::program::Function;
 use crate::version::parse_version;
-use btf_records::BtfError;
+use btf_records::{BtfError, Endianness};
 use ebpf_items::ParseError;
 use elf64::ByteOrder;
 use std::alloc::Global;
@@ -28,7 +28,7 @@ use std::marker::Model;
 /// An object: what is read of a file before anything is relocated.
 #[derive(Debug, Drop)]
 pub struct Object<'a> {
-    pub(crate) order: ByteOrder,
+    pub(crate) endianness: Endianness,
     pub(crate) license: &'a [u8],
     pub(crate) kernel_version: Option<u32>,
     pub(crate) programs: Programs<'a>,
@@ -40,13 +40,22 @@ impl<'a> Model for Object<'a> {
 
     ghost Value = { ObjectContent };
 
-    ghost view = { λ o. record { order = o.order; license = o.license.now; kernel_version = o.kernel_version; programs = o.programs; functions = o.functions.entries } };
+    ghost view = { λ o. record { endianness = o.endianness; license = o.license.now; kernel_version = o.kernel_version; programs = o.programs; functions = o.functions.entries } };
 
     ghost use Rattle.ebpf_object.specs.License.{HasNoNul};
     ghost use Rattle.ebpf_object.specs.Programs.{key_cmp};
     ghost use Rattle.ebpf_object.specs.Version.{IsKnownVersion};
 
     ghost invariant = { λ o. HasNoNul o.license.now × IsKnownVersion o.kernel_version };
+}
+
+fn endianness_of(order: ByteOrder) -> Endianness
+    ensures { result ≡ endianness_of order }
+{
+    match order {
+        ByteOrder::Little => Endianness::Little,
+        ByteOrder::Big => Endianness::Big,
+    }
 }
 
 /// The license of a file: `GPL` where it names none.
@@ -90,10 +99,10 @@ fn check_symbols(file: &ObjectFile<'_>) -> Result<(), ParseError>
 
 impl<'a> Object<'a> {
     /// The byte order of the file's numbers.
-    pub fn endianness(&self) -> ByteOrder
-        ensures { result ≡ self.now.order }
+    pub fn endianness(&self) -> Endianness
+        ensures { result ≡ self.now.endianness }
     {
-        self.order
+        self.endianness
     }
 
     /// The license, without the NUL that ends it: `GPL` where the object names none.
@@ -143,7 +152,7 @@ impl<'a> Object<'a> {
         let kernel_version = kernel_version(alloc, file)?;
         check_symbols(file)?;
         let mut object = Object {
-            order: file.elf.order(),
+            endianness: endianness_of(file.elf.order()),
             license,
             kernel_version,
             programs: Programs::new(alloc),
