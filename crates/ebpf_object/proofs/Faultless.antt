@@ -1,5 +1,5 @@
 -- A file in which nothing was found is faultless.
-use Rattle.std.proofs.Common.{◌≡◌, ◌≢◌, ℕ, ◌+◌, ◌-◌, ◌<◌, ◌≤◌, Bool, true, false, List, [], ◌∷◌, length, Option, Some, None, refl, sym, ap, ◌∙◌, arith, ◌||◌, ◌&&◌, ◌⊎◌, inl, inr, ◌==◌}
+use Rattle.std.proofs.Common.{◌≡◌, ℕ, Bool, true, false, List, [], ◌∷◌, Option, Some, None, refl, arith, ◌||◌, ◌&&◌, inl, inr}
 use Rattle.std.specs.Prelude.{IfSome, IsSomeAnd}
 use Rattle.std.specs.List.{list_any}
 use Rattle.elf64.specs.declared.error.ElfError.{ElfError}
@@ -10,7 +10,7 @@ use Rattle.elf64.specs.Symbols.{symbols_of}
 use Rattle.ebpf_items.specs.declared.error.ParseError.{ParseError}
 use Rattle.ebpf_items.specs.declared.error.ParseError.TheVariants as error
 use Rattle.btf_records.specs.declared.error.BtfError.TheVariants as btf
-use Rattle.ebpf_object.specs.Faults.{HasFault, IsFaultless, HasObjectFault, AreSound, HasSoundLicense, HasSoundVersion, is_unnamed}
+use Rattle.ebpf_object.specs.Faults.{HasFault, HasObjectFault, AreSound, HasSoundLicense, HasSoundVersion, is_unnamed}
 use Rattle.ebpf_object.specs.License.{IsLicense, IsInvalidLicense, LacksNul, license_bytes}
 use Rattle.ebpf_object.specs.Version.{version_bytes}
 use Rattle.ebpf_object.specs.Reading.{read_sections, is_unreadable, cannot_read, HasReadingFault}

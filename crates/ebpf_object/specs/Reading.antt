@@ -1,5 +1,5 @@
 -- The sections of an object that are read, and what can't be read of them.
-use Rattle.std.specs.Prelude.{◌≡◌, ℕ, List, filter, codes, ◌==◌, ◌&&◌, ◌||◌, Bool, true, false, if◌then◌else◌, Option, Some, None, is_some, is_none, option_and_then}
+use Rattle.std.specs.Prelude.{◌≡◌, ℕ, List, filter, codes, ◌==◌, ◌&&◌, ◌||◌, Bool, true, false, if◌then◌else◌, Option, is_some, is_none, option_and_then}
 use Rattle.std.specs.List.{list_any}
 use Rattle.std.specs.Option.{option_map_or}
 use Rattle.elf64.specs.declared.error.ElfError as elf

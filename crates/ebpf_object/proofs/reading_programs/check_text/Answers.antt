@@ -1,7 +1,6 @@
-use Rattle.std.proofs.Common.{◌≡◌, ◌<◌, ◌∙◌, sym, ap, true, false, [], length, arith, rules}
+use Rattle.std.proofs.Common.{◌≡◌, [], rules}
 use Rattle.elf64.specs.Symbols.{symbols_of}
 use Rattle.ebpf_object.specs.Symbols.{symbols_in}
-use Rattle.ebpf_object.specs.Faults.{function_addresses}
 use Rattle.ebpf_object.proofs.TextSections.{text-sound, distinct-nil}
 use Rattle.ebpf_object.proofs.reading_programs.check_text.Goals as goal
 

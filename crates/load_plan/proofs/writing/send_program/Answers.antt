@@ -1,7 +1,7 @@
-use Rattle.std.proofs.Common.{◌≡◌, ◌<◌, ◌∷◌, [], length, arith, sym, subst, pos}
+use Rattle.std.proofs.Common.{sym, subst}
 use Rattle.ebpf_items.specs.Watched.{Sends}
-use Rattle.ebpf_items.specs.Watched.{Sends-none, Sends-then}
-use Rattle.load_plan.proofs.Texts.{encode_lower-nil, encode_lower-more, slot_digits-more, program_lines-more, hex_word-slots, hex_word-some, program_lines-parts, text_of-parts}
+use Rattle.ebpf_items.specs.Watched.{Sends-then}
+use Rattle.load_plan.proofs.Texts.{program_lines-parts}
 use Rattle.load_plan.proofs.writing.send_program.Goals as goal
 
 pub returns : goal.returns

@@ -1,8 +1,7 @@
 use Rattle.std.proofs.Common.{take}
-use Rattle.std.specs.Prelude.{flat_map}
 use Rattle.hex.specs.Hex.{encode_lower}
 use Rattle.ebpf_items.specs.Watched.{Sends}
-use Rattle.load_plan.specs.PlanGrammar.{slot_bytes, program_lines, text_of_lines}
+use Rattle.load_plan.specs.PlanGrammar.{slot_bytes}
 use Rattle.load_plan.proofs.writing.send_slot_digits.Given as goal
 
 abbrev pub invariant-loop-slot : goal.invariant-loop-slot

@@ -1,4 +1,4 @@
-use Rattle.std.proofs.Common.{◌≡◌, take, false}
+use Rattle.std.proofs.Common.{◌≡◌, take}
 use Rattle.std.specs.Prelude.{filter, fold}
 use Rattle.elf64.specs.Symbols.{symbols_of}
 use Rattle.ebpf_object.specs.Content.{KeepsRest}
