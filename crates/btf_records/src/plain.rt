@@ -55,12 +55,7 @@ pub(crate) fn len(order: Endianness, bytes: &[u8]) -> Option<usize>
 }
 
 /// The item at a place of a list, by walking over those before it.
-pub(crate) fn item<T: Item>(
-    order: Endianness,
-    list: &[u8],
-    count: usize,
-    index: usize,
-) -> Option<T>
+pub(crate) fn item<T: Item>(order: Endianness, list: &[u8], count: usize, index: usize) -> Option<T>
     requires { T.SIZE * count ≤ length list.now }
     ensures { result ≡ slice_get (items_in (T.item_in order) T.SIZE count list.now) index }
 {
