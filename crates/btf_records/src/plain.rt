@@ -1,6 +1,6 @@
 //! Records read slowly, as their definition says.
 
-ghost use Rattle.std.specs.Prelude.{◌≡◌, ◌+◌, ◌*◌, ◌<◌, ◌≤◌, IfSome, OnSome, length, slice_get};
+ghost use Rattle.std.specs.Prelude.{◌≡◌, ◌+◌, ◌*◌, ◌<◌, ◌≤◌, SomeIff, length, slice_get};
 ghost use Rattle.btf_records.specs.Items.{items_in};
 ghost use Rattle.btf_records.specs.Kinds.{kind_count, kind_of};
 ghost use Rattle.btf_records.specs.Words.{word_at};
@@ -9,7 +9,7 @@ ghost use Rattle.btf_records.specs.Records.{HasRecord, len_behind, record_len};
 use crate::item::Item;
 use crate::words::{Endianness, behind};
 
-/// The word at an offset, from its four digits.
+/// The word at an offset, from its four bytes.
 #[tactic(auto, unfolding(crate::specs::Words::word_at))]
 pub(crate) fn word(order: Endianness, bytes: &[u8], offset: usize) -> u32
     requires { offset + 4 ≤ length bytes.now }
@@ -28,8 +28,7 @@ pub(crate) fn word(order: Endianness, bytes: &[u8], offset: usize) -> u32
 #[tactic(auto, unfolding(crate::specs::Kinds::kind_of))]
 fn len_of(kind: u32, count: usize) -> Option<usize>
     requires { count < 65536 }
-    ensures value { IfSome result (λ len. len ≡ 12 + len_behind (kind_of kind) count) }
-    ensures known { OnSome result (kind < kind_count) }
+    ensures { SomeIff result (kind < kind_count) (12 + len_behind (kind_of kind) count) }
 {
     match kind {
         0 | 2 | 7 | 8 | 9 | 10 | 11 | 12 | 16 | 18 => Some(12),
@@ -43,8 +42,7 @@ fn len_of(kind: u32, count: usize) -> Option<usize>
 
 /// The number of bytes of the record that the bytes begin with.
 pub(crate) fn len(order: Endianness, bytes: &[u8]) -> Option<usize>
-    ensures value { IfSome result (λ len. len ≡ record_len order bytes.now) }
-    ensures found { OnSome result (HasRecord order bytes.now) }
+    ensures { SomeIff result (HasRecord order bytes.now) (record_len order bytes.now) }
 {
     if bytes.len() < 12 {
         return None;
