@@ -12,6 +12,7 @@ use Rattle.btf_records.specs.declared.types.BtfType.{BtfType}
 use Rattle.btf_records.specs.declared.types.BtfType.TheVariants as types
 use Rattle.btf_records.specs.declared.compound.Enum64Fallback.{Enum64Fallback}
 use Rattle.btf_records.specs.declared.functions.Func.{Func}
+use Rattle.btf_records.specs.declared.references.DeclTag.{DeclTag}
 use Rattle.btf_records.specs.declared.scalars.Int.{Int}
 use Rattle.btf_records.specs.declared.variables.Var.{Var}
 
@@ -121,6 +122,10 @@ func_of _ = None
 abbrev pub var_of : BtfType → Option Var
 var_of (types.Var t) = Some t
 var_of _ = None
+
+abbrev pub decl_tag_of : BtfType → Option DeclTag
+decl_tag_of (types.DeclTag t) = Some t
+decl_tag_of _ = None
 
 -- the enum that a UNION stands for
 abbrev pub fallback_of : BtfType → Option Enum64Fallback

@@ -9,7 +9,8 @@ pub enum FuncLinkage {
     Static,
     Global,
     Extern,
-    /// Any number above 2; written as 3.
+    /// Any number above 2; a function made with it is written with 3, one that was read as it
+    /// was.
     Unknown,
 }
 
@@ -72,7 +73,7 @@ pub enum IntEncoding {
     Signed,
     Char,
     Bool = 4,
-    /// Any other number; written as 5.
+    /// Any other number; an integer made with it is written with 5, one that was read as it was.
     Unknown,
 }
 

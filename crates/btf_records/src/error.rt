@@ -9,10 +9,11 @@ use thiserror::Error;
 /// Why type information, or a question about it, is refused.
 #[derive(Debug, Drop, Error)]
 pub enum BtfError {
-    /// The header, or a region that it names, doesn't fit into the section.
+    /// The header, or the strings that it names, reach past the end of the section.
     #[error("invalid BTF header")]
     InvalidHeader,
-    /// A type record is cut off, or a size doesn't fit 32 bits.
+    /// A type record is cut off; the types reach past the end of the section; they are more than
+    /// 2^32 - 1, or more than 2^32 - 1 bytes; or a product or a shift doesn't fit its integer.
     #[error("invalid BTF type info")]
     InvalidTypeInfo,
     /// A type relocation record is cut off.
@@ -33,7 +34,8 @@ pub enum BtfError {
     InvalidStringOffset {
         offset: usize,
     },
-    /// A region of function records doesn't fit into the section, or is cut off.
+    /// A region of function, line or relocation records reaches past the end of the section, or is
+    /// too short to give the size of its records; or function records are cut off.
     #[error("invalid BTF info: offset {offset}, length {len}, section length {section_len}")]
     InvalidInfo {
         offset: usize,

@@ -11,6 +11,8 @@ mod info;
 mod item;
 mod items;
 mod kind;
+#[cfg(test)]
+mod plain;
 mod reading;
 mod references;
 mod scalars;

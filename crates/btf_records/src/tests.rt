@@ -4,7 +4,7 @@ use crate::{
     Array, BtfEnum, BtfEnum64, BtfError, BtfKind, BtfMember, BtfParam, BtfType, Const, DataSec,
     DataSecEntry, DeclTag, Endianness, Enum, Enum64, Float, Func, FuncLinkage, FuncProto, Fwd, Int,
     IntEncoding, Ptr, Restrict, Struct, TypeRef, TypeTag, Typedef, Union, Var, VarLinkage,
-    Volatile, count_types, half_word, push_half_word, push_type, record_len,
+    Volatile, count_types, half_word, plain, push_half_word, push_type, record_len,
 };
 use std::alloc::{AllocError, Global};
 use std::process::Abort;
@@ -32,6 +32,7 @@ fn check(rt: &impl Abort, alloc: Global, t: &BtfType, words: &[u32]) -> Result<(
         push_type(&mut written, order, t)?;
         assert_eq!(rt; written.as_slice(), bytes.as_slice());
         assert_eq!(rt; record_len(order, bytes.as_slice())?, bytes.len());
+        assert_eq!(rt; plain::len(order, bytes.as_slice()), Some(bytes.len()));
         let view = TypeRef::read(order, bytes.as_slice())?;
         assert_eq!(rt; view.kind(), t.kind());
         assert_eq!(rt; view.name_offset(), t.name_offset());
@@ -212,6 +213,42 @@ fn variants_by_place(rt: HostRuntime) -> Result<(), Fail> {
     assert_eq!(rt; value, Some(0xffff_ffff_ffff_fffe));
     assert!(rt; view.variant64(1).is_none());
     assert!(rt; view.variant(0).is_none());
+    Ok(())
+}
+
+#[test]
+fn members_one_by_one(rt: HostRuntime) -> Result<(), Fail> {
+    for order in ORDERS {
+        let words = [5, 0x0400_0002, 12, 7, 1, 0, 9, 2, 64];
+        let bytes = spelled(rt.alloc(), order, &words)?;
+        let view = TypeRef::read(order, bytes.as_slice())?;
+        let copied = match view.to_type(rt.alloc())? {
+            BtfType::Struct(t) => t.members.into_vec(),
+            _ => Vec::new(rt.alloc()),
+        };
+        let list = &bytes.as_slice()[12..];
+        assert_eq!(rt; list.len(), 24);
+        for index in 0..4 {
+            let wanted = plain::item::<BtfMember>(order, list, 2, index).map(|m| m.offset);
+            assert_eq!(rt; view.member(index).map(|m| m.offset), wanted);
+            assert_eq!(rt; copied.as_slice().get(index).map(|m| m.offset), wanted);
+        }
+    }
+    Ok(())
+}
+
+#[test]
+fn params_one_by_one(rt: HostRuntime) -> Result<(), Fail> {
+    for order in ORDERS {
+        let bytes = spelled(rt.alloc(), order, &[0, 0x0d00_0002, 1, 5, 2, 0, 3])?;
+        let view = TypeRef::read(order, bytes.as_slice())?;
+        let list = &bytes.as_slice()[12..];
+        assert_eq!(rt; list.len(), 16);
+        for index in 0..4 {
+            let wanted = plain::item::<BtfParam>(order, list, 2, index).map(|p| p.btf_type);
+            assert_eq!(rt; view.param(index).map(|p| p.btf_type), wanted);
+        }
+    }
     Ok(())
 }
 

@@ -2,7 +2,7 @@
 
 ghost use Rattle.std.specs.Prelude.{◌≡◌, ◌<◌, IfOk, IfErr, OnOk, Option, Some, None, slice_get};
 ghost use Rattle.std.specs.Option.{option_copied};
-ghost use Rattle.btf_records.specs.Fields.{array_of, entries_of, fallback_of, func_of, int_of, kind_of_type, members_of, name_offset_of, params_of, size_of, type_of, var_of, variants_of, variants64_of};
+ghost use Rattle.btf_records.specs.Fields.{array_of, decl_tag_of, entries_of, fallback_of, func_of, int_of, kind_of_type, members_of, name_offset_of, params_of, size_of, type_of, var_of, variants_of, variants64_of};
 ghost use Rattle.btf_records.specs.Records.{HasRecord, RecordFault, bits_of, count_of, type_in, with_fallback};
 
 use crate::compound::{Enum64Fallback, Union};
@@ -13,6 +13,7 @@ use crate::info::InfoBits;
 use crate::item::{BtfArray, BtfEnum, BtfEnum64, BtfMember, BtfParam, DataSecEntry, Item};
 use crate::kind::BtfKind;
 use crate::reading::{item, kind_of, read_type, record_len};
+use crate::references::DeclTag;
 use crate::scalars::Int;
 use crate::types::BtfType;
 use crate::variables::Var;
@@ -283,8 +284,24 @@ impl<'a> TypeRef<'a> {
         }
     }
 
+    /// The tag that this record is.
+    pub fn decl_tag(&self) -> Option<DeclTag>
+        ensures { result ≡ decl_tag_of self.now }
+    {
+        match self.kind() {
+            BtfKind::DeclTag => Some(DeclTag {
+                name_offset: word(self.order, self.bytes, 0),
+                vlen: self.vlen(),
+                info: self.info(),
+                btf_type: word(self.order, self.bytes, 8),
+                index_word: word(self.order, self.bytes, 12),
+            }),
+            _ => None,
+        }
+    }
+
     /// The 64-bit enum that a union stands for.
-    pub fn enum64_fallback(&self) -> Option<&Enum64Fallback>
+    pub fn enum64_fallback(&self) -> Option<&'a Enum64Fallback>
         ensures { option_copied result ≡ fallback_of self.now }
     {
         match self.kind() {
