@@ -47,7 +47,8 @@ pub enum ParseError {
     InvalidProgramSection {
         section: String,
     },
-    /// A function's bytes lie outside its section, or aren't whole instruction slots.
+    /// A function begins below its section's address, its bytes lie outside the section, or they
+    /// aren't whole instruction slots.
     #[error("invalid program code")]
     InvalidProgramCode,
     /// A map's definition doesn't fit its section, or its size doesn't fit 32 bits.
