@@ -93,7 +93,7 @@ impl<W: Write> Watched<W> {
         ensures exhausted { calls_left self.old ≡ 0 → watched_inner self.new ≡ watched_inner self.old }
         ensures moves { IfOk result (λ count. 0 < length buf.now → 0 < count) }
     {
-        if self.has_failed || self.calls_left == 0 {
+        if self.calls_left == 0 || self.has_failed {
             self.has_failed = true;
             return Err(io::Error::from(ErrorKind::Other));
         }
