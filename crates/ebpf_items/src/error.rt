@@ -33,7 +33,7 @@ pub enum ParseError {
     InvalidKernelVersion {
         bytes: Vec<u8>,
     },
-    /// A section's name or bytes can't be read.
+    /// A section's name or bytes can't be read. `index` counts the section headers.
     #[error("error parsing section {index}: {error}")]
     SectionError {
         index: usize,
@@ -47,7 +47,8 @@ pub enum ParseError {
     InvalidProgramSection {
         section: String,
     },
-    /// A function's bytes lie outside its section, or aren't whole instruction slots.
+    /// A function begins below its section's address, its bytes lie outside the section, or they
+    /// aren't whole instruction slots.
     #[error("invalid program code")]
     InvalidProgramCode,
     /// A map's definition doesn't fit its section, or its size doesn't fit 32 bits.
@@ -55,7 +56,7 @@ pub enum ParseError {
     InvalidMapDefinition {
         name: String,
     },
-    /// Two functions of a section begin at one address.
+    /// Two functions of a section begin at one address, as their symbols give it.
     #[error("two functions of section {section_index} at address {address:#x}")]
     SymbolTableConflict {
         section_index: usize,
@@ -67,7 +68,7 @@ pub enum ParseError {
         section_index: usize,
         address: u64,
     },
-    /// A function's symbol has no size.
+    /// A function's symbol has no size. `index` counts the symbol table's entries.
     #[error("invalid symbol {index}, name {name:?}")]
     InvalidSymbol {
         index: usize,
@@ -78,19 +79,20 @@ pub enum ParseError {
     SymbolNotFound {
         name: String,
     },
-    /// A global variable's value doesn't fit its symbol, or the symbol lies outside its map.
+    /// A global variable's value doesn't fit its symbol, or the symbol lies outside its map. Both
+    /// sizes are in bytes: the symbol's and the value's.
     #[error("invalid data for global {name:?}: {data_size} bytes for a symbol of {sym_size}")]
     InvalidGlobalData {
         name: String,
         sym_size: u64,
         data_size: usize,
     },
-    /// No map is made of this section. Index 0 stands for no section.
+    /// No map is made of this section. `index` counts the section headers; 0 stands for no section.
     #[error("no map for section {index}")]
     MapNotFound {
         index: usize,
     },
-    /// The symbol of a map has no name.
+    /// The symbol of a map has no name. `i` counts the symbol table's entries.
     #[error("no name for the map of symbol {i}")]
     MapSymbolNameNotFound {
         i: usize,

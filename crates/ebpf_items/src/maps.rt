@@ -208,7 +208,7 @@ impl Map {
         }
     }
 
-    /// What its type makes of it; a legacy map has 0.
+    /// The per-type extra word; a legacy map has 0.
     pub fn map_extra(&self) -> u64
         ensures { result ≡ (map_view self.now).words.map_extra }
     {

@@ -46,7 +46,7 @@ impl<T> Watched<T> {
     }
 }
 
-// What a write comes to: that nothing of something was taken is a failure too.
+// What a write comes to: a write that takes nothing of something fails.
 fn judged(answer: io::Result<usize>, is_asked: bool) -> io::Result<usize>
     ensures failed { IsErr result ↔ ((IsErr answer) ⊎ ((answer ≡ Ok 0) × (is_asked ≡ true))) }
     ensures kept { IfOk result (λ count. answer ≡ Ok count) }
@@ -66,6 +66,7 @@ impl<R: Read> Watched<R> {
         ensures at_once { has_failed self.old ≡ true → self.new ≡ self.old }
         ensures counted { OnOk result ((calls_left self.new + 1 ≡ calls_left self.old) × (has_failed self.old ≡ false)) }
         ensures passed_on { has_failed self.old ≡ false → 0 < calls_left self.old → calls_left self.new + 1 ≡ calls_left self.old }
+        ensures exhausted { calls_left self.old ≡ 0 → watched_inner self.new ≡ watched_inner self.old }
     {
         if self.has_failed || self.calls_left == 0 {
             self.has_failed = true;
@@ -89,9 +90,10 @@ impl<W: Write> Watched<W> {
         ensures at_once { has_failed self.old ≡ true → self.new ≡ self.old }
         ensures counted { OnOk result ((calls_left self.new + 1 ≡ calls_left self.old) × (has_failed self.old ≡ false)) }
         ensures passed_on { has_failed self.old ≡ false → 0 < calls_left self.old → calls_left self.new + 1 ≡ calls_left self.old }
+        ensures exhausted { calls_left self.old ≡ 0 → watched_inner self.new ≡ watched_inner self.old }
         ensures moves { IfOk result (λ count. 0 < length buf.now → 0 < count) }
     {
-        if self.has_failed || self.calls_left == 0 {
+        if self.calls_left == 0 || self.has_failed {
             self.has_failed = true;
             return Err(io::Error::from(ErrorKind::Other));
         }

@@ -1,8 +1,8 @@
 //! Numbers of the kernel's `bpf.h`.
 
-ghost use Rattle.std.specs.Prelude.{◌≡◌, slice_get};
+ghost use Rattle.std.specs.Prelude.{◌≡◌, Some, slice_get};
 ghost use Rattle.std.specs.Result.{result_ok};
-ghost use Rattle.program_kinds.specs.Bindings.{map_types, prog_types, Refuses};
+ghost use Rattle.program_kinds.specs.Bindings.{map_types, prog_types, map_type_number, prog_type_number, attach_type_number, Refuses};
 
 /// A number that is no variant's.
 #[derive(Drop)]
@@ -56,6 +56,16 @@ pub enum bpf_map_type {
     BPF_MAP_TYPE_CGRP_STORAGE = 32,
     BPF_MAP_TYPE_ARENA = 33,
     BPF_MAP_TYPE_INSN_ARRAY = 34,
+}
+
+impl bpf_map_type {
+    /// Its number in the kernel's `bpf.h`, from which `try_from` gives it back.
+    pub fn number(self) -> u32
+        ensures value { result ≡ map_type_number self }
+        ensures entry { slice_get map_types result ≡ Some self }
+    {
+        self as u32
+    }
 }
 
 const MAP_TYPES: [bpf_map_type; 35] = [
@@ -144,6 +154,16 @@ pub enum bpf_prog_type {
     BPF_PROG_TYPE_NETFILTER = 32,
 }
 
+impl bpf_prog_type {
+    /// Its number in the kernel's `bpf.h`, from which `try_from` gives it back.
+    pub fn number(self) -> u32
+        ensures value { result ≡ prog_type_number self }
+        ensures entry { slice_get prog_types result ≡ Some self }
+    {
+        self as u32
+    }
+}
+
 const PROG_TYPES: [bpf_prog_type; 33] = [
     bpf_prog_type::BPF_PROG_TYPE_UNSPEC,
     bpf_prog_type::BPF_PROG_TYPE_SOCKET_FILTER,
@@ -221,4 +241,13 @@ pub enum bpf_attach_type {
     BPF_XDP = 37,
     BPF_SK_REUSEPORT_SELECT = 39,
     BPF_SK_REUSEPORT_SELECT_OR_MIGRATE = 40,
+}
+
+impl bpf_attach_type {
+    /// Its number in the kernel's `bpf.h`.
+    pub fn number(self) -> u32
+        ensures { result ≡ attach_type_number self }
+    {
+        self as u32
+    }
 }

@@ -14,8 +14,9 @@ use std::error::Error;
 use std::fmt;
 use std::str::FromStr;
 
-/// The kind of a program, by its section's name: the pieces of the name between `/` decide, as the
-/// kernel's `libbpf/program_types.rst` lists them. Pieces after the second are free.
+/// The kind of a program, by its section's name: the pieces of the name between `/` decide, by the
+/// tables of `specs/ProgramSection.antt`, after the kernel's `libbpf/program_types.rst`. Pieces
+/// after the second are free.
 #[derive(Clone, Debug, Drop)]
 pub enum ProgramSection {
     /// `kretprobe`
