@@ -4,8 +4,9 @@ ghost use Rattle.std.specs.Prelude.{◌≡◌, ◌+◌, ◌≤◌, length, take}
 ghost use Rattle.ebpf_items.specs.Maps.{map_view};
 
 use crate::{
-    EbpfSectionKind, LegacyMap, Map, ParseError, PinningError, PinningType, RelocationKind,
-    Section, Slots, bpf_insn, bpf_map_def, bpf_map_info, copy_instructions, parse_map_info,
+    BtfMap, BtfMapDef, EbpfSectionKind, LegacyMap, Map, ParseError, PinningError, PinningType,
+    RelocationKind, Section, Slots, bpf_insn, bpf_map_def, bpf_map_info, copy_instructions,
+    parse_map_info,
 };
 use elf64::{ElfError, ElfFile};
 use std::alloc::Global;
@@ -234,6 +235,37 @@ fn changes_a_map(rt: HostRuntime) -> Result<(), Fail> {
 }
 
 #[test]
+fn changes_a_map_of_types(rt: HostRuntime) -> Result<(), Fail> {
+    let inner_def = Some(BtfMapDef {
+        map_type: 2,
+        map_extra: 6,
+        btf_value_type_id: 9,
+        ..BtfMapDef::default()
+    });
+    let told = bpf_map_info {
+        btf_value_type_id: 3,
+        ..INFO
+    };
+    let mut map = match parse_map_info(rt.alloc(), told, PinningType::ByName) {
+        Map::Btf(map) => Map::Btf(BtfMap { inner_def, ..map }),
+        map => map,
+    };
+    map.set_value_size(24);
+    map.set_max_entries(2);
+    assert_eq!(rt;
+        (map.key_size(), map.value_size(), map.max_entries()),
+        (4, 24, 2)
+    );
+    assert_eq!(rt; map.pinning(), PinningType::ByName);
+    let inner = map.inner().ok_or("an inner map")?;
+    assert!(rt; matches!(&inner, Map::Btf(map) if map.def.btf_value_type_id == 9));
+    assert_eq!(rt; (inner.map_type(), inner.map_extra()), (2, 6));
+    assert_eq!(rt; inner.section_kind(), EbpfSectionKind::BtfMaps);
+    assert!(rt; inner.inner().is_none());
+    Ok(())
+}
+
+#[test]
 fn says_what_is_wrong(rt: HostRuntime) -> Result<(), Fail> {
     let error = ParseError::UnknownSymbol {
         section_index: 2,
@@ -302,6 +334,25 @@ fn refuses_a_section_past_the_end(rt: HostRuntime) -> Result<(), Fail> {
             Err(ParseError::SectionError {
                 index: 1,
                 error: ElfError::SectionData
+            })
+        )
+    );
+    Ok(())
+}
+
+#[test]
+fn refuses_a_section_whose_name_is_no_text(rt: HostRuntime) -> Result<(), Fail> {
+    let mut bytes = object(72);
+    bytes[65] = 0xff;
+    let file = ElfFile::parse(&bytes)?;
+    assert!(rt; file.section_by_name("kprobe").is_none());
+    let view = file.sections().next().ok_or("no section")?;
+    assert!(rt;
+        matches!(
+            Section::try_from(&view),
+            Err(ParseError::SectionError {
+                index: 1,
+                error: ElfError::Name
             })
         )
     );

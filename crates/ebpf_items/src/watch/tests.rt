@@ -116,3 +116,16 @@ fn passes_on_no_more_calls_than_it_counts(rt: HostRuntime) {
     assert!(rt; writer.failed());
     assert_eq!(rt; writer.into_inner().calls, 1);
 }
+
+#[test]
+fn reads_no_more_calls_than_it_counts(rt: HostRuntime) {
+    let mut reader = Watched {
+        inner: Scarce::new(9, true),
+        calls_left: 1,
+        has_failed: false,
+    };
+    assert!(rt; matches!(reader.read(&mut [0; 4]), Ok(1)));
+    assert!(rt; reader.read(&mut [0; 4]).is_err());
+    assert!(rt; reader.failed());
+    assert_eq!(rt; reader.into_inner().calls, 1);
+}
