@@ -3,7 +3,6 @@
 ghost use Rattle.std.specs.Prelude.{◌≡◌, ◌+◌, ◌-◌, ◌*◌, ◌/◌, ◌≤◌, ◌<◌, ℕ, List, [], length, Some, None};
 ghost use Rattle.std.specs.Iterator.{YieldsFirst, item_count};
 ghost use Rattle.std.specs.List.{range_with_len};
-ghost use Rattle.std.specs.List.{range_with_len};
 ghost use Rattle.elf64.specs.Relocations.{symbol_in, width_in, entry_size, is_relocation_table, entries_in};
 
 use crate::header::{SectionHeader, section_header, section_header_count};
