@@ -1,0 +1,39 @@
+-- How the records of a table lie in memory: that of each id at its place in the type bytes, and beside
+-- them the enums that unions stand for, which have no bytes.
+use Rattle.std.specs.Prelude.{◌≡◌, ℕ, suc, ◌<◌, ◌^◌, List, [], ◌∷◌, length, drop, All, Option, None, Some}
+use Rattle.std.specs.List.{flat_map}
+use Rattle.std.specs.Map.{lookup}
+use Rattle.std.specs.BTreeMap.{is_at}
+use Rattle.std.specs.Option.{option_map_or}
+use Rattle.std.specs.Ordering.{nat_cmp}
+use Rattle.btf_records.specs.Records.{ReadsSame, record_bytes, type_in, with_fallback}
+use Rattle.btf_records.specs.declared.compound.Enum64Fallback.{Enum64Fallback}
+use Rattle.btf_records.specs.declared.types.BtfType.{BtfType}
+use Rattle.btf_records.specs.declared.words.Endianness.{Endianness}
+
+-- the records of a table from id 1 on, and the byte order of their numbers
+pub record RecordList : Type 0 where
+  pub order : Endianness
+  pub types : List BtfType
+
+-- the enum that the union of an id stands for
+abbrev pub fallback_at : List (ℕ × Enum64Fallback) → ℕ → Option Enum64Fallback
+fallback_at fallbacks id = lookup (is_at (nat_cmp id)) fallbacks
+
+-- the record of an id
+abbrev pub type_at : Endianness → List ℕ → List (ℕ × Enum64Fallback) → ℕ → ℕ → BtfType
+type_at order bytes fallbacks id place = option_map_or (λ fallback. with_fallback (Some fallback) (type_in order (drop place bytes))) (fallback_at fallbacks id) (type_in order (drop place bytes))
+
+-- the records at places, of ids from this one on
+unfoldable pub types_at : Endianness → List ℕ → List (ℕ × Enum64Fallback) → ℕ → List ℕ → List BtfType
+types_at order bytes fallbacks id [] = []
+types_at order bytes fallbacks id (place ∷ places) = type_at order bytes fallbacks id place ∷ types_at order bytes fallbacks (suc id) places
+
+-- a record stands at each place, none but unions of ids in use stand for enums, and the bytes are no
+-- more than those of the records
+pub record IsLaidOut (order : Endianness) (bytes : List ℕ) (fallbacks : List (ℕ × Enum64Fallback)) (places : List ℕ) : Type 0 where
+  pub stand : All (λ place. ReadsSame order (drop place bytes)) places
+  pub in_use : (id : ℕ) → length places < id → fallback_at fallbacks id ≡ None
+  pub tight : length bytes ≡ length (flat_map (record_bytes order) (types_at order bytes fallbacks 1 places))
+  pub few_bytes : length bytes < 2 ^ 32
+  pub few_types : length places < 2 ^ 32

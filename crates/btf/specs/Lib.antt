@@ -1,0 +1,5 @@
+pub mod Agreement
+pub mod Compatibility
+pub mod FieldCompatibility
+pub mod Layout
+pub mod Lookups

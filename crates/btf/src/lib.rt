@@ -1,0 +1,14 @@
+//! Type tables of the BPF Type Format (BTF), over the bytes that they were read from
+//! (Documentation/bpf/btf.rst, "BTF Type and String Encoding").
+#![tactic(auto)]
+
+mod records;
+mod table;
+
+pub use btf_records::{
+    Array, BtfArray, BtfEnum, BtfEnum64, BtfError, BtfFeature, BtfKind, BtfMember, BtfParam,
+    BtfType, Const, DataSec, DataSecEntry, DeclTag, Endianness, Enum, Enum64, Enum64Fallback,
+    Float, Func, FuncLinkage, FuncProto, Fwd, InfoBits, Int, IntEncoding, Items, Ptr, Restrict,
+    Struct, TypeRef, TypeTag, Typedef, Union, Var, VarLinkage, Volatile,
+};
+pub use table::Btf;
