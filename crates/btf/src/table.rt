@@ -63,7 +63,7 @@ impl Btf {
     }
 
     /// The end of a chain of modifiers, as a part of a question about another id.
-    #[tactic(auto, unfolding(crate::specs::Lookups::chain_end))]
+    #[tactic(auto, using(crate::proofs::Chains::chain_over, crate::proofs::Chains::chain_unknown, crate::proofs::Chains::chain_done, crate::proofs::Chains::chain_more))]
     pub(crate) fn chain_end(&self, asked: u32, id: u32) -> Result<u32, BtfError>
         ensures { result ≡ chain_end max_depth self.now asked id }
     {
