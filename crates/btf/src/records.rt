@@ -1,11 +1,11 @@
 //! The records of a table over their bytes.
 
-ghost use Rattle.std.specs.Prelude.{◌≡◌, ◌<◌, IfSome, Some, drop, slice_get, length};
+ghost use Rattle.std.specs.Prelude.{◌≡◌, ◌<◌, ◌+◌, ◌^◌, ◌∷◌, IfSome, Some, drop, slice_get, length};
 ghost use Rattle.std.specs.Option.{option_copied, option_map_or};
 ghost use Rattle.btf_records.specs.Records.{HasRecord, type_in, with_fallback};
 ghost use Rattle.btf.specs.Layout.{fallback_at};
 
-use btf_records::{Endianness, Enum64Fallback, TypeRef};
+use btf_records::{BtfType, Endianness, Enum64Fallback, TypeRef};
 use std::collections::BTreeMap;
 use std::marker::Model;
 
@@ -68,7 +68,8 @@ impl TypeRecords {
     /// How many records there are.
     #[tactic(auto, using(crate::proofs::Places::length_types_at))]
     pub(crate) fn len(&self) -> usize
-        ensures { result ≡ length self.now.types }
+        ensures value { result ≡ length self.now.types }
+        ensures bounded { result < 2 ^ 32 }
     {
         self.places.len()
     }
@@ -83,7 +84,8 @@ impl TypeRecords {
     /// The record at an index, which is one less than its id.
     #[tactic(auto, using(crate::proofs::Places::stands_at, crate::proofs::Places::record_is, crate::proofs::Places::none_at))]
     pub(crate) fn get(&self, index: usize) -> Option<TypeRef<'_>>
-        ensures { result ≡ slice_get self.now.types index }
+        ensures value { result ≡ slice_get self.now.types index }
+        ensures bounded { IfSome result (λ _. index + 1 < 2 ^ 32) }
     {
         match place_at(&self.places, index) {
             Some(place) => {
@@ -93,5 +95,15 @@ impl TypeRecords {
             }
             None => None,
         }
+    }
+    /// The record of an id; that of id 0 is void.
+    pub(crate) fn by_id(&self, id: usize) -> Option<TypeRef<'_>>
+        ensures value { result ≡ slice_get (BtfType.Unknown ∷ self.now.types) id }
+        ensures bounded { IfSome result (λ _. id < 2 ^ 32) }
+    {
+        if id == 0 {
+            return Some(TypeRef::void());
+        }
+        self.get(id - 1)
     }
 }

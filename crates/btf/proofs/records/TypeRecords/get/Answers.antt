@@ -10,8 +10,8 @@ record_at-t-requires c =
     let some : slice_get s.places.items c.args.index ≡ Some c.in-Some.place = rw c.deref.ensures.value at (sym c.place_at.ensures.value ∙ c.in-Some.is) in
     rw c.deref-in-Some.ensures.value (stands_at s.order s.bytes.items s.places.items c.args.index c.in-Some.place c.self.invariant.stand some)
 
-pub returns-in-Some : goal.returns-in-Some
-returns-in-Some c =
+pub returns-in-Some-clause-value : goal.returns-in-Some-clause-value
+returns-in-Some-clause-value c =
     let s = c.self.inside in
     let some : slice_get s.places.items c.args.index ≡ Some c.in-Some.place = rw c.deref.ensures.value at (sym c.place_at.ensures.value ∙ c.in-Some.is) in
     let read = ap (λ (t : RecordList). slice_get t.types c.args.index) (sym c.self.view_is) ∙ record_is s.order s.bytes.items s.fallbacks.entries s.places.items c.args.index c.in-Some.place some in
