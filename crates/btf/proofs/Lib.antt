@@ -1,3 +1,6 @@
 pub mod Chains
 pub mod Left
+pub mod Named
 pub mod Places
+pub mod Rests
+pub mod Walks
