@@ -1,4 +1,5 @@
 pub mod Chains
+pub mod Growth
 pub mod Left
 pub mod Named
 pub mod Places

@@ -1,11 +1,15 @@
 //! The records of a table over their bytes.
 
-ghost use Rattle.std.specs.Prelude.{◌≡◌, ◌<◌, ◌+◌, ◌^◌, ◌∷◌, IfSome, Some, drop, slice_get, length};
+ghost use Rattle.std.specs.Prelude.{◌≡◌, ◌≢◌, ◌<◌, ◌+◌, ◌^◌, ◌∷◌, ◌++◌, ◌⊎◌, [], IfErr, IfSome, OnOk, OnErr, None, Some, drop, slice_get, length, take};
+ghost use Rattle.std.specs.List.{flat_map};
 ghost use Rattle.std.specs.Option.{option_copied, option_map_or};
-ghost use Rattle.btf_records.specs.Records.{HasRecord, type_in, with_fallback};
-ghost use Rattle.btf.specs.Layout.{fallback_at};
+ghost use Rattle.btf_records.specs.Fields.{fallback_of};
+ghost use Rattle.btf_records.specs.Records.{HasRecord, ReadsBack, record_bytes, type_in, with_fallback};
+ghost use Rattle.btf_records.specs.declared.error.BtfError.TheVariants.{InvalidTypeInfo, OutOfMemory};
+ghost use Rattle.btf.specs.Layout.{Entered, TooMany, fallback_at};
 
-use btf_records::{BtfType, Endianness, Enum64Fallback, TypeRef};
+use btf_records::{BtfError, BtfType, Endianness, Enum64Fallback, TypeRef, Union, push_type};
+use std::alloc::{AllocError, Global};
 use std::collections::BTreeMap;
 use std::marker::Model;
 
@@ -31,10 +35,68 @@ impl Model for TypeRecords {
 }
 
 /// The enum that the union of an id stands for.
-fn fallback_of(fallbacks: &BTreeMap<u32, Enum64Fallback>, id: u32) -> Option<&Enum64Fallback>
+fn fallback_by_id(fallbacks: &BTreeMap<u32, Enum64Fallback>, id: u32) -> Option<&Enum64Fallback>
     ensures { option_copied result ≡ fallback_at fallbacks.now.entries id }
 {
     fallbacks.get(&id)
+}
+
+/// As many bytes, and as many types, as 32 bits can count.
+const MOST: usize = u32::MAX as usize;
+
+/// Enters the enum that the record of an id stands for, where there is one.
+fn enter_fallback(
+    fallbacks: &mut BTreeMap<u32, Enum64Fallback>,
+    id: u32,
+    t: BtfType,
+) -> Result<(), AllocError>
+    requires { fallback_at fallbacks.old.entries id ≡ None }
+    ensures ok { OnOk result (Entered fallbacks.old.entries fallbacks.new.entries id (fallback_of t)) }
+    ensures err { OnErr result (fallbacks.new.entries ≡ fallbacks.old.entries) }
+{
+    let BtfType::Union(union) = t else {
+        return Ok(());
+    };
+    let Union { fallback, .. } = union;
+    let Some(fallback) = fallback else {
+        return Ok(());
+    };
+    fallbacks.insert(id, fallback)?;
+    Ok(())
+}
+
+/// Writes a record behind the others, as far as memory reaches.
+fn append(
+    bytes: &mut Vec<u8>,
+    places: &mut Vec<u32>,
+    fallbacks: &mut BTreeMap<u32, Enum64Fallback>,
+    order: Endianness,
+    t: BtfType,
+) -> Result<(), BtfError>
+    requires few { length bytes.old.items < 2 ^ 32 }
+    requires free { fallback_at fallbacks.old.entries (length places.old.items + 1) ≡ None }
+    ensures bytes { OnOk result (bytes.new.items ≡ bytes.old.items ++ record_bytes order t) }
+    ensures places { OnOk result (places.new.items ≡ places.old.items ++ length bytes.old.items ∷ []) }
+    ensures fallbacks { OnOk result (Entered fallbacks.old.entries fallbacks.new.entries (length places.old.items + 1) (fallback_of t)) }
+    ensures read_back { OnOk result (ReadsBack order t) }
+    ensures few_bytes { OnOk result (length bytes.new.items < 2 ^ 32) }
+    ensures few_types { OnOk result (length places.new.items < 2 ^ 32) }
+    ensures refused { IfErr result (λ e. e ≢ OutOfMemory → (e ≡ InvalidTypeInfo) × (TooMany (length bytes.old.items + length (record_bytes order t)) ⊎ TooMany (length places.old.items + 1))) }
+    ensures old_bytes { OnErr result (take (length bytes.old.items) bytes.new.items ≡ bytes.old.items) }
+    ensures old_places { OnErr result (take (length places.old.items) places.new.items ≡ places.old.items) }
+    ensures old_fallbacks { OnErr result (fallbacks.new.entries ≡ fallbacks.old.entries) }
+{
+    if places.len() >= MOST {
+        return Err(BtfError::InvalidTypeInfo);
+    }
+    let place = bytes.len() as u32;
+    push_type(bytes, order, &t)?;
+    if bytes.len() > MOST {
+        return Err(BtfError::InvalidTypeInfo);
+    }
+    places.push(place)?;
+    enter_fallback(fallbacks, places.len() as u32, t)?;
+    Ok(())
 }
 
 /// Where the record at an index begins.
@@ -65,6 +127,19 @@ fn with_fallback<'a>(t: TypeRef<'a>, fallback: Option<&'a Enum64Fallback>) -> Ty
 }
 
 impl TypeRecords {
+    /// No records, of this byte order.
+    #[tactic(auto, unfolding(crate::specs::Layout::types_at))]
+    pub(crate) fn new(alloc: Global, order: Endianness) -> TypeRecords
+        ensures { result ≡ record { order = order; types = [] } }
+    {
+        TypeRecords {
+            order,
+            bytes: Vec::new(alloc),
+            places: Vec::new(alloc),
+            fallbacks: BTreeMap::new(alloc),
+        }
+    }
+
     /// How many records there are.
     #[tactic(auto, using(crate::proofs::Places::length_types_at))]
     pub(crate) fn len(&self) -> usize
@@ -90,7 +165,7 @@ impl TypeRecords {
         match place_at(&self.places, index) {
             Some(place) => {
                 let t = record_at(self.order, &self.bytes, place);
-                let fallback = fallback_of(&self.fallbacks, index as u32 + 1);
+                let fallback = fallback_by_id(&self.fallbacks, index as u32 + 1);
                 Some(with_fallback(t, fallback))
             }
             None => None,
@@ -105,5 +180,37 @@ impl TypeRecords {
             return Some(TypeRef::void());
         }
         self.get(id - 1)
+    }
+    /// How many bytes the records are.
+    pub(crate) fn byte_len(&self) -> usize
+        ensures value { result ≡ length (flat_map (record_bytes self.now.order) self.now.types) }
+        ensures bounded { result < 2 ^ 32 }
+    {
+        self.bytes.len()
+    }
+
+    /// Adds a record behind the others.
+    pub(crate) fn push(&mut self, t: BtfType) -> Result<(), BtfError>
+        ensures order { OnOk result (self.new.order ≡ self.old.order) }
+        ensures types { OnOk result (self.new.types ≡ self.old.types ++ t ∷ []) }
+        ensures refused { IfErr result (λ e. e ≢ OutOfMemory → (e ≡ InvalidTypeInfo) × (TooMany (length (flat_map (record_bytes self.old.order) (self.old.types ++ t ∷ []))) ⊎ TooMany (length self.old.types + 1))) }
+        ensures err { OnErr result (self.new ≡ self.old) }
+    {
+        let len = self.bytes.len();
+        let count = self.places.len();
+        match append(
+            &mut self.bytes,
+            &mut self.places,
+            &mut self.fallbacks,
+            self.order,
+            t,
+        ) {
+            Ok(()) => Ok(()),
+            Err(error) => {
+                self.bytes.truncate(len);
+                self.places.truncate(count);
+                Err(error)
+            }
+        }
     }
 }
