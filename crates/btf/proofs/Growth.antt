@@ -51,7 +51,7 @@ types_stay order bytes x old new id (place ∷ places) all same =
     let there = types_stay order bytes x old new (suc id) places (All-tail (λ p. ReadsSame order (drop p bytes)) place places all) (record { same = λ other lt. same.same other (omega arith) }) in
     rw (here, there) refl
 
-types_behind : (order : Endianness) (bytes : List ℕ) (fallbacks : List (ℕ × Enum64Fallback)) (id : ℕ) (places : List ℕ) (place : ℕ) → types_at order bytes fallbacks id (places ++ place ∷ []) ≡ types_at order bytes fallbacks id places ++ type_at order bytes fallbacks (id + length places) place ∷ []
+pub types_behind : (order : Endianness) (bytes : List ℕ) (fallbacks : List (ℕ × Enum64Fallback)) (id : ℕ) (places : List ℕ) (place : ℕ) → types_at order bytes fallbacks id (places ++ place ∷ []) ≡ types_at order bytes fallbacks id places ++ type_at order bytes fallbacks (id + length places) place ∷ []
 unfolding types_at
 types_behind order bytes fallbacks id [] place =
     let same : id + 0 ≡ id = omega arith in

@@ -1,7 +1,9 @@
 pub mod Chains
 pub mod Growth
 pub mod Left
+pub mod Lengths
 pub mod Named
 pub mod Places
+pub mod Reading
 pub mod Rests
 pub mod Walks

@@ -1,14 +1,15 @@
 //! The records of a table over their bytes.
 
-ghost use Rattle.std.specs.Prelude.{◌≡◌, ◌≢◌, ◌<◌, ◌+◌, ◌^◌, ◌∷◌, ◌++◌, ◌⊎◌, [], IfErr, IfSome, OnOk, OnErr, None, Some, drop, slice_get, length, take};
+ghost use Rattle.std.specs.Prelude.{◌≡◌, ◌≢◌, ◌<◌, ◌≤◌, ◌+◌, ◌^◌, ◌∷◌, ◌++◌, ◌⊎◌, [], All, IfErr, IfOk, IfSome, OnOk, OnErr, None, Some, drop, slice_get, length, take};
 ghost use Rattle.std.specs.List.{flat_map};
 ghost use Rattle.std.specs.Option.{option_copied, option_map_or};
 ghost use Rattle.btf_records.specs.Fields.{fallback_of};
-ghost use Rattle.btf_records.specs.Records.{HasRecord, ReadsBack, record_bytes, type_in, with_fallback};
+ghost use Rattle.btf_records.specs.Records.{AreTypes, HasRecord, ReadsBack, ReadsSame, Spells, TypesFault, record_bytes, type_in, with_fallback};
 ghost use Rattle.btf_records.specs.declared.error.BtfError.TheVariants.{InvalidTypeInfo, OutOfMemory};
-ghost use Rattle.btf.specs.Layout.{Entered, TooMany, fallback_at};
+ghost use Rattle.btf.specs.Layout.{Entered, TooMany, fallback_at, types_at};
 
-use btf_records::{BtfError, BtfType, Endianness, Enum64Fallback, TypeRef, Union, push_type};
+use btf_records::{BtfError, BtfType, Endianness, Enum64Fallback, TypeRef, Union, count_types, push_type,
+    record_len};
 use std::alloc::{AllocError, Global};
 use std::collections::BTreeMap;
 use std::marker::Model;
@@ -107,13 +108,22 @@ fn place_at(places: &[u32], index: usize) -> Option<u32>
     places.get(index).copied()
 }
 
+/// The bytes behind the first so many.
+fn behind(bytes: &[u8], len: usize) -> &[u8]
+    requires { len ≤ length bytes.now }
+    ensures value { result.now ≡ drop len bytes.now }
+    ensures length { length result.now + len ≡ length bytes.now }
+{
+    bytes.split_at(len).1
+}
+
 /// The record that begins at a place.
 #[tactic(auto, using(crate::proofs::Places::within_bytes))]
 fn record_at(order: Endianness, bytes: &[u8], place: u32) -> TypeRef<'_>
     requires { HasRecord order (drop place bytes.now) }
     ensures { result ≡ type_in order (drop place bytes.now) }
 {
-    TypeRef::new(order, bytes.split_at(place as usize).1)
+    TypeRef::new(order, behind(bytes, place as usize))
 }
 
 /// The union that stands for this enum, where there is one.
@@ -126,7 +136,55 @@ fn with_fallback<'a>(t: TypeRef<'a>, fallback: Option<&'a Enum64Fallback>) -> Ty
     }
 }
 
+/// Where the records begin that the bytes are.
+#[tactic(auto, using(crate::proofs::Reading::no_places, crate::proofs::Reading::one_more_place, crate::proofs::Reading::fault_behind, crate::proofs::Reading::all_places))]
+fn places(
+    alloc: Global,
+    order: Endianness,
+    bytes: &[u8],
+    count: usize,
+) -> Result<Vec<u32>, BtfError>
+    requires { length bytes.now < 2 ^ 32 }
+    ensures spelled { IfOk result (λ places. Spells order (types_at order bytes.now [] 1 places.items) bytes.now) }
+    ensures stand { IfOk result (λ places. All (λ place. ReadsSame order (drop place bytes.now)) places.items) }
+    ensures refused { IfErr result (λ e. e ≢ OutOfMemory → TypesFault order bytes.now e) }
+{
+    let mut places = Vec::with_capacity(alloc, count)?;
+    let mut rest = bytes;
+    while !rest.is_empty() {
+        let len = record_len(order, rest)?;
+        places.push((bytes.len() - rest.len()) as u32)?;
+        rest = behind(rest, len);
+    }
+    Ok(places)
+}
+
 impl TypeRecords {
+    /// The records that the bytes are, which are counted first.
+    ///
+    /// `InvalidTypeInfo` where one of them is cut off, `InvalidTypeKind` where none has the kind.
+    #[tactic(auto, using(crate::proofs::Reading::as_counted, crate::proofs::Reading::laid_out))]
+    pub(crate) fn read(
+        alloc: Global,
+        order: Endianness,
+        bytes: &[u8],
+    ) -> Result<TypeRecords, BtfError>
+        requires { length bytes.now < 2 ^ 32 }
+        ensures order { IfOk result (λ r. r.order ≡ order) }
+        ensures spelled { IfOk result (λ r. Spells order r.types bytes.now) }
+        ensures counted { IfOk result (λ r. AreTypes order bytes.now (length r.types)) }
+        ensures refused { IfErr result (λ e. e ≢ OutOfMemory → TypesFault order bytes.now e) }
+    {
+        let count = count_types(order, bytes)?;
+        let places = places(alloc, order, bytes, count)?;
+        Ok(TypeRecords {
+            order,
+            bytes: Vec::from_slice(alloc, bytes)?,
+            places,
+            fallbacks: BTreeMap::new(alloc),
+        })
+    }
+
     /// No records, of this byte order.
     #[tactic(auto, unfolding(crate::specs::Layout::types_at))]
     pub(crate) fn new(alloc: Global, order: Endianness) -> TypeRecords
