@@ -7,3 +7,4 @@ pub mod Places
 pub mod Reading
 pub mod Rests
 pub mod Walks
+pub mod Writing

@@ -1,5 +1,6 @@
 pub mod Agreement
 pub mod Compatibility
 pub mod FieldCompatibility
+pub mod Growing
 pub mod Layout
 pub mod Lookups

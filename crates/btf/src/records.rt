@@ -1,10 +1,10 @@
 //! The records of a table over their bytes.
 
-ghost use Rattle.std.specs.Prelude.{◌≡◌, ◌≢◌, ◌<◌, ◌≤◌, ◌+◌, ◌^◌, ◌∷◌, ◌++◌, ◌⊎◌, [], All, IfErr, IfOk, IfSome, OnOk, OnErr, None, Some, drop, slice_get, length, take};
+ghost use Rattle.std.specs.Prelude.{◌≡◌, ◌≢◌, ◌<◌, ◌≤◌, ◌+◌, ◌^◌, ◌∷◌, ◌++◌, ◌⊎◌, [], All, IfErr, IfOk, IfSome, OnOk, OnErr, None, Some, drop, slice_get, length, map, take};
 ghost use Rattle.std.specs.List.{flat_map};
 ghost use Rattle.std.specs.Option.{option_copied, option_map_or};
 ghost use Rattle.btf_records.specs.Fields.{fallback_of};
-ghost use Rattle.btf_records.specs.Records.{AreTypes, HasRecord, ReadsBack, ReadsSame, Spells, TypesFault, record_bytes, type_in, with_fallback};
+ghost use Rattle.btf_records.specs.Records.{AreTypes, HasRecord, ReadsBack, ReadsSame, Spells, TypesFault, record_bytes, type_in, with_fallback, without_fallback};
 ghost use Rattle.btf_records.specs.declared.error.BtfError.TheVariants.{InvalidTypeInfo, OutOfMemory};
 ghost use Rattle.btf.specs.Layout.{Entered, TooMany, fallback_at, types_at};
 
@@ -159,6 +159,19 @@ fn places(
     Ok(places)
 }
 
+/// Writes the bytes of a record behind what is there.
+fn write_record(
+    out: &mut Vec<u8>,
+    order: Endianness,
+    t: &TypeRef<'_>,
+) -> Result<(), AllocError>
+    ensures written { OnOk result (out.new.items ≡ out.old.items ++ record_bytes order t.now) }
+    ensures read_back { OnOk result (ReadsBack order t.now) }
+{
+    let t = t.to_type(*out.allocator())?;
+    push_type(out, order, &t)
+}
+
 impl TypeRecords {
     /// The records that the bytes are, which are counted first.
     ///
@@ -270,5 +283,30 @@ impl TypeRecords {
                 Err(error)
             }
         }
+    }
+    /// Writes the bytes of the records behind what is there.
+    #[tactic(auto, using(crate::proofs::Writing::none_written, crate::proofs::Writing::one_more_written, crate::proofs::Writing::all_written, crate::proofs::Writing::all_spelled))]
+    pub(crate) fn write(&self, out: &mut Vec<u8>) -> Result<(), AllocError>
+        ensures written { OnOk result (out.new.items ≡ out.old.items ++ flat_map (record_bytes self.now.order) self.now.types) }
+        ensures spelled { OnOk result (Spells self.now.order (map without_fallback self.now.types) (flat_map (record_bytes self.now.order) self.now.types)) }
+    {
+        let mut index = 0;
+        while let Some(t) = self.get(index) {
+            write_record(out, self.order(), &t)?;
+            index += 1;
+        }
+        Ok(())
+    }
+
+    /// The same records.
+    pub(crate) fn try_clone(&self) -> Result<TypeRecords, AllocError>
+        ensures { IfOk result (λ r. r ≡ self.now) }
+    {
+        Ok(TypeRecords {
+            order: self.order,
+            bytes: self.bytes.clone()?,
+            places: self.places.clone()?,
+            fallbacks: self.fallbacks.clone()?,
+        })
     }
 }
