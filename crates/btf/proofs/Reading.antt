@@ -7,7 +7,7 @@ use Rattle.btf.specs.Layout.{IsLaidOut, types_at}
 use Rattle.btf.proofs.Growth.{types_behind}
 use Rattle.btf.proofs.Lengths.{begins_more, spelled_few, spelled_tight}
 use Rattle.btf.proofs.Places.{length_types_at}
-use Rattle.btf_records.specs.Records.{AreTypes, Begins, HasRecord, ReadsSame, RecordFault, Spells, TypesFault, record_len, type_in}
+use Rattle.btf_records.specs.Records.{Begins, HasRecord, ReadsSame, RecordFault, Spells, TypesFault, record_len, type_in}
 use Rattle.btf_records.specs.declared.error.BtfError.{BtfError}
 use Rattle.btf_records.specs.declared.types.BtfType.{BtfType}
 use Rattle.btf_records.specs.declared.words.Endianness.{Endianness}
@@ -64,14 +64,4 @@ laid_out order bytes places spelled stand few = record {
   tight = spelled_tight order (types_at order bytes [] 1 places) bytes spelled;
   few_bytes = few;
   few_types = omega (arith, spelled_few order (types_at order bytes [] 1 places) bytes spelled, length_types_at order bytes [] 1 places);
-}
-
--- the records are those that were counted
-pub as_counted : (order : Endianness) (bytes : List ℕ) (count : ℕ) (types : List BtfType) → AreTypes order bytes count → Spells order types bytes → AreTypes order bytes (length types)
-as_counted order bytes count types are spelled = record {
-  types = are.types;
-  spelled = are.spelled;
-  counted = ap length (sym (are.unique types spelled));
-  unique = are.unique;
-  faultless = are.faultless;
 }

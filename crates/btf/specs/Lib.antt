@@ -4,3 +4,4 @@ pub mod FieldCompatibility
 pub mod Growing
 pub mod Layout
 pub mod Lookups
+pub mod Sections

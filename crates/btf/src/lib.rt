@@ -2,8 +2,10 @@
 //! (Documentation/bpf/btf.rst, "BTF Type and String Encoding").
 #![tactic(auto)]
 
+mod growing;
 mod lookup;
 mod records;
+mod section;
 mod table;
 mod text;
 mod types;

@@ -4,7 +4,7 @@ ghost use Rattle.std.specs.Prelude.{◌≡◌, ◌≢◌, ◌<◌, ◌≤◌, �
 ghost use Rattle.std.specs.List.{flat_map};
 ghost use Rattle.std.specs.Option.{option_copied, option_map_or};
 ghost use Rattle.btf_records.specs.Fields.{fallback_of};
-ghost use Rattle.btf_records.specs.Records.{AreTypes, HasRecord, ReadsBack, ReadsSame, Spells, TypesFault, record_bytes, type_in, with_fallback, without_fallback};
+ghost use Rattle.btf_records.specs.Records.{HasRecord, ReadsBack, ReadsSame, Spells, TypesFault, record_bytes, type_in, with_fallback, without_fallback};
 ghost use Rattle.btf_records.specs.declared.error.BtfError.TheVariants.{InvalidTypeInfo, OutOfMemory};
 ghost use Rattle.btf.specs.Layout.{Entered, TooMany, fallback_at, types_at};
 
@@ -176,7 +176,7 @@ impl TypeRecords {
     /// The records that the bytes are, which are counted first.
     ///
     /// `InvalidTypeInfo` where one of them is cut off, `InvalidTypeKind` where none has the kind.
-    #[tactic(auto, using(crate::proofs::Reading::as_counted, crate::proofs::Reading::laid_out))]
+    #[tactic(auto, using(crate::proofs::Reading::laid_out))]
     pub(crate) fn read(
         alloc: Global,
         order: Endianness,
@@ -185,7 +185,6 @@ impl TypeRecords {
         requires { length bytes.now < 2 ^ 32 }
         ensures order { IfOk result (λ r. r.order ≡ order) }
         ensures spelled { IfOk result (λ r. Spells order r.types bytes.now) }
-        ensures counted { IfOk result (λ r. AreTypes order bytes.now (length r.types)) }
         ensures refused { IfErr result (λ e. e ≢ OutOfMemory → TypesFault order bytes.now e) }
     {
         let count = count_types(order, bytes)?;

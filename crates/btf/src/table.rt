@@ -16,11 +16,11 @@ use std::marker::Model;
 /// A table of types and the strings that name them.
 #[derive(Debug, Drop)]
 pub struct Btf {
-    records: TypeRecords,
-    magic: u16,
-    version: u8,
-    flags: u8,
-    strings: Vec<u8>,
+    pub(crate) records: TypeRecords,
+    pub(crate) magic: u16,
+    pub(crate) version: u8,
+    pub(crate) flags: u8,
+    pub(crate) strings: Vec<u8>,
 }
 
 impl Model for Btf {
