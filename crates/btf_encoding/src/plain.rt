@@ -6,9 +6,9 @@ ghost use Rattle.btf_records.specs.Kinds.{kind_count, kind_of};
 ghost use Rattle.btf_records.specs.Words.{word_at};
 ghost use Rattle.btf_encoding.specs.Records.{HasRecord, len_behind, record_len};
 
-use btf_records::Endianness;
 use crate::item::Item;
 use crate::reading::behind;
+use btf_records::Endianness;
 
 /// The word at an offset, from its four bytes.
 #[tactic(auto, unfolding(btf_records::specs::Words::word_at))]

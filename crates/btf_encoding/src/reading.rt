@@ -4,8 +4,12 @@ ghost use Rattle.std.specs.Prelude.{◌≡◌, ◌+◌, ◌*◌, ◌<◌, ◌≤
 ghost use Rattle.btf_encoding.specs.Items.{items_in};
 ghost use Rattle.btf_encoding.specs.Records.{AreTypes, HasRecord, ReadsSame, RecordFault, TypesFault, count_at, kind_at, len_behind, record_len, type_in};
 
-use btf_records::{Array, BtfArray, BtfError, BtfKind, BtfType, Const, DataSec, DeclTag, Endianness, Enum, Enum64, Float, Func, FuncProto, Fwd, InfoBits, Int, Items, Ptr, Restrict, Struct, TypeTag, Typedef, Union, Var, VarLinkage, Volatile, word};
 use crate::item::Item;
+use btf_records::{
+    Array, BtfArray, BtfError, BtfKind, BtfType, Const, DataSec, DeclTag, Endianness, Enum, Enum64,
+    Float, Func, FuncProto, Fwd, InfoBits, Int, Items, Ptr, Restrict, Struct, TypeTag, Typedef,
+    Union, Var, VarLinkage, Volatile, word,
+};
 use std::alloc::{AllocError, Global};
 
 /// The bytes behind the first so many.

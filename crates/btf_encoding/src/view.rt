@@ -5,9 +5,12 @@ ghost use Rattle.std.specs.Option.{option_copied};
 ghost use Rattle.btf_records.specs.Fields.{array_of, decl_tag_of, entries_of, fallback_of, func_of, int_of, kind_of_type, members_of, name_offset_of, params_of, size_of, type_of, var_of, variants_of, variants64_of};
 ghost use Rattle.btf_encoding.specs.Records.{HasRecord, RecordFault, bits_of, count_of, type_in, with_fallback};
 
-use btf_records::{BtfArray, BtfEnum, BtfEnum64, BtfError, BtfKind, BtfMember, BtfParam, BtfType, DataSecEntry, DeclTag, Endianness, Enum64Fallback, Func, InfoBits, Int, Union, Var, VarLinkage, word};
 use crate::item::Item;
 use crate::reading::{behind, item, kind_of, read_type, record_len};
+use btf_records::{
+    BtfArray, BtfEnum, BtfEnum64, BtfError, BtfKind, BtfMember, BtfParam, BtfType, DataSecEntry,
+    DeclTag, Endianness, Enum64Fallback, Func, InfoBits, Int, Union, Var, VarLinkage, word,
+};
 use std::alloc::{AllocError, Global};
 use std::marker::Model;
 

@@ -5,8 +5,8 @@ ghost use Rattle.std.specs.List.{flat_map};
 ghost use Rattle.btf_records.specs.Words.{words_bytes};
 ghost use Rattle.btf_encoding.specs.Records.{IsInRange, ReadsBack, bits_of, count_of, record_bytes, words_of};
 
-use btf_records::{BtfKind, BtfType, Endianness, push_word};
 use crate::item::Item;
+use btf_records::{BtfKind, BtfType, Endianness, push_word};
 use std::alloc::AllocError;
 
 /// Writes words behind what is there.
