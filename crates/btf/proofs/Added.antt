@@ -2,7 +2,7 @@
 use Rattle.std.proofs.Common.{◌≡◌, ℕ, zero, suc, ◌+◌, ◌-◌, ◌<◌, List, [], ◌∷◌, ◌++◌, length, Some, true, false, nat_eq, refl, sym, ap, ◌∙◌, arith, slice_get, length-append}
 use Rattle.btf.specs.Growing.{TypesStay}
 use Rattle.btf.proofs.Named.{all_types, by_place}
-use Rattle.btf_records.specs.Tables.{Table, type_by_id}
+use Rattle.btf_encoding.specs.Tables.{Table, type_by_id}
 use Rattle.btf_records.specs.declared.types.BtfType.{BtfType}
 use Rattle.btf_records.specs.declared.types.BtfType.TheVariants.{Unknown}
 

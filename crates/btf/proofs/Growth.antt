@@ -10,7 +10,7 @@ use Rattle.std.proofs.Math.Seq.{drop-append_seam}
 use Rattle.btf.specs.Layout.{Entered, IsLaidOut, TooMany, fallback_at, type_at, types_at}
 use Rattle.btf.proofs.Places.{has_record, length_types_at, within_bytes}
 use Rattle.btf_records.specs.Fields.{fallback_of}
-use Rattle.btf_records.specs.Records.{HasRecord, ReadsBack, ReadsSame, record_bytes, record_len, type_in, with_fallback, without_fallback}
+use Rattle.btf_encoding.specs.Records.{HasRecord, ReadsBack, ReadsSame, record_bytes, record_len, type_in, with_fallback, without_fallback}
 use Rattle.btf_records.specs.declared.compound.Union.{Union}
 use Rattle.btf_records.specs.declared.compound.Enum64Fallback.{Enum64Fallback}
 use Rattle.btf_records.specs.declared.types.BtfType.{BtfType}

@@ -8,8 +8,8 @@ use Rattle.btf.specs.Growing.{HoldsTable, without_fallbacks}
 use Rattle.btf.specs.Sections.{header_bytes}
 use Rattle.btf.specs.declared.section.Header.{Header}
 use Rattle.btf.proofs.Sections.{holds_table}
-use Rattle.btf_records.specs.Records.{Spells, record_bytes, without_fallback}
-use Rattle.btf_records.specs.Tables.{IsTable, Table, string_bytes_in, strings_end, strings_start, table_bytes, type_bytes, type_bytes_in, types_end, types_start}
+use Rattle.btf_encoding.specs.Records.{Spells, record_bytes, without_fallback}
+use Rattle.btf_encoding.specs.Tables.{IsTable, Table, string_bytes_in, strings_end, strings_start, table_bytes, type_bytes, type_bytes_in, types_end, types_start}
 use Rattle.btf_records.specs.Words.{half_at, half_bytes, word_at, word_bytes, words_bytes}
 use Rattle.btf_records.specs.declared.types.BtfType.{BtfType}
 use Rattle.btf_records.specs.declared.words.Endianness.{Endianness}

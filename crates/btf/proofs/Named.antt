@@ -6,8 +6,8 @@ use Rattle.std.proofs.lemmas.Option.{slice_get_past}
 use Rattle.std.proofs.lemmas.Bool.Decides.{nat_tests}
 use Rattle.btf.specs.Lookups.{IsOther}
 use Rattle.btf_records.specs.Fields.{kind_of_type, name_offset_of}
-use Rattle.btf_records.specs.Tables.{Table, type_by_id}
-use Rattle.btf_records.specs.Texts.{text_at}
+use Rattle.btf_encoding.specs.Tables.{Table, type_by_id}
+use Rattle.btf_encoding.specs.Texts.{text_at}
 use Rattle.btf_records.specs.declared.kind.BtfKind.{BtfKind}
 use Rattle.btf_records.specs.declared.types.BtfType.{BtfType}
 use Rattle.btf_records.specs.declared.types.BtfType.TheVariants.{Unknown}

@@ -7,7 +7,7 @@ use Rattle.btf.specs.Layout.{IsLaidOut, types_at}
 use Rattle.btf.proofs.Growth.{types_behind}
 use Rattle.btf.proofs.Lengths.{begins_more, spelled_few, spelled_tight}
 use Rattle.btf.proofs.Places.{length_types_at}
-use Rattle.btf_records.specs.Records.{Begins, HasRecord, ReadsSame, RecordFault, Spells, TypesFault, record_len, type_in}
+use Rattle.btf_encoding.specs.Records.{Begins, HasRecord, ReadsSame, RecordFault, Spells, TypesFault, record_len, type_in}
 use Rattle.btf_records.specs.declared.error.BtfError.{BtfError}
 use Rattle.btf_records.specs.declared.types.BtfType.{BtfType}
 use Rattle.btf_records.specs.declared.words.Endianness.{Endianness}

@@ -4,7 +4,7 @@ use Rattle.std.proofs.Math.Nat.{mul_assoc}
 use Rattle.std.specs.Option.{option_map_or}
 use Rattle.std.specs.Prelude.{IfOk, if◌then◌else◌}
 use Rattle.btf.specs.Lookups.{IsSize, IsSizeOver, chain_end, end_from, max_depth, modified_type, own_size, resolved, size_at_end, size_behind, size_from, sized, sized_by}
-use Rattle.btf_records.specs.Tables.{Table, type_by_id}
+use Rattle.btf_encoding.specs.Tables.{Table, type_by_id}
 use Rattle.btf_records.specs.declared.error.BtfError.{BtfError}
 use Rattle.btf_records.specs.declared.error.BtfError.TheVariants.{InvalidTypeInfo}
 use Rattle.btf_records.specs.declared.types.BtfType.{BtfType}

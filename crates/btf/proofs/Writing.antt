@@ -2,7 +2,7 @@
 use Rattle.std.proofs.Common.{◌≡◌, ℕ, zero, suc, ◌+◌, ◌<◌, ◌≤◌, List, [], ◌∷◌, ◌++◌, length, map, take, None, Some, refl, sym, ap, subst, ◌∙◌, arith, append-nil, append_assoc, slice_get}
 use Rattle.std.specs.List.{flat_map}
 use Rattle.std.proofs.lemmas.Grind.{flat_map-append}
-use Rattle.btf_records.specs.Records.{ReadsBack, Spells, record_bytes, without_fallback}
+use Rattle.btf_encoding.specs.Records.{ReadsBack, Spells, record_bytes, without_fallback}
 use Rattle.btf_records.specs.declared.types.BtfType.{BtfType}
 use Rattle.btf_records.specs.declared.words.Endianness.{Endianness}
 

@@ -3,8 +3,8 @@ use Rattle.std.specs.Prelude.{◌≡◌, ℕ, Bool, true, ◌≤◌, List, All, 
 use Rattle.std.specs.Option.{option_map, option_to_list}
 use Rattle.btf.specs.Lookups.{modified_type, sized_by}
 use Rattle.btf_records.specs.Fields.{name_offset_of}
-use Rattle.btf_records.specs.Tables.{Table, type_by_id}
-use Rattle.btf_records.specs.Texts.{text_at}
+use Rattle.btf_encoding.specs.Tables.{Table, type_by_id}
+use Rattle.btf_encoding.specs.Texts.{text_at}
 use Rattle.btf_records.specs.declared.types.BtfType.{BtfType}
 
 -- the ids that are reached have the same records in both tables, and lead to reached ids alone

@@ -7,7 +7,7 @@ use Rattle.btf.specs.Lookups.{chain_end, max_depth, modified_type}
 use Rattle.btf_records.specs.Fields.{int_of, kind_of_type, params_of}
 use Rattle.btf_records.specs.Info.{offset_in}
 use Rattle.btf_records.specs.Kinds.{number_of}
-use Rattle.btf_records.specs.Tables.{Table, type_by_id}
+use Rattle.btf_encoding.specs.Tables.{Table, type_by_id}
 use Rattle.btf_records.specs.declared.error.BtfError.{BtfError}
 use Rattle.btf_records.specs.declared.error.BtfError.TheVariants.{MaximumTypeDepthReached, UnexpectedBtfType, UnknownBtfType}
 use Rattle.btf_records.specs.declared.kind.BtfKind.{BtfKind}

@@ -1,7 +1,7 @@
 -- The header of a section that is written.
 use Rattle.std.specs.Prelude.{ℕ, List, [], ◌∷◌, ◌++◌}
 use Rattle.btf.specs.declared.section.Header.{Header}
-use Rattle.btf_records.specs.Tables.{header_len}
+use Rattle.btf_encoding.specs.Tables.{header_len}
 use Rattle.btf_records.specs.Words.{half_bytes, words_bytes}
 use Rattle.btf_records.specs.declared.words.Endianness.{Endianness}
 

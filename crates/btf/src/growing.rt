@@ -3,8 +3,8 @@
 ghost use Rattle.std.specs.Prelude.{◌≡◌, ◌≢◌, ◌+◌, ◌<◌, ◌^◌, ◌∷◌, All, IfErr, IfOk, OnErr, OnOk, Some, length};
 ghost use Rattle.btf.specs.Growing.{IsFull, TextsStay, TypesStay, with_string, with_type};
 ghost use Rattle.btf.specs.Layout.{TooMany};
-ghost use Rattle.btf_records.specs.Tables.{new_table, type_by_id};
-ghost use Rattle.btf_records.specs.Texts.{text_at};
+ghost use Rattle.btf_encoding.specs.Tables.{new_table, type_by_id};
+ghost use Rattle.btf_encoding.specs.Texts.{text_at};
 ghost use Rattle.btf_records.specs.declared.error.BtfError.TheVariants.{InvalidTypeInfo, OutOfMemory};
 
 use crate::records::TypeRecords;

@@ -5,11 +5,12 @@ ghost use Rattle.std.specs.Option.{IsSomeAnd, option_map};
 ghost use Rattle.btf.specs.Agreement.{RestsOn, chain_ids, size_ids};
 ghost use Rattle.btf.specs.Lookups.{IsFirstNamed, IsSize, NameFault, own_size, resolved, sized, sized_by, sized_in_32_bits};
 ghost use Rattle.btf_records.specs.Fields.{kind_of_type, name_offset_of};
-ghost use Rattle.btf_records.specs.Texts.{text_at};
+ghost use Rattle.btf_encoding.specs.Texts.{text_at};
 ghost use Rattle.btf_records.specs.declared.error.BtfError.TheVariants.{InvalidStringOffset, OutOfMemory};
 
 use crate::table::{Btf, MAX_DEPTH};
-use btf_records::{BtfError, BtfKind, BtfType, TypeRef};
+use btf_encoding::TypeRef;
+use btf_records::{BtfError, BtfKind, BtfType};
 
 /// The size of a record that has one by itself.
 fn own_size(t: &TypeRef<'_>) -> Option<u32>

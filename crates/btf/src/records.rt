@@ -4,12 +4,12 @@ ghost use Rattle.std.specs.Prelude.{◌≡◌, ◌≢◌, ◌<◌, ◌≤◌, �
 ghost use Rattle.std.specs.List.{flat_map};
 ghost use Rattle.std.specs.Option.{option_copied, option_map_or};
 ghost use Rattle.btf_records.specs.Fields.{fallback_of};
-ghost use Rattle.btf_records.specs.Records.{HasRecord, ReadsBack, ReadsSame, Spells, TypesFault, record_bytes, type_in, with_fallback, without_fallback};
+ghost use Rattle.btf_encoding.specs.Records.{HasRecord, ReadsBack, ReadsSame, Spells, TypesFault, record_bytes, type_in, with_fallback, without_fallback};
 ghost use Rattle.btf_records.specs.declared.error.BtfError.TheVariants.{InvalidTypeInfo, OutOfMemory};
 ghost use Rattle.btf.specs.Layout.{Entered, TooMany, fallback_at, types_at};
 
-use btf_records::{BtfError, BtfType, Endianness, Enum64Fallback, TypeRef, Union, count_types, push_type,
-    record_len};
+use btf_encoding::{TypeRef, count_types, push_type, record_len};
+use btf_records::{BtfError, BtfType, Endianness, Enum64Fallback, Union};
 use std::alloc::{AllocError, Global};
 use std::collections::BTreeMap;
 use std::marker::Model;

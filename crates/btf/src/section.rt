@@ -3,7 +3,7 @@
 ghost use Rattle.std.specs.Prelude.{◌≡◌, ◌≢◌, ◌+◌, ◌<◌, ◌≤◌, ◌^◌, ◌++◌, IfErr, IfOk, OnOk, MatchOption, drop, length, take};
 ghost use Rattle.btf.specs.Growing.{HoldsTable, without_fallbacks};
 ghost use Rattle.btf.specs.Sections.{header_bytes};
-ghost use Rattle.btf_records.specs.Tables.{TableFault, table_bytes};
+ghost use Rattle.btf_encoding.specs.Tables.{TableFault, table_bytes};
 ghost use Rattle.btf_records.specs.Words.{word_at};
 ghost use Rattle.btf_records.specs.declared.error.BtfError.TheVariants.{OutOfMemory};
 

@@ -3,13 +3,14 @@
 ghost use Rattle.std.specs.Prelude.{◌≡◌, ◌≤◌, ◌^◌, ◌==◌, ◌∷◌, length, MatchResult, Some, None};
 ghost use Rattle.btf.specs.Lookups.{chain_end, max_depth, modified_type};
 ghost use Rattle.btf_records.specs.Fields.{name_offset_of};
-ghost use Rattle.btf_records.specs.Tables.{type_by_id};
-ghost use Rattle.btf_records.specs.Texts.{text_at};
+ghost use Rattle.btf_encoding.specs.Tables.{type_by_id};
+ghost use Rattle.btf_encoding.specs.Texts.{text_at};
 
 use crate::records::TypeRecords;
 use crate::text::text_at;
 use crate::types::Types;
-use btf_records::{BtfError, BtfKind, BtfType, TypeRef};
+use btf_encoding::TypeRef;
+use btf_records::{BtfError, BtfKind, BtfType};
 use std::alloc::Global;
 use std::marker::Model;
 
@@ -25,7 +26,7 @@ pub struct Btf {
 
 impl Model for Btf {
     ghost use Rattle.std.specs.Prelude.{length, ◌<◌, ◌^◌};
-    ghost use Rattle.btf_records.specs.Tables.{Table};
+    ghost use Rattle.btf_encoding.specs.Tables.{Table};
 
     ghost Value = { Table };
 

@@ -3,7 +3,7 @@ use Rattle.std.specs.Prelude.{◌⊎◌}
 use Rattle.std.specs.List.{flat_map}
 use Rattle.btf.specs.Layout.{RecordList, TooMany}
 use Rattle.btf.proofs.Growth.{grown, grown_tight, too_many}
-use Rattle.btf_records.specs.Records.{record_bytes}
+use Rattle.btf_encoding.specs.Records.{record_bytes}
 use Rattle.btf_records.specs.declared.types.BtfType.{BtfType}
 use Rattle.btf.proofs.records.TypeRecords.push.Goals as goal
 

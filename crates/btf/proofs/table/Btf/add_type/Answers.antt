@@ -1,6 +1,6 @@
 use Rattle.std.proofs.Common.{◌∷◌, [], ◌++◌, ◌∙◌, ap}
 use Rattle.btf.proofs.Added.{added_found, added_stay}
-use Rattle.btf_records.specs.Tables.{Table}
+use Rattle.btf_encoding.specs.Tables.{Table}
 use Rattle.btf.proofs.table.Btf.add_type.Goals as goal
 
 pub returns-clause-found : goal.returns-clause-found

@@ -2,7 +2,7 @@ use Rattle.std.proofs.Common.{refl, rules, subst, ◌∙◌}
 use Rattle.btf.specs.Growing.{HoldsTable, without_fallbacks}
 use Rattle.btf.specs.declared.section.Header.{Header}
 use Rattle.btf.proofs.Headers.{section_holds}
-use Rattle.btf_records.specs.Tables.{Table, type_bytes}
+use Rattle.btf_encoding.specs.Tables.{Table, type_bytes}
 use Rattle.btf.proofs.table.Btf.to_bytes.Goals as goal
 
 pub returns-clause-holds : goal.returns-clause-holds
