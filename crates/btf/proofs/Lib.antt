@@ -9,5 +9,6 @@ pub mod Places
 pub mod Reading
 pub mod Rests
 pub mod Sections
+pub mod Strings
 pub mod Walks
 pub mod Writing

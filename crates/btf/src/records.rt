@@ -43,7 +43,7 @@ fn fallback_by_id(fallbacks: &BTreeMap<u32, Enum64Fallback>, id: u32) -> Option<
 }
 
 /// As many bytes, and as many types, as 32 bits can count.
-const MOST: usize = u32::MAX as usize;
+pub(crate) const MOST: usize = u32::MAX as usize;
 
 /// Enters the enum that the record of an id stands for, where there is one.
 fn enter_fallback(
