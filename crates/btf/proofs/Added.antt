@@ -1,5 +1,5 @@
 -- A type that is added behind the others.
-use Rattle.std.proofs.Common.{◌≡◌, ℕ, zero, suc, ◌+◌, ◌-◌, ◌<◌, List, [], ◌∷◌, ◌++◌, length, Some, true, false, nat_eq, refl, sym, ap, ◌∙◌, arith, slice_get, length-append}
+use Rattle.std.proofs.Common.{◌≡◌, ℕ, zero, suc, List, [], ◌∷◌, ◌++◌, length, Some, refl, sym, ap, ◌∙◌, arith, slice_get, length-append}
 use Rattle.btf.specs.Growing.{TypesStay}
 use Rattle.btf.proofs.Named.{all_types, by_place}
 use Rattle.btf_encoding.specs.Tables.{Table, type_by_id}

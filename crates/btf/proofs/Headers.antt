@@ -1,17 +1,15 @@
 -- What is read again of a header that was written.
-use Rattle.std.proofs.Common.{◌≡◌, ℕ, suc, ◌+◌, ◌-◌, ◌<◌, ◌≤◌, ◌^◌, List, [], ◌∷◌, ◌++◌, length, take, drop, map, refl, sym, ap, subst, ◌∙◌, arith, append-nil, append_assoc, length-append, slice_index}
-use Rattle.std.specs.List.{flat_map}
+use Rattle.std.proofs.Common.{◌≡◌, ℕ, ◌+◌, ◌<◌, ◌^◌, List, ◌∷◌, ◌++◌, length, drop, refl, sym, ap, subst, ◌∙◌, arith, append-nil, append_assoc, length-append, slice_index}
 use Rattle.std.proofs.lemmas.Nat.{from_le_bytes-to_le_bytes_2, from_be_bytes-to_be_bytes_2, from_le_bytes-to_le_bytes_4, from_be_bytes-to_be_bytes_4}
 use Rattle.std.proofs.lemmas.List.{drop-drop}
 use Rattle.std.proofs.Math.Seq.{drop-append_seam, take-append_seam, take-length}
-use Rattle.btf.specs.Growing.{HoldsTable, without_fallbacks}
+use Rattle.btf.specs.Growing.{HoldsTable}
 use Rattle.btf.specs.Sections.{header_bytes}
 use Rattle.btf.specs.declared.section.Header.{Header}
 use Rattle.btf.proofs.Sections.{holds_table}
-use Rattle.btf_encoding.specs.Records.{Spells, record_bytes, without_fallback}
-use Rattle.btf_encoding.specs.Tables.{IsTable, Table, string_bytes_in, strings_end, strings_start, table_bytes, type_bytes, type_bytes_in, types_end, types_start}
-use Rattle.btf_records.specs.Words.{half_at, half_bytes, word_at, word_bytes, words_bytes}
-use Rattle.btf_records.specs.declared.types.BtfType.{BtfType}
+use Rattle.btf_encoding.specs.Records.{Spells}
+use Rattle.btf_encoding.specs.Tables.{IsTable, Table, string_bytes_in, strings_start, type_bytes_in, types_start}
+use Rattle.btf_records.specs.Words.{half_at, half_bytes, word_at, word_bytes}
 use Rattle.btf_records.specs.declared.words.Endianness.{Endianness}
 use Rattle.btf_records.specs.declared.words.Endianness.TheVariants.{Little, Big}
 

@@ -5,6 +5,7 @@ pub mod Headers
 pub mod Left
 pub mod Lengths
 pub mod Named
+pub mod NamedAlike
 pub mod Places
 pub mod Reading
 pub mod Rests

@@ -1,5 +1,5 @@
 -- The places of records, one behind the other.
-use Rattle.std.proofs.Common.{◌≡◌, ℕ, suc, ◌+◌, ◌-◌, ◌<◌, ◌≤◌, ◌^◌, List, [], ◌∷◌, ◌++◌, length, drop, refl, sym, ap, subst, ◌∙◌, arith, length-drop}
+use Rattle.std.proofs.Common.{◌≡◌, ℕ, ◌+◌, ◌-◌, ◌<◌, ◌≤◌, ◌^◌, List, [], ◌∷◌, ◌++◌, length, drop, refl, sym, ap, subst, ◌∙◌, arith, length-drop}
 use Rattle.std.specs.Prelude.{All}
 use Rattle.std.proofs.lemmas.List.{drop-drop}
 use Rattle.std.proofs.lemmas.List.Elements.{All-append, All-cons, All-nil}
@@ -37,7 +37,7 @@ one_more_place order bytes places rest are has alone =
     let whole = has.whole in
     let left_len : length (drop len rest) + len ≡ length rest = omega (arith, length-drop len rest) in
     let types : types_at order bytes [] 1 (places ++ place ∷ []) ≡ types_at order bytes [] 1 places ++ type_in order rest ∷ [] =
-        types_behind order bytes [] 1 places place ∙ ap (λ (r : List ℕ). types_at order bytes [] 1 places ++ type_in order r ∷ []) (sym are.left)
+    types_behind order bytes [] 1 places place ∙ ap (λ (r : List ℕ). types_at order bytes [] 1 places ++ type_in order r ∷ []) (sym are.left)
     in
     let further : place + len ≡ length bytes - length (drop len rest) = omega (arith, are.within) in
     record {

@@ -1,5 +1,5 @@
 -- Chains and walks rest on the records that they reach.
-use Rattle.std.proofs.Common.{◌≡◌, ℕ, zero, suc, ◌*◌, ◌<◌, ◌≤◌, ◌^◌, Bool, true, false, List, [], ◌∷◌, Option, None, Some, Result, Ok, Err, refl, ap, ◌∙◌, arith, nat_lt}
+use Rattle.std.proofs.Common.{◌≡◌, ℕ, zero, suc, ◌*◌, ◌^◌, Bool, true, [], ◌∷◌, Option, None, Some, Result, Ok, Err, refl, ap, arith, nat_lt}
 use Rattle.std.specs.Prelude.{All, IfSome, if◌then◌else◌}
 use Rattle.std.specs.Option.{option_map, option_map_or, option_to_list}
 use Rattle.btf.specs.Agreement.{AgreeOn, RestsOn, chain_ids, size_ids}

@@ -1,10 +1,8 @@
 -- A section that holds a table holds no other, and no fault stands in it.
-use Rattle.std.proofs.Common.{◌≡◌, ℕ, suc, ◌+◌, ◌-◌, ◌<◌, ◌≤◌, List, [], ◌∷◌, ◌++◌, length, take, drop, refl, sym, ap, subst, ◌∙◌, arith, inl, inr}
-use Rattle.std.specs.Prelude.{◌⊎◌, slice_index}
+use Rattle.std.proofs.Common.{◌≡◌, ℕ, ◌<◌, ◌≤◌, List, [], ◌∷◌, length, drop, refl, sym, ap, subst, ◌∙◌, arith, inl, inr}
 use Rattle.btf.specs.Growing.{HoldsTable}
-use Rattle.btf_encoding.specs.Records.{Begins, HasRecord, RecordFault, Spells, TypesFault, kind_number_at, record_len, type_in}
-use Rattle.btf_encoding.specs.Tables.{IsTable, Table, TableFault, type_bytes_in, types_end, strings_end, string_bytes_in}
-use Rattle.btf_records.specs.Words.{half_at}
+use Rattle.btf_encoding.specs.Records.{Begins, HasRecord, RecordFault, Spells, TypesFault, record_len}
+use Rattle.btf_encoding.specs.Tables.{IsTable, Table, TableFault, type_bytes_in, types_end}
 use Rattle.btf_records.specs.declared.error.BtfError.{BtfError}
 use Rattle.btf_records.specs.declared.error.BtfError.TheVariants.{InvalidHeader, InvalidTypeInfo, InvalidTypeKind}
 use Rattle.btf_records.specs.declared.types.BtfType.{BtfType}

@@ -160,11 +160,7 @@ fn places(
 }
 
 /// Writes the bytes of a record behind what is there.
-fn write_record(
-    out: &mut Vec<u8>,
-    order: Endianness,
-    t: &TypeRef<'_>,
-) -> Result<(), AllocError>
+fn write_record(out: &mut Vec<u8>, order: Endianness, t: &TypeRef<'_>) -> Result<(), AllocError>
     ensures written { OnOk result (out.new.items ≡ out.old.items ++ record_bytes order t.now) }
     ensures read_back { OnOk result (ReadsBack order t.now) }
 {

@@ -43,11 +43,7 @@ fn region(order: Endianness, bytes: &[u8], at: usize) -> Option<&[u8]>
 }
 
 /// Writes the header of a section with types of so many bytes, and strings of so many behind them.
-fn push_header(
-    out: &mut Vec<u8>,
-    order: Endianness,
-    header: Header,
-) -> Result<(), AllocError>
+fn push_header(out: &mut Vec<u8>, order: Endianness, header: Header) -> Result<(), AllocError>
     ensures written { OnOk result (out.new.items ≡ out.old.items ++ header_bytes order header) }
     ensures fits { header.magic < 2 ^ 16 }
 {

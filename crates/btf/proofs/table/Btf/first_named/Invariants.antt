@@ -1,6 +1,6 @@
 use Rattle.std.proofs.Common.{◌≡◌, drop}
 use Rattle.btf.proofs.Named.{NoneBefore, all_types}
-use Rattle.btf.proofs.table.Btf.id_by_type_name_kind.Given as goal
+use Rattle.btf.proofs.table.Btf.first_named.Given as goal
 
 abbrev pub invariant-loop-t : goal.invariant-loop-t
 invariant-loop-t l = record {

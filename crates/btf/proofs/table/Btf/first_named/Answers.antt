@@ -1,6 +1,6 @@
 use Rattle.std.proofs.Common.{sym, ◌∙◌}
 use Rattle.btf.proofs.Named.{known_here, none_more, rest_here}
-use Rattle.btf.proofs.table.Btf.id_by_type_name_kind.Goals as goal
+use Rattle.btf.proofs.table.Btf.first_named.Goals as goal
 
 pub returns-then-branch-clause-found : goal.returns-then-branch-clause-found
 returns-then-branch-clause-found c =
