@@ -1,10 +1,11 @@
 -- The records at places, one by one.
-use Rattle.std.proofs.Common.{◌≡◌, ℕ, zero, suc, ◌+◌, ◌<◌, ◌≤◌, List, [], ◌∷◌, length, drop, None, Some, refl, ap, subst, ◌∙◌, arith, slice_get, append-nil, length-drop}
+use Rattle.std.proofs.Common.{◌≡◌, ℕ, zero, suc, ◌+◌, ◌<◌, ◌≤◌, List, [], ◌∷◌, length, drop, None, Some, refl, ap, subst, ◌∙◌, arith, slice_get, append-nil, length-drop, ◌^◌}
 use Rattle.std.specs.Prelude.{All}
 use Rattle.std.proofs.lemmas.Option.{get_or_from_slice_get, slice_get_within}
 use Rattle.std.specs.Option.{option_map}
-use Rattle.btf.specs.Layout.{type_at, types_at}
-use Rattle.btf_encoding.specs.Records.{HasRecord, ReadsSame}
+use Rattle.std.specs.List.{flat_map}
+use Rattle.btf.specs.Layout.{type_at, types_at, IsLaidOut}
+use Rattle.btf_encoding.specs.Records.{HasRecord, ReadsSame, record_bytes}
 use Rattle.btf_records.specs.declared.compound.Enum64Fallback.{Enum64Fallback}
 use Rattle.btf_records.specs.declared.words.Endianness.{Endianness}
 
@@ -42,3 +43,10 @@ stands_at order bytes places i place all some =
 
 pub within_bytes : (order : Endianness) (bytes : List ℕ) (place : ℕ) → HasRecord order (drop place bytes) → place ≤ length bytes
 within_bytes order bytes place h = omega (arith, h.head, length-drop place bytes)
+
+-- the records and their bytes are few
+pub few_bytes_of : (order : Endianness) (bytes places : List ℕ) (fallbacks : List (ℕ × Enum64Fallback)) → IsLaidOut order bytes fallbacks places → length (flat_map (record_bytes order) (types_at order bytes fallbacks 1 places)) < 2 ^ 32
+few_bytes_of order bytes places fallbacks laid = omega (arith, laid.tight, laid.few_bytes)
+
+pub few_types_of : (order : Endianness) (bytes places : List ℕ) (fallbacks : List (ℕ × Enum64Fallback)) → IsLaidOut order bytes fallbacks places → length (types_at order bytes fallbacks 1 places) < 2 ^ 32
+few_types_of order bytes places fallbacks laid = omega (arith, laid.few_types, length_types_at order bytes fallbacks 1 places)

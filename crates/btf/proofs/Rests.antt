@@ -1,9 +1,9 @@
 -- Chains and walks rest on the records that they reach.
-use Rattle.std.proofs.Common.{◌≡◌, ℕ, zero, suc, ◌*◌, ◌^◌, Bool, true, [], ◌∷◌, Option, None, Some, Result, Ok, Err, refl, ap, arith, nat_lt}
-use Rattle.std.specs.Prelude.{All, IfSome, if◌then◌else◌}
-use Rattle.std.specs.Option.{option_map, option_map_or, option_to_list}
-use Rattle.btf.specs.Agreement.{AgreeOn, RestsOn, chain_ids, size_ids}
-use Rattle.btf.specs.Lookups.{chain_end, end_from, max_depth, modified_type, own_size, resolved, size_at_end, size_behind, size_from, sized, sized_by}
+use Rattle.std.proofs.Common.{◌≡◌, ℕ, zero, suc, ◌*◌, ◌^◌, Bool, true, [], ◌∷◌, Option, None, Some, Result, Ok, Err, refl, sym, ap, arith, nat_lt, List, ◌∙◌}
+use Rattle.std.specs.Prelude.{All, IfOk, IfSome, if◌then◌else◌}
+use Rattle.std.specs.Option.{IsSomeAnd, option_map, option_map_or, option_to_list}
+use Rattle.btf.specs.Agreement.{AgreeOn, IsReached, RestsOn, chain_ids, size_ids}
+use Rattle.btf.specs.Lookups.{IsEnd, IsEndOver, chain_end, end_from, in_32_bits, max_depth, modified_type, own_size, resolved, size_at_end, size_behind, size_from, sized, sized_by, sized_in_32_bits}
 use Rattle.btf_encoding.specs.Tables.{Table, type_by_id}
 use Rattle.btf_records.specs.declared.error.BtfError.{BtfError}
 use Rattle.btf_records.specs.declared.error.BtfError.TheVariants.{InvalidTypeInfo}
@@ -57,3 +57,20 @@ walk_same reached one other agree (suc n) asked count id here =
 
 pub sized_rests : (table : Table) (id : ℕ) → RestsOn size_ids table id (λ t. sized t id)
 sized_rests table id = record { alike = λ reached other agree. walk_same reached table other agree max_depth id 1 id }
+
+pub sized_in_32_bits_rests : (table : Table) (id : ℕ) → RestsOn size_ids table id (λ t. sized_in_32_bits t id)
+sized_in_32_bits_rests table id = record { alike = λ reached other agree here. ap in_32_bits ((sized_rests table id).alike reached other agree here) }
+
+next_reached : (reached : ℕ → Bool) (next : ℕ) (t : Option BtfType) → IfSome t (λ t. All (λ id. reached id ≡ true) (chain_ids t)) → IsSomeAnd t (λ t. modified_type t ≡ Some next) → reached next ≡ true
+next_reached reached next None closed is = absurd is
+next_reached reached next (Some t) closed is = one_of (λ id. reached id ≡ true) next (rw is at closed)
+
+-- the end of a chain is reached where its beginning is
+over_reached : (reached : ℕ → Bool) (one other : Table) → AgreeOn chain_ids reached one other → (id : ℕ) (others : List ℕ) (end : ℕ) → IsEndOver one id others end → reached id ≡ true → reached end ≡ true
+over_reached reached one other agree id [] end over here = ap reached (sym over.0) ∙ here
+over_reached reached one other agree id (next ∷ others) end over here =
+    over_reached reached one other agree next others end over.1 (next_reached reached next (type_by_id one id) (agree.closed id here) over.0)
+
+pub end_reached : (table : Table) (id : ℕ) (r : Result ℕ BtfError) → IfOk r (λ end. IsEnd table id end) → IfOk r (λ end. IsReached chain_ids table id end)
+end_reached table id (Err e) is = tt
+end_reached table id (Ok end) is = record { reached = λ reached other agree here. over_reached reached table other agree id is.0 end is.2 here }

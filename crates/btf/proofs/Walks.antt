@@ -3,7 +3,7 @@ use Rattle.std.proofs.Common.{◌≡◌, ℕ, zero, suc, ◌*◌, ◌<◌, ◌^�
 use Rattle.std.proofs.Math.Nat.{mul_assoc}
 use Rattle.std.specs.Option.{option_map_or}
 use Rattle.std.specs.Prelude.{IfOk, if◌then◌else◌}
-use Rattle.btf.specs.Lookups.{IsSize, IsSizeOver, chain_end, end_from, max_depth, modified_type, own_size, resolved, size_at_end, size_behind, size_from, sized, sized_by}
+use Rattle.btf.specs.Lookups.{IsEnd, IsEndOver, IsSize, IsSizeOver, chain_end, end_from, max_depth, modified_type, own_size, resolved, size_at_end, size_behind, size_from, sized, sized_by}
 use Rattle.btf_encoding.specs.Tables.{Table, type_by_id}
 use Rattle.btf_records.specs.declared.error.BtfError.{BtfError}
 use Rattle.btf_records.specs.declared.error.BtfError.TheVariants.{InvalidTypeInfo}
@@ -86,3 +86,35 @@ chain_again (suc n) table asked id end e = end_from_again (chain_end n table ask
 pub resolved_again : (table : Table) (id : ℕ) (r : Result ℕ BtfError) → r ≡ resolved table id → IfOk r (λ end. resolved table end ≡ Ok end)
 resolved_again table id (Err e) is = tt
 resolved_again table id (Ok end) is = chain_again max_depth table id id end (sym is)
+
+-- the rest of a chain of fewer than n more ids
+record Ends (n : ℕ) (table : Table) (id end : ℕ) : Type 0 where
+  others : List ℕ
+  fewer : length others < n
+  over : IsEndOver table id others end
+
+ends_here : (n : ℕ) (table : Table) (id end : ℕ) (t : BtfType) → type_by_id table id ≡ Some t → modified_type t ≡ None → end ≡ id → Ends (suc n) table id end
+ends_here n table id end t some none same = record { others = []; fewer = omega arith; over = (sym same, rw some none) }
+
+ends_further : (n : ℕ) (table : Table) (id next end : ℕ) (t : BtfType) → type_by_id table id ≡ Some t → modified_type t ≡ Some next → Ends n table next end → Ends (suc n) table id end
+ends_further n table id next end t some more e = record { others = next ∷ e.others; fewer = omega (arith, e.fewer); over = (rw some more, e.over) }
+
+abbrev Ended : ℕ → Table → ℕ → Type 0
+Ended n table asked = (id end : ℕ) → Gives (chain_end n table asked id) end → Ends n table id end
+
+ends_by : (n : ℕ) (table : Table) (asked id end : ℕ) (t : BtfType) (next : Option ℕ) → Ended n table asked → type_by_id table id ≡ Some t → modified_type t ≡ next → Gives (option_map_or (chain_end n table asked) next (Ok id)) end → Ends (suc n) table id end
+ends_by n table asked id end t None more some is e = ends_here n table id end t some is (same_ok _ _ e)
+ends_by n table asked id end t (Some next) more some is e = ends_further n table id next end t some is (more next end e)
+
+ends_from : (n : ℕ) (table : Table) (asked id end : ℕ) (t : Option BtfType) → Ended n table asked → type_by_id table id ≡ t → Gives (end_from (chain_end n table asked) id t) end → Ends (suc n) table id end
+ends_from n table asked id end None more is e = absurd cc
+ends_from n table asked id end (Some t) more is e = ends_by n table asked id end t (modified_type t) more is refl e
+
+chain_ends : (n : ℕ) (table : Table) (asked id end : ℕ) → Gives (chain_end n table asked id) end → Ends n table id end
+unfolding chain_end
+chain_ends zero table asked id end e = absurd cc
+chain_ends (suc n) table asked id end e = ends_from n table asked id end (type_by_id table id) (chain_ends n table asked) refl e
+
+pub resolved_chain : (table : Table) (id : ℕ) (r : Result ℕ BtfError) → r ≡ resolved table id → IfOk r (λ end. IsEnd table id end)
+resolved_chain table id (Err e) is = tt
+resolved_chain table id (Ok end) is = let c = chain_ends max_depth table id id end (sym is) in (c.others, c.fewer, c.over)

@@ -29,8 +29,8 @@ unfoldable pub types_at : Endianness → List ℕ → List (ℕ × Enum64Fallbac
 types_at order bytes fallbacks id [] = []
 types_at order bytes fallbacks id (place ∷ places) = type_at order bytes fallbacks id place ∷ types_at order bytes fallbacks (suc id) places
 
--- a record stands at each place, none but unions of ids in use stand for enums, and the bytes are no
--- more than those of the records
+-- a record stands at each place, no id past the last stands for an enum, and the bytes are no more than
+-- those of the records
 pub record IsLaidOut (order : Endianness) (bytes : List ℕ) (fallbacks : List (ℕ × Enum64Fallback)) (places : List ℕ) : Type 0 where
   pub stand : All (λ place. ReadsSame order (drop place bytes)) places
   pub in_use : (id : ℕ) → length places < id → fallback_at fallbacks id ≡ None

@@ -1,5 +1,7 @@
--- How types are found: at the end of a chain of modifiers, and by kind and name; and their sizes. As
--- libbpf does it in `btf__resolve_size` and `btf__find_by_name_kind` (tools/lib/bpf/btf.c).
+-- How types are found: at the end of a chain of modifiers, and by kind and name; and their sizes. libbpf
+-- has these as `btf__resolve_type`, `btf__find_by_name_kind` and `btf__resolve_size`
+-- (tools/lib/bpf/btf.c); here functions and signatures lead on to a size, a size may pass 32 bits, void is
+-- looked at by name like any type, and a name that can't be read ends the look-up.
 use Rattle.std.specs.Prelude.{◌≡◌, ◌≢◌, ℕ, zero, suc, ◌*◌, ◌^◌, ◌<◌, List, [], ◌∷◌, length, Option, None, Some, Result, Ok, Err, IfSome, if◌then◌else◌, nat_lt}
 use Rattle.std.specs.Option.{IsSomeAnd, option_map, option_map_or}
 use Rattle.std.specs.String.{string_bytes}
@@ -40,17 +42,27 @@ chain_end (suc n) table asked id = end_from (chain_end n table asked) id (type_b
 abbrev pub resolved : Table → ℕ → Result ℕ BtfError
 resolved table id = chain_end max_depth table id id
 
+-- a chain from an id over these others to its end: each record but the last is a modifier
+abbrev pub IsEndOver : Table → ℕ → List ℕ → ℕ → Type 0
+IsEndOver table id [] end = (id ≡ end) × IsSomeAnd (type_by_id table id) (λ t. modified_type t ≡ None)
+IsEndOver table id (next ∷ others) end = IsSomeAnd (type_by_id table id) (λ t. modified_type t ≡ Some next) × IsEndOver table next others end
+
+abbrev pub IsEnd : Table → ℕ → ℕ → Type 0
+IsEnd table id end = (others : List ℕ) × (length others < max_depth) × IsEndOver table id others end
+
 -- the size in bytes of a record that has one by itself; a pointer's is that of a register of BPF
 abbrev pub own_size : BtfType → Option ℕ
 own_size (types.Ptr t) = Some 8
 own_size t = size_of t
 
--- where the size of another record comes from, and how many times it counts
+-- how many times the size of another type counts for a record without a size of its own, and its id
 abbrev pub sized_by : BtfType → Option (ℕ × ℕ)
+sized_by (types.Ptr t) = None
 sized_by (types.Array t) = Some (t.array.len, t.array.element_type)
 sized_by t = option_map (λ id. (1, id)) (type_of t)
 
--- a walk goes on behind a record without a size of its own; so far the size counts this many times
+-- a walk goes on behind a record without a size of its own; `count` is the product of the lengths of
+-- arrays so far
 abbrev pub size_behind : (ℕ → ℕ → Result ℕ BtfError) → ℕ → ℕ → Option (ℕ × ℕ) → Result ℕ BtfError
 size_behind go count id None = Err (UnexpectedBtfType id)
 size_behind go count id (Some by) = if nat_lt (count * by.0) (2 ^ 32) then go (count * by.0) by.1 else Err InvalidTypeInfo
@@ -59,7 +71,7 @@ abbrev pub size_from : (ℕ → ℕ → Result ℕ BtfError) → ℕ → ℕ →
 size_from go count id None = Err (UnknownBtfType id)
 size_from go count id (Some t) = option_map_or (λ size. Ok (count * size)) (own_size t) (size_behind go count id (sized_by t))
 
--- so many times the size at the end of a walk of at most so many records
+-- `count` times the size at the end of a walk of at most so many records
 unfoldable pub size_at_end : ℕ → Table → ℕ → ℕ → ℕ → Result ℕ BtfError
 size_at_end zero table asked count id = Err (MaximumTypeDepthReached asked)
 size_at_end (suc n) table asked count id = size_from (size_at_end n table asked) count id (type_by_id table id)

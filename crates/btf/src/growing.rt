@@ -94,7 +94,7 @@ impl Btf {
         ensures found { IfOk result (λ id. type_by_id self.new id ≡ Some t) }
         ensures stay { OnOk result (TypesStay self.old self.new) }
         ensures refused { IfErr result (λ e. e ≢ OutOfMemory → (e ≡ InvalidTypeInfo) × IsFull self.old t) }
-        ensures accepted { OnOk result (length self.new.types < 2 ^ 32) }
+        ensures accepted { OnOk result (IsFull self.old t → ⊥) }
         ensures err { OnErr result (self.new ≡ self.old) }
     {
         self.records.push(t)?;

@@ -2,8 +2,8 @@
 
 ghost use Rattle.std.specs.Prelude.{◌≡◌, ◌≢◌, ◌*◌, true, false, ℕ, IfOk, IfErr, MatchOption, Ok, Some, None};
 ghost use Rattle.std.specs.Option.{IsSomeAnd, option_map};
-ghost use Rattle.btf.specs.Agreement.{FoundAlike, RestsOn, chain_ids, size_ids};
-ghost use Rattle.btf.specs.Lookups.{IsFirstNamed, IsOther, IsSize, NameFault, own_size, resolved, sized, sized_by, sized_in_32_bits};
+ghost use Rattle.btf.specs.Agreement.{FoundAlike, IsReached, RestsOn, chain_ids, size_ids};
+ghost use Rattle.btf.specs.Lookups.{IsEnd, IsFirstNamed, IsOther, IsSize, NameFault, own_size, resolved, sized, sized_by, sized_in_32_bits};
 ghost use Rattle.btf_records.specs.Fields.{kind_of_type, name_offset_of};
 ghost use Rattle.btf_encoding.specs.Texts.{text_at};
 ghost use Rattle.btf_records.specs.declared.error.BtfError.TheVariants.{InvalidStringOffset, OutOfMemory};
@@ -29,16 +29,17 @@ struct SizedBy {
     type_id: u32,
 }
 
-/// Where the size of another record comes from.
+/// What the size of a record without one of its own comes from.
 fn sized_by(t: &TypeRef<'_>) -> Option<SizedBy>
     ensures { option_map (λ by. (by.count, by.type_id)) result ≡ sized_by t.now }
 {
-    match t.array() {
-        Some(array) => Some(SizedBy {
+    match t.kind() {
+        BtfKind::Ptr => None,
+        BtfKind::Array => t.array().map(|array| SizedBy {
             count: array.len,
             type_id: array.element_type,
         }),
-        None => t.btf_type().map(|type_id| SizedBy { count: 1, type_id }),
+        _ => t.btf_type().map(|type_id| SizedBy { count: 1, type_id }),
     }
 }
 
@@ -57,7 +58,9 @@ impl Btf {
     /// chain, with its end, has more than 32 types.
     pub fn resolve_type(&self, type_id: u32) -> Result<u32, BtfError>
         ensures value { result ≡ resolved self.now type_id }
+        ensures chain { IfOk result (λ end. IsEnd self.now type_id end) }
         ensures again { IfOk result (λ end. resolved self.now end ≡ Ok end) }
+        ensures reached { IfOk result (λ end. IsReached chain_ids self.now type_id end) }
         ensures rests { RestsOn chain_ids self.now type_id (λ table. resolved table type_id) }
     {
         self.chain_end(type_id, type_id)
@@ -67,7 +70,7 @@ impl Btf {
     ///
     /// `UnexpectedBtfType` where the walk to it ends at a type without one, `UnknownBtfType` where
     /// a type of the walk isn't there, `MaximumTypeDepthReached` where the walk has more than 32
-    /// types, `InvalidTypeInfo` where the lengths of arrays on it multiply to 2^32 or more.
+    /// types, `InvalidTypeInfo` where the lengths of the arrays so far multiply to 2^32 or more.
     #[tactic(auto, using(crate::proofs::Walks::sized_walk))]
     pub fn type_size(&self, type_id: u32) -> Result<u64, BtfError>
         ensures value { result ≡ sized self.now type_id }
@@ -104,7 +107,8 @@ impl Btf {
     ///
     /// `InvalidTypeInfo` where they can't; otherwise what `type_size` answers.
     pub fn type_size_u32(&self, type_id: u32) -> Result<u32, BtfError>
-        ensures { result ≡ sized_in_32_bits self.now type_id }
+        ensures value { result ≡ sized_in_32_bits self.now type_id }
+        ensures rests { RestsOn size_ids self.now type_id (λ table. sized_in_32_bits table type_id) }
     {
         let size = self.type_size(type_id)?;
         match u32::try_from(size) {

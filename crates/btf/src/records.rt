@@ -260,6 +260,8 @@ impl TypeRecords {
         ensures order { OnOk result (self.new.order ≡ self.old.order) }
         ensures types { OnOk result (self.new.types ≡ self.old.types ++ t ∷ []) }
         ensures refused { IfErr result (λ e. e ≢ OutOfMemory → (e ≡ InvalidTypeInfo) × (TooMany (length (flat_map (record_bytes self.old.order) (self.old.types ++ t ∷ []))) ⊎ TooMany (length self.old.types + 1))) }
+        ensures few_bytes { OnOk result (length (flat_map (record_bytes self.new.order) self.new.types) < 2 ^ 32) }
+        ensures few_types { OnOk result (length self.new.types < 2 ^ 32) }
         ensures err { OnErr result (self.new ≡ self.old) }
     {
         let len = self.bytes.len();

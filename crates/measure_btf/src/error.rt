@@ -1,0 +1,18 @@
+//! Why nothing is measured.
+
+use btf::BtfError;
+use std::alloc::AllocError;
+use std::io;
+use thiserror::Error;
+
+#[derive(Debug, Drop, Error)]
+pub(crate) enum MeasureError {
+    #[error("call it with a file and, if wanted, with names of structs")]
+    Usage,
+    #[error("{0}")]
+    Io(#[from] io::Error),
+    #[error("{0}")]
+    Btf(#[from] BtfError),
+    #[error("out of memory")]
+    OutOfMemory(#[from] AllocError),
+}
