@@ -1,21 +1,24 @@
--- When an answer of one table is that of another: where both have the same records at all ids that
--- are reached.
-use Rattle.std.specs.Prelude.{◌≡◌, ℕ, List, [], ◌∷◌, ◌++◌, map, All, IfSome, Option, None, Some}
+-- On which records an answer rests: it is the same of every other table that has these.
+use Rattle.std.specs.Prelude.{◌≡◌, ℕ, Bool, true, ◌≤◌, List, All, IfSome}
 use Rattle.std.specs.Option.{option_map, option_to_list}
-use Rattle.btf.specs.Lookups.{modified_type, own_size, sized_by}
+use Rattle.btf.specs.Lookups.{modified_type, sized_by}
 use Rattle.btf_records.specs.Fields.{name_offset_of}
 use Rattle.btf_records.specs.Tables.{Table, type_by_id}
 use Rattle.btf_records.specs.Texts.{text_at}
 use Rattle.btf_records.specs.declared.types.BtfType.{BtfType}
 
--- the same records at ids that hold, with one, each to which its record leads
-pub record AgreeOn (leads_to : BtfType → List ℕ) (ids : ℕ → Type 0) (one other : Table) : Type 0 where
-  pub same : (id : ℕ) → ids id → type_by_id other id ≡ type_by_id one id
-  pub closed : (id : ℕ) → ids id → IfSome (type_by_id one id) (λ t. All ids (leads_to t))
+-- the ids that are reached have the same records in both tables, and lead to reached ids alone
+pub record AgreeOn (leads_to : BtfType → List ℕ) (reached : ℕ → Bool) (one other : Table) : Type 0 where
+  pub same : (id : ℕ) → reached id ≡ true → type_by_id other id ≡ type_by_id one id
+  pub closed : (id : ℕ) → reached id ≡ true → IfSome (type_by_id one id) (λ t. All (λ next. reached next ≡ true) (leads_to t))
 
--- and the same names
-pub record AgreeOnNames (ids : ℕ → Type 0) (one other : Table) : Type 0 where
-  pub same : (id : ℕ) → ids id → IfSome (type_by_id one id) (λ t. text_at other.strings (name_offset_of t) ≡ text_at one.strings (name_offset_of t))
+-- their names are the same too
+pub record AgreeOnNames (reached : ℕ → Bool) (one other : Table) : Type 0 where
+  pub same : (id : ℕ) → reached id ≡ true → IfSome (type_by_id one id) (λ t. text_at other.strings (name_offset_of t) ≡ text_at one.strings (name_offset_of t))
+
+-- an answer on an id rests on the ids that are reached from it
+pub record RestsOn {A : Type 0} (leads_to : BtfType → List ℕ) (table : Table) (id : ℕ) (ask : Table → A) : Type 0 where
+  pub alike : (reached : ℕ → Bool) (other : Table) → AgreeOn leads_to reached table other → reached id ≡ true → ask other ≡ ask table
 
 -- where a chain of modifiers leads
 abbrev pub chain_ids : BtfType → List ℕ
@@ -24,3 +27,8 @@ chain_ids t = option_to_list (modified_type t)
 -- where the walk to a size leads
 abbrev pub size_ids : BtfType → List ℕ
 size_ids t = option_to_list (option_map (λ by. by.1) (sized_by t))
+
+-- the records up to an id, and their names, are the same in both tables
+pub record AgreeUpTo (last : ℕ) (one other : Table) : Type 0 where
+  pub same : (id : ℕ) → id ≤ last → type_by_id other id ≡ type_by_id one id
+  pub names : (id : ℕ) → id ≤ last → IfSome (type_by_id one id) (λ t. text_at other.strings (name_offset_of t) ≡ text_at one.strings (name_offset_of t))
