@@ -1,1 +1,3 @@
-
+pub mod FreePairs
+pub mod OpenPairs
+pub mod Rounds
