@@ -1,3 +1,6 @@
+pub mod Chains
 pub mod FreePairs
+pub mod Left
 pub mod OpenPairs
+pub mod Places
 pub mod Rounds

@@ -2,8 +2,11 @@
 //! (Documentation/bpf/btf.rst, "BTF Type and String Encoding").
 #![tactic(auto)]
 
+mod lookup;
 mod records;
 mod table;
+mod text;
+mod types;
 
 pub use btf_records::{
     Array, BtfArray, BtfEnum, BtfEnum64, BtfError, BtfFeature, BtfKind, BtfMember, BtfParam,
@@ -12,3 +15,4 @@ pub use btf_records::{
     Struct, TypeRef, TypeTag, Typedef, Union, Var, VarLinkage, Volatile,
 };
 pub use table::Btf;
+pub use types::Types;

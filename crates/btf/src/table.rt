@@ -1,11 +1,16 @@
 //! Type tables.
 
-ghost use Rattle.std.specs.Prelude.{◌≡◌, length, MatchResult, Some, None, IfOk, Ok};
-ghost use Rattle.btf.specs.Lookups.{chain_end, max_depth, modified_type, resolved};
+ghost use Rattle.std.specs.Prelude.{◌≡◌, ◌≤◌, ◌^◌, ◌==◌, ◌∷◌, length, MatchResult, Some, None};
+ghost use Rattle.btf.specs.Lookups.{chain_end, max_depth, modified_type};
+ghost use Rattle.btf_records.specs.Fields.{name_offset_of};
 ghost use Rattle.btf_records.specs.Tables.{type_by_id};
+ghost use Rattle.btf_records.specs.Texts.{text_at};
 
 use crate::records::TypeRecords;
-use btf_records::{BtfError, BtfKind, Endianness, TypeRef};
+use crate::text::text_at;
+use crate::types::Types;
+use btf_records::{BtfError, BtfKind, BtfType, TypeRef};
+use std::alloc::Global;
 use std::marker::Model;
 
 /// A table of types and the strings that name them.
@@ -30,7 +35,7 @@ impl Model for Btf {
 }
 
 /// A chain or a walk has at most so many records.
-const MAX_DEPTH: usize = 32;
+pub(crate) const MAX_DEPTH: usize = 32;
 
 /// The type that a modifier stands before.
 fn modified_type(t: &TypeRef<'_>) -> Option<u32>
@@ -47,23 +52,60 @@ fn modified_type(t: &TypeRef<'_>) -> Option<u32>
 }
 
 impl Btf {
+    /// Whether there is no type but void.
+    pub fn is_empty(&self) -> bool
+        ensures { result ≡ (length self.now.types == 0) }
+    {
+        self.records.len() == 0
+    }
+
+    /// Where its memory comes from.
+    pub(crate) fn allocator(&self) -> Global {
+        *self.strings.allocator()
+    }
+
+    /// The text at an offset of the strings.
+    ///
+    /// `InvalidStringOffset` where that lies past their end, no NUL ends the text, or it isn't UTF-8.
+    pub fn string_at(&self, offset: u32) -> Result<&str, BtfError>
+        ensures { MatchResult result (λ s. text_at self.now.strings offset ≡ Some s.now) (λ e. (e ≡ BtfError.InvalidStringOffset offset) × (text_at self.now.strings offset ≡ None)) }
+    {
+        text_at(&self.strings, offset).ok_or(BtfError::InvalidStringOffset {
+            offset: offset as usize,
+        })
+    }
+
+    /// The name of a type of this table.
+    ///
+    /// `InvalidStringOffset` where it can't be read.
+    pub fn type_name(&self, t: &BtfType) -> Result<&str, BtfError>
+        ensures { MatchResult result (λ s. text_at self.now.strings (name_offset_of t.now) ≡ Some s.now) (λ e. (e ≡ BtfError.InvalidStringOffset (name_offset_of t.now)) × (text_at self.now.strings (name_offset_of t.now) ≡ None)) }
+    {
+        self.string_at(t.name_offset())
+    }
+
+    /// The records in order of id; the first is void.
+    pub fn types(&self) -> Types<'_>
+        ensures value { result ≡ BtfType.Unknown ∷ self.now.types }
+        ensures countable { length result ≤ 2 ^ 32 }
+    {
+        Types::new(&self.records)
+    }
+
     /// The record of an id; that of id 0 is void.
     ///
     /// `UnknownBtfType` where the table has no such id.
     pub fn type_by_id(&self, id: u32) -> Result<TypeRef<'_>, BtfError>
         ensures { MatchResult result (λ t. type_by_id self.now id ≡ Some t) (λ e. (e ≡ BtfError.UnknownBtfType id) × (type_by_id self.now id ≡ None)) }
     {
-        if id == 0 {
-            return Ok(TypeRef::void());
-        }
-        match self.records.get(id as usize - 1) {
+        match self.records.by_id(id as usize) {
             Some(t) => Ok(t),
             None => Err(BtfError::UnknownBtfType { type_id: id }),
         }
     }
 
     /// The end of a chain of modifiers, as a part of a question about another id.
-    #[tactic(auto, unfolding(crate::specs::Lookups::chain_end))]
+    #[tactic(auto, using(crate::proofs::Chains::chain_over, crate::proofs::Chains::chain_unknown, crate::proofs::Chains::chain_done, crate::proofs::Chains::chain_more))]
     pub(crate) fn chain_end(&self, asked: u32, id: u32) -> Result<u32, BtfError>
         ensures { result ≡ chain_end max_depth self.now asked id }
     {
