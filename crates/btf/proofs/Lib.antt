@@ -4,3 +4,4 @@ pub mod Left
 pub mod OpenPairs
 pub mod Places
 pub mod Rounds
+pub mod States

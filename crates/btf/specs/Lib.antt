@@ -3,3 +3,4 @@ pub mod Compatibility
 pub mod FieldCompatibility
 pub mod Layout
 pub mod Lookups
+pub mod Pairs

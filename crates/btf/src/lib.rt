@@ -3,6 +3,7 @@
 #![tactic(auto)]
 
 mod lookup;
+mod pairs;
 mod records;
 mod table;
 mod text;
