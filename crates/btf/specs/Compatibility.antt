@@ -58,6 +58,10 @@ parts_of _ = []
 abbrev pub record_at : Table → ℕ → BtfType
 record_at table id = unwrap_or (type_by_id table id) types.Unknown
 
+-- the parts of two known ids, side by side
+abbrev pub pair_parts : Table → Table → ℕ → ℕ → List (ℕ × ℕ)
+pair_parts local target l r = zip (parts_of (record_at local l)) (parts_of (record_at target r))
+
 abbrev pub is_pair : ℕ → ℕ → (ℕ × ℕ) → Bool
 is_pair l r p = (p.0 == l) && (p.1 == r)
 
@@ -79,7 +83,7 @@ of_ends local target asked go p = for_ends go (chain_end max_depth local asked p
 -- opened one inside the other
 unfoldable pub compared : ℕ → Table → Table → ℕ → List (ℕ × ℕ) → ℕ → ℕ → Result Bool BtfError
 compared zero local target asked open_pairs l r = Err (MaximumTypeDepthReached asked)
-compared (suc n) local target asked open_pairs l r = if is_open open_pairs l r then Err (MaximumTypeDepthReached asked) else and_also (verdict l (record_at local l) (record_at target r)) (all_yes (of_ends local target asked (compared n local target asked (open_pairs ++ (l, r) ∷ []))) (zip (parts_of (record_at local l)) (parts_of (record_at target r))))
+compared (suc n) local target asked open_pairs l r = if is_open open_pairs l r then Err (MaximumTypeDepthReached asked) else and_also (verdict l (record_at local l) (record_at target r)) (all_yes (of_ends local target asked (compared n local target asked (open_pairs ++ (l, r) ∷ []))) (pair_parts local target l r))
 
 -- a number above which no more pairs can be open: all pairs of ids are fewer
 abbrev pub above_pairs : Table → Table → ℕ

@@ -2,6 +2,7 @@
 //! (Documentation/bpf/btf.rst, "BTF Type and String Encoding").
 #![tactic(auto)]
 
+mod compatibility;
 mod lookup;
 mod pairs;
 mod records;
