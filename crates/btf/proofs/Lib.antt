@@ -1,8 +1,10 @@
 pub mod Chains
+pub mod Endings
 pub mod FreePairs
 pub mod Left
 pub mod OpenPairs
 pub mod Parts
 pub mod Places
 pub mod Rounds
+pub mod Stacks
 pub mod States
