@@ -60,7 +60,7 @@ failing-lt p q w (suc n) k h lt here there =
       | inr below ↦ before (p n) (q n) (w n) (w k) _ _ (h.keeps n) (failing-lt p q w n k h below here there)
     ]
 
-pairs-le : (p q : ℕ → ℕ → Bool) (w : ℕ → ℕ → ℕ) (m n : ℕ) → ((i : ℕ) → Weaker (p i) (q i)) → failing_pairs q w m n ≤ failing_pairs p w m n
+pub pairs-le : (p q : ℕ → ℕ → Bool) (w : ℕ → ℕ → ℕ) (m n : ℕ) → ((i : ℕ) → Weaker (p i) (q i)) → failing_pairs q w m n ≤ failing_pairs p w m n
 pairs-le p q w zero n h = omega arith
 pairs-le p q w (suc m) n h = omega (arith, failing-le (p m) (q m) (w m) n (h m), pairs-le p q w m n h)
 

@@ -8,3 +8,5 @@ pub mod Places
 pub mod Rounds
 pub mod Stacks
 pub mod States
+pub mod Steps
+pub mod Walks
