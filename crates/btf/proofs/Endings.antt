@@ -2,10 +2,10 @@
 use Rattle.std.proofs.Common.{◌≡◌, ℕ, zero, suc, ◌+◌, ◌<◌, ◌≤◌, Bool, true, false, List, [], ◌∷◌, ◌++◌, Ok, Err, Result, max, refl, sym, ap, subst, ◌∙◌, inl, inr, arith}
 use Rattle.std.specs.Prelude.{◌⊎◌}
 use Rattle.std.specs.List.{list_any}
-use Rattle.btf.specs.Compatibility.{above_pairs, all_yes, and_also, compared, is_open, of_ends, pair_parts}
+use Rattle.btf.specs.Compatibility.{above_pairs, all_yes, and_also, compared, is_open, of_ends, pair_parts, pair_verdict}
 use Rattle.btf.proofs.FreePairs.{IsKnown, free, free-below, same_fuel}
 use Rattle.btf.proofs.OpenPairs.{AreDeep, in_rounds-compared}
-use Rattle.btf.proofs.Rounds.{IsDeepOr, compared-in_rounds, deep, in_rounds, pair_verdict}
+use Rattle.btf.proofs.Rounds.{IsDeepOr, compared-in_rounds, deep, in_rounds}
 use Rattle.btf_records.specs.Tables.{Table}
 use Rattle.btf_records.specs.declared.error.BtfError.{BtfError}
 

@@ -4,12 +4,12 @@ use Rattle.std.proofs.Common.{◌≡◌, ◌≢◌, ℕ, zero, suc, ◌+◌, ◌
 use Rattle.std.proofs.lemmas.Grind.{common_steps}
 use Rattle.std.proofs.lemmas.Option.{slice_get_within}
 use Rattle.std.specs.Prelude.{IfOk, slice_get, ◌||◌, ◌⊎◌, if◌then◌else◌, ◌==◌}
-use Rattle.btf.specs.Compatibility.{above_pairs, all_yes, and_also, compared, for_ends, is_open, is_pair, of_ends, pair_parts}
+use Rattle.btf.specs.Compatibility.{above_pairs, all_yes, and_also, compared, for_ends, is_open, is_pair, of_ends, pair_parts, pair_verdict}
 use Rattle.btf.specs.Lookups.{chain_end, end_from, max_depth, modified_type}
 use Rattle.std.specs.Option.{option_map_or}
 use Rattle.btf_records.specs.declared.types.BtfType.TheVariants as types
 use Rattle.btf.proofs.OpenPairs.{is_open-push}
-use Rattle.btf.proofs.Rounds.{deep, pair_verdict}
+use Rattle.btf.proofs.Rounds.{deep}
 use Rattle.btf_records.specs.Tables.{Table, type_by_id}
 use Rattle.btf_records.specs.declared.error.BtfError.{BtfError}
 use Rattle.btf_records.specs.declared.types.BtfType.{BtfType}

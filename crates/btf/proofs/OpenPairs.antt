@@ -4,8 +4,8 @@ use Rattle.std.proofs.Common.{◌≡◌, ℕ, zero, suc, Bool, true, false, List
 use Rattle.std.proofs.lemmas.Grind.{common_steps}
 use Rattle.std.proofs.lemmas.List.Folds.{list_any-append}
 use Rattle.std.specs.Prelude.{◌⊎◌, ◌||◌, if◌then◌else◌}
-use Rattle.btf.specs.Compatibility.{and_also, compared, is_open, is_pair, pair_parts}
-use Rattle.btf.proofs.Rounds.{IsDeepOr, IsDeepOr-and_same, IsDeepOr-parts, compared-more, deep, in_rounds, in_rounds-less, in_rounds-more, pair_verdict}
+use Rattle.btf.specs.Compatibility.{and_also, compared, is_open, is_pair, pair_parts, pair_verdict}
+use Rattle.btf.proofs.Rounds.{IsDeepOr, IsDeepOr-and_same, IsDeepOr-parts, compared-more, deep, in_rounds, in_rounds-less, in_rounds-more}
 use Rattle.btf_records.specs.Tables.{Table}
 use Rattle.btf_records.specs.declared.error.BtfError.{BtfError}
 

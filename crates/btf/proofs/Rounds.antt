@@ -4,7 +4,7 @@ use Rattle.std.proofs.Common.{◌≡◌, ℕ, zero, suc, Bool, true, false, List
 use Rattle.std.specs.Prelude.{◌⊎◌, if◌then◌else◌}
 use Rattle.std.proofs.Common.{inl, inr}
 use Rattle.std.specs.List.{zip}
-use Rattle.btf.specs.Compatibility.{all_yes, and_also, compared, for_ends, is_open, is_pair, of_ends, pair_parts, record_at, verdict}
+use Rattle.btf.specs.Compatibility.{all_yes, and_also, compared, for_ends, is_open, is_pair, of_ends, pair_parts, pair_verdict}
 use Rattle.btf.specs.Lookups.{chain_end, max_depth}
 use Rattle.btf_records.specs.Tables.{Table}
 use Rattle.btf_records.specs.declared.error.BtfError.{BtfError}
@@ -12,9 +12,6 @@ use Rattle.btf_records.specs.declared.error.BtfError.TheVariants.{MaximumTypeDep
 
 abbrev pub deep : ℕ → Result Bool BtfError
 deep asked = Err (MaximumTypeDepthReached asked)
-
-abbrev pub pair_verdict : Table → Table → ℕ → ℕ → Result Bool BtfError
-pair_verdict local target l r = verdict l (record_at local l) (record_at target r)
 
 unfoldable pub in_rounds : ℕ → Table → Table → ℕ → ℕ → ℕ → Result Bool BtfError
 in_rounds zero local target asked l r = deep asked

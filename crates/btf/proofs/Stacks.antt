@@ -3,12 +3,12 @@ use Rattle.std.proofs.Common.{◌≡◌, ℕ, zero, suc, ◌+◌, ◌≤◌, Boo
 use Rattle.std.proofs.lemmas.Grind.{common_steps}
 use Rattle.std.specs.Prelude.{◌⊎◌, ◌&&◌, ◌||◌, ◌==◌}
 use Rattle.std.specs.List.{list_any}
-use Rattle.btf.specs.Compatibility.{all_yes, and_also, for_ends, of_ends, pair_parts}
+use Rattle.btf.specs.Compatibility.{all_yes, and_also, for_ends, of_ends, pair_parts, pair_verdict}
 use Rattle.btf.specs.Lookups.{chain_end, max_depth}
 use Rattle.btf.specs.declared.pairs.OpenPair.{OpenPair}
 use Rattle.btf.proofs.Endings.{Ends, Ends-deep, Ends-shift, EndsAs, EndsAs-part, EndsAs-rest, IsFinal}
 use Rattle.btf.proofs.OpenPairs.{IsSame}
-use Rattle.btf.proofs.Rounds.{IsDeepOr, deep, in_rounds, in_rounds-less, pair_verdict}
+use Rattle.btf.proofs.Rounds.{IsDeepOr, deep, in_rounds, in_rounds-less}
 use Rattle.btf_records.specs.Tables.{Table}
 use Rattle.btf_records.specs.declared.error.BtfError.{BtfError}
 

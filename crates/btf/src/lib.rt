@@ -16,5 +16,6 @@ pub use btf_records::{
     Float, Func, FuncLinkage, FuncProto, Fwd, InfoBits, Int, IntEncoding, Items, Ptr, Restrict,
     Struct, TypeRef, TypeTag, Typedef, Union, Var, VarLinkage, Volatile,
 };
+pub use compatibility::types_are_compatible;
 pub use table::Btf;
 pub use types::Types;
