@@ -9,4 +9,5 @@ pub mod Rounds
 pub mod Stacks
 pub mod States
 pub mod Steps
+pub mod Turns
 pub mod Walks
