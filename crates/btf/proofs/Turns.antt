@@ -1,7 +1,7 @@
 -- What one turn of a comparison says: the answer of the first pair, or how the walk goes on.
 use Rattle.std.proofs.Common.{◌≡◌, ◌≢◌, ℕ, zero, suc, ◌+◌, ◌<◌, ◌≤◌, Bool, true, false, List, [], ◌∷◌, ◌++◌, drop, length, Ok, Err, Result, Some, None, Option, refl, sym, ap, subst, ◌∙◌, inl, inr, arith}
 use Rattle.std.proofs.lemmas.Grind.{common_steps}
-use Rattle.std.specs.Prelude.{IfErr, slice_get}
+use Rattle.std.specs.Prelude.{IfErr, IsErrAnd, slice_get}
 use Rattle.btf.specs.Compatibility.{above_pairs, all_yes, compared, ends_compatible, of_ends, pair_parts, pair_verdict}
 use Rattle.btf.specs.Lookups.{chain_end, max_depth}
 use Rattle.btf.specs.Pairs.{SetsState, state_of}
@@ -51,6 +51,9 @@ pub record IsNext (local target : Table) (asked l r : ℕ) (items rest : List Op
   pub last : items ≡ rest ++ p ∷ []
   pub next : Some (i, k) ≡ slice_get (pair_parts local target p.left p.right) p.next
 
+pub is_next : {local target : Table} {asked l r : ℕ} {items : List OpenPair} (rest : List OpenPair) (p : OpenPair) (i k : ℕ) → IsStack local target asked l r items → items ≡ rest ++ p ∷ [] → Some (i, k) ≡ slice_get (pair_parts local target p.left p.right) p.next → IsNext local target asked l r items rest p i k
+is_next rest p i k stack last next = record { stack = stack; last = last; next = next }
+
 pub next-left : (local target : Table) (asked l r : ℕ) (items rest : List OpenPair) (p : OpenPair) (i k : ℕ) → IsNext local target asked l r items rest p i k → parts_left local target p ≡ (i, k) ∷ drop (suc p.next) (pair_parts local target p.left p.right)
 next-left local target asked l r items rest p i k h = drop-at (pair_parts local target p.left p.right) p.next (i, k) h.next
 
@@ -74,6 +77,9 @@ pub record IsMet (local target : Table) (asked l r : ℕ) (items rest : List Ope
   pub at : IsNext local target asked l r items rest p i k
   pub left : Ok x ≡ chain_end max_depth local asked i
   pub right : Ok y ≡ chain_end max_depth target asked k
+
+pub is_met : {local target : Table} {asked l r : ℕ} {items rest : List OpenPair} {p : OpenPair} {i k : ℕ} (x y : ℕ) → IsNext local target asked l r items rest p i k → Ok x ≡ chain_end max_depth local asked i → Ok y ≡ chain_end max_depth target asked k → IsMet local target asked l r items rest p i k x y
+is_met x y at left right = record { at = at; left = left; right = right }
 
 ends_at : (local target : Table) (asked l r : ℕ) (items rest : List OpenPair) (p : OpenPair) (i k x y : ℕ) → IsMet local target asked l r items rest p i k x y → EndsAt local target asked (i, k) x y
 ends_at local target asked l r items rest p i k x y h = record { left = sym h.left; right = sym h.right }
@@ -120,20 +126,22 @@ walk-begins local target asked l r before none items states empty no_states e se
       states = AreStates-opened local target asked l r none states items before (first_of l r) e refl refl sets (AreStates-none local target asked none before no_states);
     }
 
-pub walk-settles : (local target : Table) (asked l r : ℕ) (items rest : List OpenPair) (before after : List ((ℕ × ℕ) × PairState)) (p : OpenPair) → IsWalk local target asked l r items before → items ≡ rest ++ p ∷ [] → None ≡ slice_get (pair_parts local target p.left p.right) p.next → SetsState before after p.left p.right Settled
-    → IsWalk local target asked l r rest after
-walk-settles local target asked l r items rest before after p h e none sets =
-    let empty = drop-past (pair_parts local target p.left p.right) p.next none in
+pub walk-settles : (local target : Table) (asked l r : ℕ) (items rest others : List OpenPair) (before after : List ((ℕ × ℕ) × PairState)) (p : OpenPair) → IsWalk local target asked l r items before → items ≡ rest ++ p ∷ [] → None ≡ slice_get (pair_parts local target p.left p.right) p.next → SetsState before after p.left p.right Settled → others ≡ rest
+    → IsWalk local target asked l r others after
+walk-settles local target asked l r items rest others before after p h e none sets same =
+    subst (λ (ps : List OpenPair). IsWalk local target asked l r ps after) (sym same)
+    (let empty = drop-past (pair_parts local target p.left p.right) p.next none in
     let top = h.stack.top rest p e in
     record {
       stack = IsStack-popped local target asked l r items rest p e h.stack empty;
       states = AreStates-settled local target asked before after items rest p e sets (settled local target asked p empty top.under_way) h.states;
-    }
+    })
 
-pub walk-advances : (local target : Table) (asked l r : ℕ) (items rest others : List OpenPair) (states : List ((ℕ × ℕ) × PairState)) (p : OpenPair) (i k x y : ℕ) → IsMet local target asked l r items rest p i k x y → AreStates local target asked states items → Some Settled ≡ state_of states x y → others ≡ rest ++ next_of p ∷ []
-    → IsWalk local target asked l r others states
-walk-advances local target asked l r items rest others states p i k x y h are is e =
-    let top = h.at.stack.top rest p h.at.last in
+pub walk-advances : (local target : Table) (asked l r : ℕ) (items rest others : List OpenPair) (states after : List ((ℕ × ℕ) × PairState)) (p : OpenPair) (i k x y : ℕ) → IsMet local target asked l r items rest p i k x y → AreStates local target asked states items → Some Settled ≡ state_of states x y → others ≡ rest ++ next_of p ∷ [] → after ≡ states
+    → IsWalk local target asked l r others after
+walk-advances local target asked l r items rest others states after p i k x y h are is e same =
+    subst (IsWalk local target asked l r others) (sym same)
+    (let top = h.at.stack.top rest p h.at.last in
     let left : parts_left local target (next_of p) ≡ drop (suc p.next) (pair_parts local target p.left p.right) = ap (λ (n : ℕ). drop n (pair_parts local target p.left p.right)) (one_more p.next) in
     record {
       stack = IsStack-pushed local target asked l r others rest (next_of p) e
@@ -142,7 +150,7 @@ walk-advances local target asked l r items rest others states p i k x y h are is
           under_way = advanced local target asked p (next_of p) (i, k) (drop (suc p.next) (pair_parts local target p.left p.right)) x y refl refl (next-left local target asked l r items rest p i k h.at) left (ends_at local target asked l r items rest p i k x y h) (are.settled x y (sym is)) top.under_way;
         });
       states = AreStates-moved local target asked states items others rest p (next_of p) h.at.last e refl refl are;
-    }
+    })
 
 pub walk-opens : (local target : Table) (asked l r : ℕ) (items rest back others : List OpenPair) (before after : List ((ℕ × ℕ) × PairState)) (p : OpenPair) (i k x y : ℕ) → IsMet local target asked l r items rest p i k x y → AreStates local target asked before items → back ≡ rest ++ p ∷ [] → others ≡ back ++ first_of x y ∷ [] → SetsState before after x y Open → pair_verdict local target x y ≡ Ok true
     → IsWalk local target asked l r others after
@@ -155,16 +163,29 @@ walk-opens local target asked l r items rest back others before after p i k x y 
 
 -- ---- in fewer and fewer steps
 
-pub shorter-settled : (local target : Table) (items rest : List OpenPair) (before after : List ((ℕ × ℕ) × PairState)) (p : OpenPair) → items ≡ rest ++ p ∷ [] → SetsState before after p.left p.right Settled → steps_left local target after rest < steps_left local target before items
-shorter-settled local target items rest before after p e sets = fewer-settled local target before after items rest p Settled e sets
+pub shorter-settled : (local target : Table) (items rest others : List OpenPair) (before after : List ((ℕ × ℕ) × PairState)) (p : OpenPair) → items ≡ rest ++ p ∷ [] → SetsState before after p.left p.right Settled → others ≡ rest → steps_left local target after others < steps_left local target before items
+shorter-settled local target items rest others before after p e sets same =
+    subst (λ (ps : List OpenPair). steps_left local target after ps < steps_left local target before items) (sym same) (fewer-settled local target before after items rest p Settled e sets)
 
-pub shorter-advanced : (local target : Table) (asked l r : ℕ) (items rest others : List OpenPair) (states : List ((ℕ × ℕ) × PairState)) (p : OpenPair) (i k : ℕ) → IsNext local target asked l r items rest p i k → others ≡ rest ++ next_of p ∷ [] → steps_left local target states others < steps_left local target states items
-shorter-advanced local target asked l r items rest others states p i k h e =
+pub shorter-advanced : (local target : Table) (asked l r : ℕ) (items rest others : List OpenPair) (states after : List ((ℕ × ℕ) × PairState)) (p : OpenPair) (i k : ℕ) → IsNext local target asked l r items rest p i k → others ≡ rest ++ next_of p ∷ [] → after ≡ states → steps_left local target after others < steps_left local target states items
+shorter-advanced local target asked l r items rest others states after p i k h e same =
     let left : parts_left local target (next_of p) ≡ drop (suc p.next) (pair_parts local target p.left p.right) = ap (λ (n : ℕ). drop n (pair_parts local target p.left p.right)) (one_more p.next) in
-    fewer-advanced local target states items others rest p (next_of p) (i, k) (drop (suc p.next) (pair_parts local target p.left p.right)) h.last e (next-left local target asked l r items rest p i k h) left
+    subst (λ (known : List ((ℕ × ℕ) × PairState)). steps_left local target known others < steps_left local target states items) (sym same)
+    (fewer-advanced local target states items others rest p (next_of p) (i, k) (drop (suc p.next) (pair_parts local target p.left p.right)) h.last e (next-left local target asked l r items rest p i k h) left)
 
 pub shorter-opened : (local target : Table) (asked l r : ℕ) (items rest back others : List OpenPair) (before after : List ((ℕ × ℕ) × PairState)) (p : OpenPair) (i k x y : ℕ) → IsMet local target asked l r items rest p i k x y → back ≡ rest ++ p ∷ [] → others ≡ back ++ first_of x y ∷ [] → SetsState before after x y Open → None ≡ state_of before x y
     → steps_left local target after others < steps_left local target before items
 shorter-opened local target asked l r items rest back others before after p i k x y h same e sets none =
     let all : others ≡ items ++ first_of x y ∷ [] = e ∙ ap (λ (ps : List OpenPair). ps ++ first_of x y ∷ []) (same ∙ sym h.at.last) in
     fewer-opened local target before after items others (first_of x y) Open all refl sets (sym none) (chain_end-known max_depth local asked i x (sym h.left)) (chain_end-known max_depth target asked k y (sym h.right))
+
+-- ---- the answers at each return
+
+-- an error that is passed on
+pub passed_on : (result : Result Bool BtfError) (e : BtfError) (P : BtfError → Type 0) → IsErrAnd result (λ f. f ≡ e) → P e → IfErr result P
+passed_on (Ok b) e P h p = tt
+passed_on (Err f) e P h p = subst P (sym h) p
+
+pub first-ends : (local target : Table) (asked i k l r : ℕ) (answer : Result Bool BtfError) → Ok l ≡ chain_end max_depth local asked i → Ok r ≡ chain_end max_depth target asked k → IsFinal answer → pair_verdict local target l r ≡ answer → ends_compatible local target asked (i, k) ≡ answer
+first-ends local target asked i k l r answer left right final says =
+    answered local target asked i k l r answer left right (Ends-verdict local target asked l r answer final says)
