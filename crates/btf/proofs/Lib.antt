@@ -1,5 +1,6 @@
 pub mod Chains
 pub mod Endings
+pub mod Exchanged
 pub mod FreePairs
 pub mod Left
 pub mod OpenPairs
@@ -10,4 +11,4 @@ pub mod Stacks
 pub mod States
 pub mod Steps
 pub mod Turns
-pub mod Walks
+pub mod Comparisons
