@@ -68,6 +68,14 @@ size_at_end (suc n) table asked count id = size_from (size_at_end n table asked)
 abbrev pub sized : Table → ℕ → Result ℕ BtfError
 sized table id = size_at_end max_depth table id 1 id
 
+-- the size of a type where 32 bits are to hold it
+abbrev pub in_32_bits : Result ℕ BtfError → Result ℕ BtfError
+in_32_bits (Err e) = Err e
+in_32_bits (Ok size) = if nat_lt size (2 ^ 32) then Ok size else Err InvalidTypeInfo
+
+abbrev pub sized_in_32_bits : Table → ℕ → Result ℕ BtfError
+sized_in_32_bits table id = in_32_bits (sized table id)
+
 -- a walk from an id over these others, each led to by the one before: the size is that of the last
 -- record, times the lengths of the arrays on the walk
 abbrev pub IsSizeOver : Table → ℕ → List ℕ → ℕ → Type 0

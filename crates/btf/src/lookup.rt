@@ -1,11 +1,12 @@
 //! How types are found, and their sizes.
 
-ghost use Rattle.std.specs.Prelude.{◌≡◌, ◌<◌, ◌*◌, ◌^◌, ◌==◌, length, IfOk, IfErr, MatchResult, Ok, Some, None};
-ghost use Rattle.std.specs.Option.{option_map};
-ghost use Rattle.btf.specs.Lookups.{IsSize, own_size, resolved, sized, sized_by};
-ghost use Rattle.btf_records.specs.Fields.{name_offset_of};
+ghost use Rattle.std.specs.Prelude.{◌≡◌, ◌≢◌, ◌*◌, true, false, IfOk, IfErr, Ok, Some, None};
+ghost use Rattle.std.specs.Option.{IsSomeAnd, option_map};
+ghost use Rattle.btf.specs.Agreement.{RestsOn, chain_ids, size_ids};
+ghost use Rattle.btf.specs.Lookups.{IsFirstNamed, IsSize, NameFault, own_size, resolved, sized, sized_by, sized_in_32_bits};
+ghost use Rattle.btf_records.specs.Fields.{kind_of_type, name_offset_of};
 ghost use Rattle.btf_records.specs.Texts.{text_at};
-ghost use Rattle.btf_records.specs.declared.error.BtfError.TheVariants.{InvalidStringOffset, InvalidTypeInfo};
+ghost use Rattle.btf_records.specs.declared.error.BtfError.TheVariants.{InvalidStringOffset, OutOfMemory};
 
 use crate::table::{Btf, MAX_DEPTH};
 use btf_records::{BtfError, BtfKind, BtfType, TypeRef};
@@ -54,7 +55,9 @@ impl Btf {
     /// `UnknownBtfType` where a type of the chain isn't there, `MaximumTypeDepthReached` where the
     /// chain, with its end, has more than 32 types.
     pub fn resolve_type(&self, type_id: u32) -> Result<u32, BtfError>
-        ensures { result ≡ resolved self.now type_id }
+        ensures value { result ≡ resolved self.now type_id }
+        ensures again { IfOk result (λ end. resolved self.now end ≡ Ok end) }
+        ensures rests { RestsOn chain_ids self.now type_id (λ table. resolved table type_id) }
     {
         self.chain_end(type_id, type_id)
     }
@@ -64,9 +67,18 @@ impl Btf {
     /// `UnexpectedBtfType` where the walk to it ends at a type without one, `UnknownBtfType` where
     /// a type of the walk isn't there, `MaximumTypeDepthReached` where the walk has more than 32
     /// types, `InvalidTypeInfo` where the lengths of arrays on it multiply to 2^32 or more.
-    #[tactic(auto, using(crate::proofs::Chains::size_over, crate::proofs::Chains::size_unknown, crate::proofs::Chains::size_done, crate::proofs::Chains::size_none, crate::proofs::Chains::size_past, crate::proofs::Chains::size_more))]
+    #[tactic(auto, using(crate::proofs::Walks::sized_walk))]
     pub fn type_size(&self, type_id: u32) -> Result<u64, BtfError>
         ensures value { result ≡ sized self.now type_id }
+        ensures walk { IfOk result (λ size. IsSize self.now type_id size) }
+        ensures rests { RestsOn size_ids self.now type_id (λ table. sized table type_id) }
+    {
+        self.walk_size(type_id)
+    }
+
+    #[tactic(auto, using(crate::proofs::Chains::size_over, crate::proofs::Chains::size_unknown, crate::proofs::Chains::size_done, crate::proofs::Chains::size_none, crate::proofs::Chains::size_past, crate::proofs::Chains::size_more))]
+    fn walk_size(&self, type_id: u32) -> Result<u64, BtfError>
+        ensures { result ≡ sized self.now type_id }
     {
         let mut count = 1;
         let mut id = type_id;
@@ -85,5 +97,52 @@ impl Btf {
             id = by.type_id;
         }
         Err(BtfError::MaximumTypeDepthReached { type_id })
+    }
+
+    /// The size of a type in bytes, where 32 bits are to hold it.
+    ///
+    /// `InvalidTypeInfo` where they can't; otherwise what `type_size` answers.
+    pub fn type_size_u32(&self, type_id: u32) -> Result<u32, BtfError>
+        ensures { result ≡ sized_in_32_bits self.now type_id }
+    {
+        let size = self.type_size(type_id)?;
+        match u32::try_from(size) {
+            Ok(size) => Ok(size),
+            Err(_) => Err(BtfError::InvalidTypeInfo),
+        }
+    }
+
+    /// Whether this is the wanted record, by kind and name.
+    ///
+    /// `InvalidStringOffset` where it is of the kind and its name can't be read.
+    fn is_named(&self, t: &TypeRef<'_>, name: &str, kind: BtfKind) -> Result<bool, BtfError>
+        ensures named { IfOk result (λ found. found ≡ true → (kind_of_type t.now ≡ kind) × (text_at self.now.strings (name_offset_of t.now) ≡ Some name.now)) }
+        ensures other { IfOk result (λ found. found ≡ false → kind_of_type t.now ≡ kind → IsSomeAnd (text_at self.now.strings (name_offset_of t.now)) (λ text. text ≢ name.now)) }
+        ensures refused { IfErr result (λ e. (kind_of_type t.now ≡ kind) × (e ≡ InvalidStringOffset (name_offset_of t.now)) × (text_at self.now.strings (name_offset_of t.now) ≡ None)) }
+    {
+        if t.kind() != kind {
+            return Ok(false);
+        }
+        Ok(self.string_at(t.name_offset())? == name)
+    }
+
+    /// The least id of the types of this kind and name.
+    ///
+    /// `InvalidStringOffset` where the name of an earlier type of the kind can't be read,
+    /// `UnknownBtfTypeName` where no type of the kind has the name.
+    #[tactic(auto, using(crate::proofs::Named::known_here, crate::proofs::Named::rest_here, crate::proofs::Named::none_more, crate::proofs::Named::none_left))]
+    pub fn id_by_type_name_kind(&self, name: &str, kind: BtfKind) -> Result<u32, BtfError>
+        ensures found { IfOk result (λ id. IsFirstNamed self.now name.now kind id) }
+        ensures refused { IfErr result (λ e. e ≢ OutOfMemory → NameFault self.now name.now kind e) }
+    {
+        let mut id: usize = 0;
+        for t in self.types() {
+            if self.is_named(&t, name, kind)? {
+                return Ok(id as u32);
+            }
+            id += 1;
+        }
+        let type_name = String::from_str(self.allocator(), name)?;
+        Err(BtfError::UnknownBtfTypeName { type_name })
     }
 }

@@ -16,4 +16,4 @@ returns-in-Some-clause-value c =
     let some : slice_get s.places.items c.args.index ≡ Some c.in-Some.place = rw c.deref.ensures.value at (sym c.place_at.ensures.value ∙ c.in-Some.is) in
     let read = ap (λ (t : RecordList). slice_get t.types c.args.index) (sym c.self.view_is) ∙ record_is s.order s.bytes.items s.fallbacks.entries s.places.items c.args.index c.in-Some.place some in
     let t = rw c.deref-in-Some.ensures.value at c.record_at-t.ensures in
-    sym (read ∙ ap (λ (x : BtfType). Some x) (sym (c.with_fallback.ensures ∙ rw (t, c.fallback_of-fallback.ensures) refl)))
+    sym (read ∙ ap (λ (x : BtfType). Some x) (sym (c.with_fallback.ensures ∙ rw (t, c.fallback_by_id-fallback.ensures) refl)))

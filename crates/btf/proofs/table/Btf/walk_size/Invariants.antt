@@ -1,6 +1,6 @@
 use Rattle.std.proofs.Common.{◌≡◌, ◌-◌, ◌<◌, ◌^◌}
 use Rattle.btf.specs.Lookups.{max_depth, size_at_end}
-use Rattle.btf.proofs.table.Btf.type_size.Given as goal
+use Rattle.btf.proofs.table.Btf.walk_size.Given as goal
 
 abbrev pub invariant-loop : goal.invariant-loop
 invariant-loop l = size_at_end (max_depth - l.counter) l.self l.type_id l.count l.id ≡ size_at_end max_depth l.self l.type_id 1 l.type_id
