@@ -52,6 +52,9 @@ one_kind a b h = sym (kind_of-number_of (kind_of_type a)) ∙ (ap kind_of (same_
 pub same_kind-exchange : (a b : BtfType) → same_kind a b ≡ same_kind b a
 same_kind-exchange a b = same_test (number_of (kind_of_type a)) (number_of (kind_of_type b))
 
+abbrev answer_of : Bool → Result Bool BtfError
+answer_of b = Ok b
+
 both : (a b : Bool) → (a && b) ≡ (b && a)
 both true true = refl
 both true false = refl
@@ -60,8 +63,8 @@ both false false = refl
 
 -- a yes or no keeps when the sides are exchanged
 verdict_of-exchange : (k : BtfKind) (l r : ℕ) (a b : BtfType) (answer : Bool) → verdict_of k l a b ≡ Ok answer → verdict_of k r b a ≡ Ok answer
-verdict_of-exchange kinds.Int l r a b answer h = ap (λ (x : Bool). Ok {E = BtfError} x) (both (is_unshifted b) (is_unshifted a)) ∙ h
-verdict_of-exchange kinds.FuncProto l r a b answer h = ap (λ (x : Bool). Ok {E = BtfError} x) (same_test (length (params_of b)) (length (params_of a))) ∙ h
+verdict_of-exchange kinds.Int l r a b answer h = ap answer_of (both (is_unshifted b) (is_unshifted a)) ∙ h
+verdict_of-exchange kinds.FuncProto l r a b answer h = ap answer_of (same_test (length (params_of b)) (length (params_of a))) ∙ h
 verdict_of-exchange kinds.Func l r a b answer h = absurd cc
 verdict_of-exchange kinds.Var l r a b answer h = absurd cc
 verdict_of-exchange kinds.DataSec l r a b answer h = absurd cc
@@ -173,7 +176,7 @@ above-exchanged local target = grind (arith, common_steps)
 first-exchange : (l r : ℕ) (a b : Option BtfType) → Gives (first_verdict l r a b) (first_verdict r l b a)
 first-exchange l r None b = record { same = λ answer e. absurd cc }
 first-exchange l r (Some a) None = record { same = λ answer e. absurd cc }
-first-exchange l r (Some a) (Some b) = record { same = λ answer e. ap (λ (x : Bool). Ok {E = BtfError} x) (same_kind-exchange b a) ∙ e }
+first-exchange l r (Some a) (Some b) = record { same = λ answer e. ap answer_of (same_kind-exchange b a) ∙ e }
 
 pub types-exchanged : (local : Table) (l : ℕ) (target : Table) (r : ℕ) → Gives (types_compatible local l target r) (types_compatible target r local l)
 types-exchanged local l target r =

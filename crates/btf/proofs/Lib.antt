@@ -1,3 +1,4 @@
+pub mod Agreed
 pub mod Chains
 pub mod Comparisons
 pub mod Endings

@@ -1,7 +1,8 @@
 //! Whether types of two tables are compatible.
 
 ghost use Rattle.std.specs.Prelude.{◌≡◌, ◌≢◌, ◌<◌, true, [], ◌∷◌, ◌++◌, IfOk, IfErr, IfSome, Ok, Err, slice_get};
-ghost use Rattle.btf.specs.Compatibility.{ends_compatible, is_unshifted, pair_parts, pair_verdict, parts_of, record_at, types_compatible, verdict};
+ghost use Rattle.btf.specs.Agreement.{RestsOnBoth};
+ghost use Rattle.btf.specs.Compatibility.{compared_ids, ends_compatible, is_unshifted, pair_parts, pair_verdict, parts_of, record_at, types_compatible, verdict};
 ghost use Rattle.btf.specs.Pairs.{SetsState};
 ghost use Rattle.btf_records.specs.Fields.{kind_of_type};
 
@@ -160,6 +161,8 @@ pub fn types_are_compatible(
 ) -> Result<bool, BtfError>
     ensures answer { IfOk result (λ yes. types_compatible local.now local_id target.now target_id ≡ Ok yes) }
     ensures refused { IfErr result (λ e. e ≢ BtfError.OutOfMemory → types_compatible local.now local_id target.now target_id ≡ Err e) }
+    ensures exchanged { IfOk result (λ yes. types_compatible target.now target_id local.now local_id ≡ Ok yes) }
+    ensures rests { RestsOnBoth compared_ids local.now local_id target.now target_id (λ one other. types_compatible one local_id other target_id) }
 {
     let local_kind = local.type_by_id(local_id)?.kind();
     let target_kind = target.type_by_id(target_id)?.kind();
