@@ -182,3 +182,7 @@ pub types-exchanged : (local : Table) (l : ℕ) (target : Table) (r : ℕ) → G
 types-exchanged local l target r =
     Gives-and _ _ _ _ (first-exchange l r (type_by_id local l) (type_by_id target r))
     (Gives-ends local target l r _ _ (l, r) (λ i k. rw (above-exchanged local target) (compared-exchange (above_pairs local target) local target l r [] i k)))
+
+pub answer-exchanged : (local : Table) (l : ℕ) (target : Table) (r : ℕ) (result : Result Bool BtfError) → IfOk result (λ b. types_compatible local l target r ≡ Ok b) → IfOk result (λ b. types_compatible target r local l ≡ Ok b)
+answer-exchanged local l target r (Ok b) h = (types-exchanged local l target r).same b h
+answer-exchanged local l target r (Err e) h = h
