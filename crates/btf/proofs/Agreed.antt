@@ -16,11 +16,11 @@ use Rattle.btf_records.specs.declared.types.BtfType.TheVariants as types
 
 -- ---- lists
 
-all-front : {A : Type 0} (P : A → Type 0) (xs ys : List A) → All P (xs ++ ys) → All P xs
+pub all-front : {A : Type 0} (P : A → Type 0) (xs ys : List A) → All P (xs ++ ys) → All P xs
 all-front P [] ys h = All-nil P
 all-front P (x ∷ xs) ys h = All-cons P x xs (All-head P x (xs ++ ys) h) (all-front P xs ys (All-tail P x (xs ++ ys) h))
 
-all-behind : {A : Type 0} (P : A → Type 0) (xs ys : List A) → All P (xs ++ ys) → All P ys
+pub all-behind : {A : Type 0} (P : A → Type 0) (xs ys : List A) → All P (xs ++ ys) → All P ys
 all-behind P [] ys h = h
 all-behind P (x ∷ xs) ys h = all-behind P xs ys (All-tail P x (xs ++ ys) h)
 
@@ -57,7 +57,7 @@ from-reached : (reached : ℕ → Bool) (go : ℕ → Result ℕ BtfError) (t : 
 from-reached reached go None id end here h all e = absurd cc
 from-reached reached go (Some t) id end here h all e = behind-reached reached go (modified_type t) id end here h all e
 
-chain-reached : (reached : ℕ → Bool) (one other : Table) → AgreeOn chain_ids reached one other → (n asked id end : ℕ) → reached id ≡ true → chain_end n one asked id ≡ Ok end → reached end ≡ true
+pub chain-reached : (reached : ℕ → Bool) (one other : Table) → AgreeOn chain_ids reached one other → (n asked id end : ℕ) → reached id ≡ true → chain_end n one asked id ≡ Ok end → reached end ≡ true
 unfolding chain_end
 chain-reached reached one other agree zero asked id end here e = absurd cc
 chain-reached reached one other agree (suc n) asked id end here e =

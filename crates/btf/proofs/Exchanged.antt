@@ -43,7 +43,7 @@ kind_of-number_of kinds.Enum64 = refl
 same_number : (m n : ℕ) → (m == n) ≡ true → m ≡ n
 same_number m n h = grind (arith, nat_tests)
 
-same_test : (m n : ℕ) → (m == n) ≡ (n == m)
+pub same_test : (m n : ℕ) → (m == n) ≡ (n == m)
 same_test m n = grind (arith, nat_tests)
 
 pub one_kind : (a b : BtfType) → same_kind a b ≡ true → kind_of_type a ≡ kind_of_type b
@@ -52,10 +52,10 @@ one_kind a b h = sym (kind_of-number_of (kind_of_type a)) ∙ (ap kind_of (same_
 pub same_kind-exchange : (a b : BtfType) → same_kind a b ≡ same_kind b a
 same_kind-exchange a b = same_test (number_of (kind_of_type a)) (number_of (kind_of_type b))
 
-abbrev answer_of : Bool → Result Bool BtfError
+abbrev pub answer_of : Bool → Result Bool BtfError
 answer_of b = Ok b
 
-both : (a b : Bool) → (a && b) ≡ (b && a)
+pub both : (a b : Bool) → (a && b) ≡ (b && a)
 both true true = refl
 both true false = refl
 both false true = refl
@@ -137,7 +137,7 @@ ends-given go go' (Err e) y x' y' h left right = record { same = λ answer k. ab
 ends-given go go' (Ok l) (Err e) x' y' h left right = record { same = λ answer k. absurd cc }
 ends-given go go' (Ok l) (Ok r) x' y' h left right = record { same = λ answer k. rw (left l refl, right r refl) ((h l r).same answer k) }
 
-Gives-ends : (local target : Table) (asked asked' : ℕ) (go go' : ℕ → ℕ → Result Bool BtfError) (p : ℕ × ℕ) → ((l r : ℕ) → Gives (go l r) (go' r l)) → Gives (of_ends local target asked go p) (of_ends target local asked' go' (exchanged p))
+pub Gives-ends : (local target : Table) (asked asked' : ℕ) (go go' : ℕ → ℕ → Result Bool BtfError) (p : ℕ × ℕ) → ((l r : ℕ) → Gives (go l r) (go' r l)) → Gives (of_ends local target asked go p) (of_ends target local asked' go' (exchanged p))
 Gives-ends local target asked asked' go go' p h =
     ends-given go go' (chain_end max_depth local asked p.0) (chain_end max_depth target asked p.1) (chain_end max_depth local asked' p.0) (chain_end max_depth target asked' p.1) h
     (λ e. chain_end-asked max_depth local asked asked' p.0 e) (λ e. chain_end-asked max_depth target asked asked' p.1 e)

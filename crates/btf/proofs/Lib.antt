@@ -3,6 +3,10 @@ pub mod Chains
 pub mod Comparisons
 pub mod Endings
 pub mod Exchanged
+pub mod FieldRounds
+pub mod FieldsAgreed
+pub mod FieldsExchanged
+pub mod Flavours
 pub mod FreePairs
 pub mod Growth
 pub mod Left

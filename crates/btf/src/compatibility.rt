@@ -11,7 +11,7 @@ use crate::table::Btf;
 use btf_records::{BtfError, BtfKind, TypeRef};
 
 /// The record of an id; void where the table has none.
-fn record_at(table: &Btf, id: u32) -> TypeRef<'_>
+pub(crate) fn record_at(table: &Btf, id: u32) -> TypeRef<'_>
     ensures { result ≡ record_at table.now id }
 {
     match table.type_by_id(id) {

@@ -3,6 +3,7 @@
 #![tactic(auto)]
 
 mod compatibility;
+mod fields;
 mod lookup;
 mod pairs;
 mod records;
@@ -17,5 +18,6 @@ pub use btf_records::{
     Struct, TypeRef, TypeTag, Typedef, Union, Var, VarLinkage, Volatile,
 };
 pub use compatibility::types_are_compatible;
+pub use fields::fields_are_compatible;
 pub use table::Btf;
 pub use types::Types;
