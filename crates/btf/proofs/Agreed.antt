@@ -9,7 +9,7 @@ use Rattle.btf.specs.Compatibility.{above_pairs, all_yes, and_also, compared, co
 use Rattle.btf.specs.Lookups.{chain_end, end_from, max_depth, modified_type}
 use Rattle.btf.proofs.FreePairs.{IsKnown, chain_end-known, for_ends-same, free-below, same_fuel}
 use Rattle.btf.proofs.Rests.{chain_same}
-use Rattle.btf_records.specs.Tables.{Table, type_by_id}
+use Rattle.btf_encoding.specs.Tables.{Table, type_by_id}
 use Rattle.btf_records.specs.declared.error.BtfError.{BtfError}
 use Rattle.btf_records.specs.declared.types.BtfType.{BtfType}
 use Rattle.btf_records.specs.declared.types.BtfType.TheVariants as types

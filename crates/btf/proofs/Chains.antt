@@ -1,9 +1,8 @@
 -- Chains of modifiers and walks to sizes, record by record.
-use Rattle.std.proofs.Common.{◌≡◌, ℕ, zero, suc, ◌+◌, ◌-◌, ◌*◌, ◌<◌, ◌≤◌, ◌^◌, Option, None, Some, Result, Ok, Err, refl, ap, ◌∙◌, arith, true, false, nat_lt}
+use Rattle.std.proofs.Common.{◌≡◌, ℕ, suc, ◌+◌, ◌-◌, ◌*◌, ◌<◌, ◌≤◌, ◌^◌, None, Some, Ok, Err, refl, arith, true, false, nat_lt}
 use Rattle.std.proofs.lemmas.Bool.Decides.{nat_tests}
-use Rattle.btf.specs.Lookups.{chain_end, end_from, modified_type, own_size, size_at_end, sized_by}
-use Rattle.btf_records.specs.Tables.{Table, type_by_id}
-use Rattle.btf_records.specs.declared.error.BtfError.{BtfError}
+use Rattle.btf.specs.Lookups.{chain_end, modified_type, own_size, size_at_end, sized_by}
+use Rattle.btf_encoding.specs.Tables.{Table, type_by_id}
 use Rattle.btf_records.specs.declared.error.BtfError.TheVariants.{InvalidTypeInfo, MaximumTypeDepthReached, UnexpectedBtfType, UnknownBtfType}
 use Rattle.btf_records.specs.declared.types.BtfType.{BtfType}
 

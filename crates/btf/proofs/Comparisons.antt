@@ -13,7 +13,7 @@ use Rattle.btf.specs.declared.pairs.PairState.TheVariants.{Open, Settled}
 use Rattle.btf.proofs.Endings.{Ends, IsFinal}
 use Rattle.btf.proofs.OpenPairs.{IsSame}
 use Rattle.btf.proofs.Stacks.{EndsAt, IsPath, IsUnderWay, LeadsTo, is_at, parts_left, settled, stands}
-use Rattle.btf_records.specs.Tables.{Table}
+use Rattle.btf_encoding.specs.Tables.{Table}
 use Rattle.btf_records.specs.declared.error.BtfError.{BtfError}
 
 -- ---- a path by its last pair

@@ -6,7 +6,7 @@ use Rattle.btf.specs.Compatibility.{above_pairs, all_yes, and_also, compared, is
 use Rattle.btf.proofs.FreePairs.{IsKnown, free, free-below, same_fuel}
 use Rattle.btf.proofs.OpenPairs.{AreDeep, in_rounds-compared}
 use Rattle.btf.proofs.Rounds.{IsDeepOr, compared-in_rounds, deep, in_rounds}
-use Rattle.btf_records.specs.Tables.{Table}
+use Rattle.btf_encoding.specs.Tables.{Table}
 use Rattle.btf_records.specs.declared.error.BtfError.{BtfError}
 
 -- f has no answer or that of g, and that of g from some number of rounds on

@@ -9,7 +9,7 @@ use Rattle.btf.specs.Lookups.{chain_end, end_from, max_depth, modified_type}
 use Rattle.std.specs.Option.{option_map_or}
 use Rattle.btf_records.specs.Fields.{kind_of_type, params_of}
 use Rattle.btf_records.specs.Kinds.{kind_of, number_of}
-use Rattle.btf_records.specs.Tables.{Table, type_by_id}
+use Rattle.btf_encoding.specs.Tables.{Table, type_by_id}
 use Rattle.btf_records.specs.declared.error.BtfError.{BtfError}
 use Rattle.btf_records.specs.declared.kind.BtfKind.{BtfKind}
 use Rattle.btf_records.specs.declared.kind.BtfKind.TheVariants as kinds

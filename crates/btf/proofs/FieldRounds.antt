@@ -8,7 +8,7 @@ use Rattle.btf.specs.FieldCompatibility.{field_verdict, fields_compared, is_comp
 use Rattle.btf.specs.Lookups.{chain_end, max_depth}
 use Rattle.btf.proofs.Exchanged.{one_kind}
 use Rattle.btf_records.specs.Fields.{array_of, kind_of_type}
-use Rattle.btf_records.specs.Tables.{Table}
+use Rattle.btf_encoding.specs.Tables.{Table}
 use Rattle.btf_records.specs.declared.error.BtfError.{BtfError}
 use Rattle.btf_records.specs.declared.error.BtfError.TheVariants.{MaximumTypeDepthReached}
 use Rattle.btf_records.specs.declared.item.BtfArray.{BtfArray}

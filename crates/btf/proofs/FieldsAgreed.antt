@@ -12,8 +12,8 @@ use Rattle.btf.proofs.FieldRounds.{arrays-verdict, elements_of, others-verdict}
 use Rattle.btf.proofs.FreePairs.{IsKnown, chain_end-known, for_ends-same}
 use Rattle.btf.proofs.Rests.{chain_same}
 use Rattle.btf_records.specs.Fields.{array_of, kind_of_type, name_offset_of}
-use Rattle.btf_records.specs.Tables.{Table, type_by_id}
-use Rattle.btf_records.specs.Texts.{text_at}
+use Rattle.btf_encoding.specs.Tables.{Table, type_by_id}
+use Rattle.btf_encoding.specs.Texts.{text_at}
 use Rattle.btf_records.specs.declared.error.BtfError.{BtfError}
 use Rattle.btf_records.specs.declared.kind.BtfKind.{BtfKind}
 use Rattle.btf_records.specs.declared.kind.BtfKind.TheVariants as kinds

@@ -9,8 +9,8 @@ use Rattle.btf.specs.FieldCompatibility.{element_of, essential_name, field_verdi
 use Rattle.btf.specs.Lookups.{max_depth}
 use Rattle.btf.proofs.Exchanged.{Gives, Gives-ends, answer_of, both, exchanged, one_kind, same_kind-exchange, same_test}
 use Rattle.btf_records.specs.Fields.{kind_of_type, name_offset_of}
-use Rattle.btf_records.specs.Tables.{Table}
-use Rattle.btf_records.specs.Texts.{text_at}
+use Rattle.btf_encoding.specs.Tables.{Table}
+use Rattle.btf_encoding.specs.Texts.{text_at}
 use Rattle.btf_records.specs.declared.error.BtfError.{BtfError}
 use Rattle.btf_records.specs.declared.kind.BtfKind.{BtfKind}
 use Rattle.btf_records.specs.declared.kind.BtfKind.TheVariants as kinds

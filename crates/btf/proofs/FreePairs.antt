@@ -10,7 +10,7 @@ use Rattle.std.specs.Option.{option_map_or}
 use Rattle.btf_records.specs.declared.types.BtfType.TheVariants as types
 use Rattle.btf.proofs.OpenPairs.{is_open-push}
 use Rattle.btf.proofs.Rounds.{deep}
-use Rattle.btf_records.specs.Tables.{Table, type_by_id}
+use Rattle.btf_encoding.specs.Tables.{Table, type_by_id}
 use Rattle.btf_records.specs.declared.error.BtfError.{BtfError}
 use Rattle.btf_records.specs.declared.types.BtfType.{BtfType}
 

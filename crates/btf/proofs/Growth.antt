@@ -1,5 +1,5 @@
 -- One more record behind the others.
-use Rattle.std.proofs.Common.{◌≡◌, ◌≢◌, ℕ, zero, suc, ◌+◌, ◌<◌, ◌≤◌, ◌^◌, List, [], ◌∷◌, ◌++◌, length, drop, Option, None, Some, refl, sym, ap, subst, ◌∙◌, arith, inl, inr, append-nil, append_assoc, length-append, length-drop}
+use Rattle.std.proofs.Common.{◌≡◌, ℕ, suc, ◌+◌, ◌<◌, ◌^◌, List, [], ◌∷◌, ◌++◌, length, drop, Option, None, Some, refl, sym, ap, ◌∙◌, arith, inl, inr, append-nil, append_assoc, length-append}
 use Rattle.std.specs.List.{flat_map}
 use Rattle.std.specs.Option.{option_map_or}
 use Rattle.std.specs.Prelude.{All, ◌⊎◌}
@@ -10,7 +10,7 @@ use Rattle.std.proofs.Math.Seq.{drop-append_seam}
 use Rattle.btf.specs.Layout.{Entered, IsLaidOut, TooMany, fallback_at, type_at, types_at}
 use Rattle.btf.proofs.Places.{has_record, length_types_at, within_bytes}
 use Rattle.btf_records.specs.Fields.{fallback_of}
-use Rattle.btf_records.specs.Records.{HasRecord, ReadsBack, ReadsSame, record_bytes, record_len, type_in, with_fallback, without_fallback}
+use Rattle.btf_encoding.specs.Records.{ReadsBack, ReadsSame, record_bytes, type_in, with_fallback, without_fallback}
 use Rattle.btf_records.specs.declared.compound.Union.{Union}
 use Rattle.btf_records.specs.declared.compound.Enum64Fallback.{Enum64Fallback}
 use Rattle.btf_records.specs.declared.types.BtfType.{BtfType}
@@ -90,7 +90,7 @@ back (types.Enum64 t) = refl
 new_type : (order : Endianness) (bytes : List ℕ) (fallbacks : List (ℕ × Enum64Fallback)) (id : ℕ) (t : BtfType) → ReadsBack order t → fallback_at fallbacks id ≡ fallback_of t → type_at order (bytes ++ record_bytes order t) fallbacks id (length bytes) ≡ t
 new_type order bytes fallbacks id t reads entered =
     let read : type_in order (drop (length bytes) (bytes ++ record_bytes order t)) ≡ without_fallback t =
-        ap (type_in order) (drop-append_seam bytes (record_bytes order t) ∙ sym (append-nil (record_bytes order t))) ∙ reads.same []
+    ap (type_in order) (drop-append_seam bytes (record_bytes order t) ∙ sym (append-nil (record_bytes order t))) ∙ reads.same []
     in
     rw (entered, read) (back t)
 
@@ -100,7 +100,7 @@ grown order bytes places old new t laid reads entered =
     let id : length places + 1 ≡ 1 + length places = omega arith in
     let last : type_at order (bytes ++ x) new (1 + length places) (length bytes) ≡ t = new_type order bytes new (1 + length places) t reads (rw id at entered.here) in
     let others : types_at order (bytes ++ x) new 1 places ≡ types_at order bytes old 1 places =
-        types_stay order bytes x old new 1 places laid.stand (record { same = λ other lt. entered.others other (λ e. omega arith) })
+    types_stay order bytes x old new 1 places laid.stand (record { same = λ other lt. entered.others other (λ e. omega arith) })
     in
     types_behind order (bytes ++ x) new 1 places (length bytes) ∙ rw (others, last) refl
 
@@ -109,7 +109,7 @@ grown_tight order bytes places old new t laid reads entered few_bytes few_types 
     let x = record_bytes order t in
     let last : ReadsSame order (drop (length bytes) (bytes ++ x)) = rw (drop-append_seam bytes x) reads.alone in
     let bytes_of : flat_map (record_bytes order) (types_at order bytes old 1 places ++ t ∷ []) ≡ flat_map (record_bytes order) (types_at order bytes old 1 places) ++ x =
-        flat_map-append (record_bytes order) (types_at order bytes old 1 places) (t ∷ []) ∙ ap (λ (b : List ℕ). flat_map (record_bytes order) (types_at order bytes old 1 places) ++ b) (append-nil x)
+    flat_map-append (record_bytes order) (types_at order bytes old 1 places) (t ∷ []) ∙ ap (λ (b : List ℕ). flat_map (record_bytes order) (types_at order bytes old 1 places) ++ b) (append-nil x)
     in
     record {
       stand = All-append (λ p. ReadsSame order (drop p (bytes ++ x))) places (length bytes ∷ []) (all_stay order bytes x places laid.stand) (All-cons (λ p. ReadsSame order (drop p (bytes ++ x))) (length bytes) [] last (All-nil (λ p. ReadsSame order (drop p (bytes ++ x)))));

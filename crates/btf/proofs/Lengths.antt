@@ -1,8 +1,8 @@
 -- A record is written with as many bytes as it was read from.
-use Rattle.std.proofs.Common.{◌≡◌, ℕ, zero, suc, ◌+◌, ◌*◌, ◌<◌, ◌≤◌, List, [], ◌∷◌, ◌++◌, length, drop, refl, sym, ap, subst, ◌∙◌, arith, length-append, length-drop}
+use Rattle.std.proofs.Common.{◌≡◌, ℕ, zero, suc, ◌+◌, ◌*◌, ◌≤◌, List, [], ◌∷◌, ◌++◌, length, drop, refl, sym, ap, subst, ◌∙◌, arith, length-append, length-drop}
 use Rattle.std.specs.List.{flat_map}
-use Rattle.btf_records.specs.Items.{array_in, entry_in, entry_words, enum64_in, enum64_words, items_in, member_in, member_words, param_in, param_words, variant_in, variant_words}
-use Rattle.btf_records.specs.Records.{Begins, HasRecord, Spells, count_at, kind_at, len_behind, record_bytes, record_len, type_as, type_in, words_of}
+use Rattle.btf_encoding.specs.Items.{entry_in, entry_words, enum64_in, enum64_words, items_in, member_in, member_words, param_in, param_words, variant_in, variant_words}
+use Rattle.btf_encoding.specs.Records.{Begins, HasRecord, Spells, count_at, kind_at, len_behind, record_bytes, record_len, type_as, type_in, words_of}
 use Rattle.btf_records.specs.Words.{word_bytes, words_bytes}
 use Rattle.btf_records.specs.declared.kind.BtfKind.{BtfKind}
 use Rattle.btf_records.specs.declared.kind.BtfKind.TheVariants as kinds

@@ -1,3 +1,4 @@
+pub mod Added
 pub mod Agreed
 pub mod Chains
 pub mod Comparisons
@@ -9,18 +10,22 @@ pub mod FieldsExchanged
 pub mod Flavours
 pub mod FreePairs
 pub mod Growth
+pub mod Headers
 pub mod Left
 pub mod Lengths
 pub mod Named
+pub mod NamedAlike
 pub mod OpenPairs
 pub mod Parts
 pub mod Places
 pub mod Reading
 pub mod Rests
 pub mod Rounds
+pub mod Sections
 pub mod Stacks
 pub mod States
 pub mod Steps
+pub mod Strings
 pub mod Turns
 pub mod Walks
 pub mod Writing

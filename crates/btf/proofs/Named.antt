@@ -1,13 +1,13 @@
 -- A look-up by kind and name, record by record.
-use Rattle.std.proofs.Common.{◌≡◌, ◌≢◌, ℕ, zero, suc, ◌+◌, ◌-◌, ◌<◌, ◌≤◌, Bool, true, false, List, [], ◌∷◌, length, drop, None, Some, refl, sym, ap, subst, ◌∙◌, arith, slice_get, below_more, nat_eq, inl, inr}
+use Rattle.std.proofs.Common.{◌≡◌, ◌≢◌, ℕ, zero, suc, ◌+◌, ◌-◌, ◌<◌, ◌≤◌, false, List, [], ◌∷◌, length, drop, None, Some, refl, ◌∙◌, arith, slice_get, below_more, nat_eq, inl, inr}
 use Rattle.std.specs.Option.{IsSomeAnd}
-use Rattle.std.specs.Prelude.{IfSome, Option, ◌⊎◌}
+use Rattle.std.specs.Prelude.{◌⊎◌}
 use Rattle.std.proofs.lemmas.Option.{slice_get_past}
 use Rattle.std.proofs.lemmas.Bool.Decides.{nat_tests}
 use Rattle.btf.specs.Lookups.{IsOther}
 use Rattle.btf_records.specs.Fields.{kind_of_type, name_offset_of}
-use Rattle.btf_records.specs.Tables.{Table, type_by_id}
-use Rattle.btf_records.specs.Texts.{text_at}
+use Rattle.btf_encoding.specs.Tables.{Table, type_by_id}
+use Rattle.btf_encoding.specs.Texts.{text_at}
 use Rattle.btf_records.specs.declared.kind.BtfKind.{BtfKind}
 use Rattle.btf_records.specs.declared.types.BtfType.{BtfType}
 use Rattle.btf_records.specs.declared.types.BtfType.TheVariants.{Unknown}
@@ -67,6 +67,6 @@ none_left table name kind id before end other =
     elim (split other id) [
       | inl lesser ↦ before.none other lesser
       | inr past ↦
-        let none : type_by_id table other ≡ None = by_place table other ∙ slice_get_past (all_types table) other (let h = past_end (all_types table) id end in omega arith) in
-        rw none tt
+          let none : type_by_id table other ≡ None = by_place table other ∙ slice_get_past (all_types table) other (let h = past_end (all_types table) id end in omega arith) in
+          rw none tt
     ]

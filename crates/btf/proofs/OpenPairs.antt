@@ -6,7 +6,7 @@ use Rattle.std.proofs.lemmas.List.Folds.{list_any-append}
 use Rattle.std.specs.Prelude.{◌⊎◌, ◌||◌, if◌then◌else◌}
 use Rattle.btf.specs.Compatibility.{and_also, compared, is_open, is_pair, pair_parts, pair_verdict}
 use Rattle.btf.proofs.Rounds.{IsDeepOr, IsDeepOr-and_same, IsDeepOr-parts, compared-more, deep, in_rounds, in_rounds-less, in_rounds-more}
-use Rattle.btf_records.specs.Tables.{Table}
+use Rattle.btf_encoding.specs.Tables.{Table}
 use Rattle.btf_records.specs.declared.error.BtfError.{BtfError}
 
 pub is_open-push : (open_pairs : List (ℕ × ℕ)) (l r i k : ℕ) → is_open (open_pairs ++ (l, r) ∷ []) i k ≡ (is_open open_pairs i k || is_pair i k (l, r))

@@ -5,7 +5,7 @@ use Rattle.std.specs.Prelude.{slice_get}
 use Rattle.std.specs.List.{zip}
 use Rattle.btf.specs.Compatibility.{parts_of}
 use Rattle.btf_records.specs.Fields.{kind_of_type, params_of, type_of}
-use Rattle.btf_records.specs.Records.{count_of}
+use Rattle.btf_encoding.specs.Records.{count_of}
 use Rattle.btf_records.specs.declared.item.BtfParam.{BtfParam}
 use Rattle.btf_records.specs.declared.kind.BtfKind.{BtfKind}
 use Rattle.btf_records.specs.declared.kind.BtfKind.TheVariants as kinds

@@ -1,12 +1,11 @@
 -- The records at places, one by one.
-use Rattle.std.proofs.Common.{◌≡◌, ℕ, zero, suc, ◌+◌, ◌<◌, ◌≤◌, List, [], ◌∷◌, ◌++◌, length, drop, Option, None, Some, refl, sym, ap, subst, ◌∙◌, arith, slice_get, append-nil, length-drop}
+use Rattle.std.proofs.Common.{◌≡◌, ℕ, zero, suc, ◌+◌, ◌<◌, ◌≤◌, List, [], ◌∷◌, length, drop, None, Some, refl, ap, subst, ◌∙◌, arith, slice_get, append-nil, length-drop}
 use Rattle.std.specs.Prelude.{All}
 use Rattle.std.proofs.lemmas.Option.{get_or_from_slice_get, slice_get_within}
 use Rattle.std.specs.Option.{option_map}
-use Rattle.btf.specs.Layout.{fallback_at, type_at, types_at}
-use Rattle.btf_records.specs.Records.{HasRecord, ReadsSame, type_in, with_fallback}
+use Rattle.btf.specs.Layout.{type_at, types_at}
+use Rattle.btf_encoding.specs.Records.{HasRecord, ReadsSame}
 use Rattle.btf_records.specs.declared.compound.Enum64Fallback.{Enum64Fallback}
-use Rattle.btf_records.specs.declared.types.BtfType.{BtfType}
 use Rattle.btf_records.specs.declared.words.Endianness.{Endianness}
 
 pub length_types_at : (order : Endianness) (bytes : List ℕ) (fallbacks : List (ℕ × Enum64Fallback)) (id : ℕ) (places : List ℕ) → length (types_at order bytes fallbacks id places) ≡ length places

@@ -1,5 +1,5 @@
 -- The places of records, one behind the other.
-use Rattle.std.proofs.Common.{◌≡◌, ℕ, suc, ◌+◌, ◌-◌, ◌<◌, ◌≤◌, ◌^◌, List, [], ◌∷◌, ◌++◌, length, drop, refl, sym, ap, subst, ◌∙◌, arith, length-drop}
+use Rattle.std.proofs.Common.{◌≡◌, ℕ, ◌+◌, ◌-◌, ◌<◌, ◌≤◌, ◌^◌, List, [], ◌∷◌, ◌++◌, length, drop, refl, sym, ap, subst, ◌∙◌, arith, length-drop}
 use Rattle.std.specs.Prelude.{All}
 use Rattle.std.proofs.lemmas.List.{drop-drop}
 use Rattle.std.proofs.lemmas.List.Elements.{All-append, All-cons, All-nil}
@@ -7,7 +7,7 @@ use Rattle.btf.specs.Layout.{IsLaidOut, types_at}
 use Rattle.btf.proofs.Growth.{types_behind}
 use Rattle.btf.proofs.Lengths.{begins_more, spelled_few, spelled_tight}
 use Rattle.btf.proofs.Places.{length_types_at}
-use Rattle.btf_records.specs.Records.{AreTypes, Begins, HasRecord, ReadsSame, RecordFault, Spells, TypesFault, record_len, type_in}
+use Rattle.btf_encoding.specs.Records.{Begins, HasRecord, ReadsSame, RecordFault, Spells, TypesFault, record_len, type_in}
 use Rattle.btf_records.specs.declared.error.BtfError.{BtfError}
 use Rattle.btf_records.specs.declared.types.BtfType.{BtfType}
 use Rattle.btf_records.specs.declared.words.Endianness.{Endianness}
@@ -37,7 +37,7 @@ one_more_place order bytes places rest are has alone =
     let whole = has.whole in
     let left_len : length (drop len rest) + len ≡ length rest = omega (arith, length-drop len rest) in
     let types : types_at order bytes [] 1 (places ++ place ∷ []) ≡ types_at order bytes [] 1 places ++ type_in order rest ∷ [] =
-        types_behind order bytes [] 1 places place ∙ ap (λ (r : List ℕ). types_at order bytes [] 1 places ++ type_in order r ∷ []) (sym are.left)
+    types_behind order bytes [] 1 places place ∙ ap (λ (r : List ℕ). types_at order bytes [] 1 places ++ type_in order r ∷ []) (sym are.left)
     in
     let further : place + len ≡ length bytes - length (drop len rest) = omega (arith, are.within) in
     record {
@@ -64,14 +64,4 @@ laid_out order bytes places spelled stand few = record {
   tight = spelled_tight order (types_at order bytes [] 1 places) bytes spelled;
   few_bytes = few;
   few_types = omega (arith, spelled_few order (types_at order bytes [] 1 places) bytes spelled, length_types_at order bytes [] 1 places);
-}
-
--- the records are those that were counted
-pub as_counted : (order : Endianness) (bytes : List ℕ) (count : ℕ) (types : List BtfType) → AreTypes order bytes count → Spells order types bytes → AreTypes order bytes (length types)
-as_counted order bytes count types are spelled = record {
-  types = are.types;
-  spelled = are.spelled;
-  counted = ap length (sym (are.unique types spelled));
-  unique = are.unique;
-  faultless = are.faultless;
 }

@@ -1,10 +1,10 @@
 -- Chains and walks rest on the records that they reach.
-use Rattle.std.proofs.Common.{◌≡◌, ℕ, zero, suc, ◌*◌, ◌<◌, ◌≤◌, ◌^◌, Bool, true, false, List, [], ◌∷◌, Option, None, Some, Result, Ok, Err, refl, ap, ◌∙◌, arith, nat_lt}
+use Rattle.std.proofs.Common.{◌≡◌, ℕ, zero, suc, ◌*◌, ◌^◌, Bool, true, [], ◌∷◌, Option, None, Some, Result, Ok, Err, refl, ap, arith, nat_lt}
 use Rattle.std.specs.Prelude.{All, IfSome, if◌then◌else◌}
 use Rattle.std.specs.Option.{option_map, option_map_or, option_to_list}
 use Rattle.btf.specs.Agreement.{AgreeOn, RestsOn, chain_ids, size_ids}
 use Rattle.btf.specs.Lookups.{chain_end, end_from, max_depth, modified_type, own_size, resolved, size_at_end, size_behind, size_from, sized, sized_by}
-use Rattle.btf_records.specs.Tables.{Table, type_by_id}
+use Rattle.btf_encoding.specs.Tables.{Table, type_by_id}
 use Rattle.btf_records.specs.declared.error.BtfError.{BtfError}
 use Rattle.btf_records.specs.declared.error.BtfError.TheVariants.{InvalidTypeInfo}
 use Rattle.btf_records.specs.declared.types.BtfType.{BtfType}

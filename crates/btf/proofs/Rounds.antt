@@ -6,7 +6,7 @@ use Rattle.std.proofs.Common.{inl, inr}
 use Rattle.std.specs.List.{zip}
 use Rattle.btf.specs.Compatibility.{all_yes, and_also, compared, for_ends, is_open, is_pair, of_ends, pair_parts, pair_verdict}
 use Rattle.btf.specs.Lookups.{chain_end, max_depth}
-use Rattle.btf_records.specs.Tables.{Table}
+use Rattle.btf_encoding.specs.Tables.{Table}
 use Rattle.btf_records.specs.declared.error.BtfError.{BtfError}
 use Rattle.btf_records.specs.declared.error.BtfError.TheVariants.{MaximumTypeDepthReached}
 

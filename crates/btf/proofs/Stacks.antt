@@ -9,7 +9,7 @@ use Rattle.btf.specs.declared.pairs.OpenPair.{OpenPair}
 use Rattle.btf.proofs.Endings.{Ends, Ends-deep, Ends-shift, EndsAs, EndsAs-part, EndsAs-rest, IsFinal}
 use Rattle.btf.proofs.OpenPairs.{IsSame}
 use Rattle.btf.proofs.Rounds.{IsDeepOr, deep, in_rounds, in_rounds-less}
-use Rattle.btf_records.specs.Tables.{Table}
+use Rattle.btf_encoding.specs.Tables.{Table}
 use Rattle.btf_records.specs.declared.error.BtfError.{BtfError}
 
 -- the answer for a part in so many rounds

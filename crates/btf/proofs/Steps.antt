@@ -11,7 +11,7 @@ use Rattle.btf.specs.declared.pairs.OpenPair.{OpenPair}
 use Rattle.btf.specs.declared.pairs.PairState.{PairState}
 use Rattle.btf.proofs.FreePairs.{IsKnown, IsKnown-within, Weaker, failing_pairs, pairs-le, pairs-lt}
 use Rattle.btf.proofs.Stacks.{parts_left}
-use Rattle.btf_records.specs.Tables.{Table}
+use Rattle.btf_encoding.specs.Tables.{Table}
 
 abbrev pub weight : Table → Table → ℕ → ℕ → ℕ
 weight local target l r = 2 + length (pair_parts local target l r)

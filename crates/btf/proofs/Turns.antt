@@ -14,7 +14,7 @@ use Rattle.btf.proofs.Rounds.{deep, in_rounds}
 use Rattle.btf.proofs.Stacks.{EndsAt, IsPath, IsUnderWay, LeadsTo, advanced, begun, final_part, part_answer, parts_left, path-back, path-final, settled, stands}
 use Rattle.btf.proofs.Comparisons.{AreStates, AreStates-moved, AreStates-none, AreStates-opened, AreStates-settled, IsStack, IsStack-popped, IsStack-pushed, IsTop, path-push}
 use Rattle.btf.proofs.Steps.{fewer-advanced, fewer-opened, fewer-settled, steps_left}
-use Rattle.btf_records.specs.Tables.{Table}
+use Rattle.btf_encoding.specs.Tables.{Table}
 use Rattle.btf_records.specs.declared.error.BtfError.{BtfError}
 use Rattle.btf_records.specs.declared.error.BtfError.TheVariants.{OutOfMemory}
 

@@ -1,8 +1,8 @@
 -- The records written one behind the other.
-use Rattle.std.proofs.Common.{◌≡◌, ℕ, zero, suc, ◌+◌, ◌<◌, ◌≤◌, List, [], ◌∷◌, ◌++◌, length, map, take, None, Some, refl, sym, ap, subst, ◌∙◌, arith, append-nil, append_assoc, slice_get}
+use Rattle.std.proofs.Common.{◌≡◌, ℕ, zero, suc, ◌+◌, ◌≤◌, List, [], ◌∷◌, ◌++◌, length, map, take, None, Some, refl, sym, ap, subst, ◌∙◌, arith, append-nil, append_assoc, slice_get}
 use Rattle.std.specs.List.{flat_map}
 use Rattle.std.proofs.lemmas.Grind.{flat_map-append}
-use Rattle.btf_records.specs.Records.{ReadsBack, Spells, record_bytes, without_fallback}
+use Rattle.btf_encoding.specs.Records.{ReadsBack, Spells, record_bytes, without_fallback}
 use Rattle.btf_records.specs.declared.types.BtfType.{BtfType}
 use Rattle.btf_records.specs.declared.words.Endianness.{Endianness}
 
@@ -36,7 +36,7 @@ one_more_written order types index old new more t are some is reads =
     let b = flat_map (record_bytes order) (take index types) in
     let front : take (index + 1) types ≡ take index types ++ t ∷ [] = take_one_more types index t some in
     let bytes : flat_map (record_bytes order) (take (index + 1) types) ≡ b ++ record_bytes order t =
-        ap (flat_map (record_bytes order)) front ∙ (flat_map-append (record_bytes order) (take index types) (t ∷ []) ∙ ap (λ (x : List ℕ). b ++ x) (append-nil (record_bytes order t)))
+    ap (flat_map (record_bytes order)) front ∙ (flat_map-append (record_bytes order) (take index types) (t ∷ []) ∙ ap (λ (x : List ℕ). b ++ x) (append-nil (record_bytes order t)))
     in
     let names : map without_fallback (take (index + 1) types) ≡ map without_fallback (take index types) ++ without_fallback t ∷ [] = ap (map without_fallback) front ∙ map_behind without_fallback (take index types) t in
     record {

@@ -1,10 +1,11 @@
 -- On which records an answer rests: it is the same of every other table that has these.
 use Rattle.std.specs.Prelude.{◌≡◌, ℕ, Bool, true, ◌≤◌, List, All, IfSome}
 use Rattle.std.specs.Option.{option_map, option_to_list}
-use Rattle.btf.specs.Lookups.{modified_type, sized_by}
+use Rattle.btf.specs.Lookups.{IsFirstNamed, modified_type, sized_by}
 use Rattle.btf_records.specs.Fields.{name_offset_of}
-use Rattle.btf_records.specs.Tables.{Table, type_by_id}
-use Rattle.btf_records.specs.Texts.{text_at}
+use Rattle.btf_encoding.specs.Tables.{Table, type_by_id}
+use Rattle.btf_encoding.specs.Texts.{text_at}
+use Rattle.btf_records.specs.declared.kind.BtfKind.{BtfKind}
 use Rattle.btf_records.specs.declared.types.BtfType.{BtfType}
 
 -- the ids that are reached have the same records in both tables, and lead to reached ids alone
@@ -41,3 +42,7 @@ size_ids t = option_to_list (option_map (λ by. by.1) (sized_by t))
 pub record AgreeUpTo (last : ℕ) (one other : Table) : Type 0 where
   pub same : (id : ℕ) → id ≤ last → type_by_id other id ≡ type_by_id one id
   pub names : (id : ℕ) → id ≤ last → IfSome (type_by_id one id) (λ t. text_at other.strings (name_offset_of t) ≡ text_at one.strings (name_offset_of t))
+
+-- an id that is found by kind and name is found in every table that is the same up to it
+pub record FoundAlike (table : Table) (name : List ℕ) (kind : BtfKind) (id : ℕ) : Type 0 where
+  pub alike : (other : Table) → AgreeUpTo id table other → IsFirstNamed other name kind id

@@ -1,13 +1,13 @@
 -- When a type of one table is compatible with a type of another, as libbpf's
 -- `bpf_core_types_are_compat` compares them (tools/lib/bpf/relo_core.c), without a limit on depth.
-use Rattle.std.specs.Prelude.{◌≡◌, ℕ, zero, suc, ◌*◌, Bool, true, false, ◌&&◌, ◌==◌, List, [], ◌∷◌, ◌++◌, length, map, Option, None, Some, Result, Ok, Err, if◌then◌else◌}
+use Rattle.std.specs.Prelude.{ℕ, zero, suc, ◌*◌, Bool, true, false, ◌&&◌, ◌==◌, List, [], ◌∷◌, ◌++◌, length, map, Option, None, Some, Result, Ok, Err, if◌then◌else◌}
 use Rattle.std.specs.List.{list_any, zip}
 use Rattle.std.specs.Option.{option_map_or, option_to_list, unwrap_or}
 use Rattle.btf.specs.Lookups.{chain_end, max_depth, modified_type}
 use Rattle.btf_records.specs.Fields.{int_of, kind_of_type, params_of}
 use Rattle.btf_records.specs.Info.{offset_in}
 use Rattle.btf_records.specs.Kinds.{number_of}
-use Rattle.btf_records.specs.Tables.{Table, type_by_id}
+use Rattle.btf_encoding.specs.Tables.{Table, type_by_id}
 use Rattle.btf_records.specs.declared.error.BtfError.{BtfError}
 use Rattle.btf_records.specs.declared.error.BtfError.TheVariants.{MaximumTypeDepthReached, UnexpectedBtfType, UnknownBtfType}
 use Rattle.btf_records.specs.declared.kind.BtfKind.{BtfKind}

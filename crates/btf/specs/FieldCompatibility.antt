@@ -8,8 +8,8 @@ use Rattle.btf.specs.Compatibility.{is_unshifted, of_ends, record_at, same_kind}
 use Rattle.btf.specs.Lookups.{max_depth, modified_type}
 use Rattle.btf_records.specs.Fields.{array_of, kind_of_type, name_offset_of}
 use Rattle.btf_records.specs.Kinds.{number_of}
-use Rattle.btf_records.specs.Tables.{Table}
-use Rattle.btf_records.specs.Texts.{text_at}
+use Rattle.btf_encoding.specs.Tables.{Table}
+use Rattle.btf_encoding.specs.Texts.{text_at}
 use Rattle.btf_records.specs.declared.error.BtfError.{BtfError}
 use Rattle.btf_records.specs.declared.error.BtfError.TheVariants.{InvalidStringOffset, MaximumTypeDepthReached, UnexpectedBtfType}
 use Rattle.btf_records.specs.declared.kind.BtfKind.{BtfKind}

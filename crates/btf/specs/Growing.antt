@@ -1,9 +1,9 @@
 -- What becomes of a table to which a string or a type is added.
-use Rattle.std.specs.Prelude.{◌≡◌, ◌≢◌, ℕ, ◌+◌, List, [], ◌∷◌, ◌++◌, length, map, All, ◌⊎◌, Some}
+use Rattle.std.specs.Prelude.{◌≡◌, ℕ, ◌+◌, List, [], ◌∷◌, ◌++◌, length, map, ◌⊎◌, Some}
 use Rattle.btf.specs.Layout.{TooMany}
-use Rattle.btf_records.specs.Records.{without_fallback}
-use Rattle.btf_records.specs.Tables.{IsTable, Table, TableFault, type_by_id, type_bytes}
-use Rattle.btf_records.specs.Texts.{text_at}
+use Rattle.btf_encoding.specs.Records.{without_fallback}
+use Rattle.btf_encoding.specs.Tables.{IsTable, Table, TableFault, type_by_id, type_bytes}
+use Rattle.btf_encoding.specs.Texts.{text_at}
 use Rattle.btf_records.specs.declared.error.BtfError.{BtfError}
 use Rattle.btf_records.specs.declared.types.BtfType.{BtfType}
 use Rattle.btf_records.specs.declared.words.Endianness.{Endianness}

@@ -6,7 +6,7 @@ use Rattle.std.specs.Map.{lookup}
 use Rattle.std.specs.BTreeMap.{is_at}
 use Rattle.std.specs.Option.{option_map_or}
 use Rattle.std.specs.Ordering.{nat_cmp}
-use Rattle.btf_records.specs.Records.{ReadsSame, record_bytes, type_in, with_fallback}
+use Rattle.btf_encoding.specs.Records.{ReadsSame, record_bytes, type_in, with_fallback}
 use Rattle.btf_records.specs.declared.compound.Enum64Fallback.{Enum64Fallback}
 use Rattle.btf_records.specs.declared.types.BtfType.{BtfType}
 use Rattle.btf_records.specs.declared.words.Endianness.{Endianness}

@@ -5,3 +5,4 @@ pub mod Growing
 pub mod Layout
 pub mod Lookups
 pub mod Pairs
+pub mod Sections

@@ -4,8 +4,8 @@ use Rattle.std.specs.Prelude.{◌≡◌, ◌≢◌, ℕ, zero, suc, ◌*◌, ◌
 use Rattle.std.specs.Option.{IsSomeAnd, option_map, option_map_or}
 use Rattle.std.specs.String.{string_bytes}
 use Rattle.btf_records.specs.Fields.{kind_of_type, name_offset_of, size_of, type_of}
-use Rattle.btf_records.specs.Tables.{Table, type_by_id}
-use Rattle.btf_records.specs.Texts.{text_at}
+use Rattle.btf_encoding.specs.Tables.{Table, type_by_id}
+use Rattle.btf_encoding.specs.Texts.{text_at}
 use Rattle.btf_records.specs.declared.error.BtfError.{BtfError}
 use Rattle.btf_records.specs.declared.error.BtfError.TheVariants.{InvalidStringOffset, InvalidTypeInfo, MaximumTypeDepthReached, UnexpectedBtfType, UnknownBtfType, UnknownBtfTypeName}
 use Rattle.btf_records.specs.declared.kind.BtfKind.{BtfKind}

@@ -8,7 +8,8 @@ ghost use Rattle.btf_records.specs.Fields.{kind_of_type};
 
 use crate::pairs::{OpenPair, PairState, Pairs};
 use crate::table::Btf;
-use btf_records::{BtfError, BtfKind, TypeRef};
+use btf_encoding::TypeRef;
+use btf_records::{BtfError, BtfKind};
 
 /// The record of an id; void where the table has none.
 pub(crate) fn record_at(table: &Btf, id: u32) -> TypeRef<'_>

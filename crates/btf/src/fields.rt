@@ -8,7 +8,8 @@ ghost use Rattle.btf_records.specs.Fields.{array_of};
 
 use crate::compatibility::{is_unshifted, record_at};
 use crate::table::{Btf, MAX_DEPTH};
-use btf_records::{BtfError, BtfKind, TypeRef};
+use btf_encoding::TypeRef;
+use btf_records::{BtfError, BtfKind};
 
 /// A name without its flavour, which begins with `___`.
 fn essential_name(name: &str) -> &str

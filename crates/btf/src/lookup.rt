@@ -1,15 +1,16 @@
 //! How types are found, and their sizes.
 
-ghost use Rattle.std.specs.Prelude.{◌≡◌, ◌≢◌, ◌*◌, true, false, IfOk, IfErr, Ok, Some, None};
+ghost use Rattle.std.specs.Prelude.{◌≡◌, ◌≢◌, ◌*◌, true, false, ℕ, IfOk, IfErr, MatchOption, Ok, Some, None};
 ghost use Rattle.std.specs.Option.{IsSomeAnd, option_map};
-ghost use Rattle.btf.specs.Agreement.{RestsOn, chain_ids, size_ids};
-ghost use Rattle.btf.specs.Lookups.{IsFirstNamed, IsSize, NameFault, own_size, resolved, sized, sized_by, sized_in_32_bits};
+ghost use Rattle.btf.specs.Agreement.{FoundAlike, RestsOn, chain_ids, size_ids};
+ghost use Rattle.btf.specs.Lookups.{IsFirstNamed, IsOther, IsSize, NameFault, own_size, resolved, sized, sized_by, sized_in_32_bits};
 ghost use Rattle.btf_records.specs.Fields.{kind_of_type, name_offset_of};
-ghost use Rattle.btf_records.specs.Texts.{text_at};
+ghost use Rattle.btf_encoding.specs.Texts.{text_at};
 ghost use Rattle.btf_records.specs.declared.error.BtfError.TheVariants.{InvalidStringOffset, OutOfMemory};
 
 use crate::table::{Btf, MAX_DEPTH};
-use btf_records::{BtfError, BtfKind, BtfType, TypeRef};
+use btf_encoding::TypeRef;
+use btf_records::{BtfError, BtfKind, BtfType};
 
 /// The size of a record that has one by itself.
 fn own_size(t: &TypeRef<'_>) -> Option<u32>
@@ -130,19 +131,34 @@ impl Btf {
     ///
     /// `InvalidStringOffset` where the name of an earlier type of the kind can't be read,
     /// `UnknownBtfTypeName` where no type of the kind has the name.
-    #[tactic(auto, using(crate::proofs::Named::known_here, crate::proofs::Named::rest_here, crate::proofs::Named::none_more, crate::proofs::Named::none_left))]
+    #[tactic(auto, using(crate::proofs::NamedAlike::found_alike))]
     pub fn id_by_type_name_kind(&self, name: &str, kind: BtfKind) -> Result<u32, BtfError>
         ensures found { IfOk result (λ id. IsFirstNamed self.now name.now kind id) }
+        ensures rests { IfOk result (λ id. FoundAlike self.now name.now kind id) }
         ensures refused { IfErr result (λ e. e ≢ OutOfMemory → NameFault self.now name.now kind e) }
+    {
+        match self.first_named(name, kind)? {
+            Some(id) => Ok(id),
+            None => {
+                let type_name = String::from_str(self.allocator(), name)?;
+                Err(BtfError::UnknownBtfTypeName { type_name })
+            }
+        }
+    }
+
+    /// The least id of the types of this kind and name, where there is one.
+    #[tactic(auto, using(crate::proofs::Named::known_here, crate::proofs::Named::rest_here, crate::proofs::Named::none_more, crate::proofs::Named::none_left))]
+    fn first_named(&self, name: &str, kind: BtfKind) -> Result<Option<u32>, BtfError>
+        ensures found { IfOk result (λ found. MatchOption found ((id : ℕ) → IsOther self.now name.now kind id) (λ id. IsFirstNamed self.now name.now kind id)) }
+        ensures refused { IfErr result (λ e. NameFault self.now name.now kind e) }
     {
         let mut id: usize = 0;
         for t in self.types() {
             if self.is_named(&t, name, kind)? {
-                return Ok(id as u32);
+                return Ok(Some(id as u32));
             }
             id += 1;
         }
-        let type_name = String::from_str(self.allocator(), name)?;
-        Err(BtfError::UnknownBtfTypeName { type_name })
+        Ok(None)
     }
 }

@@ -4,12 +4,12 @@ ghost use Rattle.std.specs.Prelude.{◌≡◌, ◌≢◌, ◌<◌, ◌≤◌, �
 ghost use Rattle.std.specs.List.{flat_map};
 ghost use Rattle.std.specs.Option.{option_copied, option_map_or};
 ghost use Rattle.btf_records.specs.Fields.{fallback_of};
-ghost use Rattle.btf_records.specs.Records.{AreTypes, HasRecord, ReadsBack, ReadsSame, Spells, TypesFault, record_bytes, type_in, with_fallback, without_fallback};
+ghost use Rattle.btf_encoding.specs.Records.{HasRecord, ReadsBack, ReadsSame, Spells, TypesFault, record_bytes, type_in, with_fallback, without_fallback};
 ghost use Rattle.btf_records.specs.declared.error.BtfError.TheVariants.{InvalidTypeInfo, OutOfMemory};
 ghost use Rattle.btf.specs.Layout.{Entered, TooMany, fallback_at, types_at};
 
-use btf_records::{BtfError, BtfType, Endianness, Enum64Fallback, TypeRef, Union, count_types, push_type,
-    record_len};
+use btf_encoding::{TypeRef, count_types, push_type, record_len};
+use btf_records::{BtfError, BtfType, Endianness, Enum64Fallback, Union};
 use std::alloc::{AllocError, Global};
 use std::collections::BTreeMap;
 use std::marker::Model;
@@ -43,7 +43,7 @@ fn fallback_by_id(fallbacks: &BTreeMap<u32, Enum64Fallback>, id: u32) -> Option<
 }
 
 /// As many bytes, and as many types, as 32 bits can count.
-const MOST: usize = u32::MAX as usize;
+pub(crate) const MOST: usize = u32::MAX as usize;
 
 /// Enters the enum that the record of an id stands for, where there is one.
 fn enter_fallback(
@@ -160,11 +160,7 @@ fn places(
 }
 
 /// Writes the bytes of a record behind what is there.
-fn write_record(
-    out: &mut Vec<u8>,
-    order: Endianness,
-    t: &TypeRef<'_>,
-) -> Result<(), AllocError>
+fn write_record(out: &mut Vec<u8>, order: Endianness, t: &TypeRef<'_>) -> Result<(), AllocError>
     ensures written { OnOk result (out.new.items ≡ out.old.items ++ record_bytes order t.now) }
     ensures read_back { OnOk result (ReadsBack order t.now) }
 {
@@ -176,7 +172,7 @@ impl TypeRecords {
     /// The records that the bytes are, which are counted first.
     ///
     /// `InvalidTypeInfo` where one of them is cut off, `InvalidTypeKind` where none has the kind.
-    #[tactic(auto, using(crate::proofs::Reading::as_counted, crate::proofs::Reading::laid_out))]
+    #[tactic(auto, using(crate::proofs::Reading::laid_out))]
     pub(crate) fn read(
         alloc: Global,
         order: Endianness,
@@ -185,7 +181,6 @@ impl TypeRecords {
         requires { length bytes.now < 2 ^ 32 }
         ensures order { IfOk result (λ r. r.order ≡ order) }
         ensures spelled { IfOk result (λ r. Spells order r.types bytes.now) }
-        ensures counted { IfOk result (λ r. AreTypes order bytes.now (length r.types)) }
         ensures refused { IfErr result (λ e. e ≢ OutOfMemory → TypesFault order bytes.now e) }
     {
         let count = count_types(order, bytes)?;

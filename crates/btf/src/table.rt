@@ -3,29 +3,30 @@
 ghost use Rattle.std.specs.Prelude.{◌≡◌, ◌≤◌, ◌^◌, ◌==◌, ◌∷◌, length, MatchResult, Some, None};
 ghost use Rattle.btf.specs.Lookups.{chain_end, max_depth, modified_type};
 ghost use Rattle.btf_records.specs.Fields.{name_offset_of};
-ghost use Rattle.btf_records.specs.Tables.{type_by_id};
-ghost use Rattle.btf_records.specs.Texts.{text_at};
+ghost use Rattle.btf_encoding.specs.Tables.{type_by_id};
+ghost use Rattle.btf_encoding.specs.Texts.{text_at};
 
 use crate::records::TypeRecords;
 use crate::text::text_at;
 use crate::types::Types;
-use btf_records::{BtfError, BtfKind, BtfType, TypeRef};
+use btf_encoding::TypeRef;
+use btf_records::{BtfError, BtfKind, BtfType};
 use std::alloc::Global;
 use std::marker::Model;
 
 /// A table of types and the strings that name them.
 #[derive(Debug, Drop)]
 pub struct Btf {
-    records: TypeRecords,
-    magic: u16,
-    version: u8,
-    flags: u8,
-    strings: Vec<u8>,
+    pub(crate) records: TypeRecords,
+    pub(crate) magic: u16,
+    pub(crate) version: u8,
+    pub(crate) flags: u8,
+    pub(crate) strings: Vec<u8>,
 }
 
 impl Model for Btf {
     ghost use Rattle.std.specs.Prelude.{length, ◌<◌, ◌^◌};
-    ghost use Rattle.btf_records.specs.Tables.{Table};
+    ghost use Rattle.btf_encoding.specs.Tables.{Table};
 
     ghost Value = { Table };
 

@@ -2,7 +2,7 @@
 
 ghost use Rattle.std.specs.Prelude.{◌≡◌, ◌<◌, ◌==◌, length, position, IfSome};
 ghost use Rattle.std.specs.Option.{option_copied};
-ghost use Rattle.btf_records.specs.Texts.{before_nul, text_at, text_of};
+ghost use Rattle.btf_encoding.specs.Texts.{before_nul, text_at, text_of};
 
 use std::str;
 
@@ -33,7 +33,7 @@ fn text_of(bytes: &[u8]) -> Option<&str>
 }
 
 /// The text at an offset of the strings: the UTF-8 bytes up to the next NUL.
-#[tactic(auto, unfolding(btf_records::specs::Texts::text_at))]
+#[tactic(auto, unfolding(btf_encoding::specs::Texts::text_at))]
 pub(crate) fn text_at(strings: &[u8], offset: u32) -> Option<&str>
     ensures { option_copied result ≡ text_at strings.now offset }
 {

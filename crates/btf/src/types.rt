@@ -4,7 +4,8 @@ ghost use Rattle.std.specs.Prelude.{◌≡◌, ◌≤◌, ◌^◌, ◌∷◌, le
 ghost use Rattle.std.specs.Iterator.{YieldsFirst, item_count};
 
 use crate::records::TypeRecords;
-use btf_records::{BtfType, TypeRef};
+use btf_encoding::TypeRef;
+use btf_records::BtfType;
 use std::marker::Model;
 
 /// The records of a table in order of id.

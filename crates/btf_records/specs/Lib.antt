@@ -3,7 +3,4 @@ pub mod Fields
 pub mod Info
 pub mod Items
 pub mod Kinds
-pub mod Records
-pub mod Tables
-pub mod Texts
 pub mod Words

@@ -46,7 +46,8 @@ pub enum VarLinkage {
 }
 
 impl VarLinkage {
-    pub(crate) fn number(self) -> u32
+    /// The number that stands for this linkage; 3 for an unknown one.
+    pub fn number(self) -> u32
         ensures { result ≡ number_of_var_linkage self }
     {
         self as u32

@@ -32,8 +32,9 @@ impl InfoBits {
         }
     }
 
+    /// Those bits of an info word.
     #[tactic(auto, unfolding(crate::specs::Info::bits_in))]
-    pub(crate) fn of_word(info: u32) -> InfoBits
+    pub fn of_word(info: u32) -> InfoBits
         ensures { result ≡ bits_in info }
     {
         InfoBits {
@@ -46,7 +47,7 @@ impl InfoBits {
 
     /// The info word of a kind and a count with these bits.
     #[tactic(auto, unfolding(crate::specs::Info::info_of))]
-    pub(crate) fn word(self, kind: BtfKind, count: u16) -> u32
+    pub fn word(self, kind: BtfKind, count: u16) -> u32
         ensures value { result ≡ info_of (number_of kind) count self }
         ensures bits { self.bits_16_to_23 < 256 }
     {

@@ -1,6 +1,6 @@
 //! Words of 32 bits, and of 16, in a byte order.
 
-ghost use Rattle.std.specs.Prelude.{◌≡◌, ◌++◌, ◌+◌, ◌≤◌, drop, length, OnOk, OnErr};
+ghost use Rattle.std.specs.Prelude.{◌≡◌, ◌++◌, ◌+◌, ◌≤◌, length, OnOk, OnErr};
 ghost use Rattle.btf_records.specs.Words.{half_at, half_bytes, word_at, word_bytes};
 
 use std::alloc::AllocError;
@@ -27,15 +27,6 @@ pub fn word(order: Endianness, bytes: &[u8], offset: usize) -> u32
         Endianness::Little => u32::from_le_bytes(four),
         Endianness::Big => u32::from_be_bytes(four),
     }
-}
-
-/// The bytes behind the first so many.
-pub(crate) fn behind(bytes: &[u8], len: usize) -> &[u8]
-    requires { len ≤ length bytes.now }
-    ensures value { result.now ≡ drop len bytes.now }
-    ensures length { length result.now + len ≡ length bytes.now }
-{
-    bytes.split_at(len).1
 }
 
 /// Writes a word behind what is there.

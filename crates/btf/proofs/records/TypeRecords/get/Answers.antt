@@ -1,4 +1,4 @@
-use Rattle.std.proofs.Common.{◌≡◌, ◌+◌, Some, drop, slice_get, refl, sym, ap, ◌∙◌}
+use Rattle.std.proofs.Common.{◌≡◌, Some, slice_get, refl, sym, ap, ◌∙◌}
 use Rattle.btf.specs.Layout.{RecordList}
 use Rattle.btf.proofs.Places.{record_is, stands_at}
 use Rattle.btf_records.specs.declared.types.BtfType.{BtfType}

@@ -1,10 +1,9 @@
-use Rattle.std.proofs.Common.{◌≡◌, ◌+◌, ◌<◌, ◌^◌, List, [], ◌∷◌, ◌++◌, length, sym, ap, subst, ◌∙◌}
+use Rattle.std.proofs.Common.{◌+◌, [], ◌∷◌, ◌++◌, length, ap, subst, ◌∙◌}
 use Rattle.std.specs.Prelude.{◌⊎◌}
 use Rattle.std.specs.List.{flat_map}
 use Rattle.btf.specs.Layout.{RecordList, TooMany}
 use Rattle.btf.proofs.Growth.{grown, grown_tight, too_many}
-use Rattle.btf_records.specs.Records.{record_bytes}
-use Rattle.btf_records.specs.declared.types.BtfType.{BtfType}
+use Rattle.btf_encoding.specs.Records.{record_bytes}
 use Rattle.btf.proofs.records.TypeRecords.push.Goals as goal
 
 pub invariant_of-self : goal.invariant_of-self

@@ -13,7 +13,6 @@ returns-clause-written c =
     let t = c.args.self.now in
     all_written t.order t.types c.loop-t.index c.args.out.now.items c.loop-t.out.items c.loop-t.invariant (sym c.get.ensures.value ∙ c.in_default.is)
 
-
 pub returns-clause-spelled : goal.returns-clause-spelled
 returns-clause-spelled c =
     let t = c.args.self.now in

@@ -1,4 +1,4 @@
-use Rattle.std.proofs.Common.{◌≡◌, ◌-◌, ◌<◌, ◌^◌}
+use Rattle.std.proofs.Common.{◌≡◌, ◌-◌}
 use Rattle.btf.specs.Lookups.{max_depth, size_at_end}
 use Rattle.btf.proofs.table.Btf.walk_size.Given as goal
 

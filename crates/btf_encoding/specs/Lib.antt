@@ -1,0 +1,4 @@
+pub mod Items
+pub mod Records
+pub mod Tables
+pub mod Texts

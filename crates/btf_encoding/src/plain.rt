@@ -1,0 +1,68 @@
+//! Records read slowly, as their definition says.
+
+ghost use Rattle.std.specs.Prelude.{◌≡◌, ◌+◌, ◌*◌, ◌<◌, ◌≤◌, SomeIff, length, slice_get};
+ghost use Rattle.btf_encoding.specs.Items.{items_in};
+ghost use Rattle.btf_records.specs.Kinds.{kind_count, kind_of};
+ghost use Rattle.btf_records.specs.Words.{word_at};
+ghost use Rattle.btf_encoding.specs.Records.{HasRecord, len_behind, record_len};
+
+use crate::item::Item;
+use crate::reading::behind;
+use btf_records::Endianness;
+
+/// The word at an offset, from its four bytes.
+#[tactic(auto, unfolding(btf_records::specs::Words::word_at))]
+pub(crate) fn word(order: Endianness, bytes: &[u8], offset: usize) -> u32
+    requires { offset + 4 ≤ length bytes.now }
+    ensures { result ≡ word_at order bytes.now offset }
+{
+    let four = &bytes[offset..];
+    let [lowest, low, high, highest] = match order {
+        Endianness::Little => [four[0], four[1], four[2], four[3]],
+        Endianness::Big => [four[3], four[2], four[1], four[0]],
+    };
+    u32::from(lowest)
+        + 0x100 * (u32::from(low) + 0x100 * (u32::from(high) + 0x100 * u32::from(highest)))
+}
+
+/// The number of bytes of a record, by the number of its kind.
+#[tactic(auto, unfolding(btf_records::specs::Kinds::kind_of))]
+fn len_of(kind: u32, count: usize) -> Option<usize>
+    requires { count < 65536 }
+    ensures { SomeIff result (kind < kind_count) (12 + len_behind (kind_of kind) count) }
+{
+    match kind {
+        0 | 2 | 7 | 8 | 9 | 10 | 11 | 12 | 16 | 18 => Some(12),
+        1 | 14 | 17 => Some(16),
+        3 => Some(24),
+        6 | 13 => Some(12 + 8 * count),
+        4 | 5 | 15 | 19 => Some(12 + 12 * count),
+        _ => None,
+    }
+}
+
+/// The number of bytes of the record that the bytes begin with.
+pub(crate) fn len(order: Endianness, bytes: &[u8]) -> Option<usize>
+    ensures { SomeIff result (HasRecord order bytes.now) (record_len order bytes.now) }
+{
+    if bytes.len() < 12 {
+        return None;
+    }
+    let info = word(order, bytes, 4);
+    let len = len_of(info / 0x100_0000 % 32, (info % 0x1_0000) as usize)?;
+    if len <= bytes.len() { Some(len) } else { None }
+}
+
+/// The item at a place of a list, by walking over those before it.
+pub(crate) fn item<T: Item>(order: Endianness, list: &[u8], count: usize, index: usize) -> Option<T>
+    requires { T.SIZE * count ≤ length list.now }
+    ensures { result ≡ slice_get (items_in (T.item_in order) T.SIZE count list.now) index }
+{
+    if count == 0 {
+        return None;
+    }
+    if index == 0 {
+        return Some(T::read(order, list));
+    }
+    item(order, behind(list, T::SIZE), count - 1, index - 1)
+}
