@@ -1,0 +1,7 @@
+//! Tests of crates over their public calls.
+#![tactic(auto)]
+
+#[cfg(test)]
+mod sections;
+#[cfg(test)]
+mod tables;
