@@ -82,7 +82,7 @@ ends_alike left right local one target other agree asked go go' p here h =
     let same : of_ends one other asked go' p ≡ of_ends local target asked go' p = rw (chain_same left local one locals max_depth asked p.0 here.0, chain_same right target other targets max_depth asked p.1 here.1) refl in
     same
     ∙ for_ends-same go' go (chain_end max_depth local asked p.0) (chain_end max_depth target asked p.1)
-      (λ l r e f. h l r e f (chain-reached left local one locals max_depth asked p.0 l here.0 e) (chain-reached right target other targets max_depth asked p.1 r here.1 f))
+    (λ l r e f. h l r e f (chain-reached left local one locals max_depth asked p.0 l here.0 e) (chain-reached right target other targets max_depth asked p.1 r here.1 f))
 
 abbrev by_records : ℕ → (ℕ × ℕ → Result Bool BtfError) → BtfType → BtfType → Result Bool BtfError
 by_records l ask a b = and_also (verdict l a b) (all_yes ask (zip (parts_of a) (parts_of b)))
@@ -106,10 +106,10 @@ compared_alike left right local one target other agree (suc n) asked open_pairs 
     let same_right : record_at other r ≡ record_at target r = ap (λ (t : Option BtfType). unwrap_or t types.Unknown) (agree.targets.same r there) in
     if-alike (is_open open_pairs l r) _ _ _
     (records_alike l ask' (record_at local l) (record_at one l) (record_at target r) (record_at other r) same_left same_right
-      ∙ ap (and_also (verdict l (record_at local l) (record_at target r)))
-        (all_yes-alike (AreReached left right) ask' ask (zip (parts_of (record_at local l)) (parts_of (record_at target r))) parts
-          (λ p reached. ends_alike left right local one target other agree asked (compared n local target asked inner) (compared n one other asked inner) p reached
-            (λ i k e f to_left to_right. compared_alike left right local one target other agree n asked inner i k to_left to_right))))
+    ∙ ap (and_also (verdict l (record_at local l) (record_at target r)))
+    (all_yes-alike (AreReached left right) ask' ask (zip (parts_of (record_at local l)) (parts_of (record_at target r))) parts
+    (λ p reached. ends_alike left right local one target other agree asked (compared n local target asked inner) (compared n one other asked inner) p reached
+    (λ i k e f to_left to_right. compared_alike left right local one target other agree n asked inner i k to_left to_right))))
 
 known-alike : (reached : ℕ → Bool) (one other : Table) → AgreeOn compared_ids reached one other → (id : ℕ) → reached id ≡ true → IsKnown one id → IsKnown other id
 known-alike reached one other agree id here known = record { found = known.found; is = agree.same id here ∙ known.is }
@@ -128,8 +128,8 @@ types_alike left right local one target other agree l r here there =
     let first : first_verdict l r (type_by_id one l) (type_by_id other r) ≡ first_verdict l r (type_by_id local l) (type_by_id target r) = rw (agree.locals.same l here, agree.targets.same r there) refl in
     ap (λ (x : Result Bool BtfError). and_also x (ends_compatible one other l (l, r))) first
     ∙ ap (and_also (first_verdict l r (type_by_id local l) (type_by_id target r)))
-      (ends_alike left right local one target other agree l (compared (above_pairs local target) local target l []) (compared (above_pairs one other) one other l []) (l, r) (here, there)
-        (λ i k e f to_left to_right. enough_alike left right local one target other agree l i k to_left to_right (chain_end-known max_depth local l l i e) (chain_end-known max_depth target l r k f)))
+    (ends_alike left right local one target other agree l (compared (above_pairs local target) local target l []) (compared (above_pairs one other) one other l []) (l, r) (here, there)
+    (λ i k e f to_left to_right. enough_alike left right local one target other agree l i k to_left to_right (chain_end-known max_depth local l l i e) (chain_end-known max_depth target l r k f)))
 
 pub types_rest : (local : Table) (l : ℕ) (target : Table) (r : ℕ) → RestsOnBoth compared_ids local l target r (λ one other. types_compatible one l other r)
 types_rest local l target r = record { alike = λ left right one other locals targets. types_alike left right local one target other (record { locals = locals; targets = targets }) l r }

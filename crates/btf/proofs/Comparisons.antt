@@ -70,8 +70,8 @@ IsStack-pushed local target asked l r items ps p e h =
     record {
       done = λ none. absurd (no_last ps p (sym e ∙ none));
       top = λ qs q f.
-        let split = split-by_last ps qs p q (sym e ∙ f) in
-        subst (λ (x : OpenPair). IsTop local target asked l r qs x) split.last (subst (λ (xs : List OpenPair). IsTop local target asked l r xs p) split.front h);
+          let split = split-by_last ps qs p q (sym e ∙ f) in
+          subst (λ (x : OpenPair). IsTop local target asked l r qs x) split.last (subst (λ (xs : List OpenPair). IsTop local target asked l r xs p) split.front h);
     }
 
 pub IsStack-popped : (local target : Table) (asked l r : ℕ) (items rest : List OpenPair) (p : OpenPair) → items ≡ rest ++ p ∷ [] → IsStack local target asked l r items → parts_left local target p ≡ [] → IsStack local target asked l r rest
@@ -135,10 +135,10 @@ pub AreStates-opened : (local target : Table) (asked l r : ℕ) (before after : 
     → AreStates local target asked before ps → AreStates local target asked after items
 AreStates-opened local target asked l r before after items ps p e same-l same-r sets h =
     record {
-      settled = λ i k is. elim (state-after before after l r Open i k Settled sets is) [ | inl new ↦ absurd (let wrong = new.is in cc) | inr old ↦ h.settled i k old.is ];
+      settled = λ i k is. elim (state-after before after l r Open i k Settled sets is) [ inl new ↦ absurd (let wrong = new.is in cc) | inr old ↦ h.settled i k old.is ];
       open_pairs = λ i k is.
-        stands-last items ps p i k e
-        ∙ elim (state-after before after l r Open i k Open sets is) [ | inl new ↦ or_right _ _ (is_at-same i k p (new.left ∙ sym same-l) (new.right ∙ sym same-r)) | inr old ↦ or_true _ _ (h.open_pairs i k old.is) ];
+          stands-last items ps p i k e
+          ∙ elim (state-after before after l r Open i k Open sets is) [ inl new ↦ or_right _ _ (is_at-same i k p (new.left ∙ sym same-l) (new.right ∙ sym same-r)) | inr old ↦ or_true _ _ (h.open_pairs i k old.is) ];
     }
 
 pub AreStates-settled : (local target : Table) (asked : ℕ) (before after : List ((ℕ × ℕ) × PairState)) (items rest : List OpenPair) (p : OpenPair) → items ≡ rest ++ p ∷ [] → SetsState before after p.left p.right Settled → Ends local target asked p.left p.right (Ok true)
@@ -146,15 +146,15 @@ pub AreStates-settled : (local target : Table) (asked : ℕ) (before after : Lis
 AreStates-settled local target asked before after items rest p e sets ends h =
     record {
       settled = λ i k is.
-        elim (state-after before after p.left p.right Settled i k Settled sets is) [
-          | inl new ↦ subst (λ (x : ℕ). Ends local target asked x k (Ok true)) (sym new.left) (subst (λ (y : ℕ). Ends local target asked p.left y (Ok true)) (sym new.right) ends)
-          | inr old ↦ h.settled i k old.is
-        ];
+          elim (state-after before after p.left p.right Settled i k Settled sets is) [
+            | inl new ↦ subst (λ (x : ℕ). Ends local target asked x k (Ok true)) (sym new.left) (subst (λ (y : ℕ). Ends local target asked p.left y (Ok true)) (sym new.right) ends)
+            | inr old ↦ h.settled i k old.is
+          ];
       open_pairs = λ i k is.
-        elim (state-after before after p.left p.right Settled i k Open sets is) [
-          | inl new ↦ absurd (let wrong = new.is in cc)
-          | inr old ↦ or_left _ _ (sym (stands-last items rest p i k e) ∙ h.open_pairs i k old.is) (is_at-other i k p old.other)
-        ];
+          elim (state-after before after p.left p.right Settled i k Open sets is) [
+            | inl new ↦ absurd (let wrong = new.is in cc)
+            | inr old ↦ or_left _ _ (sym (stands-last items rest p i k e) ∙ h.open_pairs i k old.is) (is_at-other i k p old.other)
+          ];
     }
 
 is_at-moved : (i k : ℕ) (p q : OpenPair) → q.left ≡ p.left → q.right ≡ p.right → is_at i k p ≡ is_at i k q

@@ -31,7 +31,7 @@ Ends-compared local target asked l r answer left right h =
     let ends = h.stays n (omega arith) in
     same ∙
     elim (in_rounds-compared n local target asked [] l r (AreDeep-none n local target asked)) [
-      | inl e ↦ elim (compared-in_rounds n local target asked [] l r) [ | inl d ↦ d ∙ (sym e ∙ ends) | inr d ↦ d ∙ ends ]
+      | inl e ↦ elim (compared-in_rounds n local target asked [] l r) [ inl d ↦ d ∙ (sym e ∙ ends) | inr d ↦ d ∙ ends ]
       | inr e ↦ sym e ∙ ends
     ]
 
@@ -66,7 +66,7 @@ part-each : (asked : ℕ) (x first next answer : Result Bool BtfError) → IsFin
 part-each asked x first next answer final h part =
     elim h [
       | inl e ↦ inl e
-      | inr e ↦ elim part [ | inl d ↦ inl (e ∙ ap (λ (y : Result Bool BtfError). and_also y next) d) | inr d ↦ inr (e ∙ (ap (λ (y : Result Bool BtfError). and_also y next) d ∙ final.ends next)) ]
+      | inr e ↦ elim part [ inl d ↦ inl (e ∙ ap (λ (y : Result Bool BtfError). and_also y next) d) | inr d ↦ inr (e ∙ (ap (λ (y : Result Bool BtfError). and_also y next) d ∙ final.ends next)) ]
     ]
 
 pub EndsAs-part : (asked : ℕ) (f part rest : ℕ → Result Bool BtfError) (answer : Result Bool BtfError) → IsFinal answer → EndsAs asked f (λ n. and_also (part n) (rest n)) → EndsAs asked part (λ _. answer) → EndsAs asked f (λ _. answer)
@@ -81,7 +81,7 @@ yes-each : (asked : ℕ) (x first next : Result Bool BtfError) → IsDeepOr aske
 yes-each asked x first next h part =
     elim h [
       | inl e ↦ inl e
-      | inr e ↦ elim part [ | inl d ↦ inl (e ∙ ap (λ (y : Result Bool BtfError). and_also y next) d) | inr d ↦ inr (e ∙ ap (λ (y : Result Bool BtfError). and_also y next) d) ]
+      | inr e ↦ elim part [ inl d ↦ inl (e ∙ ap (λ (y : Result Bool BtfError). and_also y next) d) | inr d ↦ inr (e ∙ ap (λ (y : Result Bool BtfError). and_also y next) d) ]
     ]
 
 -- the same where the first is yes in the end

@@ -165,10 +165,10 @@ compared-exchange zero local target asked asked' open_pairs l r = record { same 
 compared-exchange (suc n) local target asked asked' open_pairs l r =
     closed-given (is_open open_pairs l r) (is_open (map exchanged open_pairs) r l) _ _ _ _ (is_open-exchanged open_pairs l r)
     (Gives-and (pair_verdict local target l r) (pair_verdict target local r l) _ _ (record { same = λ answer. verdict-exchange l r (record_at local l) (record_at target r) answer })
-      (rw (zip-exchanged (parts_of (record_at local l)) (parts_of (record_at target r)))
-        (Gives-all _ _ (pair_parts local target l r)
-          (λ p. Gives-ends local target asked asked' _ _ p
-            (λ i k. rw (← push-exchanged open_pairs l r) (compared-exchange n local target asked asked' (open_pairs ++ (l, r) ∷ []) i k))))))
+    (rw (zip-exchanged (parts_of (record_at local l)) (parts_of (record_at target r)))
+    (Gives-all _ _ (pair_parts local target l r)
+    (λ p. Gives-ends local target asked asked' _ _ p
+    (λ i k. rw (← push-exchanged open_pairs l r) (compared-exchange n local target asked asked' (open_pairs ++ (l, r) ∷ []) i k))))))
 
 above-exchanged : (local target : Table) → above_pairs target local ≡ above_pairs local target
 above-exchanged local target = grind (arith, common_steps)

@@ -91,7 +91,7 @@ round_done local target asked x y n i l r go a b answer lt left right is_a is_b 
     let none_at : elements_of (record_at local l) (record_at target r) ≡ None = sym (none ∙ (ap (λ (t : BtfType). elements_of t b) is_a ∙ ap (elements_of (record_at local l)) is_b)) in
     e
     ∙ (ap (λ (t : BtfType). of_fields go local target l t b) is_a
-      ∙ (ap (of_fields go local target l (record_at local l)) is_b ∙ sym (done_at local target asked x y n i l r go lt left right none_at)))
+    ∙ (ap (of_fields go local target l (record_at local l)) is_b ∙ sym (done_at local target asked x y n i l r go lt left right none_at)))
 
 pub round_more : (local target : Table) (asked x y n i l r v w : ℕ) → i < n → Ok l ≡ chain_end max_depth local asked x → Ok r ≡ chain_end max_depth target asked y → elements_of (record_at local l) (record_at target r) ≡ Some (v, w)
     → fields_compared (n - i) local target asked (x, y) ≡ fields_compared (n - (i + 1)) local target asked (v, w)

@@ -107,10 +107,10 @@ records_alike left right local one target other agree go go' l r here there know
     let same_b : record_at other r ≡ b = ap (λ (t : Option BtfType). unwrap_or t types.Unknown) (agree.targets.same r there) in
     ap (λ (t : BtfType). of_fields go' one other l t (record_at other r)) same_a
     ∙ (ap (of_fields go' one other l a) same_b
-      ∙ (tables_alike go' local one target other l a b (name-alike left local one agree.local_names l here known_left) (name-alike right target other agree.target_names r there known_right)
-        ∙ by_elements left right go go' local target l a b (elements_of a b) refl
-          (λ x y e. both_reached left right a b x y (element_reached left (type_by_id local l) (agree.locals.closed l here)) (element_reached right (type_by_id target r) (agree.targets.closed r there)) e)
-          h))
+    ∙ (tables_alike go' local one target other l a b (name-alike left local one agree.local_names l here known_left) (name-alike right target other agree.target_names r there known_right)
+    ∙ by_elements left right go go' local target l a b (elements_of a b) refl
+    (λ x y e. both_reached left right a b x y (element_reached left (type_by_id local l) (agree.locals.closed l here)) (element_reached right (type_by_id target r) (agree.targets.closed r there)) e)
+    h))
 
 ends_alike : (left right : ℕ → Bool) (local one target other : Table) → AgreeOnMembers left right local one target other → (asked : ℕ) (go go' : ℕ → ℕ → Result Bool BtfError) (p : ℕ × ℕ) → AreReached left right p
     → ((l r : ℕ) → IsKnown local l → IsKnown target r → left l ≡ true → right r ≡ true → go' l r ≡ go l r) → of_ends one other asked go' p ≡ of_ends local target asked go p
@@ -120,7 +120,7 @@ ends_alike left right local one target other agree asked go go' p here h =
     let same : of_ends one other asked go' p ≡ of_ends local target asked go' p = rw (chain_same left local one locals max_depth asked p.0 here.0, chain_same right target other targets max_depth asked p.1 here.1) refl in
     same
     ∙ for_ends-same go' go (chain_end max_depth local asked p.0) (chain_end max_depth target asked p.1)
-      (λ l r e f. h l r (chain_end-known max_depth local asked p.0 l e) (chain_end-known max_depth target asked p.1 r f) (chain-reached left local one locals max_depth asked p.0 l here.0 e) (chain-reached right target other targets max_depth asked p.1 r here.1 f))
+    (λ l r e f. h l r (chain_end-known max_depth local asked p.0 l e) (chain_end-known max_depth target asked p.1 r f) (chain-reached left local one locals max_depth asked p.0 l here.0 e) (chain-reached right target other targets max_depth asked p.1 r here.1 f))
 
 rounds_alike : (left right : ℕ → Bool) (local one target other : Table) → AgreeOnMembers left right local one target other → (n asked : ℕ) (p : ℕ × ℕ) → AreReached left right p → fields_compared n one other asked p ≡ fields_compared n local target asked p
 unfolding fields_compared
@@ -128,11 +128,11 @@ rounds_alike left right local one target other agree zero asked p here = refl
 rounds_alike left right local one target other agree (suc n) asked p here =
     ends_alike left right local one target other agree asked _ _ p here
     (λ l r known_left known_right to_left to_right.
-      records_alike left right local one target other agree (fields_compared n local target asked) (fields_compared n one other asked) l r to_left to_right known_left known_right (λ q reached. rounds_alike left right local one target other agree n asked q reached))
+    records_alike left right local one target other agree (fields_compared n local target asked) (fields_compared n one other asked) l r to_left to_right known_left known_right (λ q reached. rounds_alike left right local one target other agree n asked q reached))
 
 pub fields_rest : (local : Table) (l : ℕ) (target : Table) (r : ℕ) → RestsOnNames field_ids local l target r (λ one other. fields_compatible one l other r)
 fields_rest local l target r =
     record {
       alike = λ left right one other locals local_names targets target_names here there.
-        rounds_alike left right local one target other (record { locals = locals; targets = targets; local_names = local_names; target_names = target_names }) max_depth l (l, r) (here, there)
+          rounds_alike left right local one target other (record { locals = locals; targets = targets; local_names = local_names; target_names = target_names }) max_depth l (l, r) (here, there);
     }

@@ -162,8 +162,8 @@ same_fuel (suc n) zero local target asked open_pairs l r left right n-above m-ab
 same_fuel (suc n) (suc m) local target asked open_pairs l r left right n-above m-above =
     if-same (is_open open_pairs l r) _ _ _
     (λ closed.
-      let less = free-push local target open_pairs l r closed (IsKnown-within local l left) (IsKnown-within target r right) in
-      ap (and_also (pair_verdict local target l r))
-      (all_yes-same _ _ (pair_parts local target l r)
-      (λ p. for_ends-same _ _ (chain_end max_depth local asked p.0) (chain_end max_depth target asked p.1)
-        (λ i k e f. same_fuel n m local target asked (open_pairs ++ (l, r) ∷ []) i k (chain_end-known max_depth local asked p.0 i e) (chain_end-known max_depth target asked p.1 k f) (omega arith) (omega arith)))))
+    let less = free-push local target open_pairs l r closed (IsKnown-within local l left) (IsKnown-within target r right) in
+    ap (and_also (pair_verdict local target l r))
+    (all_yes-same _ _ (pair_parts local target l r)
+    (λ p. for_ends-same _ _ (chain_end max_depth local asked p.0) (chain_end max_depth target asked p.1)
+    (λ i k e f. same_fuel n m local target asked (open_pairs ++ (l, r) ∷ []) i k (chain_end-known max_depth local asked p.0 i e) (chain_end-known max_depth target asked p.1 k f) (omega arith) (omega arith)))))

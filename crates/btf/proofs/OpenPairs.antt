@@ -44,10 +44,10 @@ AreDeep-push : (n : ℕ) (local target : Table) (asked : ℕ) (open_pairs : List
 AreDeep-push n local target asked open_pairs l r h last =
     record {
       each = λ i k stands.
-        elim (is_open-pushed open_pairs l r i k stands) [
-          | inl before ↦ h.each i k before
-          | inr same ↦ subst (λ (i' : ℕ). in_rounds n local target asked i' k ≡ deep asked) same.left (subst (λ (k' : ℕ). in_rounds n local target asked l k' ≡ deep asked) same.right last)
-        ]
+          elim (is_open-pushed open_pairs l r i k stands) [
+            | inl before ↦ h.each i k before
+            | inr same ↦ subst (λ (i' : ℕ). in_rounds n local target asked i' k ≡ deep asked) same.left (subst (λ (k' : ℕ). in_rounds n local target asked l k' ≡ deep asked) same.right last)
+          ];
     }
 
 IsDeepOr-closed : (asked : ℕ) (b : Bool) (x y z : Result Bool BtfError) → (b ≡ true → x ≡ deep asked) → IsDeepOr asked x y → IsDeepOr asked x (if b then z else y)
@@ -60,7 +60,7 @@ carried : (n : ℕ) (local target : Table) (asked : ℕ) (open_pairs : List (ℕ
 carried n local target asked open_pairs l r same before =
     elim before [
       | inl e ↦ inl (sym same ∙ e)
-      | inr e ↦ elim (compared-more n local target asked open_pairs l r) [ | inl d ↦ inl (sym same ∙ (e ∙ d)) | inr more ↦ inr (sym same ∙ (e ∙ more)) ]
+      | inr e ↦ elim (compared-more n local target asked open_pairs l r) [ inl d ↦ inl (sym same ∙ (e ∙ d)) | inr more ↦ inr (sym same ∙ (e ∙ more)) ]
     ]
 
 -- the parts of a pair that has no answer in one round less

@@ -64,7 +64,7 @@ in_rounds-more (suc n) local target asked l r =
 
 pub in_rounds-less : (n : ℕ) (local target : Table) (asked l r : ℕ) → in_rounds (suc n) local target asked l r ≡ deep asked → in_rounds n local target asked l r ≡ deep asked
 in_rounds-less n local target asked l r h =
-    elim (in_rounds-more n local target asked l r) [ | inl e ↦ e | inr e ↦ e ∙ h ]
+    elim (in_rounds-more n local target asked l r) [ inl e ↦ e | inr e ↦ e ∙ h ]
 
 pub compared-more : (n : ℕ) (local target : Table) (asked : ℕ) (open_pairs : List (ℕ × ℕ)) (l r : ℕ) → IsDeepOr asked (compared n local target asked open_pairs l r) (compared (suc n) local target asked open_pairs l r)
 unfolding compared

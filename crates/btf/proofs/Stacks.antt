@@ -74,8 +74,8 @@ advanced local target asked p q part others l r same-l same-r is left at ends h 
     let behind = EndsAs-rest asked _ _ _ (next_answer local target asked p part others is h) (part_ends local target asked part l r (Ok true) at ends) in
     record {
       rest = subst (λ (parts : List (ℕ × ℕ)). EndsAs asked (λ n. in_rounds (suc n) local target asked q.left q.right) (λ n. all_yes (part_answer local target asked n) parts)) (sym left)
-        (subst (λ (x : ℕ). EndsAs asked (λ n. in_rounds (suc n) local target asked x q.right) (λ n. all_yes (part_answer local target asked n) others)) (sym same-l)
-          (subst (λ (x : ℕ). EndsAs asked (λ n. in_rounds (suc n) local target asked p.left x) (λ n. all_yes (part_answer local target asked n) others)) (sym same-r) behind))
+          (subst (λ (x : ℕ). EndsAs asked (λ n. in_rounds (suc n) local target asked x q.right) (λ n. all_yes (part_answer local target asked n) others)) (sym same-l)
+          (subst (λ (x : ℕ). EndsAs asked (λ n. in_rounds (suc n) local target asked p.left x) (λ n. all_yes (part_answer local target asked n) others)) (sym same-r) behind));
     }
 
 all-of_none : (local target : Table) (asked n : ℕ) → all_yes (part_answer local target asked n) [] ≡ Ok true
@@ -98,7 +98,7 @@ begun local target asked p first says =
         from = 0;
         each = λ n. inr (rw (says, first) refl);
         stays = λ n le. rw (says, first) refl;
-      }
+      };
     }
 
 -- ---- down a path
@@ -112,7 +112,7 @@ path-final local target asked l r (p ∷ ps) i k answer final path ends =
     (final_part local target asked p at.part at.others answer final at.is path.1 (part_ends local target asked at.part _ _ answer at.ends inner))
 
 deep-next : (asked : ℕ) (x first next : Result Bool BtfError) → IsDeepOr asked x (and_also first next) → first ≡ deep asked → x ≡ deep asked
-deep-next asked x first next h d = elim h [ | inl e ↦ e | inr e ↦ e ∙ ap (λ (y : Result Bool BtfError). and_also y next) d ]
+deep-next asked x first next h d = elim h [ inl e ↦ e | inr e ↦ e ∙ ap (λ (y : Result Bool BtfError). and_also y next) d ]
 
 -- a pair whose next part has no answer yet has none in one round more
 deep_above : (local target : Table) (asked n : ℕ) (p : OpenPair) (l r : ℕ) → IsUnderWay local target asked p → LeadsTo local target asked p l r → in_rounds n local target asked l r ≡ deep asked → in_rounds (suc n) local target asked p.left p.right ≡ deep asked
@@ -161,11 +161,11 @@ path-back local target asked l r (p ∷ ps) i k path among zero = none-at_zero l
 path-back local target asked l r (p ∷ ps) i k path among (suc n) =
     elim (either (is_at i k p) (list_any (is_at i k) ps) among) [
       | inl here ↦
-        let same = IsSame-from_at i k p here in
-        let to-i : l ≡ i = path.0.left ∙ sym same.left in
-        let to-k : r ≡ k = path.0.right ∙ sym same.right in
-        cycle local target asked l r p ps (subst (λ (x : ℕ). IsPath local target asked l r (p ∷ ps) x r) (sym to-i) (subst (λ (y : ℕ). IsPath local target asked l r (p ∷ ps) i y) (sym to-k) path)) (suc n)
+          let same = IsSame-from_at i k p here in
+          let to-i : l ≡ i = path.0.left ∙ sym same.left in
+          let to-k : r ≡ k = path.0.right ∙ sym same.right in
+          cycle local target asked l r p ps (subst (λ (x : ℕ). IsPath local target asked l r (p ∷ ps) x r) (sym to-i) (subst (λ (y : ℕ). IsPath local target asked l r (p ∷ ps) i y) (sym to-k) path)) (suc n)
       | inr there ↦
-        rw (path.0.left, path.0.right)
-        (deep_above local target asked n p _ _ path.1 path.2.1 (path-back local target asked path.2.0.0 path.2.0.1 ps i k path.2.2 there n))
+          rw (path.0.left, path.0.right)
+          (deep_above local target asked n p _ _ path.1 path.2.1 (path-back local target asked path.2.0.0 path.2.0.1 ps i k path.2.2 there n))
     ]

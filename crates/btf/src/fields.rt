@@ -22,12 +22,7 @@ fn essential_name(name: &str) -> &str
 }
 
 /// Whether the names of two records are the same without flavours.
-fn same_names(
-    local: &Btf,
-    target: &Btf,
-    a: &TypeRef<'_>,
-    b: &TypeRef<'_>,
-) -> Result<bool, BtfError>
+fn same_names(local: &Btf, target: &Btf, a: &TypeRef<'_>, b: &TypeRef<'_>) -> Result<bool, BtfError>
     ensures { result ≡ same_names local.now target.now a.now b.now }
 {
     let local_name = local.string_at(a.name_offset())?;
