@@ -29,6 +29,15 @@ pub record RestsOn {A : Type 0} (leads_to : BtfType → List ℕ) (table : Table
 pub record IsReached (leads_to : BtfType → List ℕ) (table : Table) (id end : ℕ) : Type 0 where
   pub reached : (reached : ℕ → Bool) (other : Table) → AgreeOn leads_to reached table other → reached id ≡ true → reached end ≡ true
 
+-- the same of an answer on ids of two tables
+pub record RestsOnBoth {A : Type 0} (leads_to : BtfType → List ℕ) (local : Table) (l : ℕ) (target : Table) (r : ℕ) (ask : Table → Table → A) : Type 0 where
+  pub alike : (reached_left reached_right : ℕ → Bool) (one other : Table) → AgreeOn leads_to reached_left local one → AgreeOn leads_to reached_right target other → reached_left l ≡ true → reached_right r ≡ true → ask one other ≡ ask local target
+
+-- and where it rests on their names too
+pub record RestsOnNames {A : Type 0} (leads_to : BtfType → List ℕ) (local : Table) (l : ℕ) (target : Table) (r : ℕ) (ask : Table → Table → A) : Type 0 where
+  pub alike : (reached_left reached_right : ℕ → Bool) (one other : Table) → AgreeOn leads_to reached_left local one → AgreeOnNames reached_left local one → AgreeOn leads_to reached_right target other → AgreeOnNames reached_right target other → reached_left l ≡ true → reached_right r ≡ true
+      → ask one other ≡ ask local target
+
 -- where a chain of modifiers leads
 abbrev pub chain_ids : BtfType → List ℕ
 chain_ids t = option_to_list (modified_type t)

@@ -58,6 +58,14 @@ parts_of _ = []
 abbrev pub record_at : Table → ℕ → BtfType
 record_at table id = unwrap_or (type_by_id table id) types.Unknown
 
+-- the parts of two known ids, side by side
+abbrev pub pair_parts : Table → Table → ℕ → ℕ → List (ℕ × ℕ)
+pair_parts local target l r = zip (parts_of (record_at local l)) (parts_of (record_at target r))
+
+-- what the records of two known ids say by themselves
+abbrev pub pair_verdict : Table → Table → ℕ → ℕ → Result Bool BtfError
+pair_verdict local target l r = verdict l (record_at local l) (record_at target r)
+
 abbrev pub is_pair : ℕ → ℕ → (ℕ × ℕ) → Bool
 is_pair l r p = (p.0 == l) && (p.1 == r)
 
@@ -79,11 +87,15 @@ of_ends local target asked go p = for_ends go (chain_end max_depth local asked p
 -- opened one inside the other
 unfoldable pub compared : ℕ → Table → Table → ℕ → List (ℕ × ℕ) → ℕ → ℕ → Result Bool BtfError
 compared zero local target asked open_pairs l r = Err (MaximumTypeDepthReached asked)
-compared (suc n) local target asked open_pairs l r = if is_open open_pairs l r then Err (MaximumTypeDepthReached asked) else and_also (verdict l (record_at local l) (record_at target r)) (all_yes (of_ends local target asked (compared n local target asked (open_pairs ++ (l, r) ∷ []))) (zip (parts_of (record_at local l)) (parts_of (record_at target r))))
+compared (suc n) local target asked open_pairs l r = if is_open open_pairs l r then Err (MaximumTypeDepthReached asked) else and_also (pair_verdict local target l r) (all_yes (of_ends local target asked (compared n local target asked (open_pairs ++ (l, r) ∷ []))) (pair_parts local target l r))
 
 -- a number above which no more pairs can be open: all pairs of ids are fewer
 abbrev pub above_pairs : Table → Table → ℕ
 above_pairs local target = suc (suc (length local.types) * suc (length target.types))
+
+-- the answer for two ids with modifiers
+abbrev pub ends_compatible : Table → Table → ℕ → (ℕ × ℕ) → Result Bool BtfError
+ends_compatible local target asked p = of_ends local target asked (compared (above_pairs local target) local target asked []) p
 
 -- whether two ids are known and of one kind, modifiers being kinds too
 abbrev pub first_verdict : ℕ → ℕ → Option BtfType → Option BtfType → Result Bool BtfError
@@ -93,7 +105,7 @@ first_verdict l r (Some a) (Some b) = Ok (same_kind a b)
 
 -- whether the local type is compatible with the target type
 abbrev pub types_compatible : Table → ℕ → Table → ℕ → Result Bool BtfError
-types_compatible local l target r = and_also (first_verdict l r (type_by_id local l) (type_by_id target r)) (of_ends local target l (compared (above_pairs local target) local target l []) (l, r))
+types_compatible local l target r = and_also (first_verdict l r (type_by_id local l) (type_by_id target r)) (ends_compatible local target l (l, r))
 
 -- where the comparison of two types leads on each side
 abbrev pub compared_ids : BtfType → List ℕ

@@ -4,4 +4,5 @@ pub mod FieldCompatibility
 pub mod Growing
 pub mod Layout
 pub mod Lookups
+pub mod Pairs
 pub mod Sections

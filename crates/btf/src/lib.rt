@@ -2,8 +2,11 @@
 //! (Documentation/bpf/btf.rst, "BTF Type and String Encoding").
 #![tactic(auto)]
 
+mod compatibility;
+mod fields;
 mod growing;
 mod lookup;
+mod pairs;
 mod records;
 mod section;
 mod table;
@@ -17,5 +20,7 @@ pub use btf_records::{
     Float, Func, FuncLinkage, FuncProto, Fwd, InfoBits, Int, IntEncoding, Items, Ptr, Restrict,
     Struct, TypeTag, Typedef, Union, Var, VarLinkage, Volatile,
 };
+pub use compatibility::types_are_compatible;
+pub use fields::fields_are_compatible;
 pub use table::Btf;
 pub use types::Types;

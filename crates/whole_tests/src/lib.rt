@@ -2,6 +2,8 @@
 #![tactic(auto)]
 
 #[cfg(test)]
+mod compatibility;
+#[cfg(test)]
 mod sections;
 #[cfg(test)]
 mod tables;
