@@ -2,7 +2,11 @@
 #![tactic(auto)]
 
 #[cfg(test)]
-mod compatibility;
+mod answer;
+#[cfg(test)]
+mod asking;
+#[cfg(test)]
+mod comparisons;
 #[cfg(test)]
 mod sections;
 #[cfg(test)]

@@ -2,9 +2,10 @@
 
 ghost use Rattle.std.specs.Prelude.{◌<◌, ◌^◌, length};
 
-use btf::{BtfError, Endianness};
-use std::alloc::Global;
-use std::test::Fail;
+use crate::answer::Answer;
+use btf::{Btf, Endianness};
+use std::alloc::{AllocError, Global};
+use std::process::Abort;
 
 pub(crate) const ORDERS: [Endianness; 2] = [Endianness::Little, Endianness::Big];
 
@@ -14,11 +15,42 @@ pub(crate) const INT_SECTION: [u8; 45] = [
     0, 0, 1, 4, 0, 0, 0, 0x20, 0, 0, 1, 0, 0x69, 0x6e, 0x74, 0,
 ];
 
+/// The info words of records without items.
+pub(crate) const INT: u32 = 0x0100_0000;
+
+pub(crate) const PTR: u32 = 0x0200_0000;
+
+pub(crate) const ARRAY: u32 = 0x0300_0000;
+
+pub(crate) const STRUCT: u32 = 0x0400_0000;
+
+pub(crate) const UNION: u32 = 0x0500_0000;
+
+pub(crate) const FWD: u32 = 0x0700_0000;
+
+pub(crate) const TYPEDEF: u32 = 0x0800_0000;
+
+pub(crate) const CONST: u32 = 0x0a00_0000;
+
+pub(crate) const FUNC: u32 = 0x0c00_0000;
+
+/// Of a signature with two parameters.
+pub(crate) const SIGNATURE: u32 = 0x0d00_0002;
+
+/// Of a signature without parameters.
+pub(crate) const NO_PARAMETERS: u32 = 0x0d00_0000;
+
 /// Writes a word.
-pub(crate) fn push_word(out: &mut Vec<u8>, order: Endianness, word: u32) -> Result<(), BtfError> {
+fn push_word(out: &mut Vec<u8>, order: Endianness, word: u32) -> Result<(), AllocError> {
     match order {
-        Endianness::Little => out.extend_from_slice(&word.to_le_bytes())?,
-        Endianness::Big => out.extend_from_slice(&word.to_be_bytes())?,
+        Endianness::Little => out.extend_from_slice(&word.to_le_bytes()),
+        Endianness::Big => out.extend_from_slice(&word.to_be_bytes()),
+    }
+}
+
+fn push_words(out: &mut Vec<u8>, order: Endianness, words: &[u32]) -> Result<(), AllocError> {
+    for word in words {
+        push_word(out, order, *word)?;
     }
     Ok(())
 }
@@ -29,7 +61,7 @@ pub(crate) fn section(
     order: Endianness,
     words: &[u32],
     strings: &[u8],
-) -> Result<Vec<u8>, BtfError>
+) -> Result<Vec<u8>, AllocError>
     requires words { length words.now < 2 ^ 16 }
     requires strings { length strings.now < 2 ^ 16 }
 {
@@ -39,20 +71,39 @@ pub(crate) fn section(
         Endianness::Big => out.extend_from_slice(&[0xeb, 0x9f, 1, 0])?,
     }
     let len = 4 * words.len() as u32;
-    for word in [24, 0, len, len, strings.len() as u32] {
-        push_word(&mut out, order, word)?;
-    }
-    for word in words {
-        push_word(&mut out, order, *word)?;
-    }
+    push_words(&mut out, order, &[24, 0, len, len, strings.len() as u32])?;
+    push_words(&mut out, order, words)?;
     out.extend_from_slice(strings)?;
     Ok(out)
 }
 
-/// A test is well where memory ran out: nothing else may come of that.
-pub(crate) fn well(outcome: Result<(), BtfError>) -> Result<(), Fail> {
-    match outcome {
-        Ok(()) | Err(BtfError::OutOfMemory) => Ok(()),
-        Err(_) => Err(Fail::from("refused")),
+/// The table of a section; none where memory ran out.
+pub(crate) fn parse(
+    rt: &impl Abort,
+    alloc: Global,
+    section: &[u8],
+    order: Endianness,
+) -> Option<Btf> {
+    match Btf::parse(alloc, section, order) {
+        Ok(table) => Some(table),
+        Err(error) => {
+            assert_eq!(rt; Answer::refused(&error), Answer::OutOfMemory);
+            None
+        }
     }
+}
+
+/// The table of records with these words, and of these strings; none where memory ran out.
+pub(crate) fn table(
+    rt: &impl Abort,
+    alloc: Global,
+    order: Endianness,
+    words: &[u32],
+    strings: &[u8],
+) -> Option<Btf>
+    requires words { length words.now < 2 ^ 16 }
+    requires strings { length strings.now < 2 ^ 16 }
+{
+    let section = section(alloc, order, words, strings).ok()?;
+    parse(rt, alloc, section.as_slice(), order)
 }

@@ -1,0 +1,94 @@
+//! What a table answers, in values that can be compared.
+
+use btf::{Btf, BtfError, BtfKind, fields_are_compatible, types_are_compatible};
+
+/// An answer, or why there is none.
+#[derive(Clone, Copy, Debug, PartialEq, Eq)]
+pub(crate) enum Answer {
+    Yes,
+    No,
+    Id(u32),
+    Size(u64),
+    InvalidHeader,
+    InvalidTypeInfo,
+    InvalidTypeKind(u32),
+    InvalidStringOffset(usize),
+    UnknownBtfType(u32),
+    UnexpectedBtfType(u32),
+    UnknownBtfTypeName,
+    MaximumTypeDepthReached(u32),
+    OutOfMemory,
+    Other,
+}
+
+impl Answer {
+    pub(crate) fn refused(error: &BtfError) -> Answer {
+        match error {
+            BtfError::InvalidHeader => Answer::InvalidHeader,
+            BtfError::InvalidTypeInfo => Answer::InvalidTypeInfo,
+            BtfError::InvalidTypeKind { kind } => Answer::InvalidTypeKind(*kind),
+            BtfError::InvalidStringOffset { offset } => Answer::InvalidStringOffset(*offset),
+            BtfError::UnknownBtfType { type_id } => Answer::UnknownBtfType(*type_id),
+            BtfError::UnexpectedBtfType { type_id } => Answer::UnexpectedBtfType(*type_id),
+            BtfError::UnknownBtfTypeName { type_name: _ } => Answer::UnknownBtfTypeName,
+            BtfError::MaximumTypeDepthReached { type_id } => {
+                Answer::MaximumTypeDepthReached(*type_id)
+            }
+            BtfError::OutOfMemory => Answer::OutOfMemory,
+            _ => Answer::Other,
+        }
+    }
+
+    /// Whether this is the wanted answer, or memory ran out in place of it.
+    pub(crate) fn is(self, wanted: Answer) -> bool {
+        self == wanted || self == Answer::OutOfMemory
+    }
+}
+
+fn yes_or_no(outcome: Result<bool, BtfError>) -> Answer {
+    match outcome {
+        Ok(true) => Answer::Yes,
+        Ok(false) => Answer::No,
+        Err(error) => Answer::refused(&error),
+    }
+}
+
+fn id(outcome: Result<u32, BtfError>) -> Answer {
+    match outcome {
+        Ok(id) => Answer::Id(id),
+        Err(error) => Answer::refused(&error),
+    }
+}
+
+fn size(outcome: Result<u64, BtfError>) -> Answer {
+    match outcome {
+        Ok(size) => Answer::Size(size),
+        Err(error) => Answer::refused(&error),
+    }
+}
+
+/// What a table is asked.
+#[derive(Clone, Copy, Debug)]
+pub(crate) enum Question {
+    Resolve(u32),
+    Size(u32),
+    SizeIn32Bits(u32),
+    Find(&'static str, BtfKind),
+    /// Whether two types of the table are compatible.
+    Types(u32, u32),
+    /// Whether two members of these types are compatible.
+    Fields(u32, u32),
+}
+
+impl Question {
+    pub(crate) fn ask(self, table: &Btf) -> Answer {
+        match self {
+            Question::Resolve(type_id) => id(table.resolve_type(type_id)),
+            Question::Size(type_id) => size(table.type_size(type_id)),
+            Question::SizeIn32Bits(type_id) => id(table.type_size_u32(type_id)),
+            Question::Find(name, kind) => id(table.id_by_type_name_kind(name, kind)),
+            Question::Types(l, r) => yes_or_no(types_are_compatible(table, l, table, r)),
+            Question::Fields(l, r) => yes_or_no(fields_are_compatible(table, l, table, r)),
+        }
+    }
+}
