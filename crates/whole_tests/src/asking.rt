@@ -1,7 +1,5 @@
 //! Questions on a table, with the wanted answers.
 
-ghost use Rattle.std.specs.Prelude.{◌<◌, ◌^◌, length};
-
 use crate::answer::{Answer, Question};
 use crate::sections::{ORDERS, table};
 use btf::Btf;
@@ -15,10 +13,7 @@ pub(crate) fn ask_all(
     words: &[u32],
     strings: &[u8],
     asked: &[(Question, Answer)],
-)
-    requires words { length words.now < 2 ^ 16 }
-    requires strings { length strings.now < 2 ^ 16 }
-{
+) {
     for order in ORDERS {
         if let Some(table) = table(rt, alloc, order, words, strings) {
             ask(rt, &table, asked);

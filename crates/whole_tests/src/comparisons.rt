@@ -1,7 +1,5 @@
 //! Compatible and incompatible types: by kind, through pointers and signatures, and by name.
 
-ghost use Rattle.std.specs.Prelude.{◌<◌, ◌^◌, IfOk, length};
-
 use crate::answer::{Answer, Question};
 use crate::asking::{ask, ask_all};
 use crate::sections::{
@@ -90,9 +88,7 @@ fn a_pair_inside_itself_is_too_deep(rt: HostRuntime) {
 }
 
 /// 40 signatures, each of which takes the next twice, and then a PTR to this type.
-fn lattice(alloc: Global, last: u32) -> Result<Vec<u32>, AllocError>
-    ensures { IfOk result (λ words. length words.items < 2 ^ 16) }
-{
+fn lattice(alloc: Global, last: u32) -> Result<Vec<u32>, AllocError> {
     let mut words = Vec::with_capacity(alloc, 400)?;
     for id in 1..41 {
         words.extend_from_slice(&[0, SIGNATURE, 0, 0, id + 1, 0, id + 1])?;
@@ -154,9 +150,7 @@ fn members_of_one_kind_are_compatible(rt: HostRuntime) {
 }
 
 /// An INT and 32 ARRAYs, each of the one before.
-fn arrays(alloc: Global) -> Result<Vec<u32>, AllocError>
-    ensures { IfOk result (λ words. length words.items < 2 ^ 16) }
-{
+fn arrays(alloc: Global) -> Result<Vec<u32>, AllocError> {
     let mut words = Vec::with_capacity(alloc, 400)?;
     words.extend_from_slice(&[0, INT, 4, 0x20])?;
     for id in 1..33 {

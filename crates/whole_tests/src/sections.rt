@@ -100,10 +100,9 @@ pub(crate) fn table(
     order: Endianness,
     words: &[u32],
     strings: &[u8],
-) -> Option<Btf>
-    requires words { length words.now < 2 ^ 16 }
-    requires strings { length strings.now < 2 ^ 16 }
-{
+) -> Option<Btf> {
+    assert!(rt; words.len() < 0x1_0000);
+    assert!(rt; strings.len() < 0x1_0000);
     let section = section(alloc, order, words, strings).ok()?;
     parse(rt, alloc, section.as_slice(), order)
 }
