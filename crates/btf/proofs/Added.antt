@@ -1,6 +1,6 @@
 -- A type that is added behind the others.
 use Rattle.std.proofs.Common.{◌≡◌, ℕ, zero, suc, List, [], ◌∷◌, ◌++◌, length, Some, refl, sym, ap, ◌∙◌, arith, slice_get, length-append}
-use Rattle.btf.specs.Growing.{TypesStay}
+use Rattle.btf.specs.GrownTables.{TypesStay}
 use Rattle.btf.proofs.Named.{all_types, by_place}
 use Rattle.btf_encoding.specs.Tables.{Table, type_by_id}
 use Rattle.btf_records.specs.declared.types.BtfType.{BtfType}

@@ -1,12 +1,12 @@
 -- A comparison rests on the records that it reaches in each table.
-use Rattle.std.proofs.Common.{◌≡◌, ℕ, zero, suc, ◌+◌, ◌<◌, Bool, true, false, List, [], ◌∷◌, ◌++◌, length, Ok, Err, Result, Some, None, Option, refl, sym, ap, subst, ◌∙◌, arith}
+use Rattle.std.proofs.Common.{◌≡◌, ℕ, zero, suc, ◌+◌, Bool, true, false, List, [], ◌∷◌, ◌++◌, Ok, Result, Some, None, Option, refl, ap, subst, ◌∙◌, arith}
 use Rattle.std.proofs.lemmas.List.Elements.{All-cons, All-head, All-nil, All-tail}
 use Rattle.std.specs.Prelude.{All, IfSome, if◌then◌else◌}
 use Rattle.std.specs.List.{zip}
 use Rattle.std.specs.Option.{option_map_or, option_to_list, unwrap_or}
 use Rattle.btf.specs.Agreement.{AgreeOn, RestsOnBoth, chain_ids}
-use Rattle.btf.specs.Compatibility.{above_pairs, all_yes, and_also, compared, compared_ids, ends_compatible, first_verdict, for_ends, is_open, of_ends, parts_of, record_at, types_compatible, verdict}
-use Rattle.btf.specs.Lookups.{chain_end, end_from, max_depth, modified_type}
+use Rattle.btf.specs.TypeCompatibility.{all_yes, and_also, behind_modifiers, compared, compared_ids, ends_compatible, first_verdict, is_open, pair_bound, parts_of, record_at, types_compatible, verdict}
+use Rattle.btf.specs.ResolvedTypes.{chain_end, end_from, max_depth, modified_type}
 use Rattle.btf.proofs.FreePairs.{IsKnown, chain_end-known, for_ends-same, free-below, same_fuel}
 use Rattle.btf.proofs.Rests.{chain_same}
 use Rattle.btf_encoding.specs.Tables.{Table, type_by_id}
@@ -75,11 +75,11 @@ pub record AgreeOnBoth (left right : ℕ → Bool) (local one target other : Tab
   pub targets : AgreeOn compared_ids right target other
 
 ends_alike : (left right : ℕ → Bool) (local one target other : Table) → AgreeOnBoth left right local one target other → (asked : ℕ) (go go' : ℕ → ℕ → Result Bool BtfError) (p : ℕ × ℕ) → AreReached left right p
-    → ((l r : ℕ) → chain_end max_depth local asked p.0 ≡ Ok l → chain_end max_depth target asked p.1 ≡ Ok r → left l ≡ true → right r ≡ true → go' l r ≡ go l r) → of_ends one other asked go' p ≡ of_ends local target asked go p
+    → ((l r : ℕ) → chain_end max_depth local asked p.0 ≡ Ok l → chain_end max_depth target asked p.1 ≡ Ok r → left l ≡ true → right r ≡ true → go' l r ≡ go l r) → behind_modifiers one other asked go' p ≡ behind_modifiers local target asked go p
 ends_alike left right local one target other agree asked go go' p here h =
     let locals = chains_agree left local one agree.locals in
     let targets = chains_agree right target other agree.targets in
-    let same : of_ends one other asked go' p ≡ of_ends local target asked go' p = rw (chain_same left local one locals max_depth asked p.0 here.0, chain_same right target other targets max_depth asked p.1 here.1) refl in
+    let same : behind_modifiers one other asked go' p ≡ behind_modifiers local target asked go' p = rw (chain_same left local one locals max_depth asked p.0 here.0, chain_same right target other targets max_depth asked p.1 here.1) refl in
     same
     ∙ for_ends-same go' go (chain_end max_depth local asked p.0) (chain_end max_depth target asked p.1)
     (λ l r e f. h l r e f (chain-reached left local one locals max_depth asked p.0 l here.0 e) (chain-reached right target other targets max_depth asked p.1 r here.1 f))
@@ -99,8 +99,8 @@ unfolding compared
 compared_alike left right local one target other agree zero asked open_pairs l r here there = refl
 compared_alike left right local one target other agree (suc n) asked open_pairs l r here there =
     let inner = open_pairs ++ (l, r) ∷ [] in
-    let ask = of_ends local target asked (compared n local target asked inner) in
-    let ask' = of_ends one other asked (compared n one other asked inner) in
+    let ask = behind_modifiers local target asked (compared n local target asked inner) in
+    let ask' = behind_modifiers one other asked (compared n one other asked inner) in
     let parts = all-zip left right (parts_of (record_at local l)) (parts_of (record_at target r)) (parts_reached left (type_by_id local l) (agree.locals.closed l here)) (parts_reached right (type_by_id target r) (agree.targets.closed r there)) in
     let same_left : record_at one l ≡ record_at local l = ap (λ (t : Option BtfType). unwrap_or t types.Unknown) (agree.locals.same l here) in
     let same_right : record_at other r ≡ record_at target r = ap (λ (t : Option BtfType). unwrap_or t types.Unknown) (agree.targets.same r there) in
@@ -115,20 +115,20 @@ known-alike : (reached : ℕ → Bool) (one other : Table) → AgreeOn compared_
 known-alike reached one other agree id here known = record { found = known.found; is = agree.same id here ∙ known.is }
 
 enough_alike : (left right : ℕ → Bool) (local one target other : Table) → AgreeOnBoth left right local one target other → (asked l r : ℕ) → left l ≡ true → right r ≡ true → IsKnown local l → IsKnown target r
-    → compared (above_pairs one other) one other asked [] l r ≡ compared (above_pairs local target) local target asked [] l r
+    → compared (pair_bound one other) one other asked [] l r ≡ compared (pair_bound local target) local target asked [] l r
 enough_alike left right local one target other agree asked l r here there known_left known_right =
-    let n = above_pairs one other + above_pairs local target in
+    let n = pair_bound one other + pair_bound local target in
     let below = free-below local target [] in
     let below' = free-below one other [] in
-    same_fuel (above_pairs one other) n one other asked [] l r (known-alike left local one agree.locals l here known_left) (known-alike right target other agree.targets r there known_right) below' (omega arith)
-    ∙ (compared_alike left right local one target other agree n asked [] l r here there ∙ same_fuel n (above_pairs local target) local target asked [] l r known_left known_right (omega arith) below)
+    same_fuel (pair_bound one other) n one other asked [] l r (known-alike left local one agree.locals l here known_left) (known-alike right target other agree.targets r there known_right) below' (omega arith)
+    ∙ (compared_alike left right local one target other agree n asked [] l r here there ∙ same_fuel n (pair_bound local target) local target asked [] l r known_left known_right (omega arith) below)
 
 types_alike : (left right : ℕ → Bool) (local one target other : Table) → AgreeOnBoth left right local one target other → (l r : ℕ) → left l ≡ true → right r ≡ true → types_compatible one l other r ≡ types_compatible local l target r
 types_alike left right local one target other agree l r here there =
     let first : first_verdict l r (type_by_id one l) (type_by_id other r) ≡ first_verdict l r (type_by_id local l) (type_by_id target r) = rw (agree.locals.same l here, agree.targets.same r there) refl in
     ap (λ (x : Result Bool BtfError). and_also x (ends_compatible one other l (l, r))) first
     ∙ ap (and_also (first_verdict l r (type_by_id local l) (type_by_id target r)))
-    (ends_alike left right local one target other agree l (compared (above_pairs local target) local target l []) (compared (above_pairs one other) one other l []) (l, r) (here, there)
+    (ends_alike left right local one target other agree l (compared (pair_bound local target) local target l []) (compared (pair_bound one other) one other l []) (l, r) (here, there)
     (λ i k e f to_left to_right. enough_alike left right local one target other agree l i k to_left to_right (chain_end-known max_depth local l l i e) (chain_end-known max_depth target l r k f)))
 
 pub types_rest : (local : Table) (l : ℕ) (target : Table) (r : ℕ) → RestsOnBoth compared_ids local l target r (λ one other. types_compatible one l other r)

@@ -1,7 +1,8 @@
 -- Chains of modifiers and walks to sizes, record by record.
 use Rattle.std.proofs.Common.{◌≡◌, ℕ, suc, ◌+◌, ◌-◌, ◌*◌, ◌<◌, ◌≤◌, ◌^◌, None, Some, Ok, Err, refl, arith, true, false, nat_lt}
 use Rattle.std.proofs.lemmas.Bool.Decides.{nat_tests}
-use Rattle.btf.specs.Lookups.{chain_end, modified_type, own_size, size_at_end, sized_by}
+use Rattle.btf.specs.ResolvedTypes.{chain_end, modified_type}
+use Rattle.btf.specs.TypeSizes.{own_size, size_at_end, sized_by}
 use Rattle.btf_encoding.specs.Tables.{Table, type_by_id}
 use Rattle.btf_records.specs.declared.error.BtfError.TheVariants.{InvalidTypeInfo, MaximumTypeDepthReached, UnexpectedBtfType, UnknownBtfType}
 use Rattle.btf_records.specs.declared.types.BtfType.{BtfType}

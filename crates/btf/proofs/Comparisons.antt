@@ -1,20 +1,18 @@
 -- A comparison as far as it has come: the pairs that are open stand on a path from the first, those
 -- that are settled are compatible.
-use Rattle.std.proofs.Common.{◌≡◌, ℕ, zero, suc, ◌+◌, ◌<◌, ◌≤◌, Bool, true, false, List, [], ◌∷◌, ◌++◌, drop, length, Ok, Err, Result, Some, None, Option, refl, sym, ap, subst, ◌∙◌, inl, inr, arith}
+use Rattle.std.proofs.Common.{◌≡◌, ℕ, Bool, true, false, List, [], ◌∷◌, ◌++◌, Ok, Some, refl, sym, ap, subst, ◌∙◌, inl, inr, arith}
 use Rattle.std.proofs.lemmas.Grind.{common_steps}
 use Rattle.std.proofs.lemmas.List.Folds.{list_any-append}
-use Rattle.std.specs.Prelude.{◌⊎◌, ◌&&◌, ◌||◌, ◌==◌, if◌then◌else◌, is_some, slice_get}
-use Rattle.std.specs.List.{list_any, sum_by}
-use Rattle.btf.specs.Compatibility.{is_pair, pair_parts}
+use Rattle.std.specs.Prelude.{◌⊎◌, ◌||◌, if◌then◌else◌}
+use Rattle.btf.specs.TypeCompatibility.{is_pair}
 use Rattle.btf.specs.Pairs.{SetsState, state_of}
 use Rattle.btf.specs.declared.pairs.OpenPair.{OpenPair}
 use Rattle.btf.specs.declared.pairs.PairState.{PairState}
 use Rattle.btf.specs.declared.pairs.PairState.TheVariants.{Open, Settled}
-use Rattle.btf.proofs.Endings.{Ends, IsFinal}
+use Rattle.btf.proofs.Endings.{Ends}
 use Rattle.btf.proofs.OpenPairs.{IsSame}
-use Rattle.btf.proofs.Stacks.{EndsAt, IsPath, IsUnderWay, LeadsTo, is_at, parts_left, settled, stands}
+use Rattle.btf.proofs.Stacks.{IsPath, IsUnderWay, LeadsTo, is_at, parts_left, settled, stands}
 use Rattle.btf_encoding.specs.Tables.{Table}
-use Rattle.btf_records.specs.declared.error.BtfError.{BtfError}
 
 -- ---- a path by its last pair
 

@@ -1,9 +1,7 @@
 -- An answer in rounds: none yet, or the one that all larger numbers of rounds give.
-use Rattle.std.proofs.Common.{◌≡◌, ℕ, zero, suc, ◌+◌, ◌<◌, ◌≤◌, Bool, true, false, List, [], ◌∷◌, ◌++◌, Ok, Err, Result, max, refl, sym, ap, subst, ◌∙◌, inl, inr, arith}
-use Rattle.std.specs.Prelude.{◌⊎◌}
-use Rattle.std.specs.List.{list_any}
-use Rattle.btf.specs.Compatibility.{above_pairs, all_yes, and_also, compared, is_open, of_ends, pair_parts, pair_verdict}
-use Rattle.btf.proofs.FreePairs.{IsKnown, free, free-below, same_fuel}
+use Rattle.std.proofs.Common.{◌≡◌, ℕ, zero, suc, ◌+◌, ◌≤◌, Bool, true, false, [], Ok, Err, Result, refl, sym, ap, ◌∙◌, inl, inr, arith}
+use Rattle.btf.specs.TypeCompatibility.{all_yes, and_also, behind_modifiers, compared, is_open, pair_bound, pair_parts, pair_verdict}
+use Rattle.btf.proofs.FreePairs.{IsKnown, free-below, same_fuel}
 use Rattle.btf.proofs.OpenPairs.{AreDeep, in_rounds-compared}
 use Rattle.btf.proofs.Rounds.{IsDeepOr, compared-in_rounds, deep, in_rounds}
 use Rattle.btf_encoding.specs.Tables.{Table}
@@ -23,11 +21,11 @@ AreDeep-none : (n : ℕ) (local target : Table) (asked : ℕ) → AreDeep n loca
 unfolding is_open
 AreDeep-none n local target asked = record { each = λ i k stands. absurd cc }
 
-pub Ends-compared : (local target : Table) (asked l r : ℕ) (answer : Result Bool BtfError) → IsKnown local l → IsKnown target r → Ends local target asked l r answer → compared (above_pairs local target) local target asked [] l r ≡ answer
+pub Ends-compared : (local target : Table) (asked l r : ℕ) (answer : Result Bool BtfError) → IsKnown local l → IsKnown target r → Ends local target asked l r answer → compared (pair_bound local target) local target asked [] l r ≡ answer
 Ends-compared local target asked l r answer left right h =
-    let n = above_pairs local target + h.from in
+    let n = pair_bound local target + h.from in
     let below = free-below local target [] in
-    let same = same_fuel (above_pairs local target) n local target asked [] l r left right below (omega arith) in
+    let same = same_fuel (pair_bound local target) n local target asked [] l r left right below (omega arith) in
     let ends = h.stays n (omega arith) in
     same ∙
     elim (in_rounds-compared n local target asked [] l r (AreDeep-none n local target asked)) [
@@ -100,8 +98,8 @@ Ends-verdict local target asked l r answer final says =
     Ends-shift local target asked l r answer
     record {
       from = 0;
-      each = λ n. inr (ap (λ (y : Result Bool BtfError). and_also y (all_yes (of_ends local target asked (in_rounds n local target asked)) (pair_parts local target l r))) says ∙ final.ends _);
-      stays = λ n le. ap (λ (y : Result Bool BtfError). and_also y (all_yes (of_ends local target asked (in_rounds n local target asked)) (pair_parts local target l r))) says ∙ final.ends _;
+      each = λ n. inr (ap (λ (y : Result Bool BtfError). and_also y (all_yes (behind_modifiers local target asked (in_rounds n local target asked)) (pair_parts local target l r))) says ∙ final.ends _);
+      stays = λ n le. ap (λ (y : Result Bool BtfError). and_also y (all_yes (behind_modifiers local target asked (in_rounds n local target asked)) (pair_parts local target l r))) says ∙ final.ends _;
     }
 
 -- a pair that never has an answer

@@ -1,11 +1,11 @@
 -- A yes or no of a comparison is that of the comparison with its sides exchanged.
-use Rattle.std.proofs.Common.{◌≡◌, ◌≢◌, ℕ, zero, suc, ◌+◌, ◌*◌, Bool, true, false, List, [], ◌∷◌, ◌++◌, map, length, Ok, Err, Result, Some, None, Option, refl, sym, ap, subst, ◌∙◌, inl, inr, arith}
+use Rattle.std.proofs.Common.{◌≡◌, ℕ, zero, suc, Bool, true, false, List, [], ◌∷◌, ◌++◌, map, length, Ok, Err, Result, Some, None, Option, refl, sym, ap, subst, ◌∙◌, arith}
 use Rattle.std.proofs.lemmas.Grind.{common_steps}
 use Rattle.std.proofs.lemmas.Bool.Decides.{nat_tests}
-use Rattle.std.specs.Prelude.{◌⊎◌, ◌&&◌, ◌||◌, ◌==◌, IfOk, if◌then◌else◌}
-use Rattle.std.specs.List.{list_any, zip}
-use Rattle.btf.specs.Compatibility.{above_pairs, all_yes, and_also, compared, ends_compatible, first_verdict, for_ends, is_open, is_pair, is_unshifted, of_ends, pair_parts, pair_verdict, parts_of, record_at, same_kind, types_compatible, verdict, verdict_of}
-use Rattle.btf.specs.Lookups.{chain_end, end_from, max_depth, modified_type}
+use Rattle.std.specs.Prelude.{◌&&◌, ◌||◌, ◌==◌, IfOk, if◌then◌else◌}
+use Rattle.std.specs.List.{zip}
+use Rattle.btf.specs.TypeCompatibility.{all_yes, and_also, behind_modifiers, both_ends, compared, first_verdict, has_no_bit_offset, is_open, is_pair, pair_bound, pair_parts, pair_verdict, parts_of, record_at, same_kind, types_compatible, verdict, verdict_of}
+use Rattle.btf.specs.ResolvedTypes.{chain_end, end_from, max_depth, modified_type}
 use Rattle.std.specs.Option.{option_map_or}
 use Rattle.btf_records.specs.Fields.{kind_of_type, params_of}
 use Rattle.btf_records.specs.Kinds.{kind_of, number_of}
@@ -63,7 +63,7 @@ both false false = refl
 
 -- a yes or no keeps when the sides are exchanged
 verdict_of-exchange : (k : BtfKind) (l r : ℕ) (a b : BtfType) (answer : Bool) → verdict_of k l a b ≡ Ok answer → verdict_of k r b a ≡ Ok answer
-verdict_of-exchange kinds.Int l r a b answer h = ap answer_of (both (is_unshifted b) (is_unshifted a)) ∙ h
+verdict_of-exchange kinds.Int l r a b answer h = ap answer_of (both (has_no_bit_offset b) (has_no_bit_offset a)) ∙ h
 verdict_of-exchange kinds.FuncProto l r a b answer h = ap answer_of (same_test (length (params_of b)) (length (params_of a))) ∙ h
 verdict_of-exchange kinds.Func l r a b answer h = absurd cc
 verdict_of-exchange kinds.Var l r a b answer h = absurd cc
@@ -132,12 +132,12 @@ unfolding chain_end
 chain_end-asked zero table asked asked' id end e = absurd cc
 chain_end-asked (suc n) table asked asked' id end e = from-asked (chain_end n table asked) (chain_end n table asked') id (type_by_id table id) end (λ next. chain_end-asked n table asked asked' next end) e
 
-ends-given : (go go' : ℕ → ℕ → Result Bool BtfError) (x y x' y' : Result ℕ BtfError) → ((l r : ℕ) → Gives (go l r) (go' r l)) → ((e : ℕ) → x ≡ Ok e → x' ≡ Ok e) → ((e : ℕ) → y ≡ Ok e → y' ≡ Ok e) → Gives (for_ends go x y) (for_ends go' y' x')
+ends-given : (go go' : ℕ → ℕ → Result Bool BtfError) (x y x' y' : Result ℕ BtfError) → ((l r : ℕ) → Gives (go l r) (go' r l)) → ((e : ℕ) → x ≡ Ok e → x' ≡ Ok e) → ((e : ℕ) → y ≡ Ok e → y' ≡ Ok e) → Gives (both_ends go x y) (both_ends go' y' x')
 ends-given go go' (Err e) y x' y' h left right = record { same = λ answer k. absurd cc }
 ends-given go go' (Ok l) (Err e) x' y' h left right = record { same = λ answer k. absurd cc }
 ends-given go go' (Ok l) (Ok r) x' y' h left right = record { same = λ answer k. rw (left l refl, right r refl) ((h l r).same answer k) }
 
-pub Gives-ends : (local target : Table) (asked asked' : ℕ) (go go' : ℕ → ℕ → Result Bool BtfError) (p : ℕ × ℕ) → ((l r : ℕ) → Gives (go l r) (go' r l)) → Gives (of_ends local target asked go p) (of_ends target local asked' go' (exchanged p))
+pub Gives-ends : (local target : Table) (asked asked' : ℕ) (go go' : ℕ → ℕ → Result Bool BtfError) (p : ℕ × ℕ) → ((l r : ℕ) → Gives (go l r) (go' r l)) → Gives (behind_modifiers local target asked go p) (behind_modifiers target local asked' go' (exchanged p))
 Gives-ends local target asked asked' go go' p h =
     ends-given go go' (chain_end max_depth local asked p.0) (chain_end max_depth target asked p.1) (chain_end max_depth local asked' p.0) (chain_end max_depth target asked' p.1) h
     (λ e. chain_end-asked max_depth local asked asked' p.0 e) (λ e. chain_end-asked max_depth target asked asked' p.1 e)
@@ -170,7 +170,7 @@ compared-exchange (suc n) local target asked asked' open_pairs l r =
     (λ p. Gives-ends local target asked asked' _ _ p
     (λ i k. rw (← push-exchanged open_pairs l r) (compared-exchange n local target asked asked' (open_pairs ++ (l, r) ∷ []) i k))))))
 
-above-exchanged : (local target : Table) → above_pairs target local ≡ above_pairs local target
+above-exchanged : (local target : Table) → pair_bound target local ≡ pair_bound local target
 above-exchanged local target = grind (arith, common_steps)
 
 first-exchange : (l r : ℕ) (a b : Option BtfType) → Gives (first_verdict l r a b) (first_verdict r l b a)
@@ -181,7 +181,7 @@ first-exchange l r (Some a) (Some b) = record { same = λ answer e. ap answer_of
 pub types-exchanged : (local : Table) (l : ℕ) (target : Table) (r : ℕ) → Gives (types_compatible local l target r) (types_compatible target r local l)
 types-exchanged local l target r =
     Gives-and _ _ _ _ (first-exchange l r (type_by_id local l) (type_by_id target r))
-    (Gives-ends local target l r _ _ (l, r) (λ i k. rw (above-exchanged local target) (compared-exchange (above_pairs local target) local target l r [] i k)))
+    (Gives-ends local target l r _ _ (l, r) (λ i k. rw (above-exchanged local target) (compared-exchange (pair_bound local target) local target l r [] i k)))
 
 pub answer-exchanged : (local : Table) (l : ℕ) (target : Table) (r : ℕ) (result : Result Bool BtfError) → IfOk result (λ b. types_compatible local l target r ≡ Ok b) → IfOk result (λ b. types_compatible target r local l ≡ Ok b)
 answer-exchanged local l target r (Ok b) h = (types-exchanged local l target r).same b h

@@ -1,17 +1,15 @@
 -- The comparison of members, round by round.
-use Rattle.std.proofs.Common.{◌≡◌, ◌≢◌, ℕ, zero, suc, ◌+◌, ◌-◌, ◌<◌, ◌≤◌, Bool, true, false, Option, None, Some, Result, Ok, Err, List, refl, sym, ap, subst, ◌∙◌, arith}
-use Rattle.std.proofs.lemmas.Grind.{common_steps}
-use Rattle.std.specs.Prelude.{if◌then◌else◌, ◌&&◌, ◌==◌}
+use Rattle.std.proofs.Common.{◌≡◌, ◌≢◌, ℕ, suc, ◌+◌, ◌-◌, ◌<◌, Bool, true, false, Option, None, Some, Result, Ok, Err, refl, sym, ap, ◌∙◌, arith}
+use Rattle.std.specs.Prelude.{if◌then◌else◌, ◌&&◌}
 use Rattle.std.specs.Option.{option_map, option_zip}
-use Rattle.btf.specs.Compatibility.{record_at, same_kind}
-use Rattle.btf.specs.FieldCompatibility.{field_verdict, fields_compared, is_composite, of_fields}
-use Rattle.btf.specs.Lookups.{chain_end, max_depth}
+use Rattle.btf.specs.TypeCompatibility.{record_at, same_kind}
+use Rattle.btf.specs.FieldCompatibility.{field_verdict, fields_compared, is_composite, field_answer}
+use Rattle.btf.specs.ResolvedTypes.{chain_end, max_depth}
 use Rattle.btf.proofs.Exchanged.{one_kind}
 use Rattle.btf_records.specs.Fields.{array_of, kind_of_type}
 use Rattle.btf_encoding.specs.Tables.{Table}
 use Rattle.btf_records.specs.declared.error.BtfError.{BtfError}
 use Rattle.btf_records.specs.declared.error.BtfError.TheVariants.{MaximumTypeDepthReached}
-use Rattle.btf_records.specs.declared.item.BtfArray.{BtfArray}
 use Rattle.btf_records.specs.declared.kind.BtfKind.{BtfKind}
 use Rattle.btf_records.specs.declared.kind.BtfKind.TheVariants as kinds
 use Rattle.btf_records.specs.declared.types.BtfType.{BtfType}
@@ -22,7 +20,7 @@ abbrev pub elements_of : BtfType → BtfType → Option (ℕ × ℕ)
 elements_of a b = option_zip (option_map (λ array. array.element_type) (array_of a)) (option_map (λ array. array.element_type) (array_of b))
 
 -- arrays say what their elements do
-pub arrays-verdict : (go : ℕ × ℕ → Result Bool BtfError) (local target : Table) (l : ℕ) (a b : BtfType) (x y : ℕ) → elements_of a b ≡ Some (x, y) → of_fields go local target l a b ≡ go (x, y)
+pub arrays-verdict : (go : ℕ × ℕ → Result Bool BtfError) (local target : Table) (l : ℕ) (a b : BtfType) (x y : ℕ) → elements_of a b ≡ Some (x, y) → field_answer go local target l a b ≡ go (x, y)
 arrays-verdict go local target l (types.Array t) (types.Array u) x y e =
     ap go (let same : (t.array.element_type, u.array.element_type) ≡ (x, y) = cc in same)
 arrays-verdict go local target l (types.Array t) _ x y e = absurd cc
@@ -62,7 +60,7 @@ by_tests false true go go' local target l a b h = by_kind go go' local target (k
 by_tests false false go go' local target l a b h = refl
 
 -- others say the same whatever elements would say
-pub others-verdict : (go go' : ℕ × ℕ → Result Bool BtfError) (local target : Table) (l : ℕ) (a b : BtfType) → elements_of a b ≡ None → of_fields go local target l a b ≡ of_fields go' local target l a b
+pub others-verdict : (go go' : ℕ × ℕ → Result Bool BtfError) (local target : Table) (l : ℕ) (a b : BtfType) → elements_of a b ≡ None → field_answer go local target l a b ≡ field_answer go' local target l a b
 others-verdict go go' local target l a b e = by_tests (is_composite a && is_composite b) (same_kind a b) go go' local target l a b (λ same. no_arrays a b e (one_kind a b same))
 
 one_fewer : (n i : ℕ) → i < n → n - i ≡ suc (n - (i + 1))
@@ -81,17 +79,17 @@ unfolding fields_compared
 round_right local target asked x y n i l e lt left right = rw (one_fewer n i lt, sym left, sym right) refl
 
 done_at : (local target : Table) (asked x y n i l r : ℕ) (go : ℕ × ℕ → Result Bool BtfError) → i < n → Ok l ≡ chain_end max_depth local asked x → Ok r ≡ chain_end max_depth target asked y → elements_of (record_at local l) (record_at target r) ≡ None
-    → fields_compared (n - i) local target asked (x, y) ≡ of_fields go local target l (record_at local l) (record_at target r)
+    → fields_compared (n - i) local target asked (x, y) ≡ field_answer go local target l (record_at local l) (record_at target r)
 unfolding fields_compared
 done_at local target asked x y n i l r go lt left right none = rw (one_fewer n i lt, sym left, sym right) (others-verdict (fields_compared (n - (i + 1)) local target asked) go local target l (record_at local l) (record_at target r) none)
 
 pub round_done : (local target : Table) (asked x y n i l r : ℕ) (go : ℕ × ℕ → Result Bool BtfError) (a b : BtfType) (answer : Result Bool BtfError) → i < n → Ok l ≡ chain_end max_depth local asked x → Ok r ≡ chain_end max_depth target asked y → a ≡ record_at local l → b ≡ record_at target r → None ≡ elements_of a b
-    → answer ≡ of_fields go local target l a b → answer ≡ fields_compared (n - i) local target asked (x, y)
+    → answer ≡ field_answer go local target l a b → answer ≡ fields_compared (n - i) local target asked (x, y)
 round_done local target asked x y n i l r go a b answer lt left right is_a is_b none e =
     let none_at : elements_of (record_at local l) (record_at target r) ≡ None = sym (none ∙ (ap (λ (t : BtfType). elements_of t b) is_a ∙ ap (elements_of (record_at local l)) is_b)) in
     e
-    ∙ (ap (λ (t : BtfType). of_fields go local target l t b) is_a
-    ∙ (ap (of_fields go local target l (record_at local l)) is_b ∙ sym (done_at local target asked x y n i l r go lt left right none_at)))
+    ∙ (ap (λ (t : BtfType). field_answer go local target l t b) is_a
+    ∙ (ap (field_answer go local target l (record_at local l)) is_b ∙ sym (done_at local target asked x y n i l r go lt left right none_at)))
 
 pub round_more : (local target : Table) (asked x y n i l r v w : ℕ) → i < n → Ok l ≡ chain_end max_depth local asked x → Ok r ≡ chain_end max_depth target asked y → elements_of (record_at local l) (record_at target r) ≡ Some (v, w)
     → fields_compared (n - i) local target asked (x, y) ≡ fields_compared (n - (i + 1)) local target asked (v, w)

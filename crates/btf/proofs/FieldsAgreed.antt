@@ -1,12 +1,12 @@
 -- A comparison of members rests on the records that it reaches in each table, and on their names.
-use Rattle.std.proofs.Common.{◌≡◌, ℕ, zero, suc, Bool, true, false, List, [], ◌∷◌, ◌++◌, Ok, Err, Result, Some, None, Option, refl, sym, ap, subst, ◌∙◌, arith}
+use Rattle.std.proofs.Common.{◌≡◌, ℕ, zero, suc, Bool, true, false, [], Ok, Result, Some, None, Option, refl, sym, ap, subst, ◌∙◌, arith}
 use Rattle.std.proofs.lemmas.List.Elements.{All-head}
-use Rattle.std.specs.Prelude.{All, IfSome, ◌&&◌, ◌==◌, if◌then◌else◌}
-use Rattle.std.specs.Option.{option_map, option_map_or, option_to_list, unwrap_or}
+use Rattle.std.specs.Prelude.{All, IfSome, ◌&&◌, if◌then◌else◌}
+use Rattle.std.specs.Option.{option_map, option_to_list, unwrap_or}
 use Rattle.btf.specs.Agreement.{AgreeOn, AgreeOnNames, RestsOnNames, chain_ids}
-use Rattle.btf.specs.Compatibility.{for_ends, is_unshifted, of_ends, record_at, same_kind}
-use Rattle.btf.specs.FieldCompatibility.{field_ids, field_verdict, fields_compared, fields_compatible, is_composite, of_fields, same_names}
-use Rattle.btf.specs.Lookups.{chain_end, max_depth, modified_type}
+use Rattle.btf.specs.TypeCompatibility.{behind_modifiers, record_at, same_kind}
+use Rattle.btf.specs.FieldCompatibility.{field_ids, field_verdict, fields_compared, fields_compatible, is_composite, field_answer, same_names}
+use Rattle.btf.specs.ResolvedTypes.{chain_end, max_depth, modified_type}
 use Rattle.btf.proofs.Agreed.{AreReached, all-behind, all-front, chain-reached}
 use Rattle.btf.proofs.FieldRounds.{arrays-verdict, elements_of, others-verdict}
 use Rattle.btf.proofs.FreePairs.{IsKnown, chain_end-known, for_ends-same}
@@ -80,12 +80,12 @@ by_kind go local one target other kinds.DataSec l a b left right = refl
 by_kind go local one target other kinds.DeclTag l a b left right = refl
 by_kind go local one target other kinds.TypeTag l a b left right = refl
 
-tables_alike : (go : ℕ × ℕ → Result Bool BtfError) (local one target other : Table) (l : ℕ) (a b : BtfType) → SameName local one a → SameName target other b → of_fields go one other l a b ≡ of_fields go local target l a b
+tables_alike : (go : ℕ × ℕ → Result Bool BtfError) (local one target other : Table) (l : ℕ) (a b : BtfType) → SameName local one a → SameName target other b → field_answer go one other l a b ≡ field_answer go local target l a b
 tables_alike go local one target other l a b left right =
     ap (λ (x : Result Bool BtfError). if is_composite a && is_composite b then Ok true else if same_kind a b then x else Ok false) (by_kind go local one target other (kind_of_type a) l a b left right)
 
 by_elements : (left right : ℕ → Bool) (go go' : ℕ × ℕ → Result Bool BtfError) (local target : Table) (l : ℕ) (a b : BtfType) (elements : Option (ℕ × ℕ)) → elements_of a b ≡ elements → ((x y : ℕ) → elements_of a b ≡ Some (x, y) → AreReached left right (x, y)) → ((p : ℕ × ℕ) → AreReached left right p → go' p ≡ go p)
-    → of_fields go' local target l a b ≡ of_fields go local target l a b
+    → field_answer go' local target l a b ≡ field_answer go local target l a b
 by_elements left right go go' local target l a b None e reached h = others-verdict go' go local target l a b e
 by_elements left right go go' local target l a b (Some p) e reached h =
     arrays-verdict go' local target l a b p.0 p.1 e ∙ (h p (reached p.0 p.1 e) ∙ sym (arrays-verdict go local target l a b p.0 p.1 e))
@@ -99,25 +99,25 @@ pub record AgreeOnMembers (left right : ℕ → Bool) (local one target other : 
   pub target_names : AgreeOnNames right target other
 
 records_alike : (left right : ℕ → Bool) (local one target other : Table) → AgreeOnMembers left right local one target other → (go go' : ℕ × ℕ → Result Bool BtfError) (l r : ℕ) → left l ≡ true → right r ≡ true → IsKnown local l → IsKnown target r → ((p : ℕ × ℕ) → AreReached left right p → go' p ≡ go p)
-    → of_fields go' one other l (record_at one l) (record_at other r) ≡ of_fields go local target l (record_at local l) (record_at target r)
+    → field_answer go' one other l (record_at one l) (record_at other r) ≡ field_answer go local target l (record_at local l) (record_at target r)
 records_alike left right local one target other agree go go' l r here there known_left known_right h =
     let a = record_at local l in
     let b = record_at target r in
     let same_a : record_at one l ≡ a = ap (λ (t : Option BtfType). unwrap_or t types.Unknown) (agree.locals.same l here) in
     let same_b : record_at other r ≡ b = ap (λ (t : Option BtfType). unwrap_or t types.Unknown) (agree.targets.same r there) in
-    ap (λ (t : BtfType). of_fields go' one other l t (record_at other r)) same_a
-    ∙ (ap (of_fields go' one other l a) same_b
+    ap (λ (t : BtfType). field_answer go' one other l t (record_at other r)) same_a
+    ∙ (ap (field_answer go' one other l a) same_b
     ∙ (tables_alike go' local one target other l a b (name-alike left local one agree.local_names l here known_left) (name-alike right target other agree.target_names r there known_right)
     ∙ by_elements left right go go' local target l a b (elements_of a b) refl
     (λ x y e. both_reached left right a b x y (element_reached left (type_by_id local l) (agree.locals.closed l here)) (element_reached right (type_by_id target r) (agree.targets.closed r there)) e)
     h))
 
 ends_alike : (left right : ℕ → Bool) (local one target other : Table) → AgreeOnMembers left right local one target other → (asked : ℕ) (go go' : ℕ → ℕ → Result Bool BtfError) (p : ℕ × ℕ) → AreReached left right p
-    → ((l r : ℕ) → IsKnown local l → IsKnown target r → left l ≡ true → right r ≡ true → go' l r ≡ go l r) → of_ends one other asked go' p ≡ of_ends local target asked go p
+    → ((l r : ℕ) → IsKnown local l → IsKnown target r → left l ≡ true → right r ≡ true → go' l r ≡ go l r) → behind_modifiers one other asked go' p ≡ behind_modifiers local target asked go p
 ends_alike left right local one target other agree asked go go' p here h =
     let locals = chains_agree left local one agree.locals in
     let targets = chains_agree right target other agree.targets in
-    let same : of_ends one other asked go' p ≡ of_ends local target asked go' p = rw (chain_same left local one locals max_depth asked p.0 here.0, chain_same right target other targets max_depth asked p.1 here.1) refl in
+    let same : behind_modifiers one other asked go' p ≡ behind_modifiers local target asked go' p = rw (chain_same left local one locals max_depth asked p.0 here.0, chain_same right target other targets max_depth asked p.1 here.1) refl in
     same
     ∙ for_ends-same go' go (chain_end max_depth local asked p.0) (chain_end max_depth target asked p.1)
     (λ l r e f. h l r (chain_end-known max_depth local asked p.0 l e) (chain_end-known max_depth target asked p.1 r f) (chain-reached left local one locals max_depth asked p.0 l here.0 e) (chain-reached right target other targets max_depth asked p.1 r here.1 f))

@@ -1,12 +1,11 @@
 -- A yes or no on members is that of the comparison with its sides exchanged.
-use Rattle.std.proofs.Common.{◌≡◌, ℕ, zero, suc, Bool, true, false, List, [], ◌∷◌, Ok, Err, Result, Some, None, Option, refl, sym, ap, subst, ◌∙◌, arith}
-use Rattle.std.proofs.lemmas.Bool.Decides.{nat_tests}
-use Rattle.std.specs.Prelude.{IfOk, nat_eq, ◌==◌, ◌&&◌, if◌then◌else◌}
+use Rattle.std.proofs.Common.{◌≡◌, ℕ, zero, suc, Bool, true, false, List, [], ◌∷◌, Ok, Err, Result, Some, None, Option, refl, sym, ap, subst, ◌∙◌}
+use Rattle.std.specs.Prelude.{IfOk, nat_eq, ◌&&◌, if◌then◌else◌}
 use Rattle.std.specs.Cmp.Lexicographic.{pointwise}
 use Rattle.std.specs.Option.{option_map_or}
-use Rattle.btf.specs.Compatibility.{is_unshifted, record_at, same_kind}
-use Rattle.btf.specs.FieldCompatibility.{element_of, essential_name, field_verdict, fields_compared, fields_compatible, is_composite, of_fields, same_names}
-use Rattle.btf.specs.Lookups.{max_depth}
+use Rattle.btf.specs.TypeCompatibility.{has_no_bit_offset, record_at, same_kind}
+use Rattle.btf.specs.FieldCompatibility.{element_of, essential_name, field_verdict, fields_compared, fields_compatible, is_composite, field_answer, same_names}
+use Rattle.btf.specs.ResolvedTypes.{max_depth}
 use Rattle.btf.proofs.Exchanged.{Gives, Gives-ends, answer_of, both, exchanged, one_kind, same_kind-exchange, same_test}
 use Rattle.btf_records.specs.Fields.{kind_of_type, name_offset_of}
 use Rattle.btf_encoding.specs.Tables.{Table}
@@ -43,7 +42,7 @@ field_verdict-exchange : (go go' : ℕ × ℕ → Result Bool BtfError) (local t
 field_verdict-exchange go go' local target kinds.Fwd l r a b h = names-exchange local target a b
 field_verdict-exchange go go' local target kinds.Enum l r a b h = names-exchange local target a b
 field_verdict-exchange go go' local target kinds.Enum64 l r a b h = names-exchange local target a b
-field_verdict-exchange go go' local target kinds.Int l r a b h = record { same = λ answer e. ap answer_of (both (is_unshifted b) (is_unshifted a)) ∙ e }
+field_verdict-exchange go go' local target kinds.Int l r a b h = record { same = λ answer e. ap answer_of (both (has_no_bit_offset b) (has_no_bit_offset a)) ∙ e }
 field_verdict-exchange go go' local target kinds.Float l r a b h = itself (Ok true)
 field_verdict-exchange go go' local target kinds.Ptr l r a b h = itself (Ok true)
 field_verdict-exchange go go' local target kinds.Array l r a b h = h (element_of a, element_of b)
@@ -72,7 +71,7 @@ by_tests false false true false j k go go' local target l r a b composites same 
 by_tests false false false true j k go go' local target l r a b composites same one h = absurd cc
 by_tests false false false false j k go go' local target l r a b composites same one h = itself (Ok false)
 
-of_fields-exchange : (go go' : ℕ × ℕ → Result Bool BtfError) (local target : Table) (l r : ℕ) (a b : BtfType) → ((p : ℕ × ℕ) → Gives (go p) (go' (exchanged p))) → Gives (of_fields go local target l a b) (of_fields go' target local r b a)
+of_fields-exchange : (go go' : ℕ × ℕ → Result Bool BtfError) (local target : Table) (l r : ℕ) (a b : BtfType) → ((p : ℕ × ℕ) → Gives (go p) (go' (exchanged p))) → Gives (field_answer go local target l a b) (field_answer go' target local r b a)
 of_fields-exchange go go' local target l r a b h =
     by_tests (is_composite a && is_composite b) (is_composite b && is_composite a) (same_kind a b) (same_kind b a) (kind_of_type a) (kind_of_type b) go go' local target l r a b (both (is_composite a) (is_composite b)) (same_kind-exchange a b) (one_kind a b) h
 

@@ -1,15 +1,14 @@
 -- Pairs of known ids that fail a test, each with a weight. A comparison opens one more pair at each
 -- step inwards, so one with more rounds than pairs that aren't open has the same answer as any other.
-use Rattle.std.proofs.Common.{◌≡◌, ◌≢◌, ℕ, zero, suc, ◌+◌, ◌*◌, ◌-◌, ◌<◌, ◌≤◌, Bool, true, false, cond, List, [], ◌∷◌, ◌++◌, length, Some, None, Option, Result, Ok, Err, refl, sym, ap, subst, ◌∙◌, arith, inl, inr}
+use Rattle.std.proofs.Common.{◌≡◌, ℕ, zero, suc, ◌+◌, ◌*◌, ◌-◌, ◌<◌, ◌≤◌, Bool, true, false, cond, List, [], ◌∷◌, ◌++◌, length, Some, None, Option, Result, Ok, Err, refl, sym, ap, subst, ◌∙◌, arith, inl, inr}
 use Rattle.std.proofs.lemmas.Grind.{common_steps}
 use Rattle.std.proofs.lemmas.Option.{slice_get_within}
-use Rattle.std.specs.Prelude.{IfOk, slice_get, ◌||◌, ◌⊎◌, if◌then◌else◌, ◌==◌}
-use Rattle.btf.specs.Compatibility.{above_pairs, all_yes, and_also, compared, for_ends, is_open, is_pair, of_ends, pair_parts, pair_verdict}
-use Rattle.btf.specs.Lookups.{chain_end, end_from, max_depth, modified_type}
+use Rattle.std.specs.Prelude.{slice_get, ◌||◌, ◌⊎◌, if◌then◌else◌, ◌==◌}
+use Rattle.btf.specs.TypeCompatibility.{all_yes, and_also, both_ends, compared, is_open, is_pair, pair_bound, pair_parts, pair_verdict}
+use Rattle.btf.specs.ResolvedTypes.{chain_end, end_from, max_depth, modified_type}
 use Rattle.std.specs.Option.{option_map_or}
 use Rattle.btf_records.specs.declared.types.BtfType.TheVariants as types
 use Rattle.btf.proofs.OpenPairs.{is_open-push}
-use Rattle.btf.proofs.Rounds.{deep}
 use Rattle.btf_encoding.specs.Tables.{Table, type_by_id}
 use Rattle.btf_records.specs.declared.error.BtfError.{BtfError}
 use Rattle.btf_records.specs.declared.types.BtfType.{BtfType}
@@ -91,7 +90,7 @@ pairs-all p (suc m) n = rows _ _ m n (failing-all (p m) n) (pairs-all p m n)
 abbrev pub free : Table → Table → List (ℕ × ℕ) → ℕ
 free local target open_pairs = failing_pairs (is_open open_pairs) (λ _ _. 1) (suc (length local.types)) (suc (length target.types))
 
-pub free-below : (local target : Table) (open_pairs : List (ℕ × ℕ)) → free local target open_pairs < above_pairs local target
+pub free-below : (local target : Table) (open_pairs : List (ℕ × ℕ)) → free local target open_pairs < pair_bound local target
 free-below local target open_pairs = omega (arith, pairs-all (is_open open_pairs) (suc (length local.types)) (suc (length target.types)))
 
 or_true : (a b : Bool) → a ≡ true → (a || b) ≡ true
@@ -145,7 +144,7 @@ unfolding all_yes
 all_yes-same ask ask' [] h = refl
 all_yes-same ask ask' (p ∷ ps) h = rw (h p, all_yes-same ask ask' ps h) refl
 
-pub for_ends-same : (go go' : ℕ → ℕ → Result Bool BtfError) (x y : Result ℕ BtfError) → ((l r : ℕ) → x ≡ Ok l → y ≡ Ok r → go l r ≡ go' l r) → for_ends go x y ≡ for_ends go' x y
+pub for_ends-same : (go go' : ℕ → ℕ → Result Bool BtfError) (x y : Result ℕ BtfError) → ((l r : ℕ) → x ≡ Ok l → y ≡ Ok r → go l r ≡ go' l r) → both_ends go x y ≡ both_ends go' x y
 for_ends-same go go' (Err e) y h = refl
 for_ends-same go go' (Ok l) (Err e) h = refl
 for_ends-same go go' (Ok l) (Ok r) h = h l r refl refl

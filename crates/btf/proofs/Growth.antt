@@ -7,7 +7,8 @@ use Rattle.std.proofs.lemmas.Grind.{flat_map-append}
 use Rattle.std.proofs.lemmas.List.{drop-append-le}
 use Rattle.std.proofs.lemmas.List.Elements.{All-append, All-cons, All-head, All-nil, All-tail}
 use Rattle.std.proofs.Math.Seq.{drop-append_seam}
-use Rattle.btf.specs.Layout.{Entered, IsLaidOut, TooMany, fallback_at, type_at, types_at}
+use Rattle.btf.specs.GrownTables.{TooMany}
+use Rattle.btf.specs.Layout.{Entered, IsLaidOut, fallback_at, type_at, types_at}
 use Rattle.btf.proofs.Places.{has_record, length_types_at, within_bytes}
 use Rattle.btf_records.specs.Fields.{fallback_of}
 use Rattle.btf_encoding.specs.Records.{ReadsBack, ReadsSame, record_bytes, type_in, with_fallback, without_fallback}

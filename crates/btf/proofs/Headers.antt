@@ -3,8 +3,8 @@ use Rattle.std.proofs.Common.{◌≡◌, ℕ, ◌+◌, ◌<◌, ◌^◌, List, �
 use Rattle.std.proofs.lemmas.Nat.{from_le_bytes-to_le_bytes_2, from_be_bytes-to_be_bytes_2, from_le_bytes-to_le_bytes_4, from_be_bytes-to_be_bytes_4}
 use Rattle.std.proofs.lemmas.List.{drop-drop}
 use Rattle.std.proofs.Math.Seq.{drop-append_seam, take-append_seam, take-length}
-use Rattle.btf.specs.Growing.{HoldsTable}
-use Rattle.btf.specs.Sections.{header_bytes}
+use Rattle.btf.specs.Sections.{HoldsTable}
+use Rattle.btf.specs.Sections.{bytes_of_header}
 use Rattle.btf.specs.declared.section.Header.{Header}
 use Rattle.btf.proofs.Sections.{holds_table}
 use Rattle.btf_encoding.specs.Records.{Spells}
@@ -17,7 +17,7 @@ use Rattle.btf_records.specs.declared.words.Endianness.TheVariants.{Little, Big}
 abbrev pub headed : Endianness → Header → List ℕ → List ℕ
 headed order h rest = half_bytes order h.magic ++ (h.version ∷ h.flags ∷ (word_bytes order 24 ++ (word_bytes order 0 ++ (word_bytes order h.types_len ++ (word_bytes order h.types_len ++ (word_bytes order h.strings_len ++ rest))))))
 
-pub is_headed : (order : Endianness) (h : Header) (rest : List ℕ) → header_bytes order h ++ rest ≡ headed order h rest
+pub is_headed : (order : Endianness) (h : Header) (rest : List ℕ) → bytes_of_header order h ++ rest ≡ headed order h rest
 is_headed order h rest = simp (append_assoc, append-nil)
 
 magic_at : (order : Endianness) (h : Header) (rest : List ℕ) → h.magic < 2 ^ 16 → half_at order (headed order h rest) 0 ≡ h.magic
@@ -121,7 +121,7 @@ section_is_table order h types strings table tells =
       types = subst (λ (b : List ℕ). Spells order table.types b) (sym (types_of_section order h types strings table tells)) tells.spelled;
     }
 
-pub section_holds : (order : Endianness) (h : Header) (types strings bytes : List ℕ) (table : Table) → bytes ≡ (header_bytes order h ++ types) ++ strings → Tells order h types strings table → HoldsTable order bytes table
+pub section_holds : (order : Endianness) (h : Header) (types strings bytes : List ℕ) (table : Table) → bytes ≡ (bytes_of_header order h ++ types) ++ strings → Tells order h types strings table → HoldsTable order bytes table
 section_holds order h types strings bytes table is tells =
-    let same : bytes ≡ headed order h (types ++ strings) = is ∙ (append_assoc (header_bytes order h) types strings ∙ is_headed order h (types ++ strings)) in
+    let same : bytes ≡ headed order h (types ++ strings) = is ∙ (append_assoc (bytes_of_header order h) types strings ∙ is_headed order h (types ++ strings)) in
     subst (λ (b : List ℕ). HoldsTable order b table) (sym same) (holds_table order (headed order h (types ++ strings)) table (section_is_table order h types strings table tells))

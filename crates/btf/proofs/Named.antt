@@ -4,7 +4,7 @@ use Rattle.std.specs.Option.{IsSomeAnd}
 use Rattle.std.specs.Prelude.{◌⊎◌}
 use Rattle.std.proofs.lemmas.Option.{slice_get_past}
 use Rattle.std.proofs.lemmas.Bool.Decides.{nat_tests}
-use Rattle.btf.specs.Lookups.{IsOther}
+use Rattle.btf.specs.TypesByName.{IsNotNamed}
 use Rattle.btf_records.specs.Fields.{kind_of_type, name_offset_of}
 use Rattle.btf_encoding.specs.Tables.{Table, type_by_id}
 use Rattle.btf_encoding.specs.Texts.{text_at}
@@ -45,13 +45,13 @@ rest_here table id t rest e = left_behind (all_types table) rest id t e
 
 -- none of the records before an id is the wanted one
 pub record NoneBefore (table : Table) (name : List ℕ) (kind : BtfKind) (id : ℕ) : Type 0 where
-  pub none : (lesser : ℕ) → lesser < id → IsOther table name kind lesser
+  pub none : (lesser : ℕ) → lesser < id → IsNotNamed table name kind lesser
 
 pub none_more : (table : Table) (name : List ℕ) (kind : BtfKind) (id : ℕ) (t : BtfType) (rest : List BtfType) → NoneBefore table name kind id → drop id (all_types table) ≡ t ∷ rest → (kind_of_type t ≡ kind → IsSomeAnd (text_at table.strings (name_offset_of t)) (λ text. text ≢ name)) → NoneBefore table name kind (id + 1)
 none_more table name kind id t rest before here other =
     let is : type_by_id table id ≡ Some t = known_here table id t rest here in
-    let at : IsOther table name kind id = rw is other in
-    record { none = below_more (IsOther table name kind) id before.none at }
+    let at : IsNotNamed table name kind id = rw is other in
+    record { none = below_more (IsNotNamed table name kind) id before.none at }
 
 past_end : {X : Type 0} (xs : List X) (i : ℕ) → drop i xs ≡ [] → length xs ≤ i
 past_end [] i e = omega arith
@@ -62,7 +62,7 @@ split : (a b : ℕ) → (a < b) ⊎ (b ≤ a)
 split a b = grind arith
 
 -- none at all
-pub none_left : (table : Table) (name : List ℕ) (kind : BtfKind) (id : ℕ) → NoneBefore table name kind id → drop id (all_types table) ≡ [] → (other : ℕ) → IsOther table name kind other
+pub none_left : (table : Table) (name : List ℕ) (kind : BtfKind) (id : ℕ) → NoneBefore table name kind id → drop id (all_types table) ≡ [] → (other : ℕ) → IsNotNamed table name kind other
 none_left table name kind id before end other =
     elim (split other id) [
       | inl lesser ↦ before.none other lesser

@@ -1,9 +1,9 @@
 -- A look-up by kind and name rests on the records up to the one that is found.
-use Rattle.std.proofs.Common.{◌≡◌, ◌≢◌, ℕ, List, Option, None, Some, ◌∙◌, arith, refl, ◌<◌, ◌≤◌}
+use Rattle.std.proofs.Common.{◌≡◌, ◌≢◌, ℕ, List, Option, None, Some, ◌∙◌, arith, refl}
 use Rattle.std.specs.Option.{IsSomeAnd, option_map}
 use Rattle.std.specs.Prelude.{IfSome, option_and_then}
-use Rattle.btf.specs.Agreement.{FoundAlike, AgreeUpTo, name_of}
-use Rattle.btf.specs.Lookups.{IsFirstNamed}
+use Rattle.btf.specs.Agreement.{FoundAlike, name_of}
+use Rattle.btf.specs.TypesByName.{IsFirstNamed}
 use Rattle.btf_encoding.specs.Tables.{Table, type_by_id}
 use Rattle.btf_encoding.specs.Texts.{text_at}
 use Rattle.btf_records.specs.Fields.{kind_of_type, name_offset_of}

@@ -1,10 +1,10 @@
 -- Open pairs cost no answer: a comparison that gives up at pairs that are open answers as one that
 -- looks at every pair again.
-use Rattle.std.proofs.Common.{◌≡◌, ℕ, zero, suc, Bool, true, false, List, [], ◌∷◌, ◌++◌, Ok, Err, Result, refl, sym, ap, subst, ◌∙◌, inl, inr, arith}
+use Rattle.std.proofs.Common.{◌≡◌, ℕ, zero, suc, Bool, true, false, List, [], ◌∷◌, ◌++◌, Result, refl, sym, subst, ◌∙◌, inl, inr, arith}
 use Rattle.std.proofs.lemmas.Grind.{common_steps}
 use Rattle.std.proofs.lemmas.List.Folds.{list_any-append}
 use Rattle.std.specs.Prelude.{◌⊎◌, ◌||◌, if◌then◌else◌}
-use Rattle.btf.specs.Compatibility.{and_also, compared, is_open, is_pair, pair_parts, pair_verdict}
+use Rattle.btf.specs.TypeCompatibility.{compared, is_open, is_pair, pair_parts, pair_verdict}
 use Rattle.btf.proofs.Rounds.{IsDeepOr, IsDeepOr-and_same, IsDeepOr-parts, compared-more, deep, in_rounds, in_rounds-less, in_rounds-more}
 use Rattle.btf_encoding.specs.Tables.{Table}
 use Rattle.btf_records.specs.declared.error.BtfError.{BtfError}

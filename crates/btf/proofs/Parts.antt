@@ -1,13 +1,11 @@
 -- The parts of types by their places.
-use Rattle.std.proofs.Common.{◌≡◌, ◌≢◌, ℕ, zero, suc, ◌+◌, ◌-◌, ◌<◌, ◌≤◌, List, [], ◌∷◌, ◌++◌, map, length, Some, None, Option, refl, arith}
-use Rattle.std.proofs.lemmas.Option.{slice_get_within}
+use Rattle.std.proofs.Common.{◌≡◌, ◌≢◌, ℕ, zero, suc, List, [], ◌∷◌, ◌++◌, map, length, Some, None, refl, arith}
 use Rattle.std.specs.Prelude.{slice_get}
 use Rattle.std.specs.List.{zip}
-use Rattle.btf.specs.Compatibility.{parts_of}
+use Rattle.btf.specs.TypeCompatibility.{parts_of}
 use Rattle.btf_records.specs.Fields.{kind_of_type, params_of, type_of}
 use Rattle.btf_encoding.specs.Records.{count_of}
 use Rattle.btf_records.specs.declared.item.BtfParam.{BtfParam}
-use Rattle.btf_records.specs.declared.kind.BtfKind.{BtfKind}
 use Rattle.btf_records.specs.declared.kind.BtfKind.TheVariants as kinds
 use Rattle.btf_records.specs.declared.types.BtfType.{BtfType}
 use Rattle.btf_records.specs.declared.types.BtfType.TheVariants as types

@@ -4,7 +4,7 @@ use Rattle.std.specs.Prelude.{All}
 use Rattle.std.proofs.lemmas.Option.{get_or_from_slice_get, slice_get_within}
 use Rattle.std.specs.Option.{option_map}
 use Rattle.std.specs.List.{flat_map}
-use Rattle.btf.specs.Layout.{type_at, types_at, IsLaidOut}
+use Rattle.btf.specs.Layout.{IsLaidOut, type_at, types_at}
 use Rattle.btf_encoding.specs.Records.{HasRecord, ReadsSame, record_bytes}
 use Rattle.btf_records.specs.declared.compound.Enum64Fallback.{Enum64Fallback}
 use Rattle.btf_records.specs.declared.words.Endianness.{Endianness}

@@ -3,7 +3,8 @@ use Rattle.std.proofs.Common.{◌≡◌, ℕ, zero, suc, ◌*◌, ◌^◌, Bool,
 use Rattle.std.specs.Prelude.{All, IfOk, IfSome, if◌then◌else◌}
 use Rattle.std.specs.Option.{IsSomeAnd, option_map, option_map_or, option_to_list}
 use Rattle.btf.specs.Agreement.{AgreeOn, IsReached, RestsOn, chain_ids, size_ids}
-use Rattle.btf.specs.Lookups.{IsEnd, IsEndOver, chain_end, end_from, in_32_bits, max_depth, modified_type, own_size, resolved, size_at_end, size_behind, size_from, sized, sized_by, sized_in_32_bits}
+use Rattle.btf.specs.ResolvedTypes.{IsEnd, IsEndOver, chain_end, end_from, max_depth, modified_type, resolved_type}
+use Rattle.btf.specs.TypeSizes.{in_32_bits, own_size, size_at_end, size_behind, size_from, sized_by, type_size, type_size_in_32_bits}
 use Rattle.btf_encoding.specs.Tables.{Table, type_by_id}
 use Rattle.btf_records.specs.declared.error.BtfError.{BtfError}
 use Rattle.btf_records.specs.declared.error.BtfError.TheVariants.{InvalidTypeInfo}
@@ -30,7 +31,7 @@ chain_same reached one other agree zero asked id here = refl
 chain_same reached one other agree (suc n) asked id here =
     rw (agree.same id here) (end_same reached (chain_end n one asked) (chain_end n other asked) id (type_by_id one id) (record { alike = λ next. chain_same reached one other agree n asked next }) (agree.closed id here))
 
-pub resolved_rests : (table : Table) (id : ℕ) → RestsOn chain_ids table id (λ t. resolved t id)
+pub resolved_rests : (table : Table) (id : ℕ) → RestsOn chain_ids table id (λ t. resolved_type t id)
 resolved_rests table id = record { alike = λ reached other agree. chain_same reached table other agree max_depth id id }
 
 -- the same of walks, which carry a count
@@ -55,10 +56,10 @@ walk_same reached one other agree zero asked count id here = refl
 walk_same reached one other agree (suc n) asked count id here =
     rw (agree.same id here) (size_same reached (size_at_end n one asked) (size_at_end n other asked) count id (type_by_id one id) (record { alike = λ more next. walk_same reached one other agree n asked more next }) (agree.closed id here))
 
-pub sized_rests : (table : Table) (id : ℕ) → RestsOn size_ids table id (λ t. sized t id)
+pub sized_rests : (table : Table) (id : ℕ) → RestsOn size_ids table id (λ t. type_size t id)
 sized_rests table id = record { alike = λ reached other agree. walk_same reached table other agree max_depth id 1 id }
 
-pub sized_in_32_bits_rests : (table : Table) (id : ℕ) → RestsOn size_ids table id (λ t. sized_in_32_bits t id)
+pub sized_in_32_bits_rests : (table : Table) (id : ℕ) → RestsOn size_ids table id (λ t. type_size_in_32_bits t id)
 sized_in_32_bits_rests table id = record { alike = λ reached other agree here. ap in_32_bits ((sized_rests table id).alike reached other agree here) }
 
 next_reached : (reached : ℕ → Bool) (next : ℕ) (t : Option BtfType) → IfSome t (λ t. All (λ id. reached id ≡ true) (chain_ids t)) → IsSomeAnd t (λ t. modified_type t ≡ Some next) → reached next ≡ true

@@ -1,11 +1,10 @@
 -- The comparison of two types in at most so many rounds, each pair looked at again wherever it is met.
 -- More rounds give the same answer or one where there was none.
-use Rattle.std.proofs.Common.{◌≡◌, ℕ, zero, suc, Bool, true, false, List, [], ◌∷◌, ◌++◌, Ok, Err, Result, refl, sym, ap, ◌∙◌}
+use Rattle.std.proofs.Common.{◌≡◌, ℕ, zero, suc, Bool, true, false, List, [], ◌∷◌, ◌++◌, Ok, Err, Result, refl, ap, ◌∙◌}
 use Rattle.std.specs.Prelude.{◌⊎◌, if◌then◌else◌}
 use Rattle.std.proofs.Common.{inl, inr}
-use Rattle.std.specs.List.{zip}
-use Rattle.btf.specs.Compatibility.{all_yes, and_also, compared, for_ends, is_open, is_pair, of_ends, pair_parts, pair_verdict}
-use Rattle.btf.specs.Lookups.{chain_end, max_depth}
+use Rattle.btf.specs.TypeCompatibility.{all_yes, and_also, behind_modifiers, both_ends, compared, is_open, pair_parts, pair_verdict}
+use Rattle.btf.specs.ResolvedTypes.{chain_end, max_depth}
 use Rattle.btf_encoding.specs.Tables.{Table}
 use Rattle.btf_records.specs.declared.error.BtfError.{BtfError}
 use Rattle.btf_records.specs.declared.error.BtfError.TheVariants.{MaximumTypeDepthReached}
@@ -15,7 +14,7 @@ deep asked = Err (MaximumTypeDepthReached asked)
 
 unfoldable pub in_rounds : ℕ → Table → Table → ℕ → ℕ → ℕ → Result Bool BtfError
 in_rounds zero local target asked l r = deep asked
-in_rounds (suc n) local target asked l r = and_also (pair_verdict local target l r) (all_yes (of_ends local target asked (in_rounds n local target asked)) (pair_parts local target l r))
+in_rounds (suc n) local target asked l r = and_also (pair_verdict local target l r) (all_yes (behind_modifiers local target asked (in_rounds n local target asked)) (pair_parts local target l r))
 
 -- the first answer is too deep, or both are one
 abbrev pub IsDeepOr : ℕ → Result Bool BtfError → Result Bool BtfError → Type 0
@@ -38,14 +37,14 @@ unfolding all_yes
 IsDeepOr-all asked ask ask' [] h = inr refl
 IsDeepOr-all asked ask ask' (p ∷ ps) h = IsDeepOr-and asked (ask p) (ask' p) (all_yes ask ps) (all_yes ask' ps) (h p) (IsDeepOr-all asked ask ask' ps h)
 
-pub IsDeepOr-ends : (asked : ℕ) (go go' : ℕ → ℕ → Result Bool BtfError) (x y : Result ℕ BtfError) → ((l r : ℕ) → IsDeepOr asked (go l r) (go' l r)) → IsDeepOr asked (for_ends go x y) (for_ends go' x y)
+pub IsDeepOr-ends : (asked : ℕ) (go go' : ℕ → ℕ → Result Bool BtfError) (x y : Result ℕ BtfError) → ((l r : ℕ) → IsDeepOr asked (go l r) (go' l r)) → IsDeepOr asked (both_ends go x y) (both_ends go' x y)
 IsDeepOr-ends asked go go' (Err e) y h = inr refl
 IsDeepOr-ends asked go go' (Ok l) (Err e) h = inr refl
 IsDeepOr-ends asked go go' (Ok l) (Ok r) h = h l r
 
 -- the same for the answers of all parts
 pub IsDeepOr-parts : (local target : Table) (asked : ℕ) (go go' : ℕ → ℕ → Result Bool BtfError) (ps : List (ℕ × ℕ)) → ((l r : ℕ) → IsDeepOr asked (go l r) (go' l r))
-    → IsDeepOr asked (all_yes (of_ends local target asked go) ps) (all_yes (of_ends local target asked go') ps)
+    → IsDeepOr asked (all_yes (behind_modifiers local target asked go) ps) (all_yes (behind_modifiers local target asked go') ps)
 IsDeepOr-parts local target asked go go' ps h = IsDeepOr-all asked _ _ ps (λ p. IsDeepOr-ends asked go go' (chain_end max_depth local asked p.0) (chain_end max_depth target asked p.1) h)
 
 pub IsDeepOr-if : (asked : ℕ) (b : Bool) (x y : Result Bool BtfError) → IsDeepOr asked x y → IsDeepOr asked (if b then deep asked else x) y

@@ -1,6 +1,6 @@
 -- A section that holds a table holds no other, and no fault stands in it.
 use Rattle.std.proofs.Common.{◌≡◌, ℕ, ◌<◌, ◌≤◌, List, [], ◌∷◌, length, drop, refl, sym, ap, subst, ◌∙◌, arith, inl, inr}
-use Rattle.btf.specs.Growing.{HoldsTable}
+use Rattle.btf.specs.Sections.{HoldsTable}
 use Rattle.btf_encoding.specs.Records.{Begins, HasRecord, RecordFault, Spells, TypesFault, record_len}
 use Rattle.btf_encoding.specs.Tables.{IsTable, Table, TableFault, type_bytes_in, types_end}
 use Rattle.btf_records.specs.declared.error.BtfError.{BtfError}

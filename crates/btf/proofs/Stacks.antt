@@ -1,12 +1,12 @@
 -- The open pairs of a comparison, each led to by the part that is the next of the one before.
-use Rattle.std.proofs.Common.{◌≡◌, ℕ, zero, suc, ◌+◌, ◌≤◌, Bool, true, false, List, [], ◌∷◌, ◌++◌, drop, length, Ok, Err, Result, refl, sym, ap, subst, ◌∙◌, inl, inr, arith}
+use Rattle.std.proofs.Common.{◌≡◌, ℕ, zero, suc, Bool, true, false, List, [], ◌∷◌, drop, Ok, Result, refl, sym, ap, subst, ◌∙◌, inl, inr, arith}
 use Rattle.std.proofs.lemmas.Grind.{common_steps}
 use Rattle.std.specs.Prelude.{◌⊎◌, ◌&&◌, ◌||◌, ◌==◌}
 use Rattle.std.specs.List.{list_any}
-use Rattle.btf.specs.Compatibility.{all_yes, and_also, for_ends, of_ends, pair_parts, pair_verdict}
-use Rattle.btf.specs.Lookups.{chain_end, max_depth}
+use Rattle.btf.specs.TypeCompatibility.{all_yes, and_also, behind_modifiers, pair_parts, pair_verdict}
+use Rattle.btf.specs.ResolvedTypes.{chain_end, max_depth}
 use Rattle.btf.specs.declared.pairs.OpenPair.{OpenPair}
-use Rattle.btf.proofs.Endings.{Ends, Ends-deep, Ends-shift, EndsAs, EndsAs-part, EndsAs-rest, IsFinal}
+use Rattle.btf.proofs.Endings.{Ends, Ends-shift, EndsAs, EndsAs-part, EndsAs-rest, IsFinal}
 use Rattle.btf.proofs.OpenPairs.{IsSame}
 use Rattle.btf.proofs.Rounds.{IsDeepOr, deep, in_rounds, in_rounds-less}
 use Rattle.btf_encoding.specs.Tables.{Table}
@@ -14,7 +14,7 @@ use Rattle.btf_records.specs.declared.error.BtfError.{BtfError}
 
 -- the answer for a part in so many rounds
 abbrev pub part_answer : Table → Table → ℕ → ℕ → (ℕ × ℕ) → Result Bool BtfError
-part_answer local target asked n = of_ends local target asked (in_rounds n local target asked)
+part_answer local target asked n = behind_modifiers local target asked (in_rounds n local target asked)
 
 -- what is left of a pair's parts
 abbrev pub parts_left : Table → Table → OpenPair → List (ℕ × ℕ)

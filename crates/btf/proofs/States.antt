@@ -1,11 +1,11 @@
 -- The states of pairs as a map keeps them.
-use Rattle.std.proofs.Common.{◌≡◌, ℕ, List, Some, Option, ap, ◌∙◌, arith}
+use Rattle.std.proofs.Common.{◌≡◌, ℕ, List, Some, ap, ◌∙◌, arith}
 use Rattle.std.proofs.lemmas.Bool.Decides.{nat_tests}
 use Rattle.std.proofs.lemmas.Grind.{common_steps}
 use Rattle.std.specs.Prelude.{Bool, if◌then◌else◌}
 use Rattle.std.specs.BTreeMap.{is_at}
 use Rattle.std.specs.Map.{lookup}
-use Rattle.btf.specs.Compatibility.{is_pair}
+use Rattle.btf.specs.TypeCompatibility.{is_pair}
 use Rattle.btf.specs.Pairs.{SetsState, pair_cmp, state_of}
 use Rattle.btf.specs.declared.pairs.PairState.{PairState}
 

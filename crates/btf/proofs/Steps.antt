@@ -1,11 +1,11 @@
 -- The steps that a comparison has before it: two and its parts for each pair that hasn't been met, and
 -- of each open pair one and the parts that are left.
-use Rattle.std.proofs.Common.{◌≡◌, ℕ, zero, suc, ◌+◌, ◌<◌, ◌≤◌, Bool, true, false, List, [], ◌∷◌, ◌++◌, drop, length, Some, None, Option, refl, sym, ap, subst, ◌∙◌, arith}
+use Rattle.std.proofs.Common.{◌≡◌, ℕ, suc, ◌+◌, ◌<◌, ◌≤◌, Bool, true, false, List, [], ◌∷◌, ◌++◌, drop, length, Some, None, Option, refl, ap, ◌∙◌, arith}
 use Rattle.std.proofs.lemmas.Grind.{common_steps}
 use Rattle.std.proofs.lemmas.List.Sums.{sum_by-append}
 use Rattle.std.specs.Prelude.{if◌then◌else◌, is_some}
 use Rattle.std.specs.List.{sum_by}
-use Rattle.btf.specs.Compatibility.{is_pair, pair_parts}
+use Rattle.btf.specs.TypeCompatibility.{is_pair, pair_parts}
 use Rattle.btf.specs.Pairs.{SetsState, state_of}
 use Rattle.btf.specs.declared.pairs.OpenPair.{OpenPair}
 use Rattle.btf.specs.declared.pairs.PairState.{PairState}

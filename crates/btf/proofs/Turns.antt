@@ -1,22 +1,20 @@
 -- What one turn of a comparison says: the answer of the first pair, or how the walk goes on.
-use Rattle.std.proofs.Common.{◌≡◌, ◌≢◌, ℕ, zero, suc, ◌+◌, ◌<◌, ◌≤◌, Bool, true, false, List, [], ◌∷◌, ◌++◌, drop, length, Ok, Err, Result, Some, None, Option, refl, sym, ap, subst, ◌∙◌, inl, inr, arith}
-use Rattle.std.proofs.lemmas.Grind.{common_steps}
+use Rattle.std.proofs.Common.{◌≡◌, ℕ, zero, suc, ◌+◌, ◌<◌, Bool, true, List, [], ◌∷◌, ◌++◌, drop, Ok, Err, Result, Some, None, refl, sym, ap, subst, ◌∙◌, inr, arith}
 use Rattle.std.specs.Prelude.{IfErr, IsErrAnd, slice_get}
-use Rattle.btf.specs.Compatibility.{above_pairs, all_yes, compared, ends_compatible, of_ends, pair_parts, pair_verdict}
-use Rattle.btf.specs.Lookups.{chain_end, max_depth}
+use Rattle.btf.specs.TypeCompatibility.{ends_compatible, pair_parts, pair_verdict}
+use Rattle.btf.specs.ResolvedTypes.{chain_end, max_depth}
 use Rattle.btf.specs.Pairs.{SetsState, state_of}
 use Rattle.btf.specs.declared.pairs.OpenPair.{OpenPair}
 use Rattle.btf.specs.declared.pairs.PairState.{PairState}
 use Rattle.btf.specs.declared.pairs.PairState.TheVariants.{Open, Settled}
-use Rattle.btf.proofs.Endings.{Ends, Ends-compared, Ends-deep, Ends-verdict, EndsAs, IsFinal, IsFinal-err, IsFinal-no}
-use Rattle.btf.proofs.FreePairs.{IsKnown, chain_end-known}
-use Rattle.btf.proofs.Rounds.{deep, in_rounds}
-use Rattle.btf.proofs.Stacks.{EndsAt, IsPath, IsUnderWay, LeadsTo, advanced, begun, final_part, part_answer, parts_left, path-back, path-final, settled, stands}
-use Rattle.btf.proofs.Comparisons.{AreStates, AreStates-moved, AreStates-none, AreStates-opened, AreStates-settled, IsStack, IsStack-popped, IsStack-pushed, IsTop, path-push}
+use Rattle.btf.proofs.Endings.{Ends, Ends-compared, Ends-deep, Ends-verdict, EndsAs, IsFinal, IsFinal-err}
+use Rattle.btf.proofs.FreePairs.{chain_end-known}
+use Rattle.btf.proofs.Rounds.{deep}
+use Rattle.btf.proofs.Stacks.{EndsAt, IsPath, LeadsTo, advanced, begun, final_part, part_answer, parts_left, path-back, path-final, settled}
+use Rattle.btf.proofs.Comparisons.{AreStates, AreStates-moved, AreStates-none, AreStates-opened, AreStates-settled, IsStack, IsStack-popped, IsStack-pushed, path-push}
 use Rattle.btf.proofs.Steps.{fewer-advanced, fewer-opened, fewer-settled, steps_left}
 use Rattle.btf_encoding.specs.Tables.{Table}
 use Rattle.btf_records.specs.declared.error.BtfError.{BtfError}
-use Rattle.btf_records.specs.declared.error.BtfError.TheVariants.{OutOfMemory}
 
 -- ---- lists by a place
 

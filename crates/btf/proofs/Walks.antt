@@ -3,7 +3,8 @@ use Rattle.std.proofs.Common.{◌≡◌, ℕ, zero, suc, ◌*◌, ◌<◌, ◌^�
 use Rattle.std.proofs.Math.Nat.{mul_assoc}
 use Rattle.std.specs.Option.{option_map_or}
 use Rattle.std.specs.Prelude.{IfOk, if◌then◌else◌}
-use Rattle.btf.specs.Lookups.{IsEnd, IsEndOver, IsSize, IsSizeOver, chain_end, end_from, max_depth, modified_type, own_size, resolved, size_at_end, size_behind, size_from, sized, sized_by}
+use Rattle.btf.specs.ResolvedTypes.{IsEnd, IsEndOver, chain_end, end_from, max_depth, modified_type, resolved_type}
+use Rattle.btf.specs.TypeSizes.{IsSize, IsSizeOver, own_size, size_at_end, size_behind, size_from, sized_by, type_size}
 use Rattle.btf_encoding.specs.Tables.{Table, type_by_id}
 use Rattle.btf_records.specs.declared.error.BtfError.{BtfError}
 use Rattle.btf_records.specs.declared.error.BtfError.TheVariants.{InvalidTypeInfo}
@@ -60,30 +61,30 @@ unfolding size_at_end
 size_walk zero table asked count id size e = absurd cc
 size_walk (suc n) table asked count id size e = walk_from n table asked count id size (type_by_id table id) (size_walk n table asked) refl e
 
-pub sized_walk : (table : Table) (id : ℕ) (r : Result ℕ BtfError) → r ≡ sized table id → IfOk r (λ size. IsSize table id size)
+pub sized_walk : (table : Table) (id : ℕ) (r : Result ℕ BtfError) → r ≡ type_size table id → IfOk r (λ size. IsSize table id size)
 sized_walk table id (Err e) is = tt
 sized_walk table id (Ok size) is =
     let g = size_walk max_depth table id 1 id size (sym is) in
     (g.others, g.fewer, subst (λ (s : ℕ). IsSizeOver table id g.others s) (sym (g.times ∙ one-mul g.rest)) g.over)
 
 -- where a chain has ended, a chain from there ends at once
-end_again : (go : ℕ → Result ℕ BtfError) (n : ℕ) (table : Table) (asked id end : ℕ) (next : Option ℕ) (t : BtfType) → ((next : ℕ) → go next ≡ Ok end → resolved table end ≡ Ok end) → type_by_id table id ≡ Some t → modified_type t ≡ next → option_map_or go next (Ok id) ≡ Ok end → resolved table end ≡ Ok end
+end_again : (go : ℕ → Result ℕ BtfError) (n : ℕ) (table : Table) (asked id end : ℕ) (next : Option ℕ) (t : BtfType) → ((next : ℕ) → go next ≡ Ok end → resolved_type table end ≡ Ok end) → type_by_id table id ≡ Some t → modified_type t ≡ next → option_map_or go next (Ok id) ≡ Ok end → resolved_type table end ≡ Ok end
 unfolding chain_end
 end_again go n table asked id end None t more some none e =
     let same = same_ok _ _ e in
     rw (same, some, none) refl
 end_again go n table asked id end (Some next) t more some is e = more next e
 
-end_from_again : (go : ℕ → Result ℕ BtfError) (n : ℕ) (table : Table) (asked id end : ℕ) (t : Option BtfType) → ((next : ℕ) → go next ≡ Ok end → resolved table end ≡ Ok end) → type_by_id table id ≡ t → end_from go id t ≡ Ok end → resolved table end ≡ Ok end
+end_from_again : (go : ℕ → Result ℕ BtfError) (n : ℕ) (table : Table) (asked id end : ℕ) (t : Option BtfType) → ((next : ℕ) → go next ≡ Ok end → resolved_type table end ≡ Ok end) → type_by_id table id ≡ t → end_from go id t ≡ Ok end → resolved_type table end ≡ Ok end
 end_from_again go n table asked id end None more is e = absurd cc
 end_from_again go n table asked id end (Some t) more is e = end_again go n table asked id end (modified_type t) t more is refl e
 
-chain_again : (n : ℕ) (table : Table) (asked id end : ℕ) → chain_end n table asked id ≡ Ok end → resolved table end ≡ Ok end
+chain_again : (n : ℕ) (table : Table) (asked id end : ℕ) → chain_end n table asked id ≡ Ok end → resolved_type table end ≡ Ok end
 unfolding chain_end
 chain_again zero table asked id end e = absurd cc
 chain_again (suc n) table asked id end e = end_from_again (chain_end n table asked) n table asked id end (type_by_id table id) (λ next. chain_again n table asked next end) refl e
 
-pub resolved_again : (table : Table) (id : ℕ) (r : Result ℕ BtfError) → r ≡ resolved table id → IfOk r (λ end. resolved table end ≡ Ok end)
+pub resolved_again : (table : Table) (id : ℕ) (r : Result ℕ BtfError) → r ≡ resolved_type table id → IfOk r (λ end. resolved_type table end ≡ Ok end)
 resolved_again table id (Err e) is = tt
 resolved_again table id (Ok end) is = chain_again max_depth table id id end (sym is)
 
@@ -115,6 +116,6 @@ unfolding chain_end
 chain_ends zero table asked id end e = absurd cc
 chain_ends (suc n) table asked id end e = ends_from n table asked id end (type_by_id table id) (chain_ends n table asked) refl e
 
-pub resolved_chain : (table : Table) (id : ℕ) (r : Result ℕ BtfError) → r ≡ resolved table id → IfOk r (λ end. IsEnd table id end)
+pub resolved_chain : (table : Table) (id : ℕ) (r : Result ℕ BtfError) → r ≡ resolved_type table id → IfOk r (λ end. IsEnd table id end)
 resolved_chain table id (Err e) is = tt
 resolved_chain table id (Ok end) is = let c = chain_ends max_depth table id id end (sym is) in (c.others, c.fewer, c.over)

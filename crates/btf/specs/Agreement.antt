@@ -1,7 +1,9 @@
 -- On which records an answer rests: it is the same of every other table that has these.
 use Rattle.std.specs.Prelude.{◌≡◌, ℕ, Bool, true, ◌≤◌, List, All, IfSome, Option, option_and_then}
 use Rattle.std.specs.Option.{option_map, option_to_list}
-use Rattle.btf.specs.Lookups.{IsFirstNamed, modified_type, sized_by}
+use Rattle.btf.specs.ResolvedTypes.{modified_type}
+use Rattle.btf.specs.TypeSizes.{sized_by}
+use Rattle.btf.specs.TypesByName.{IsFirstNamed}
 use Rattle.btf_records.specs.Fields.{kind_of_type, name_offset_of}
 use Rattle.btf_encoding.specs.Tables.{Table, type_by_id}
 use Rattle.btf_encoding.specs.Texts.{text_at}

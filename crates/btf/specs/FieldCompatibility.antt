@@ -4,8 +4,8 @@ use Rattle.std.specs.Prelude.{ℕ, zero, suc, Bool, true, false, ◌&&◌, ◌||
 use Rattle.std.specs.Cmp.Lexicographic.{pointwise}
 use Rattle.std.specs.List.{starts_with}
 use Rattle.std.specs.Option.{option_map, option_map_or, option_to_list}
-use Rattle.btf.specs.Compatibility.{is_unshifted, of_ends, record_at, same_kind}
-use Rattle.btf.specs.Lookups.{max_depth, modified_type}
+use Rattle.btf.specs.TypeCompatibility.{behind_modifiers, has_no_bit_offset, record_at, same_kind}
+use Rattle.btf.specs.ResolvedTypes.{max_depth, modified_type}
 use Rattle.btf_records.specs.Fields.{array_of, kind_of_type, name_offset_of}
 use Rattle.btf_records.specs.Kinds.{number_of}
 use Rattle.btf_encoding.specs.Tables.{Table}
@@ -39,19 +39,19 @@ abbrev pub field_verdict : ((ℕ × ℕ) → Result Bool BtfError) → Table →
 field_verdict go local target kinds.Fwd l a b = same_names local target a b
 field_verdict go local target kinds.Enum l a b = same_names local target a b
 field_verdict go local target kinds.Enum64 l a b = same_names local target a b
-field_verdict go local target kinds.Int l a b = Ok (is_unshifted a && is_unshifted b)
+field_verdict go local target kinds.Int l a b = Ok (has_no_bit_offset a && has_no_bit_offset b)
 field_verdict go local target kinds.Float l a b = Ok true
 field_verdict go local target kinds.Ptr l a b = Ok true
 field_verdict go local target kinds.Array l a b = go (element_of a, element_of b)
 field_verdict go local target _ l a b = Err (UnexpectedBtfType l)
 
-abbrev pub of_fields : ((ℕ × ℕ) → Result Bool BtfError) → Table → Table → ℕ → BtfType → BtfType → Result Bool BtfError
-of_fields go local target l a b = if is_composite a && is_composite b then Ok true else if same_kind a b then field_verdict go local target (kind_of_type a) l a b else Ok false
+abbrev pub field_answer : ((ℕ × ℕ) → Result Bool BtfError) → Table → Table → ℕ → BtfType → BtfType → Result Bool BtfError
+field_answer go local target l a b = if is_composite a && is_composite b then Ok true else if same_kind a b then field_verdict go local target (kind_of_type a) l a b else Ok false
 
 -- the answer for two ids in at most so many rounds, each behind modifiers and then into an array
 unfoldable pub fields_compared : ℕ → Table → Table → ℕ → (ℕ × ℕ) → Result Bool BtfError
 fields_compared zero local target asked p = Err (MaximumTypeDepthReached asked)
-fields_compared (suc n) local target asked p = of_ends local target asked (λ l r. of_fields (fields_compared n local target asked) local target l (record_at local l) (record_at target r)) p
+fields_compared (suc n) local target asked p = behind_modifiers local target asked (λ l r. field_answer (fields_compared n local target asked) local target l (record_at local l) (record_at target r)) p
 
 -- whether a member of the local type is compatible with one of the target type
 abbrev pub fields_compatible : Table → ℕ → Table → ℕ → Result Bool BtfError

@@ -1,6 +1,6 @@
 -- How the records of a table lie in memory: that of each id at its place in the type bytes, and beside
 -- them the enums that unions stand for, which have no bytes.
-use Rattle.std.specs.Prelude.{◌≡◌, ◌≢◌, ℕ, suc, ◌<◌, ◌≤◌, ◌^◌, List, [], ◌∷◌, length, drop, All, Option, None, Some}
+use Rattle.std.specs.Prelude.{◌≡◌, ◌≢◌, ℕ, suc, ◌<◌, ◌^◌, List, [], ◌∷◌, length, drop, All, Option, None, Some}
 use Rattle.std.specs.List.{flat_map}
 use Rattle.std.specs.Map.{lookup}
 use Rattle.std.specs.BTreeMap.{is_at}
@@ -42,7 +42,3 @@ pub record IsLaidOut (order : Endianness) (bytes : List ℕ) (fallbacks : List (
 pub record Entered (old new : List (ℕ × Enum64Fallback)) (id : ℕ) (fallback : Option Enum64Fallback) : Type 0 where
   pub here : fallback_at new id ≡ fallback
   pub others : (other : ℕ) → other ≢ id → fallback_at new other ≡ fallback_at old other
-
--- so many bytes, or types, are more than 32 bits can count
-abbrev pub TooMany : ℕ → Type 0
-TooMany n = 2 ^ 32 ≤ n

@@ -1,8 +1,10 @@
 pub mod Agreement
-pub mod Compatibility
 pub mod FieldCompatibility
-pub mod Growing
+pub mod GrownTables
 pub mod Layout
-pub mod Lookups
 pub mod Pairs
+pub mod ResolvedTypes
 pub mod Sections
+pub mod TypeCompatibility
+pub mod TypeSizes
+pub mod TypesByName

@@ -4,7 +4,7 @@ use Rattle.std.specs.BTreeMap.{is_at}
 use Rattle.std.specs.Map.{lookup}
 use Rattle.std.specs.Ordering.{nat_cmp, ordering_then}
 use Rattle.std.specs.declared.cmp.Ordering.{Ordering}
-use Rattle.btf.specs.Compatibility.{is_pair}
+use Rattle.btf.specs.TypeCompatibility.{is_pair}
 use Rattle.btf.specs.declared.pairs.PairState.{PairState}
 
 abbrev pub pair_cmp : ℕ × ℕ → ℕ × ℕ → Ordering

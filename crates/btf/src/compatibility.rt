@@ -2,7 +2,7 @@
 
 ghost use Rattle.std.specs.Prelude.{◌≡◌, ◌≢◌, ◌<◌, true, [], ◌∷◌, ◌++◌, IfOk, IfErr, IfSome, Ok, Err, slice_get};
 ghost use Rattle.btf.specs.Agreement.{RestsOnBoth};
-ghost use Rattle.btf.specs.Compatibility.{compared_ids, ends_compatible, is_unshifted, pair_parts, pair_verdict, parts_of, record_at, types_compatible, verdict};
+ghost use Rattle.btf.specs.TypeCompatibility.{compared_ids, ends_compatible, has_no_bit_offset, pair_parts, pair_verdict, parts_of, record_at, types_compatible, verdict};
 ghost use Rattle.btf.specs.Pairs.{SetsState};
 ghost use Rattle.btf_records.specs.Fields.{kind_of_type};
 
@@ -63,8 +63,8 @@ fn next_parts(local: &Btf, target: &Btf, pair: OpenPair) -> Option<(u32, u32)>
 }
 
 /// Whether a record isn't an integer that begins behind its first bit.
-pub(crate) fn is_unshifted(t: &TypeRef<'_>) -> bool
-    ensures { result ≡ is_unshifted t.now }
+pub(crate) fn has_no_bit_offset(t: &TypeRef<'_>) -> bool
+    ensures { result ≡ has_no_bit_offset t.now }
 {
     match t.int() {
         Some(int) => int.offset() == 0,
@@ -80,7 +80,7 @@ fn verdict(left: u32, a: &TypeRef<'_>, b: &TypeRef<'_>) -> Result<bool, BtfError
         return Ok(false);
     }
     match a.kind() {
-        BtfKind::Int => Ok(is_unshifted(a) && is_unshifted(b)),
+        BtfKind::Int => Ok(has_no_bit_offset(a) && has_no_bit_offset(b)),
         BtfKind::FuncProto => Ok(a.count() == b.count()),
         BtfKind::Func | BtfKind::Var | BtfKind::DataSec | BtfKind::DeclTag => {
             Err(BtfError::UnexpectedBtfType { type_id: left })

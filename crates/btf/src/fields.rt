@@ -3,10 +3,10 @@
 ghost use Rattle.std.specs.Prelude.{◌≡◌, ◌&&◌, ◌==◌, Err, Ok, IfOk};
 ghost use Rattle.std.specs.Option.{option_map, option_zip};
 ghost use Rattle.btf.specs.Agreement.{RestsOnNames};
-ghost use Rattle.btf.specs.FieldCompatibility.{essential_name, field_ids, fields_compatible, is_composite, of_fields, same_names};
+ghost use Rattle.btf.specs.FieldCompatibility.{essential_name, field_ids, fields_compatible, is_composite, field_answer, same_names};
 ghost use Rattle.btf_records.specs.Fields.{array_of};
 
-use crate::compatibility::{is_unshifted, record_at};
+use crate::compatibility::{has_no_bit_offset, record_at};
 use crate::table::{Btf, MAX_DEPTH};
 use btf_encoding::TypeRef;
 use btf_records::{BtfError, BtfKind};
@@ -44,7 +44,7 @@ fn field_verdict(
     a: &TypeRef<'_>,
     b: &TypeRef<'_>,
 ) -> Result<bool, BtfError>
-    ensures { result ≡ of_fields (λ _. Err (BtfError.UnexpectedBtfType left)) local.now target.now left a.now b.now }
+    ensures { result ≡ field_answer (λ _. Err (BtfError.UnexpectedBtfType left)) local.now target.now left a.now b.now }
 {
     if is_composite(a) && is_composite(b) {
         return Ok(true);
@@ -54,7 +54,7 @@ fn field_verdict(
     }
     match a.kind() {
         BtfKind::Fwd | BtfKind::Enum | BtfKind::Enum64 => same_names(local, target, a, b),
-        BtfKind::Int => Ok(is_unshifted(a) && is_unshifted(b)),
+        BtfKind::Int => Ok(has_no_bit_offset(a) && has_no_bit_offset(b)),
         BtfKind::Float | BtfKind::Ptr => Ok(true),
         _ => Err(BtfError::UnexpectedBtfType { type_id: left }),
     }

@@ -1,8 +1,8 @@
 //! New tables, and what is added to a table.
 
 ghost use Rattle.std.specs.Prelude.{◌≡◌, ◌≢◌, ◌+◌, ◌<◌, ◌^◌, ◌∷◌, ◌++◌, [], All, IfErr, IfOk, OnErr, OnOk, Some, length};
-ghost use Rattle.btf.specs.Growing.{IsFull, TextsStay, TypesStay, with_string, with_type};
-ghost use Rattle.btf.specs.Layout.{TooMany};
+ghost use Rattle.btf.specs.GrownTables.{IsFull, TextsStay, TypesStay, with_string, with_type};
+ghost use Rattle.btf.specs.GrownTables.{TooMany};
 ghost use Rattle.btf_encoding.specs.Tables.{new_table, type_by_id};
 ghost use Rattle.btf_encoding.specs.Texts.{text_at};
 ghost use Rattle.btf_records.specs.declared.error.BtfError.TheVariants.{InvalidTypeInfo, OutOfMemory};

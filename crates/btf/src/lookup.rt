@@ -3,7 +3,9 @@
 ghost use Rattle.std.specs.Prelude.{◌≡◌, ◌≢◌, ◌*◌, true, false, ℕ, IfOk, IfErr, MatchOption, Ok, Some, None};
 ghost use Rattle.std.specs.Option.{IsSomeAnd, option_map};
 ghost use Rattle.btf.specs.Agreement.{FoundAlike, IsReached, RestsOn, chain_ids, size_ids};
-ghost use Rattle.btf.specs.Lookups.{IsEnd, IsFirstNamed, IsOther, IsSize, NameFault, own_size, resolved, sized, sized_by, sized_in_32_bits};
+ghost use Rattle.btf.specs.ResolvedTypes.{IsEnd, resolved_type};
+ghost use Rattle.btf.specs.TypeSizes.{IsSize, own_size, sized_by, type_size, type_size_in_32_bits};
+ghost use Rattle.btf.specs.TypesByName.{IsFirstNamed, IsNotNamed, NameFault};
 ghost use Rattle.btf_records.specs.Fields.{kind_of_type, name_offset_of};
 ghost use Rattle.btf_encoding.specs.Texts.{text_at};
 ghost use Rattle.btf_records.specs.declared.error.BtfError.TheVariants.{InvalidStringOffset, OutOfMemory};
@@ -57,11 +59,11 @@ impl Btf {
     /// `UnknownBtfType` where a type of the chain isn't there, `MaximumTypeDepthReached` where the
     /// chain, with its end, has more than 32 types.
     pub fn resolve_type(&self, type_id: u32) -> Result<u32, BtfError>
-        ensures value { result ≡ resolved self.now type_id }
+        ensures value { result ≡ resolved_type self.now type_id }
         ensures chain { IfOk result (λ end. IsEnd self.now type_id end) }
-        ensures again { IfOk result (λ end. resolved self.now end ≡ Ok end) }
+        ensures again { IfOk result (λ end. resolved_type self.now end ≡ Ok end) }
         ensures reached { IfOk result (λ end. IsReached chain_ids self.now type_id end) }
-        ensures rests { RestsOn chain_ids self.now type_id (λ table. resolved table type_id) }
+        ensures rests { RestsOn chain_ids self.now type_id (λ table. resolved_type table type_id) }
     {
         self.chain_end(type_id, type_id)
     }
@@ -73,16 +75,16 @@ impl Btf {
     /// types, `InvalidTypeInfo` where the lengths of the arrays so far multiply to 2^32 or more.
     #[tactic(auto, using(crate::proofs::Walks::sized_walk))]
     pub fn type_size(&self, type_id: u32) -> Result<u64, BtfError>
-        ensures value { result ≡ sized self.now type_id }
+        ensures value { result ≡ type_size self.now type_id }
         ensures walk { IfOk result (λ size. IsSize self.now type_id size) }
-        ensures rests { RestsOn size_ids self.now type_id (λ table. sized table type_id) }
+        ensures rests { RestsOn size_ids self.now type_id (λ table. type_size table type_id) }
     {
         self.walk_size(type_id)
     }
 
     #[tactic(auto, using(crate::proofs::Chains::size_over, crate::proofs::Chains::size_unknown, crate::proofs::Chains::size_done, crate::proofs::Chains::size_none, crate::proofs::Chains::size_past, crate::proofs::Chains::size_more))]
     fn walk_size(&self, type_id: u32) -> Result<u64, BtfError>
-        ensures { result ≡ sized self.now type_id }
+        ensures { result ≡ type_size self.now type_id }
     {
         let mut count = 1;
         let mut id = type_id;
@@ -107,8 +109,8 @@ impl Btf {
     ///
     /// `InvalidTypeInfo` where they can't; otherwise what `type_size` answers.
     pub fn type_size_u32(&self, type_id: u32) -> Result<u32, BtfError>
-        ensures value { result ≡ sized_in_32_bits self.now type_id }
-        ensures rests { RestsOn size_ids self.now type_id (λ table. sized_in_32_bits table type_id) }
+        ensures value { result ≡ type_size_in_32_bits self.now type_id }
+        ensures rests { RestsOn size_ids self.now type_id (λ table. type_size_in_32_bits table type_id) }
     {
         let size = self.type_size(type_id)?;
         match u32::try_from(size) {
@@ -153,7 +155,7 @@ impl Btf {
     /// The least id of the types of this kind and name, where there is one.
     #[tactic(auto, using(crate::proofs::Named::known_here, crate::proofs::Named::rest_here, crate::proofs::Named::none_more, crate::proofs::Named::none_left))]
     fn first_named(&self, name: &str, kind: BtfKind) -> Result<Option<u32>, BtfError>
-        ensures found { IfOk result (λ found. MatchOption found ((id : ℕ) → IsOther self.now name.now kind id) (λ id. IsFirstNamed self.now name.now kind id)) }
+        ensures found { IfOk result (λ found. MatchOption found ((id : ℕ) → IsNotNamed self.now name.now kind id) (λ id. IsFirstNamed self.now name.now kind id)) }
         ensures refused { IfErr result (λ e. NameFault self.now name.now kind e) }
     {
         let mut id: usize = 0;

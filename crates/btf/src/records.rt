@@ -6,7 +6,8 @@ ghost use Rattle.std.specs.Option.{option_copied, option_map_or};
 ghost use Rattle.btf_records.specs.Fields.{fallback_of};
 ghost use Rattle.btf_encoding.specs.Records.{HasRecord, ReadsBack, ReadsSame, Spells, TypesFault, record_bytes, type_in, with_fallback, without_fallback};
 ghost use Rattle.btf_records.specs.declared.error.BtfError.TheVariants.{InvalidTypeInfo, OutOfMemory};
-ghost use Rattle.btf.specs.Layout.{Entered, TooMany, fallback_at, types_at};
+ghost use Rattle.btf.specs.GrownTables.{TooMany};
+ghost use Rattle.btf.specs.Layout.{Entered, fallback_at, types_at};
 
 use btf_encoding::{TypeRef, count_types, push_type, record_len};
 use btf_records::{BtfError, BtfType, Endianness, Enum64Fallback, Union};

@@ -1,8 +1,8 @@
 //! The section that holds a table (Documentation/bpf/btf.rst, "BTF Type and String Encoding").
 
 ghost use Rattle.std.specs.Prelude.{◌≡◌, ◌≢◌, ◌+◌, ◌<◌, ◌≤◌, ◌^◌, ◌++◌, IfErr, IfOk, OnOk, MatchOption, drop, length, take};
-ghost use Rattle.btf.specs.Growing.{HoldsTable, without_fallbacks};
-ghost use Rattle.btf.specs.Sections.{header_bytes};
+ghost use Rattle.btf.specs.Sections.{HoldsTable, without_fallbacks};
+ghost use Rattle.btf.specs.Sections.{bytes_of_header};
 ghost use Rattle.btf_encoding.specs.Tables.{TableFault, table_bytes};
 ghost use Rattle.btf_records.specs.Words.{word_at};
 ghost use Rattle.btf_records.specs.declared.error.BtfError.TheVariants.{OutOfMemory};
@@ -44,7 +44,7 @@ fn region(order: Endianness, bytes: &[u8], at: usize) -> Option<&[u8]>
 
 /// Writes the header of a section with types of so many bytes, and strings of so many behind them.
 fn push_header(out: &mut Vec<u8>, order: Endianness, header: Header) -> Result<(), AllocError>
-    ensures written { OnOk result (out.new.items ≡ out.old.items ++ header_bytes order header) }
+    ensures written { OnOk result (out.new.items ≡ out.old.items ++ bytes_of_header order header) }
     ensures fits { header.magic < 2 ^ 16 }
 {
     push_half_word(out, order, header.magic)?;
@@ -59,11 +59,11 @@ fn push_header(out: &mut Vec<u8>, order: Endianness, header: Header) -> Result<(
 }
 
 impl Btf {
-    /// The table that a section holds, in this byte order. Neither magic nor version is looked at.
+    /// The table that a section holds, in this byte order. Neither magic nor version is checked.
     ///
     /// `InvalidHeader` where the header is cut off or the strings go past the end,
-    /// `InvalidTypeInfo` where the types do or a record is cut off, `InvalidTypeKind` where none
-    /// has the kind.
+    /// `InvalidTypeInfo` where the types do or a record is cut off, `InvalidTypeKind` where a
+    /// record's kind is above 19.
     #[tactic(auto, using(crate::proofs::Sections::holds_table, crate::proofs::Sections::types_fault))]
     pub fn parse(alloc: Global, bytes: &[u8], order: Endianness) -> Result<Btf, BtfError>
         ensures holds { IfOk result (λ table. HoldsTable order bytes.now table) }

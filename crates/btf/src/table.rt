@@ -1,7 +1,7 @@
 //! Type tables.
 
 ghost use Rattle.std.specs.Prelude.{◌≡◌, ◌≤◌, ◌^◌, ◌==◌, ◌∷◌, length, MatchResult, Some, None};
-ghost use Rattle.btf.specs.Lookups.{chain_end, max_depth, modified_type};
+ghost use Rattle.btf.specs.ResolvedTypes.{chain_end, max_depth, modified_type};
 ghost use Rattle.btf_records.specs.Fields.{name_offset_of};
 ghost use Rattle.btf_encoding.specs.Tables.{type_by_id};
 ghost use Rattle.btf_encoding.specs.Texts.{text_at};

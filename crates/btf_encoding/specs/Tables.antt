@@ -45,7 +45,7 @@ type_bytes_in order bytes = take (word_at order bytes 12) (drop (types_start ord
 abbrev pub string_bytes_in : Endianness → List ℕ → List ℕ
 string_bytes_in order bytes = take (word_at order bytes 20) (drop (strings_start order bytes) bytes)
 
--- the section holds the table; neither its magic nor its version is looked at
+-- the section holds the table; neither its magic nor its version is checked
 pub record IsTable (order : Endianness) (bytes : List ℕ) (table : Table) : Type 0 where
   pub head : header_len ≤ length bytes
   pub strings_within : strings_end order bytes ≤ length bytes
@@ -68,9 +68,13 @@ TableFault order bytes _ = ⊥
 abbrev pub type_bytes : Table → List ℕ
 type_bytes table = flat_map (record_bytes table.order) table.types
 
+-- a header with types of so many bytes right behind it, and strings of so many behind these
+abbrev pub header_bytes : Endianness → ℕ → ℕ → ℕ → ℕ → ℕ → List ℕ
+header_bytes order magic version flags types_len strings_len = half_bytes order magic ++ version ∷ flags ∷ [] ++ words_bytes order (header_len ∷ 0 ∷ types_len ∷ types_len ∷ strings_len ∷ [])
+
 -- the section as which a table is written: header, types, strings, nothing between them
 abbrev pub table_bytes : Table → List ℕ
-table_bytes table = half_bytes table.order table.magic ++ table.version ∷ table.flags ∷ [] ++ words_bytes table.order (header_len ∷ 0 ∷ length (type_bytes table) ∷ length (type_bytes table) ∷ length table.strings ∷ []) ++ type_bytes table ++ table.strings
+table_bytes table = header_bytes table.order table.magic table.version table.flags (length (type_bytes table)) (length table.strings) ++ type_bytes table ++ table.strings
 
 -- a new table: no type but void, and the empty text
 abbrev pub new_table : Table

@@ -1,7 +1,7 @@
-use Rattle.std.proofs.Common.{◌≡◌, ◌≢◌, ◌<◌, true, false, [], ◌∷◌, ◌++◌, IfOk, IfErr, IfSome, Ok, Err, Some, None, slice_get, sym, refl, ◌∙◌, arith}
+use Rattle.std.proofs.Common.{◌≡◌, ◌≢◌, true, false, Ok, Err, Some, arith}
 use Rattle.std.proofs.lemmas.Grind.{common_steps}
-use Rattle.btf.specs.Compatibility.{ends_compatible, pair_parts, pair_verdict}
-use Rattle.btf.specs.Pairs.{SetsState, state_of}
+use Rattle.btf.specs.TypeCompatibility.{ends_compatible}
+use Rattle.btf.specs.Pairs.{state_of}
 use Rattle.btf.specs.declared.pairs.PairState.TheVariants.{Open, Settled}
 use Rattle.btf.proofs.Endings.{IsFinal-err, IsFinal-no}
 use Rattle.btf.proofs.Turns.{answered, first-ends, found-left, found-right, is_met, is_next, met-final, met-open, passed_on, shorter-advanced, shorter-opened, shorter-settled, walk-advances, walk-begins, walk-opens, walk-settles}

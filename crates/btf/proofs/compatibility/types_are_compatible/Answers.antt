@@ -1,7 +1,7 @@
 use Rattle.std.proofs.Common.{◌≡◌, Ok, arith}
 use Rattle.std.proofs.lemmas.Grind.{common_steps}
 use Rattle.std.specs.Prelude.{IfOk}
-use Rattle.btf.specs.Compatibility.{types_compatible}
+use Rattle.btf.specs.TypeCompatibility.{types_compatible}
 use Rattle.btf.proofs.Agreed.{types_rest}
 use Rattle.btf.proofs.Exchanged.{answer-exchanged}
 use Rattle.btf.proofs.compatibility.types_are_compatible.Goals as goal

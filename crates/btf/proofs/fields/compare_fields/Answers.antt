@@ -1,8 +1,8 @@
-use Rattle.std.proofs.Common.{◌≡◌, ◌<◌, ℕ, Err, Ok, Some, None, sym, ◌∙◌, arith}
+use Rattle.std.proofs.Common.{◌≡◌, ◌<◌, Err, Some, sym, ◌∙◌, arith}
 use Rattle.std.proofs.lemmas.Grind.{common_steps}
-use Rattle.btf.specs.Compatibility.{record_at}
-use Rattle.btf.specs.Lookups.{max_depth}
-use Rattle.btf.proofs.FieldRounds.{elements_of, round_done, round_left, round_more, round_right, rounds_over}
+use Rattle.btf.specs.TypeCompatibility.{record_at}
+use Rattle.btf.specs.ResolvedTypes.{max_depth}
+use Rattle.btf.proofs.FieldRounds.{elements_of, round_done, round_more}
 use Rattle.btf_records.specs.declared.error.BtfError.TheVariants.{UnexpectedBtfType}
 use Rattle.btf.proofs.fields.compare_fields.Goals as goal
 

@@ -1,6 +1,6 @@
 use Rattle.std.proofs.Common.{◌≡◌, ◌-◌}
 use Rattle.btf.specs.FieldCompatibility.{fields_compared}
-use Rattle.btf.specs.Lookups.{max_depth}
+use Rattle.btf.specs.ResolvedTypes.{max_depth}
 use Rattle.btf.proofs.fields.compare_fields.Given as goal
 
 abbrev pub invariant-loop : goal.invariant-loop

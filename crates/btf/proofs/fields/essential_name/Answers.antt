@@ -1,4 +1,3 @@
-use Rattle.std.proofs.Common.{◌≡◌, ap, ◌∙◌, sym}
 use Rattle.btf.proofs.Flavours.{name_cut, name_whole}
 use Rattle.btf.proofs.fields.essential_name.Goals as goal
 

@@ -1,7 +1,8 @@
 use Rattle.std.proofs.Common.{◌+◌, [], ◌∷◌, ◌++◌, length, ap, subst, ◌∙◌}
 use Rattle.std.specs.Prelude.{◌⊎◌}
 use Rattle.std.specs.List.{flat_map}
-use Rattle.btf.specs.Layout.{RecordList, TooMany}
+use Rattle.btf.specs.GrownTables.{TooMany}
+use Rattle.btf.specs.Layout.{RecordList}
 use Rattle.btf.proofs.Places.{few_bytes_of, few_types_of}
 use Rattle.btf.proofs.Growth.{grown, grown_tight, too_many}
 use Rattle.btf_encoding.specs.Records.{record_bytes}

@@ -1,5 +1,5 @@
 use Rattle.std.proofs.Common.{◌≡◌, ◌-◌}
-use Rattle.btf.specs.Lookups.{chain_end, max_depth}
+use Rattle.btf.specs.ResolvedTypes.{chain_end, max_depth}
 use Rattle.btf.proofs.table.Btf.chain_end.Given as goal
 
 abbrev pub invariant-loop : goal.invariant-loop

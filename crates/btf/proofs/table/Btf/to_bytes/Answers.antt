@@ -1,5 +1,5 @@
 use Rattle.std.proofs.Common.{refl, rules, subst}
-use Rattle.btf.specs.Growing.{HoldsTable, without_fallbacks}
+use Rattle.btf.specs.Sections.{HoldsTable, without_fallbacks}
 use Rattle.btf.specs.declared.section.Header.{Header}
 use Rattle.btf.proofs.Headers.{section_holds}
 use Rattle.btf_encoding.specs.Tables.{Table, type_bytes}

@@ -1,5 +1,6 @@
 use Rattle.std.proofs.Common.{◌≡◌, ◌-◌}
-use Rattle.btf.specs.Lookups.{max_depth, size_at_end}
+use Rattle.btf.specs.ResolvedTypes.{max_depth}
+use Rattle.btf.specs.TypeSizes.{size_at_end}
 use Rattle.btf.proofs.table.Btf.walk_size.Given as goal
 
 abbrev pub invariant-loop : goal.invariant-loop

@@ -3,7 +3,7 @@
 use Rattle.std.specs.Prelude.{ℕ, zero, suc, ◌*◌, Bool, true, false, ◌&&◌, ◌==◌, List, [], ◌∷◌, ◌++◌, length, map, Option, None, Some, Result, Ok, Err, if◌then◌else◌}
 use Rattle.std.specs.List.{list_any, zip}
 use Rattle.std.specs.Option.{option_map_or, option_to_list, unwrap_or}
-use Rattle.btf.specs.Lookups.{chain_end, max_depth, modified_type}
+use Rattle.btf.specs.ResolvedTypes.{chain_end, max_depth, modified_type}
 use Rattle.btf_records.specs.Fields.{int_of, kind_of_type, params_of}
 use Rattle.btf_records.specs.Info.{offset_in}
 use Rattle.btf_records.specs.Kinds.{number_of}
@@ -30,12 +30,12 @@ abbrev pub same_kind : BtfType → BtfType → Bool
 same_kind a b = number_of (kind_of_type a) == number_of (kind_of_type b)
 
 -- an integer that begins with its first bit
-abbrev pub is_unshifted : BtfType → Bool
-is_unshifted t = option_map_or (λ int. offset_in int.int_word == 0) (int_of t) true
+abbrev pub has_no_bit_offset : BtfType → Bool
+has_no_bit_offset t = option_map_or (λ int. offset_in int.int_word == 0) (int_of t) true
 
 -- what two records of one kind say by themselves, the local one of this id
 abbrev pub verdict_of : BtfKind → ℕ → BtfType → BtfType → Result Bool BtfError
-verdict_of kinds.Int l a b = Ok (is_unshifted a && is_unshifted b)
+verdict_of kinds.Int l a b = Ok (has_no_bit_offset a && has_no_bit_offset b)
 verdict_of kinds.FuncProto l a b = Ok (length (params_of a) == length (params_of b))
 verdict_of kinds.Func l a b = Err (UnexpectedBtfType l)
 verdict_of kinds.Var l a b = Err (UnexpectedBtfType l)
@@ -74,28 +74,28 @@ unfoldable pub is_open : List (ℕ × ℕ) → ℕ → ℕ → Bool
 is_open open_pairs l r = list_any (is_pair l r) open_pairs
 
 -- an answer for two ids where both chains of modifiers have an end: that for their ends
-abbrev pub for_ends : (ℕ → ℕ → Result Bool BtfError) → Result ℕ BtfError → Result ℕ BtfError → Result Bool BtfError
-for_ends go (Err e) r = Err e
-for_ends go (Ok l) (Err e) = Err e
-for_ends go (Ok l) (Ok r) = go l r
+abbrev pub both_ends : (ℕ → ℕ → Result Bool BtfError) → Result ℕ BtfError → Result ℕ BtfError → Result Bool BtfError
+both_ends go (Err e) r = Err e
+both_ends go (Ok l) (Err e) = Err e
+both_ends go (Ok l) (Ok r) = go l r
 
-abbrev pub of_ends : Table → Table → ℕ → (ℕ → ℕ → Result Bool BtfError) → (ℕ × ℕ) → Result Bool BtfError
-of_ends local target asked go p = for_ends go (chain_end max_depth local asked p.0) (chain_end max_depth target asked p.1)
+abbrev pub behind_modifiers : Table → Table → ℕ → (ℕ → ℕ → Result Bool BtfError) → (ℕ × ℕ) → Result Bool BtfError
+behind_modifiers local target asked go p = both_ends go (chain_end max_depth local asked p.0) (chain_end max_depth target asked p.1)
 
 -- the answer for two ids without modifiers: what the records say, and then their parts in order, with
 -- the pair open meanwhile; a pair that is met while it is open is too deep. So many pairs at most are
 -- opened one inside the other
 unfoldable pub compared : ℕ → Table → Table → ℕ → List (ℕ × ℕ) → ℕ → ℕ → Result Bool BtfError
 compared zero local target asked open_pairs l r = Err (MaximumTypeDepthReached asked)
-compared (suc n) local target asked open_pairs l r = if is_open open_pairs l r then Err (MaximumTypeDepthReached asked) else and_also (pair_verdict local target l r) (all_yes (of_ends local target asked (compared n local target asked (open_pairs ++ (l, r) ∷ []))) (pair_parts local target l r))
+compared (suc n) local target asked open_pairs l r = if is_open open_pairs l r then Err (MaximumTypeDepthReached asked) else and_also (pair_verdict local target l r) (all_yes (behind_modifiers local target asked (compared n local target asked (open_pairs ++ (l, r) ∷ []))) (pair_parts local target l r))
 
 -- a number above which no more pairs can be open: all pairs of ids are fewer
-abbrev pub above_pairs : Table → Table → ℕ
-above_pairs local target = suc (suc (length local.types) * suc (length target.types))
+abbrev pub pair_bound : Table → Table → ℕ
+pair_bound local target = suc (suc (length local.types) * suc (length target.types))
 
 -- the answer for two ids with modifiers
 abbrev pub ends_compatible : Table → Table → ℕ → (ℕ × ℕ) → Result Bool BtfError
-ends_compatible local target asked p = of_ends local target asked (compared (above_pairs local target) local target asked []) p
+ends_compatible local target asked p = behind_modifiers local target asked (compared (pair_bound local target) local target asked []) p
 
 -- whether two ids are known and of one kind, modifiers being kinds too
 abbrev pub first_verdict : ℕ → ℕ → Option BtfType → Option BtfType → Result Bool BtfError
