@@ -1,5 +1,6 @@
--- When the type of a local member is compatible with that of a target member, as libbpf's
--- `bpf_core_fields_are_compat` compares them (tools/lib/bpf/relo_core.c).
+-- When the type of a local member is compatible with that of a target member. libbpf has this as
+-- `bpf_core_fields_are_compat` (tools/lib/bpf/relo_core.c); here ENUM and ENUM64 are two kinds, an empty
+-- name is a name, a flavour is cut from its first `___` on, and other kinds are a fault.
 use Rattle.std.specs.Prelude.{ℕ, zero, suc, Bool, true, false, ◌&&◌, ◌||◌, ◌==◌, nat_eq, List, [], ◌∷◌, ◌++◌, codes, Result, Ok, Err, if◌then◌else◌}
 use Rattle.std.specs.Cmp.Lexicographic.{pointwise}
 use Rattle.std.specs.List.{starts_with}
@@ -16,7 +17,7 @@ use Rattle.btf_records.specs.declared.kind.BtfKind.{BtfKind}
 use Rattle.btf_records.specs.declared.kind.BtfKind.TheVariants as kinds
 use Rattle.btf_records.specs.declared.types.BtfType.{BtfType}
 
--- a name without its flavour, which begins with `___`
+-- a name without its flavour, which is what follows from its first `___` on
 abbrev pub essential_name : List ℕ → List ℕ
 essential_name [] = []
 essential_name (b ∷ bs) = if starts_with nat_eq (b ∷ bs) (codes "___") then [] else b ∷ essential_name bs

@@ -1,5 +1,6 @@
--- When a type of one table is compatible with a type of another, as libbpf's
--- `bpf_core_types_are_compat` compares them (tools/lib/bpf/relo_core.c), without a limit on depth.
+-- When a type of one table is compatible with a type of another. libbpf has this as
+-- `bpf_core_types_are_compat` (tools/lib/bpf/relo_core.c); here depth has no limit but a pair that is met
+-- inside itself, ENUM and ENUM64 are two kinds, FLOATs are compatible, and other kinds are a fault.
 use Rattle.std.specs.Prelude.{ℕ, zero, suc, ◌*◌, Bool, true, false, ◌&&◌, ◌==◌, List, [], ◌∷◌, ◌++◌, length, map, Option, None, Some, Result, Ok, Err, if◌then◌else◌}
 use Rattle.std.specs.List.{list_any, zip}
 use Rattle.std.specs.Option.{option_map_or, option_to_list, unwrap_or}
@@ -29,11 +30,12 @@ all_yes ask (p ∷ ps) = and_also (ask p) (all_yes ask ps)
 abbrev pub same_kind : BtfType → BtfType → Bool
 same_kind a b = number_of (kind_of_type a) == number_of (kind_of_type b)
 
--- an integer that begins with its first bit
+-- no integer that begins behind its first bit
 abbrev pub has_no_bit_offset : BtfType → Bool
 has_no_bit_offset t = option_map_or (λ int. offset_in int.int_word == 0) (int_of t) true
 
--- what two records of one kind say by themselves, the local one of this id
+-- what two records of one kind, and of no modifier's, say by themselves, the local one of this id: void,
+-- STRUCT, UNION, ENUM, ENUM64, FWD, FLOAT, PTR and ARRAY are compatible as far as that goes
 abbrev pub verdict_of : BtfKind → ℕ → BtfType → BtfType → Result Bool BtfError
 verdict_of kinds.Int l a b = Ok (has_no_bit_offset a && has_no_bit_offset b)
 verdict_of kinds.FuncProto l a b = Ok (length (params_of a) == length (params_of b))

@@ -62,7 +62,7 @@ fn next_parts(local: &Btf, target: &Btf, pair: OpenPair) -> Option<(u32, u32)>
     Some((left, right))
 }
 
-/// Whether a record isn't an integer that begins behind its first bit.
+/// Whether a record is no integer that begins behind its first bit.
 pub(crate) fn has_no_bit_offset(t: &TypeRef<'_>) -> bool
     ensures { result ≡ has_no_bit_offset t.now }
 {
@@ -150,10 +150,17 @@ fn ends_are_compatible(
     Ok(true)
 }
 
-/// Whether a type is compatible with a type of another table, as the kernel's loader compares the
-/// types that a program was compiled against with those of the running kernel.
+/// Whether a type is compatible with a type of another table, as libbpf asks of the types that a
+/// program was compiled against and those of a kernel (`bpf_core_types_are_compat`,
+/// tools/lib/bpf/relo_core.c).
 ///
-/// Both are of one kind, and so are their parts behind modifiers.
+/// Both are of one kind, and so are the ends of their chains of modifiers and, in turn, what these
+/// point to, hold, take and return. Signatures take as many parameters, and integers begin with
+/// their first bit.
+///
+/// `UnknownBtfType` where a type isn't there, `UnexpectedBtfType` where functions, variables,
+/// sections or declaration tags are compared, `MaximumTypeDepthReached` with the local id where a
+/// pair of types is met inside itself or a chain of modifiers is too long.
 pub fn types_are_compatible(
     local: &Btf,
     local_id: u32,

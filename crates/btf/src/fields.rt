@@ -94,12 +94,16 @@ fn compare_fields(
 }
 
 /// Whether the type of a member is compatible with that of a member of a type of another table, as
-/// the kernel's loader compares members when it moves an access to where the running kernel has
-/// them.
+/// libbpf asks where it moves an access to a kernel's place of a member
+/// (`bpf_core_fields_are_compat`, tools/lib/bpf/relo_core.c).
 ///
-/// Structs and unions are; so are floats, pointers and integers that begin with their first bit, each
-/// with its kind, arrays with compatible elements, and enums and forward declarations with the same
-/// name. A name's flavour, from `___` on, doesn't count.
+/// Behind modifiers, structs and unions are; so are floats, pointers and integers that begin with
+/// their first bit, each with its kind, arrays with compatible elements, and enums and forward
+/// declarations with the same name. A name's flavour, from its first `___` on, doesn't count.
+///
+/// `UnknownBtfType` where a type isn't there, `UnexpectedBtfType` where other kinds are compared,
+/// `InvalidStringOffset` where a name can't be read, `MaximumTypeDepthReached` with the local id
+/// where arrays are nested more than 31 deep or a chain of modifiers is too long.
 pub fn fields_are_compatible(
     local: &Btf,
     local_id: u32,
