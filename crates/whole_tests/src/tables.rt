@@ -268,6 +268,26 @@ fn stands_for_enum(table: &Btf) -> bool {
     stands
 }
 
+/// Whether a copy of the record of id 1 stands for an enum, or memory ran out.
+fn copy_stands_for_enum(alloc: Global, table: &Btf) -> bool {
+    let Ok(t) = table.type_by_id(1) else {
+        return false;
+    };
+    let copy = t.to_type(alloc);
+    drop(t);
+    match copy {
+        Ok(t) => t.kind() == BtfKind::Union && keeps_enum(&t),
+        Err(_error) => true,
+    }
+}
+
+fn keeps_enum(t: &BtfType) -> bool {
+    match t {
+        BtfType::Union(union) => union.enum64_fallback().is_some(),
+        _ => false,
+    }
+}
+
 #[test]
 fn a_union_keeps_its_enum(rt: HostRuntime) {
     let alloc = rt.alloc();
@@ -279,6 +299,7 @@ fn a_union_keeps_its_enum(rt: HostRuntime) {
         return;
     }
     assert!(rt; stands_for_enum(&table));
+    assert!(rt; copy_stands_for_enum(alloc, &table));
     if let Ok(copy) = table.try_clone() {
         assert!(rt; stands_for_enum(&copy));
     }
