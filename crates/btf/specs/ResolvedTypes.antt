@@ -1,5 +1,5 @@
--- Resolved types: the end of a chain of modifiers. libbpf has this as `btf__resolve_type`
--- (tools/lib/bpf/btf.c); typedefs count as modifiers here.
+-- Resolved types: the end of a chain of modifiers ("BTF_KIND_TYPEDEF", "BTF_KIND_VOLATILE", "BTF_KIND_CONST",
+-- "BTF_KIND_RESTRICT", "BTF_KIND_TYPE_TAG"). libbpf has this as `btf__resolve_type` (tools/lib/bpf/btf.c).
 use Rattle.std.specs.Prelude.{◌≡◌, ℕ, zero, suc, ◌<◌, List, [], ◌∷◌, length, Option, None, Some, Result, Ok, Err}
 use Rattle.std.specs.Option.{IsSomeAnd, option_map_or}
 use Rattle.btf_encoding.specs.Tables.{Table, type_by_id}

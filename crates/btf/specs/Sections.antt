@@ -1,4 +1,4 @@
--- The table that a section holds, and the header of one that is written.
+-- The table that a section holds, and the header of one that is written ("BTF Type and String Encoding").
 use Rattle.std.specs.Prelude.{◌≡◌, ℕ, List, map}
 use Rattle.btf.specs.declared.section.Header.{Header}
 use Rattle.btf_encoding.specs.Records.{without_fallback}

@@ -45,7 +45,7 @@ fn sized_by(t: &TypeRef<'_>) -> Option<SizedBy>
     }
 }
 
-/// Of so many such sizes the sum.
+/// The bytes of so many items of a size.
 fn times(count: u32, size: u32) -> u64
     ensures { result ≡ count * size }
 {
@@ -82,6 +82,7 @@ impl Btf {
         self.walk_size(type_id)
     }
 
+    /// The size at the end of the walk from a type.
     #[tactic(auto, using(crate::proofs::Chains::size_over, crate::proofs::Chains::size_unknown, crate::proofs::Chains::size_done, crate::proofs::Chains::size_none, crate::proofs::Chains::size_past, crate::proofs::Chains::size_more))]
     fn walk_size(&self, type_id: u32) -> Result<u64, BtfError>
         ensures { result ≡ type_size self.now type_id }

@@ -137,7 +137,7 @@ fn with_fallback<'a>(t: TypeRef<'a>, fallback: Option<&'a Enum64Fallback>) -> Ty
     }
 }
 
-/// Where the records begin that the bytes are.
+/// Where the records begin that the bytes are, of which there are so many.
 #[tactic(auto, using(crate::proofs::Reading::no_places, crate::proofs::Reading::one_more_place, crate::proofs::Reading::fault_behind, crate::proofs::Reading::all_places))]
 fn places(
     alloc: Global,
@@ -172,7 +172,7 @@ fn write_record(out: &mut Vec<u8>, order: Endianness, t: &TypeRef<'_>) -> Result
 impl TypeRecords {
     /// The records that the bytes are, which are counted first.
     ///
-    /// `InvalidTypeInfo` where one of them is cut off, `InvalidTypeKind` where none has the kind.
+    /// `InvalidTypeInfo` where one of them is cut off, `InvalidTypeKind` where its kind is above 19.
     #[tactic(auto, using(crate::proofs::Reading::laid_out))]
     pub(crate) fn read(
         alloc: Global,
@@ -238,6 +238,7 @@ impl TypeRecords {
             None => None,
         }
     }
+
     /// The record of an id; that of id 0 is void.
     pub(crate) fn by_id(&self, id: usize) -> Option<TypeRef<'_>>
         ensures value { result ≡ slice_get (BtfType.Unknown ∷ self.now.types) id }
@@ -248,6 +249,7 @@ impl TypeRecords {
         }
         self.get(id - 1)
     }
+
     /// How many bytes the records are.
     pub(crate) fn byte_len(&self) -> usize
         ensures value { result ≡ length (flat_map (record_bytes self.now.order) self.now.types) }
@@ -282,6 +284,7 @@ impl TypeRecords {
             }
         }
     }
+
     /// Writes the bytes of the records behind what is there.
     #[tactic(auto, using(crate::proofs::Writing::none_written, crate::proofs::Writing::one_more_written, crate::proofs::Writing::all_written, crate::proofs::Writing::all_spelled))]
     pub(crate) fn write(&self, out: &mut Vec<u8>) -> Result<(), AllocError>

@@ -1,8 +1,7 @@
 //! The section that holds a table (Documentation/bpf/btf.rst, "BTF Type and String Encoding").
 
 ghost use Rattle.std.specs.Prelude.{◌≡◌, ◌≢◌, ◌+◌, ◌<◌, ◌≤◌, ◌^◌, ◌++◌, IfErr, IfOk, OnOk, MatchOption, drop, length, take};
-ghost use Rattle.btf.specs.Sections.{HoldsTable, without_fallbacks};
-ghost use Rattle.btf.specs.Sections.{bytes_of_header};
+ghost use Rattle.btf.specs.Sections.{HoldsTable, bytes_of_header, without_fallbacks};
 ghost use Rattle.btf_encoding.specs.Tables.{TableFault, table_bytes};
 ghost use Rattle.btf_records.specs.Words.{word_at};
 ghost use Rattle.btf_records.specs.declared.error.BtfError.TheVariants.{OutOfMemory};
