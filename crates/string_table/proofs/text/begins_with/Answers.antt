@@ -1,6 +1,5 @@
 use Rattle.std.proofs.Common.{◌≡◌, ℕ, List, [], ◌∷◌, Some, Bool, true, false, refl, ap, sym, ◌∙◌, drop, length, not}
-use Rattle.std.specs.Prelude.{◌==◌, IsTrue, slice_get}
-use Rattle.std.specs.List.{list_any}
+use Rattle.std.specs.Prelude.{IsTrue, slice_get}
 use Rattle.std.specs.Cmp.Lexicographic.{same_text}
 use Rattle.string_table.specs.Texts.{before_nul}
 use Rattle.string_table.proofs.Texts.{compared, equal_by_bytes}

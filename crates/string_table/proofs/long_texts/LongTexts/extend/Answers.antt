@@ -1,4 +1,4 @@
-use Rattle.std.proofs.Common.{arith, length, length-drop, length-take, drop}
+use Rattle.std.proofs.Common.{arith, length-drop, length-take}
 use Rattle.string_table.proofs.Ends.{long_texts_stay}
 use Rattle.string_table.proofs.long_texts.LongTexts.extend.Goals as goal
 

@@ -1,4 +1,4 @@
-use Rattle.std.proofs.Common.{ℕ, length, ◌≤◌}
+use Rattle.std.proofs.Common.{length, ◌≤◌}
 use Rattle.string_table.specs.LongTexts.{AreLongTextsOf}
 use Rattle.string_table.proofs.long_texts.LongTexts.extend.Given as goal
 

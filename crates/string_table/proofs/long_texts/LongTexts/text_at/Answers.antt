@@ -1,4 +1,3 @@
-use Rattle.std.proofs.Common.{rules}
 use Rattle.string_table.proofs.Ends.{left_stands, text_found}
 use Rattle.string_table.proofs.long_texts.LongTexts.text_at.Goals as goal
 
