@@ -11,6 +11,6 @@ mod tests;
 mod view;
 mod writing;
 
-pub use reading::{count_types, record_len};
+pub use reading::{behind, count_types, record_len};
 pub use view::TypeRef;
 pub use writing::push_type;

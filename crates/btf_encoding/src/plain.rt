@@ -1,13 +1,10 @@
 //! Records read slowly, as their definition says.
 
-ghost use Rattle.std.specs.Prelude.{◌≡◌, ◌+◌, ◌*◌, ◌<◌, ◌≤◌, SomeIff, length, slice_get};
-ghost use Rattle.btf_encoding.specs.Items.{items_in};
+ghost use Rattle.std.specs.Prelude.{◌≡◌, ◌+◌, ◌*◌, ◌<◌, ◌≤◌, SomeIff, length};
 ghost use Rattle.btf_records.specs.Kinds.{kind_count, kind_of};
 ghost use Rattle.btf_records.specs.Words.{word_at};
 ghost use Rattle.btf_encoding.specs.Records.{HasRecord, len_behind, record_len};
 
-use crate::item::Item;
-use crate::reading::behind;
 use btf_records::Endianness;
 
 /// The word at an offset, from its four bytes.
@@ -51,18 +48,4 @@ pub(crate) fn len(order: Endianness, bytes: &[u8]) -> Option<usize>
     let info = word(order, bytes, 4);
     let len = len_of(info / 0x100_0000 % 32, (info % 0x1_0000) as usize)?;
     if len <= bytes.len() { Some(len) } else { None }
-}
-
-/// The item at a place of a list, by walking over those before it.
-pub(crate) fn item<T: Item>(order: Endianness, list: &[u8], count: usize, index: usize) -> Option<T>
-    requires { T.SIZE * count ≤ length list.now }
-    ensures { result ≡ slice_get (items_in (T.item_in order) T.SIZE count list.now) index }
-{
-    if count == 0 {
-        return None;
-    }
-    if index == 0 {
-        return Some(T::read(order, list));
-    }
-    item(order, behind(list, T::SIZE), count - 1, index - 1)
 }

@@ -1,6 +1,6 @@
 //! Records from bytes.
 
-ghost use Rattle.std.specs.Prelude.{◌≡◌, ◌+◌, ◌*◌, ◌<◌, ◌≤◌, IfOk, IfErr, OnOk, IfSome, Option, Some, None, drop, length, slice_get};
+ghost use Rattle.std.specs.Prelude.{◌≡◌, ◌+◌, ◌*◌, ◌<◌, ◌≤◌, ◌^◌, IfOk, IfErr, OnOk, IfSome, Option, Some, None, drop, length, slice_get};
 ghost use Rattle.btf_encoding.specs.Items.{items_in};
 ghost use Rattle.btf_encoding.specs.Records.{AreTypes, HasRecord, ReadsSame, RecordFault, TypesFault, count_at, kind_at, len_behind, record_len, type_in};
 
@@ -13,7 +13,7 @@ use btf_records::{
 use std::alloc::{AllocError, Global};
 
 /// The bytes behind the first so many.
-pub(crate) fn behind(bytes: &[u8], len: usize) -> &[u8]
+pub fn behind(bytes: &[u8], len: usize) -> &[u8]
     requires { len ≤ length bytes.now }
     ensures value { result.now ≡ drop len bytes.now }
     ensures length { length result.now + len ≡ length bytes.now }
@@ -21,27 +21,22 @@ pub(crate) fn behind(bytes: &[u8], len: usize) -> &[u8]
     bytes.split_at(len).1
 }
 
+/// The bytes behind a record's first three words, those of its list aside, by the number of its
+/// kind.
+const FIXED_LEN: [usize; 20] = [0, 4, 0, 12, 0, 0, 0, 0, 0, 0, 0, 0, 0, 0, 4, 0, 0, 4, 0, 0];
+
+/// The bytes of an item of a record's list, by the number of its kind.
+const ITEM_LEN: [usize; 20] = [
+    0, 0, 0, 0, 12, 12, 8, 0, 0, 0, 0, 0, 0, 8, 0, 12, 0, 0, 0, 12,
+];
+
 /// The bytes of a record of a kind behind its first three words.
 fn bytes_behind(kind: BtfKind, count: usize) -> usize
     requires { count < 65536 }
-    ensures { result ≡ len_behind kind count }
+    ensures value { result ≡ len_behind kind count }
+    ensures few { result < 2 ^ 20 }
 {
-    match kind {
-        BtfKind::Int | BtfKind::Var | BtfKind::DeclTag => 4,
-        BtfKind::Array => 12,
-        BtfKind::Struct | BtfKind::Union | BtfKind::DataSec | BtfKind::Enum64 => 12 * count,
-        BtfKind::Enum | BtfKind::FuncProto => 8 * count,
-        BtfKind::Unknown
-        | BtfKind::Ptr
-        | BtfKind::Fwd
-        | BtfKind::Typedef
-        | BtfKind::Volatile
-        | BtfKind::Const
-        | BtfKind::Restrict
-        | BtfKind::Func
-        | BtfKind::Float
-        | BtfKind::TypeTag => 0,
-    }
+    FIXED_LEN[kind as usize] + ITEM_LEN[kind as usize] * count
 }
 
 /// The number of bytes of the record that the bytes begin with.

@@ -6,13 +6,22 @@ ghost use Rattle.btf_records.specs.Words.{half_at, half_bytes, word_at, word_byt
 use std::alloc::AllocError;
 
 /// The order of the bytes of a number.
-#[derive(Clone, Copy, Debug, Default, PartialEq, Eq)]
+#[derive(Clone, Copy, Debug, PartialEq, Eq)]
 pub enum Endianness {
     /// The lowest byte first.
-    #[default]
     Little,
     /// The highest byte first.
     Big,
+}
+
+impl Default for Endianness {
+    ghost use Rattle.btf_records.specs.declared.words.Endianness.TheVariants.{Little};
+
+    ghost is_default = { λ order. order ≡ Little };
+
+    fn default() -> Endianness {
+        Endianness::Little
+    }
 }
 
 /// The word that the four bytes at an offset stand for.
