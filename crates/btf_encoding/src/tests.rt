@@ -1,5 +1,7 @@
 //! Records by hand from the kernel's BTF documentation, in both byte orders.
 
+ghost use Rattle.std.specs.Prelude.{◌<◌, IfOk, vec_len};
+
 use crate::{TypeRef, count_types, plain, push_type, record_len};
 use btf_records::{
     Array, BtfEnum, BtfEnum64, BtfError, BtfKind, BtfMember, BtfParam, BtfType, Const, DataSec,
@@ -129,7 +131,9 @@ fn no_record_is_cut(rt: HostRuntime) -> Result<(), AllocError> {
     Ok(())
 }
 
-fn members(alloc: Global) -> Result<Vec<BtfMember>, AllocError> {
+fn members(alloc: Global) -> Result<Vec<BtfMember>, AllocError>
+    ensures { IfOk result (λ list. vec_len list < 65536) }
+{
     let first = BtfMember {
         name_offset: 7,
         btf_type: 1,
@@ -143,7 +147,9 @@ fn members(alloc: Global) -> Result<Vec<BtfMember>, AllocError> {
     Ok(Vec::from_array(alloc, [first, second])?)
 }
 
-fn params(alloc: Global) -> Result<Vec<BtfParam>, AllocError> {
+fn params(alloc: Global) -> Result<Vec<BtfParam>, AllocError>
+    ensures { IfOk result (λ list. vec_len list < 65536) }
+{
     let number = BtfParam {
         name_offset: 5,
         btf_type: 2,
@@ -155,7 +161,9 @@ fn params(alloc: Global) -> Result<Vec<BtfParam>, AllocError> {
     Ok(Vec::from_array(alloc, [number, more])?)
 }
 
-fn entries(alloc: Global) -> Result<Vec<DataSecEntry>, AllocError> {
+fn entries(alloc: Global) -> Result<Vec<DataSecEntry>, AllocError>
+    ensures { IfOk result (λ list. vec_len list < 65536) }
+{
     let entry = DataSecEntry {
         btf_type: 7,
         offset: 0,
