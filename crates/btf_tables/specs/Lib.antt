@@ -1,0 +1,10 @@
+pub mod Agreement
+pub mod GrownTables
+pub mod Headers
+pub mod Layout
+pub mod ResolvedTypes
+pub mod Sections
+pub mod Tables
+pub mod Texts
+pub mod TypeSizes
+pub mod TypesByName
