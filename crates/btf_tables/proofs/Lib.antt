@@ -1,3 +1,4 @@
+pub mod Links
 pub mod Added
 pub mod Chains
 pub mod Growth

@@ -1,3 +1,4 @@
+pub mod HashChains
 pub mod Agreement
 pub mod GrownTables
 pub mod Headers

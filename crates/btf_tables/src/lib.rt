@@ -3,6 +3,7 @@
 #![tactic(auto)]
 
 mod growing;
+mod hash_chains;
 mod lookup;
 mod records;
 mod section;
