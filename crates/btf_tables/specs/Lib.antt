@@ -1,10 +1,10 @@
 pub mod Agreement
+pub mod ByteLists
 pub mod GrownTables
 pub mod Headers
 pub mod Layout
 pub mod ResolvedTypes
 pub mod Sections
 pub mod Tables
-pub mod Texts
 pub mod TypeSizes
 pub mod TypesByName
