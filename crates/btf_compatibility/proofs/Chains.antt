@@ -1,5 +1,5 @@
 -- A chain of modifiers rests on the records that it reaches.
-use Rattle.std.proofs.Common.{◌≡◌, ℕ, zero, suc, Bool, true, [], ◌∷◌, Option, None, Some, Result, Ok, refl, arith, List}
+use Rattle.std.proofs.Common.{◌≡◌, ℕ, zero, suc, Bool, true, [], ◌∷◌, Option, None, Some, Result, Ok, refl, arith}
 use Rattle.std.specs.Prelude.{All, IfSome}
 use Rattle.std.specs.Option.{option_map_or, option_to_list}
 use Rattle.btf_tables.specs.Agreement.{AgreeOn, chain_ids}

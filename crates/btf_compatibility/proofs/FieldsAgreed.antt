@@ -13,7 +13,7 @@ use Rattle.btf_compatibility.proofs.FreePairs.{IsKnown, chain_end-known, for_end
 use Rattle.btf_compatibility.proofs.Chains.{chain_same}
 use Rattle.btf_records.specs.Fields.{array_of, kind_of_type, name_offset_of}
 use Rattle.btf_tables.specs.Tables.{Table, type_by_id}
-use Rattle.btf_tables.specs.Texts.{text_at}
+use Rattle.string_table.specs.Texts.{text_at}
 use Rattle.btf_records.specs.declared.error.BtfError.{BtfError}
 use Rattle.btf_records.specs.declared.kind.BtfKind.{BtfKind}
 use Rattle.btf_records.specs.declared.kind.BtfKind.TheVariants as kinds

@@ -9,7 +9,7 @@ use Rattle.btf_tables.specs.ResolvedTypes.{max_depth}
 use Rattle.btf_compatibility.proofs.Exchanged.{Gives, Gives-ends, answer_of, both, exchanged, one_kind, same_kind-exchange, same_test}
 use Rattle.btf_records.specs.Fields.{kind_of_type, name_offset_of}
 use Rattle.btf_tables.specs.Tables.{Table}
-use Rattle.btf_tables.specs.Texts.{text_at}
+use Rattle.string_table.specs.Texts.{text_at}
 use Rattle.btf_records.specs.declared.error.BtfError.{BtfError}
 use Rattle.btf_records.specs.declared.kind.BtfKind.{BtfKind}
 use Rattle.btf_records.specs.declared.kind.BtfKind.TheVariants as kinds

@@ -1,4 +1,5 @@
 pub mod Agreed
+pub mod Bounds
 pub mod Chains
 pub mod Comparisons
 pub mod Endings

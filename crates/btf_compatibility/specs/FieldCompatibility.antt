@@ -10,7 +10,7 @@ use Rattle.btf_tables.specs.ResolvedTypes.{max_depth, modified_type}
 use Rattle.btf_records.specs.Fields.{array_of, kind_of_type, name_offset_of}
 use Rattle.btf_records.specs.Kinds.{number_of}
 use Rattle.btf_tables.specs.Tables.{Table}
-use Rattle.btf_tables.specs.Texts.{text_at}
+use Rattle.string_table.specs.Texts.{text_at}
 use Rattle.btf_records.specs.declared.error.BtfError.{BtfError}
 use Rattle.btf_records.specs.declared.error.BtfError.TheVariants.{InvalidStringOffset, MaximumTypeDepthReached, UnexpectedBtfType}
 use Rattle.btf_records.specs.declared.kind.BtfKind.{BtfKind}

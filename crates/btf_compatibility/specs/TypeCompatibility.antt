@@ -1,7 +1,7 @@
 -- When a type of one table is compatible with a type of another. libbpf has this as
 -- `bpf_core_types_are_compat` (tools/lib/bpf/relo_core.c); here depth has no limit but a pair that is met
 -- inside itself, ENUM and ENUM64 are two kinds, FLOATs are compatible, and other kinds are a fault.
-use Rattle.std.specs.Prelude.{ℕ, zero, suc, ◌*◌, Bool, true, false, ◌&&◌, ◌==◌, List, [], ◌∷◌, ◌++◌, length, map, Option, None, Some, Result, Ok, Err, if◌then◌else◌}
+use Rattle.std.specs.Prelude.{◌≡◌, ◌≤◌, ℕ, zero, suc, ◌*◌, Bool, true, false, ◌&&◌, ◌==◌, List, [], ◌∷◌, ◌++◌, length, map, Option, None, Some, Result, Ok, Err, if◌then◌else◌}
 use Rattle.std.specs.List.{list_any, zip}
 use Rattle.std.specs.Option.{option_map_or, option_to_list, unwrap_or}
 use Rattle.btf_tables.specs.ResolvedTypes.{chain_end, max_depth, modified_type}
@@ -95,9 +95,12 @@ compared (suc n) local target asked open_pairs l r = if is_open open_pairs l r t
 abbrev pub pair_bound : Table → Table → ℕ
 pair_bound local target = suc (suc (length local.types) * suc (length target.types))
 
--- the answer for two ids with modifiers
+-- the answer for two ids with modifiers, with so many pairs at most opened one inside the other
+abbrev pub ends_within : ℕ → Table → Table → ℕ → (ℕ × ℕ) → Result Bool BtfError
+ends_within n local target asked p = behind_modifiers local target asked (compared n local target asked []) p
+
 abbrev pub ends_compatible : Table → Table → ℕ → (ℕ × ℕ) → Result Bool BtfError
-ends_compatible local target asked p = behind_modifiers local target asked (compared (pair_bound local target) local target asked []) p
+ends_compatible local target asked p = ends_within (pair_bound local target) local target asked p
 
 -- whether two ids are known and of one kind, modifiers being kinds too
 abbrev pub first_verdict : ℕ → ℕ → Option BtfType → Option BtfType → Result Bool BtfError
@@ -105,9 +108,17 @@ first_verdict l r None b = Err (UnknownBtfType l)
 first_verdict l r (Some a) None = Err (UnknownBtfType r)
 first_verdict l r (Some a) (Some b) = Ok (same_kind a b)
 
--- whether the local type is compatible with the target type
+-- whether the local type is compatible with the target type, with so many pairs at most opened one
+-- inside the other
+abbrev pub types_within : ℕ → Table → ℕ → Table → ℕ → Result Bool BtfError
+types_within n local l target r = and_also (first_verdict l r (type_by_id local l) (type_by_id target r)) (ends_within n local target l (l, r))
+
 abbrev pub types_compatible : Table → ℕ → Table → ℕ → Result Bool BtfError
-types_compatible local l target r = and_also (first_verdict l r (type_by_id local l) (type_by_id target r)) (ends_compatible local target l (l, r))
+types_compatible local l target r = types_within (pair_bound local target) local l target r
+
+-- how many pairs may be opened decides no answer, where it is at least that number
+pub record IsBoundless (local : Table) (l : ℕ) (target : Table) (r : ℕ) : Type 0 where
+  pub same : (n : ℕ) → pair_bound local target ≤ n → types_within n local l target r ≡ types_compatible local l target r
 
 -- where the comparison of two types leads on each side
 abbrev pub compared_ids : BtfType → List ℕ

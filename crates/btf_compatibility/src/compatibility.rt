@@ -2,7 +2,7 @@
 
 ghost use Rattle.std.specs.Prelude.{◌≡◌, ◌≢◌, ◌<◌, true, [], ◌∷◌, ◌++◌, IfOk, IfErr, IfSome, Ok, Err, slice_get};
 ghost use Rattle.btf_tables.specs.Agreement.{RestsOnBoth};
-ghost use Rattle.btf_compatibility.specs.TypeCompatibility.{compared_ids, ends_compatible, has_no_bit_offset, pair_parts, pair_verdict, parts_of, record_at, types_compatible, verdict};
+ghost use Rattle.btf_compatibility.specs.TypeCompatibility.{IsBoundless, compared_ids, ends_compatible, has_no_bit_offset, pair_parts, pair_verdict, parts_of, record_at, types_compatible, verdict};
 ghost use Rattle.btf_compatibility.specs.Pairs.{SetsState};
 ghost use Rattle.btf_records.specs.Fields.{kind_of_type};
 
@@ -12,7 +12,7 @@ use btf_records::{BtfError, BtfKind};
 use btf_tables::Btf;
 
 /// The record of an id; void where the table has none.
-pub(crate) fn record_at(table: &Btf, id: u32) -> TypeRef<'_>
+pub(crate) fn record_at<'t>(table: &'t Btf<'_>, id: u32) -> TypeRef<'t>
     ensures { result ≡ record_at table.now id }
 {
     match table.type_by_id(id) {
@@ -53,7 +53,7 @@ fn part(t: &TypeRef<'_>, index: usize) -> Option<u32>
 
 /// The next parts of a pair of types.
 #[tactic(auto, using(crate::proofs::Parts::both_parts, crate::proofs::Parts::no_left_part, crate::proofs::Parts::no_right_part))]
-fn next_parts(local: &Btf, target: &Btf, pair: OpenPair) -> Option<(u32, u32)>
+fn next_parts(local: &Btf<'_>, target: &Btf<'_>, pair: OpenPair) -> Option<(u32, u32)>
     ensures value { result ≡ slice_get (pair_parts local.now target.now pair.left pair.right) pair.next }
     ensures within { IfSome result (λ _. pair.next < 65536) }
 {
@@ -91,8 +91,8 @@ fn verdict(left: u32, a: &TypeRef<'_>, b: &TypeRef<'_>) -> Result<bool, BtfError
 
 /// Opens a pair of types unless what their records say by themselves ends the comparison.
 fn enter(
-    local: &Btf,
-    target: &Btf,
+    local: &Btf<'_>,
+    target: &Btf<'_>,
     left: u32,
     right: u32,
     pairs: &mut Pairs,
@@ -112,8 +112,8 @@ fn enter(
 /// Whether the types behind two chains of modifiers are compatible, as a part of a question about
 /// another id.
 fn ends_are_compatible(
-    local: &Btf,
-    target: &Btf,
+    local: &Btf<'_>,
+    target: &Btf<'_>,
     asked: u32,
     local_id: u32,
     target_id: u32,
@@ -162,13 +162,14 @@ fn ends_are_compatible(
 /// sections or declaration tags are compared, `MaximumTypeDepthReached` with the local id where a
 /// pair of types is met inside itself or a chain of modifiers is too long.
 pub fn types_are_compatible(
-    local: &Btf,
+    local: &Btf<'_>,
     local_id: u32,
-    target: &Btf,
+    target: &Btf<'_>,
     target_id: u32,
 ) -> Result<bool, BtfError>
     ensures answer { IfOk result (λ yes. types_compatible local.now local_id target.now target_id ≡ Ok yes) }
     ensures refused { IfErr result (λ e. e ≢ BtfError.OutOfMemory → types_compatible local.now local_id target.now target_id ≡ Err e) }
+    ensures boundless { IsBoundless local.now local_id target.now target_id }
     ensures exchanged { IfOk result (λ yes. types_compatible target.now target_id local.now local_id ≡ Ok yes) }
     ensures rests { RestsOnBoth compared_ids local.now local_id target.now target_id (λ one other. types_compatible one local_id other target_id) }
 {

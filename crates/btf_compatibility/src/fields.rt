@@ -25,7 +25,12 @@ fn essential_name(name: &str) -> &str
 }
 
 /// Whether the names of two records are the same without flavours.
-fn same_names(local: &Btf, target: &Btf, a: &TypeRef<'_>, b: &TypeRef<'_>) -> Result<bool, BtfError>
+fn same_names(
+    local: &Btf<'_>,
+    target: &Btf<'_>,
+    a: &TypeRef<'_>,
+    b: &TypeRef<'_>,
+) -> Result<bool, BtfError>
     ensures { result ≡ same_names local.now target.now a.now b.now }
 {
     let local_name = local.string_at(a.name_offset())?;
@@ -41,8 +46,8 @@ fn is_composite(t: &TypeRef<'_>) -> bool
 
 /// What two records say without a look at the elements of arrays, the local one of this id.
 fn field_verdict(
-    local: &Btf,
-    target: &Btf,
+    local: &Btf<'_>,
+    target: &Btf<'_>,
     left: u32,
     a: &TypeRef<'_>,
     b: &TypeRef<'_>,
@@ -73,9 +78,9 @@ fn elements(a: &TypeRef<'_>, b: &TypeRef<'_>) -> Option<(u32, u32)>
 /// The answer for two members' types, round by round behind modifiers and then into an array.
 #[tactic(auto, using(crate::proofs::FieldRounds::rounds_over, crate::proofs::FieldRounds::round_left, crate::proofs::FieldRounds::round_right))]
 fn compare_fields(
-    local: &Btf,
+    local: &Btf<'_>,
     local_id: u32,
-    target: &Btf,
+    target: &Btf<'_>,
     target_id: u32,
 ) -> Result<bool, BtfError>
     ensures { result ≡ fields_compatible local.now local_id target.now target_id }
@@ -108,9 +113,9 @@ fn compare_fields(
 /// `InvalidStringOffset` where a name can't be read, `MaximumTypeDepthReached` with the local id
 /// where arrays are nested more than 31 deep or a chain of modifiers is too long.
 pub fn fields_are_compatible(
-    local: &Btf,
+    local: &Btf<'_>,
     local_id: u32,
-    target: &Btf,
+    target: &Btf<'_>,
     target_id: u32,
 ) -> Result<bool, BtfError>
     ensures value { result ≡ fields_compatible local.now local_id target.now target_id }

@@ -11,6 +11,6 @@ pub mod Places
 pub mod Reading
 pub mod Rests
 pub mod Sections
-pub mod Strings
+pub mod Texts
 pub mod Walks
 pub mod Writing

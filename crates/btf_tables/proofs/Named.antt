@@ -7,7 +7,7 @@ use Rattle.std.proofs.lemmas.Bool.Decides.{nat_tests}
 use Rattle.btf_tables.specs.TypesByName.{IsNotNamed}
 use Rattle.btf_records.specs.Fields.{kind_of_type, name_offset_of}
 use Rattle.btf_tables.specs.Tables.{Table, type_by_id}
-use Rattle.btf_tables.specs.Texts.{text_at}
+use Rattle.string_table.specs.Texts.{text_at}
 use Rattle.btf_records.specs.declared.kind.BtfKind.{BtfKind}
 use Rattle.btf_records.specs.declared.types.BtfType.{BtfType}
 use Rattle.btf_records.specs.declared.types.BtfType.TheVariants.{Unknown}

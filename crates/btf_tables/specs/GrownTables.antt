@@ -1,7 +1,7 @@
 -- What becomes of a table to which a string or a type is added.
 use Rattle.std.specs.Prelude.{◌≡◌, ℕ, ◌+◌, ◌≤◌, ◌^◌, List, [], ◌∷◌, ◌++◌, length, ◌⊎◌, Some}
 use Rattle.btf_tables.specs.Tables.{Table, type_by_id, type_bytes}
-use Rattle.btf_tables.specs.Texts.{text_at}
+use Rattle.string_table.specs.Texts.{text_at}
 use Rattle.btf_records.specs.declared.types.BtfType.{BtfType}
 
 -- the text and a NUL, behind the other strings

@@ -1,11 +1,11 @@
 pub mod HashChains
 pub mod Agreement
+pub mod ByteLists
 pub mod GrownTables
 pub mod Headers
 pub mod Layout
 pub mod ResolvedTypes
 pub mod Sections
 pub mod Tables
-pub mod Texts
 pub mod TypeSizes
 pub mod TypesByName

@@ -1,6 +1,6 @@
 -- Type sizes. libbpf has them as `btf__resolve_size` (tools/lib/bpf/btf.c); here functions and signatures
 -- lead on to a size, and a size may pass 32 bits.
-use Rattle.std.specs.Prelude.{◌≡◌, ℕ, zero, suc, ◌*◌, ◌^◌, ◌<◌, List, [], ◌∷◌, length, Option, None, Some, Result, Ok, Err, if◌then◌else◌, nat_lt}
+use Rattle.std.specs.Prelude.{◌≡◌, ℕ, zero, suc, ◌*◌, ◌^◌, ◌<◌, List, [], ◌∷◌, length, ⊤, Option, None, Some, Result, Ok, Err, if◌then◌else◌, nat_lt}
 use Rattle.std.specs.Option.{IsSomeAnd, option_map, option_map_or}
 use Rattle.btf_tables.specs.ResolvedTypes.{max_depth}
 use Rattle.btf_tables.specs.Tables.{Table, type_by_id}
@@ -54,5 +54,10 @@ abbrev pub IsSizeOver : Table → ℕ → List ℕ → ℕ → Type 0
 IsSizeOver table id [] size = IsSomeAnd (type_by_id table id) (λ t. own_size t ≡ Some size)
 IsSizeOver table id (next ∷ others) size = IsSomeAnd (type_by_id table id) (λ t. (own_size t ≡ None) × ((count : ℕ) × (sized_by t ≡ Some (count, next)) × ((rest : ℕ) × IsSizeOver table next others rest × (size ≡ count * rest))))
 
+-- at each step of a walk the lengths of the arrays so far, and this count, multiply to less than 2^32
+abbrev pub IsInLimit : Table → ℕ → ℕ → List ℕ → Type 0
+IsInLimit table count id [] = ⊤
+IsInLimit table count id (next ∷ others) = IsSomeAnd (type_by_id table id) (λ t. IsSomeAnd (sized_by t) (λ by. (count * by.0 < 2 ^ 32) × IsInLimit table (count * by.0) next others))
+
 abbrev pub IsSize : Table → ℕ → ℕ → Type 0
-IsSize table id size = (others : List ℕ) × (length others < max_depth) × IsSizeOver table id others size
+IsSize table id size = (others : List ℕ) × (length others < max_depth) × IsInLimit table 1 id others × IsSizeOver table id others size

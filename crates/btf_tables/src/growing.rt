@@ -4,10 +4,11 @@ ghost use Rattle.std.specs.Prelude.{◌≡◌, ◌≢◌, ◌+◌, ◌<◌, ◌^
 ghost use Rattle.btf_tables.specs.GrownTables.{IsFull, TextsStay, TypesStay, with_string, with_type};
 ghost use Rattle.btf_tables.specs.GrownTables.{TooMany};
 ghost use Rattle.btf_tables.specs.Tables.{new_table, type_by_id};
-ghost use Rattle.btf_tables.specs.Texts.{text_at};
+ghost use Rattle.string_table.specs.Texts.{text_at};
 ghost use Rattle.btf_records.specs.declared.error.BtfError.TheVariants.{InvalidTypeInfo, OutOfMemory};
 
 use crate::records::{MOST, TypeRecords};
+use crate::strings::Strings;
 use crate::table::Btf;
 use btf_records::{BtfError, BtfType, Endianness};
 use std::alloc::{AllocError, Global};
@@ -17,30 +18,9 @@ const MAGIC: u16 = 0xeb9f;
 
 const VERSION: u8 = 1;
 
-/// Writes a text and a NUL behind what is there.
-fn push_text(strings: &mut Vec<u8>, text: &str) -> Result<(), BtfError>
-    ensures ok { OnOk result (strings.new.items ≡ strings.old.items ++ text.now ++ 0 ∷ []) }
-    ensures few { OnOk result (length strings.new.items < 2 ^ 32) }
-    ensures refused { IfErr result (λ e. e ≢ OutOfMemory → (e ≡ InvalidTypeInfo) × TooMany (length strings.old.items + length text.now + 1)) }
-    ensures err { OnErr result (strings.new.items ≡ strings.old.items) }
-{
-    let len = strings.len();
-    if text.len() >= MOST.saturating_sub(len) {
-        return Err(BtfError::InvalidTypeInfo);
-    }
-    strings.extend_from_slice(text.as_bytes())?;
-    match strings.push(0) {
-        Ok(()) => Ok(()),
-        Err(error) => {
-            strings.truncate(len);
-            Err(BtfError::from(error))
-        }
-    }
-}
-
-impl Btf {
+impl<'a> Btf<'a> {
     /// A table without types but void, whose one string is the empty text.
-    pub fn new(alloc: Global) -> Result<Btf, AllocError>
+    pub fn new(alloc: Global) -> Result<Btf<'a>, AllocError>
         ensures { IfOk result (λ table. table ≡ new_table) }
     {
         Ok(Btf {
@@ -48,12 +28,12 @@ impl Btf {
             magic: MAGIC,
             version: VERSION,
             flags: 0,
-            strings: Vec::from_slice(alloc, &[0])?,
+            strings: Strings::owned(alloc, Vec::from_slice(alloc, &[0])?)?,
         })
     }
 
-    /// A table with the same content.
-    pub fn try_clone(&self) -> Result<Btf, AllocError>
+    /// A table with the same content. What this one borrows, the other borrows too.
+    pub fn try_clone(&self) -> Result<Btf<'a>, AllocError>
         ensures { IfOk result (λ table. table ≡ self.now) }
     {
         Ok(Btf {
@@ -61,7 +41,7 @@ impl Btf {
             magic: self.magic,
             version: self.version,
             flags: self.flags,
-            strings: self.strings.clone()?,
+            strings: self.strings.try_clone()?,
         })
     }
 
@@ -69,7 +49,7 @@ impl Btf {
     /// already stays.
     ///
     /// `InvalidTypeInfo` where the strings would be more than 2^32 - 1 bytes.
-    #[tactic(auto, using(crate::proofs::Strings::texts_stay))]
+    #[tactic(auto, using(crate::proofs::Texts::texts_stay))]
     pub fn add_string(&mut self, text: &str) -> Result<u32, BtfError>
         requires { All (λ b. b ≢ 0) text.now }
         ensures table { OnOk result (self.new ≡ with_string self.old text.now) }
@@ -80,9 +60,13 @@ impl Btf {
         ensures accepted { OnOk result (length self.new.strings < 2 ^ 32) }
         ensures err { OnErr result (self.new ≡ self.old) }
     {
-        let offset = self.strings.len() as u32;
-        push_text(&mut self.strings, text)?;
-        Ok(offset)
+        let alloc = self.allocator();
+        let len = self.strings.len();
+        if text.len() >= MOST.saturating_sub(len) {
+            return Err(BtfError::InvalidTypeInfo);
+        }
+        self.strings.push(alloc, text)?;
+        Ok(len as u32)
     }
 
     /// Adds a type, and answers its id. What the table holds already stays.

@@ -2,13 +2,14 @@
 //! (Documentation/bpf/btf.rst, "BTF Type and String Encoding").
 #![tactic(auto)]
 
+mod byte_list;
 mod growing;
 mod hash_chains;
 mod lookup;
 mod records;
 mod section;
+mod strings;
 mod table;
-mod text;
 mod types;
 
 pub use table::Btf;

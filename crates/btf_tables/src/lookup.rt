@@ -7,7 +7,7 @@ ghost use Rattle.btf_tables.specs.ResolvedTypes.{IsEnd, resolved_type};
 ghost use Rattle.btf_tables.specs.TypeSizes.{IsSize, own_size, sized_by, type_size, type_size_in_32_bits};
 ghost use Rattle.btf_tables.specs.TypesByName.{IsFirstNamed, IsNotNamed, NameFault};
 ghost use Rattle.btf_records.specs.Fields.{kind_of_type, name_offset_of};
-ghost use Rattle.btf_tables.specs.Texts.{text_at};
+ghost use Rattle.string_table.specs.Texts.{text_at};
 ghost use Rattle.btf_records.specs.declared.error.BtfError.TheVariants.{InvalidStringOffset, OutOfMemory};
 
 use crate::table::{Btf, MAX_DEPTH};
@@ -52,7 +52,7 @@ fn times(count: u32, size: u32) -> u64
     u64::from(count) * u64::from(size)
 }
 
-impl Btf {
+impl<'a> Btf<'a> {
     /// The id at the end of a chain of `BTF_KIND_TYPEDEF`, `BTF_KIND_VOLATILE`, `BTF_KIND_CONST`,
     /// `BTF_KIND_RESTRICT` and `BTF_KIND_TYPE_TAG`.
     ///
@@ -61,6 +61,7 @@ impl Btf {
     pub fn resolve_type(&self, type_id: u32) -> Result<u32, BtfError>
         ensures value { result ≡ resolved_type self.now type_id }
         ensures chain { IfOk result (λ end. IsEnd self.now type_id end) }
+        ensures no_chain { IfErr result (λ _. (end : ℕ) → IsEnd self.now type_id end → ⊥) }
         ensures again { IfOk result (λ end. resolved_type self.now end ≡ Ok end) }
         ensures reached { IfOk result (λ end. IsReached chain_ids self.now type_id end) }
         ensures rests { RestsOn chain_ids self.now type_id (λ table. resolved_type table type_id) }
@@ -73,10 +74,11 @@ impl Btf {
     /// `UnexpectedBtfType` where the walk to it ends at a type without one, `UnknownBtfType` where
     /// a type of the walk isn't there, `MaximumTypeDepthReached` where the walk has more than 32
     /// types, `InvalidTypeInfo` where the lengths of the arrays so far multiply to 2^32 or more.
-    #[tactic(auto, using(crate::proofs::Walks::sized_walk))]
+    #[tactic(auto, using(crate::proofs::Walks::no_size, crate::proofs::Walks::sized_walk))]
     pub fn type_size(&self, type_id: u32) -> Result<u64, BtfError>
         ensures value { result ≡ type_size self.now type_id }
         ensures walk { IfOk result (λ size. IsSize self.now type_id size) }
+        ensures no_walk { IfErr result (λ _. (size : ℕ) → IsSize self.now type_id size → ⊥) }
         ensures rests { RestsOn size_ids self.now type_id (λ table. type_size table type_id) }
     {
         self.walk_size(type_id)
@@ -131,7 +133,12 @@ impl Btf {
         if t.kind() != kind {
             return Ok(false);
         }
-        Ok(self.string_at(t.name_offset())? == name)
+        let offset = t.name_offset();
+        if self.strings.is_text_at(offset, name) {
+            return Ok(true);
+        }
+        self.string_at(offset)?;
+        Ok(false)
     }
 
     /// The least id of the types of this kind and name.

@@ -9,7 +9,8 @@ ghost use Rattle.btf_records.specs.declared.error.BtfError.TheVariants.{InvalidT
 ghost use Rattle.btf_tables.specs.GrownTables.{TooMany};
 ghost use Rattle.btf_tables.specs.Layout.{Entered, fallback_at, types_at};
 
-use btf_encoding::{TypeRef, count_types, push_type, record_len};
+use crate::byte_list::ByteList;
+use btf_encoding::{TypeRef, push_type, record_len};
 use btf_records::{BtfError, BtfType, Endianness, Enum64Fallback, Union};
 use std::alloc::{AllocError, Global};
 use std::collections::BTreeMap;
@@ -17,23 +18,23 @@ use std::marker::Model;
 
 /// The records of the ids from 1 on, one behind the other.
 #[derive(Debug, Drop)]
-pub(crate) struct TypeRecords {
+pub(crate) struct TypeRecords<'a> {
     order: Endianness,
-    bytes: Vec<u8>,
+    bytes: ByteList<'a>,
     /// Where the record of each id begins.
     places: Vec<u32>,
     /// The enums that unions stand for, by id.
     fallbacks: BTreeMap<u32, Enum64Fallback>,
 }
 
-impl Model for TypeRecords {
+impl<'a> Model for TypeRecords<'a> {
     ghost use Rattle.btf_tables.specs.Layout.{IsLaidOut, RecordList, types_at};
 
     ghost Value = { RecordList };
 
-    ghost view = { λ t. record { order = t.order; types = types_at t.order t.bytes.items t.fallbacks.entries 1 t.places.items } };
+    ghost view = { λ t. record { order = t.order; types = types_at t.order t.bytes t.fallbacks.entries 1 t.places.items } };
 
-    ghost invariant = { λ t. IsLaidOut t.order t.bytes.items t.fallbacks.entries t.places.items };
+    ghost invariant = { λ t. IsLaidOut t.order t.bytes t.fallbacks.entries t.places.items };
 }
 
 /// The enum that the union of an id stands for.
@@ -69,22 +70,22 @@ fn enter_fallback(
 
 /// Writes a record behind the others, as far as memory reaches.
 fn append(
-    bytes: &mut Vec<u8>,
+    bytes: &mut ByteList<'_>,
     places: &mut Vec<u32>,
     fallbacks: &mut BTreeMap<u32, Enum64Fallback>,
     order: Endianness,
     t: BtfType,
 ) -> Result<(), BtfError>
-    requires few { length bytes.old.items < 2 ^ 32 }
+    requires few { length bytes.old < 2 ^ 32 }
     requires free { fallback_at fallbacks.old.entries (length places.old.items + 1) ≡ None }
-    ensures bytes { OnOk result (bytes.new.items ≡ bytes.old.items ++ record_bytes order t) }
-    ensures places { OnOk result (places.new.items ≡ places.old.items ++ length bytes.old.items ∷ []) }
+    ensures bytes { OnOk result (bytes.new ≡ bytes.old ++ record_bytes order t) }
+    ensures places { OnOk result (places.new.items ≡ places.old.items ++ length bytes.old ∷ []) }
     ensures fallbacks { OnOk result (Entered fallbacks.old.entries fallbacks.new.entries (length places.old.items + 1) (fallback_of t)) }
     ensures read_back { OnOk result (ReadsBack order t) }
-    ensures few_bytes { OnOk result (length bytes.new.items < 2 ^ 32) }
+    ensures few_bytes { OnOk result (length bytes.new < 2 ^ 32) }
     ensures few_types { OnOk result (length places.new.items < 2 ^ 32) }
-    ensures refused { IfErr result (λ e. e ≢ OutOfMemory → (e ≡ InvalidTypeInfo) × (TooMany (length bytes.old.items + length (record_bytes order t)) ⊎ TooMany (length places.old.items + 1))) }
-    ensures old_bytes { OnErr result (take (length bytes.old.items) bytes.new.items ≡ bytes.old.items) }
+    ensures refused { IfErr result (λ e. e ≢ OutOfMemory → (e ≡ InvalidTypeInfo) × (TooMany (length bytes.old + length (record_bytes order t)) ⊎ TooMany (length places.old.items + 1))) }
+    ensures old_bytes { OnErr result (take (length bytes.old) bytes.new ≡ bytes.old) }
     ensures old_places { OnErr result (take (length places.old.items) places.new.items ≡ places.old.items) }
     ensures old_fallbacks { OnErr result (fallbacks.new.entries ≡ fallbacks.old.entries) }
 {
@@ -92,7 +93,7 @@ fn append(
         return Err(BtfError::InvalidTypeInfo);
     }
     let place = bytes.len() as u32;
-    push_type(bytes, order, &t)?;
+    bytes.push_type(*places.allocator(), order, &t)?;
     if bytes.len() > MOST {
         return Err(BtfError::InvalidTypeInfo);
     }
@@ -137,20 +138,18 @@ fn with_fallback<'a>(t: TypeRef<'a>, fallback: Option<&'a Enum64Fallback>) -> Ty
     }
 }
 
-/// Where the records begin that the bytes are, of which there are so many.
+/// The least bytes of a record.
+const LEAST_LEN: usize = 12;
+
+/// Where the records begin that the bytes are.
 #[tactic(auto, using(crate::proofs::Reading::no_places, crate::proofs::Reading::one_more_place, crate::proofs::Reading::fault_behind, crate::proofs::Reading::all_places))]
-fn places(
-    alloc: Global,
-    order: Endianness,
-    bytes: &[u8],
-    count: usize,
-) -> Result<Vec<u32>, BtfError>
+fn places(alloc: Global, order: Endianness, bytes: &[u8]) -> Result<Vec<u32>, BtfError>
     requires { length bytes.now < 2 ^ 32 }
     ensures spelled { IfOk result (λ places. Spells order (types_at order bytes.now [] 1 places.items) bytes.now) }
     ensures stand { IfOk result (λ places. All (λ place. ReadsSame order (drop place bytes.now)) places.items) }
     ensures refused { IfErr result (λ e. e ≢ OutOfMemory → TypesFault order bytes.now e) }
 {
-    let mut places = Vec::with_capacity(alloc, count)?;
+    let mut places = Vec::with_capacity(alloc, bytes.len() / LEAST_LEN)?;
     let mut rest = bytes;
     while !rest.is_empty() {
         let len = record_len(order, rest)?;
@@ -169,26 +168,25 @@ fn write_record(out: &mut Vec<u8>, order: Endianness, t: &TypeRef<'_>) -> Result
     push_type(out, order, &t)
 }
 
-impl TypeRecords {
-    /// The records that the bytes are, which are counted first.
+impl<'a> TypeRecords<'a> {
+    /// The records that the bytes are.
     ///
     /// `InvalidTypeInfo` where one of them is cut off, `InvalidTypeKind` where its kind is above 19.
     #[tactic(auto, using(crate::proofs::Reading::laid_out))]
     pub(crate) fn read(
         alloc: Global,
         order: Endianness,
-        bytes: &[u8],
-    ) -> Result<TypeRecords, BtfError>
+        bytes: &'a [u8],
+    ) -> Result<TypeRecords<'a>, BtfError>
         requires { length bytes.now < 2 ^ 32 }
         ensures order { IfOk result (λ r. r.order ≡ order) }
         ensures spelled { IfOk result (λ r. Spells order r.types bytes.now) }
         ensures refused { IfErr result (λ e. e ≢ OutOfMemory → TypesFault order bytes.now e) }
     {
-        let count = count_types(order, bytes)?;
-        let places = places(alloc, order, bytes, count)?;
+        let places = places(alloc, order, bytes)?;
         Ok(TypeRecords {
             order,
-            bytes: Vec::from_slice(alloc, bytes)?,
+            bytes: ByteList::borrowed(bytes),
             places,
             fallbacks: BTreeMap::new(alloc),
         })
@@ -196,12 +194,12 @@ impl TypeRecords {
 
     /// No records, of this byte order.
     #[tactic(auto, unfolding(crate::specs::Layout::types_at))]
-    pub(crate) fn new(alloc: Global, order: Endianness) -> TypeRecords
+    pub(crate) fn new(alloc: Global, order: Endianness) -> TypeRecords<'a>
         ensures { result ≡ record { order = order; types = [] } }
     {
         TypeRecords {
             order,
-            bytes: Vec::new(alloc),
+            bytes: ByteList::owned(Vec::new(alloc)),
             places: Vec::new(alloc),
             fallbacks: BTreeMap::new(alloc),
         }
@@ -214,6 +212,11 @@ impl TypeRecords {
         ensures bounded { result < 2 ^ 32 }
     {
         self.places.len()
+    }
+
+    /// The allocator of their memory.
+    pub(crate) fn allocator(&self) -> Global {
+        *self.places.allocator()
     }
 
     /// The byte order of their numbers.
@@ -231,7 +234,7 @@ impl TypeRecords {
     {
         match place_at(&self.places, index) {
             Some(place) => {
-                let t = record_at(self.order, &self.bytes, place);
+                let t = record_at(self.order, self.bytes.as_slice(), place);
                 let fallback = fallback_by_id(&self.fallbacks, index as u32 + 1);
                 Some(with_fallback(t, fallback))
             }
@@ -300,12 +303,12 @@ impl TypeRecords {
     }
 
     /// The same records.
-    pub(crate) fn try_clone(&self) -> Result<TypeRecords, AllocError>
+    pub(crate) fn try_clone(&self) -> Result<TypeRecords<'a>, AllocError>
         ensures { IfOk result (λ r. r ≡ self.now) }
     {
         Ok(TypeRecords {
             order: self.order,
-            bytes: self.bytes.clone()?,
+            bytes: self.bytes.try_clone()?,
             places: self.places.clone()?,
             fallbacks: self.fallbacks.clone()?,
         })

@@ -8,6 +8,7 @@ ghost use Rattle.btf_records.specs.Words.{word_at};
 ghost use Rattle.btf_records.specs.declared.error.BtfError.TheVariants.{OutOfMemory};
 
 use crate::records::TypeRecords;
+use crate::strings::Strings;
 use crate::table::Btf;
 use btf_records::{BtfError, Endianness, half_word, push_half_word, push_word, word};
 use std::alloc::{AllocError, Global};
@@ -58,14 +59,15 @@ fn push_header(out: &mut Vec<u8>, order: Endianness, header: Header) -> Result<(
     Ok(())
 }
 
-impl Btf {
-    /// The table that a section holds, in this byte order. Neither magic nor version is checked.
+impl<'a> Btf<'a> {
+    /// The table that a section holds, in this byte order. Neither magic nor version is checked. The
+    /// table borrows the section's types and strings.
     ///
     /// `InvalidHeader` where the header is cut off or the strings go past the end,
     /// `InvalidTypeInfo` where the types do or a record is cut off, `InvalidTypeKind` where a
     /// record's kind is above 19.
     #[tactic(auto, using(crate::proofs::Sections::holds_table, crate::proofs::Sections::types_fault))]
-    pub fn parse(alloc: Global, bytes: &[u8], order: Endianness) -> Result<Btf, BtfError>
+    pub fn parse(alloc: Global, bytes: &'a [u8], order: Endianness) -> Result<Btf<'a>, BtfError>
         ensures holds { IfOk result (λ table. HoldsTable order bytes.now table) }
         ensures refused { IfErr result (λ e. e ≢ OutOfMemory → TableFault order bytes.now e) }
     {
@@ -83,7 +85,7 @@ impl Btf {
             magic: half_word(order, bytes, 0),
             version: bytes[2],
             flags: bytes[3],
-            strings: Vec::from_slice(alloc, strings)?,
+            strings: Strings::borrowed(alloc, strings)?,
         })
     }
 
@@ -93,17 +95,20 @@ impl Btf {
         ensures written { IfOk result (λ section. section.items ≡ table_bytes self.now) }
         ensures holds { IfOk result (λ section. HoldsTable self.now.order section.items (without_fallbacks self.now)) }
     {
+        let types_len = self.records.byte_len();
+        let strings_len = self.strings.len();
         let header = Header {
             magic: self.magic,
             version: self.version,
             flags: self.flags,
-            types_len: self.records.byte_len() as u32,
-            strings_len: self.strings.len() as u32,
+            types_len: types_len as u32,
+            strings_len: strings_len as u32,
         };
-        let mut out = Vec::new(self.allocator());
+        let len = HEADER_LEN as usize + types_len + strings_len;
+        let mut out = Vec::with_capacity(self.allocator(), len)?;
         push_header(&mut out, self.records.order(), header)?;
         self.records.write(&mut out)?;
-        out.extend_from_slice(&self.strings)?;
+        out.extend_from_slice(self.strings.as_slice())?;
         Ok(out)
     }
 }

@@ -4,35 +4,36 @@ ghost use Rattle.std.specs.Prelude.{◌≡◌, ◌≤◌, ◌^◌, ◌==◌, ◌
 ghost use Rattle.btf_tables.specs.ResolvedTypes.{chain_end, max_depth, modified_type};
 ghost use Rattle.btf_records.specs.Fields.{name_offset_of};
 ghost use Rattle.btf_tables.specs.Tables.{type_by_id};
-ghost use Rattle.btf_tables.specs.Texts.{text_at};
+ghost use Rattle.string_table.specs.Texts.{text_at};
 
 use crate::records::TypeRecords;
-use crate::text::text_at;
+use crate::strings::Strings;
 use crate::types::Types;
 use btf_encoding::TypeRef;
 use btf_records::{BtfError, BtfKind, BtfType};
 use std::alloc::Global;
 use std::marker::Model;
 
-/// A table of types and the strings that name them.
+/// A table of types and the strings that name them, over the bytes of the section that it was read
+/// from: types and strings are borrowed, each until some are added.
 #[derive(Debug, Drop)]
-pub struct Btf {
-    pub(crate) records: TypeRecords,
+pub struct Btf<'a> {
+    pub(crate) records: TypeRecords<'a>,
     pub(crate) magic: u16,
     pub(crate) version: u8,
     pub(crate) flags: u8,
-    pub(crate) strings: Vec<u8>,
+    pub(crate) strings: Strings<'a>,
 }
 
-impl Model for Btf {
+impl<'a> Model for Btf<'a> {
     ghost use Rattle.std.specs.Prelude.{length, ◌<◌, ◌^◌};
     ghost use Rattle.btf_tables.specs.Tables.{Table};
 
     ghost Value = { Table };
 
-    ghost view = { λ t. record { order = t.records.order; magic = t.magic; version = t.version; flags = t.flags; strings = t.strings.items; types = t.records.types } };
+    ghost view = { λ t. record { order = t.records.order; magic = t.magic; version = t.version; flags = t.flags; strings = t.strings; types = t.records.types } };
 
-    ghost invariant = { λ t. length t.strings.items < 2 ^ 32 };
+    ghost invariant = { λ t. length t.strings < 2 ^ 32 };
 }
 
 /// A chain or a walk has at most so many records.
@@ -52,7 +53,7 @@ fn modified_type(t: &TypeRef<'_>) -> Option<u32>
     }
 }
 
-impl Btf {
+impl<'a> Btf<'a> {
     /// Whether there is no type but void.
     pub fn is_empty(&self) -> bool
         ensures { result ≡ (length self.now.types == 0) }
@@ -62,7 +63,7 @@ impl Btf {
 
     /// The allocator of its memory.
     pub fn allocator(&self) -> Global {
-        *self.strings.allocator()
+        self.records.allocator()
     }
 
     /// The text at an offset of the strings.
@@ -71,9 +72,11 @@ impl Btf {
     pub fn string_at(&self, offset: u32) -> Result<&str, BtfError>
         ensures { MatchResult result (λ s. text_at self.now.strings offset ≡ Some s.now) (λ e. (e ≡ BtfError.InvalidStringOffset offset) × (text_at self.now.strings offset ≡ None)) }
     {
-        text_at(&self.strings, offset).ok_or(BtfError::InvalidStringOffset {
-            offset: offset as usize,
-        })
+        self.strings
+            .text_at(offset)
+            .ok_or(BtfError::InvalidStringOffset {
+                offset: offset as usize,
+            })
     }
 
     /// The name of a type of this table.

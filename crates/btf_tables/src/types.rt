@@ -11,7 +11,7 @@ use std::marker::Model;
 /// The records of a table in order of id.
 #[derive(Debug, Drop)]
 pub struct Types<'a> {
-    records: &'a TypeRecords,
+    records: &'a TypeRecords<'a>,
     /// The id of the next record.
     next: usize,
     /// The id behind the last.
@@ -50,7 +50,7 @@ impl<'a> Iterator for Types<'a> {
 }
 
 impl<'a> Types<'a> {
-    pub(crate) fn new(records: &'a TypeRecords) -> Types<'a>
+    pub(crate) fn new(records: &'a TypeRecords<'a>) -> Types<'a>
         ensures value { result ≡ BtfType.Unknown ∷ records.now.types }
         ensures countable { length result ≤ 2 ^ 32 }
     {

@@ -16,7 +16,7 @@ fn micros(rt: &HostRuntime, start: Instant) -> Result<u128, io::Error> {
 }
 
 /// Finds a struct by name, and prints its id and the time that it took.
-fn measure_name(rt: &HostRuntime, table: &Btf, name: &str) -> Result<(), MeasureError> {
+fn measure_name(rt: &HostRuntime, table: &Btf<'_>, name: &str) -> Result<(), MeasureError> {
     let start = Instant::now(rt)?;
     let found = table.id_by_type_name_kind(name, BtfKind::Struct);
     let time = micros(rt, start)?;

@@ -3,6 +3,7 @@ use Rattle.std.proofs.lemmas.Grind.{common_steps}
 use Rattle.std.specs.Prelude.{IfOk}
 use Rattle.btf_compatibility.specs.TypeCompatibility.{types_compatible}
 use Rattle.btf_compatibility.proofs.Agreed.{types_rest}
+use Rattle.btf_compatibility.proofs.Bounds.{boundless}
 use Rattle.btf_compatibility.proofs.Exchanged.{answer-exchanged}
 use Rattle.btf_compatibility.proofs.compatibility.types_are_compatible.Goals as goal
 
@@ -14,3 +15,6 @@ returns-clause-exchanged c =
 
 pub returns-clause-rests : goal.returns-clause-rests
 returns-clause-rests c = types_rest _ _ _ _
+
+pub returns-clause-boundless : goal.returns-clause-boundless
+returns-clause-boundless c = boundless _ _ _ _

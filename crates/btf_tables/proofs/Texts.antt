@@ -8,7 +8,7 @@ use Rattle.std.proofs.lemmas.Bool.Decides.{nat_tests}
 use Rattle.std.proofs.lemmas.List.{drop-append-le, take-append-le}
 use Rattle.std.proofs.lemmas.List.Elements.{All-head, All-tail}
 use Rattle.std.proofs.Math.Seq.{drop-append_seam, take-append_seam}
-use Rattle.btf_tables.specs.Texts.{before_nul, text_at, text_of}
+use Rattle.string_table.specs.Texts.{before_nul, text_at, text_of}
 
 -- where the first NUL stands
 abbrev nul_at : List ℕ → ℕ
