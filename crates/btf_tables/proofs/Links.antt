@@ -7,22 +7,22 @@ use Rattle.std.proofs.lemmas.List.{length-set, get_or-set_other, get_or-set_same
 use Rattle.btf_tables.specs.HashChains.{AreChained, AreLinked, Follows, LeadsTo, has_hash, hash_at, is_in, least, next_with}
 
 -- the least number by cases on the first
-least_now : (test : ℕ → Bool) (from count : ℕ) → test from ≡ true → least test from (suc count) ≡ from
+pub least_now : (test : ℕ → Bool) (from count : ℕ) → test from ≡ true → least test from (suc count) ≡ from
 least_now test from count e = rw e refl
 
-least_later : (test : ℕ → Bool) (from count : ℕ) → test from ≡ false → least test from (suc count) ≡ least test (from + 1) count
+pub least_later : (test : ℕ → Bool) (from count : ℕ) → test from ≡ false → least test from (suc count) ≡ least test (from + 1) count
 least_later test from count e = rw e refl
 
 least_same : (test : ℕ → Bool) (from from' count count' : ℕ) → from ≡ from' → count ≡ count' → least test from count ≡ least test from' count'
 least_same test from from' count count' e f = rw (e, f) refl
 
-either : (a b : ℕ) → (nat_eq a b ≡ true) ⊎ (nat_eq a b ≡ false)
+pub either : (a b : ℕ) → (nat_eq a b ≡ true) ⊎ (nat_eq a b ≡ false)
 either a b = elim (nat_eq a b) as (λ t. (t ≡ true) ⊎ (t ≡ false)) [ true ↦ inl refl | false ↦ inr refl ]
 
-equal : (a b : ℕ) → nat_eq a b ≡ true → a ≡ b
+pub equal : (a b : ℕ) → nat_eq a b ≡ true → a ≡ b
 equal a b e = grind (arith, nat_tests)
 
-unequal : (a b : ℕ) → nat_eq a b ≡ false → a ≢ b
+pub unequal : (a b : ℕ) → nat_eq a b ≡ false → a ≢ b
 unequal a b e = λ same. absurd (grind (arith, nat_tests))
 
 first_by : (hashes heads nexts : List ℕ) (done bucket other : ℕ) → AreLinked hashes heads nexts (suc done) → bucket < length heads → suc done ≤ length hashes → hash_at hashes (suc done) % length heads ≡ bucket → other < length heads → ((nat_eq bucket other ≡ true) ⊎ (nat_eq bucket other ≡ false)) → slice_index (slice_set heads bucket (suc done)) other ≡ least (is_in hashes (length heads) other) (done + 1) (length hashes - done)
@@ -61,7 +61,7 @@ linked_back hashes heads nexts zero bucket linked len more le is within = absurd
 linked_back hashes heads nexts (suc done) bucket linked len more le is within = let e : suc done - 1 ≡ done = omega arith in rw e (linked_step hashes heads nexts done bucket linked len le is within)
 
 -- where the least number that passes one test leads for another that implies it
-Reaches : (ℕ → Bool) → (ℕ → Bool) → ℕ → ℕ → ℕ → ℕ → Type 0
+abbrev pub Reaches : (ℕ → Bool) → (ℕ → Bool) → ℕ → ℕ → ℕ → ℕ → Type 0
 Reaches p t wanted from end at = ((at ≡ 0) × (wanted ≡ 0)) ⊎ ((from ≤ at) × (at < end) × (t at ≡ true) × (wanted ≡ least p at (end - at)))
 
 not_passed : (a b : Bool) → (a ≡ true → b ≡ true) → b ≡ false → a ≡ false
@@ -69,46 +69,42 @@ not_passed true b f e = absurd (let t : b ≡ true = f refl in cc)
 not_passed false b f e = refl
 
 wider : (p t : ℕ → Bool) (wanted from end at : ℕ) → Reaches p t wanted (from + 1) end at → Reaches p t wanted from end at
-unfolding Reaches
 wider p t wanted from end at (inl none) = inl none
 wider p t wanted from end at (inr some) = inr (omega (arith, some.0), some.1, some.2, some.3)
 
-reached_by : (p t : ℕ → Bool) → ((j : ℕ) → p j ≡ true → t j ≡ true) → (from count : ℕ) → (here : Bool) → t from ≡ here → Reaches p t (least p (from + 1) count) (from + 1) (from + 1 + count) (least t (from + 1) count) → Reaches p t (least p from (suc count)) from (from + suc count) (least t from (suc count))
-unfolding Reaches
-reached_by p t implies from count true e rest =
+reached_by : (p t : ℕ → Bool) → ((j : ℕ) → 0 < j → p j ≡ true → t j ≡ true) → (from count : ℕ) → 0 < from → (here : Bool) → t from ≡ here → Reaches p t (least p (from + 1) count) (from + 1) (from + 1 + count) (least t (from + 1) count) → Reaches p t (least p from (suc count)) from (from + suc count) (least t from (suc count))
+reached_by p t implies from count more true e rest =
     let at : least t from (suc count) ≡ from = least_now t from count e in
     let left : suc count ≡ from + suc count - from = omega arith in
     rw at (inr (omega arith, omega arith, e, ap (least p from) left))
-reached_by p t implies from count false e rest =
+reached_by p t implies from count more false e rest =
     let at : least t from (suc count) ≡ least t (from + 1) count = least_later t from count e in
-    let goal : least p from (suc count) ≡ least p (from + 1) count = least_later p from count (not_passed (p from) (t from) (implies from) e) in
+    let goal : least p from (suc count) ≡ least p (from + 1) count = least_later p from count (not_passed (p from) (t from) (implies from more) e) in
     let end : from + suc count ≡ from + 1 + count = omega arith in
     rw (at, goal, end) (wider p t (least p (from + 1) count) from (from + 1 + count) (least t (from + 1) count) rest)
 
-reached : (p t : ℕ → Bool) → ((j : ℕ) → p j ≡ true → t j ≡ true) → (from count : ℕ) → Reaches p t (least p from count) from (from + count) (least t from count)
-unfolding Reaches
-reached p t implies from zero = inl (refl, refl)
-reached p t implies from (suc count) = reached_by p t implies from count (t from) refl (reached p t implies (from + 1) count)
+pub reached : (p t : ℕ → Bool) → ((j : ℕ) → 0 < j → p j ≡ true → t j ≡ true) → (from count : ℕ) → 0 < from → Reaches p t (least p from count) from (from + count) (least t from count)
+reached p t implies from zero more = inl (refl, refl)
+reached p t implies from (suc count) more = reached_by p t implies from count more (t from) refl (reached p t implies (from + 1) count (omega (arith, more)))
 
-same_bucket : (hashes : List ℕ) (count hash : ℕ) → (j : ℕ) → has_hash hashes hash j ≡ true → is_in hashes count (hash % count) j ≡ true
-same_bucket hashes count hash j e = let is : hash_at hashes j ≡ hash = equal (hash_at hashes j) hash e in rw is (grind (arith, nat_tests))
+same_bucket : (hashes : List ℕ) (count hash : ℕ) → (j : ℕ) → 0 < j → has_hash hashes hash j ≡ true → is_in hashes count (hash % count) j ≡ true
+same_bucket hashes count hash j more e = let is : hash_at hashes j ≡ hash = equal (hash_at hashes j) hash e in rw is (grind (arith, nat_tests))
 
 leads : (hashes : List ℕ) (count hash wanted from next : ℕ) → 0 < from → Reaches (has_hash hashes hash) (is_in hashes count (hash % count)) wanted from (length hashes + 1) next → LeadsTo hashes count hash wanted from next
-unfolding Reaches
 leads hashes count hash wanted from next more (inl none) = inl none
 leads hashes count hash wanted from next more (inr some) = inr (some.0, omega (arith, some.0), omega (arith, some.1), equal (hash_at hashes next % count) (hash % count) some.2, some.3)
 
 -- the head of a chain, and what follows in it
 pub from_head : (hashes heads nexts : List ℕ) (hash bucket : ℕ) → AreChained hashes heads nexts → bucket ≡ hash % length heads → bucket < length heads → Follows hashes (length heads) hash 0 (slice_index heads bucket)
 from_head hashes heads nexts hash bucket c is lt =
-    let r = reached (has_hash hashes hash) (is_in hashes (length heads) (hash % length heads)) (same_bucket hashes (length heads) hash) (0 + 1) (length hashes - 0) in
+    let r = reached (has_hash hashes hash) (is_in hashes (length heads) (hash % length heads)) (same_bucket hashes (length heads) hash) (0 + 1) (length hashes - 0) (omega arith) in
     let head = c.linked.firsts (hash % length heads) (rw is at lt) in
     let end : 0 + 1 + (length hashes - 0) ≡ length hashes + 1 = omega arith in
     rw is (leads hashes (length heads) hash (next_with hashes hash 0) (0 + 1) (slice_index heads (hash % length heads)) (omega arith) (rw head (rw end at r)))
 
 pub from_id : (hashes heads nexts : List ℕ) (hash id : ℕ) → AreChained hashes heads nexts → 0 < id → id ≤ length hashes → hash_at hashes id % length heads ≡ hash % length heads → Follows hashes (length heads) hash id (slice_index nexts (id - 1))
 from_id hashes heads nexts hash id c more le is =
-    let r = reached (has_hash hashes hash) (is_in hashes (length heads) (hash % length heads)) (same_bucket hashes (length heads) hash) (id + 1) (length hashes - id) in
+    let r = reached (has_hash hashes hash) (is_in hashes (length heads) (hash % length heads)) (same_bucket hashes (length heads) hash) (id + 1) (length hashes - id) (omega arith) in
     let next = c.linked.others id more le in
     let end : id + 1 + (length hashes - id) ≡ length hashes + 1 = omega (arith, le) in
     leads hashes (length heads) hash (next_with hashes hash id) (id + 1) (slice_index nexts (id - 1)) (omega arith) (rw (next, is) (rw end at r))

@@ -95,7 +95,11 @@ impl HashChains {
         let count = hashes.len() + 1;
         let mut heads = vec![in alloc; 0; count]?;
         let mut nexts = vec![in alloc; 0; hashes.len()]?;
-        link(hashes.as_slice(), heads.as_mut_slice(), nexts.as_mut_slice());
+        link(
+            hashes.as_slice(),
+            heads.as_mut_slice(),
+            nexts.as_mut_slice(),
+        );
         Ok(HashChains {
             hashes,
             heads,

@@ -1,6 +1,6 @@
 //! Type tables.
 
-ghost use Rattle.std.specs.Prelude.{◌≡◌, ◌≤◌, ◌^◌, ◌==◌, ◌∷◌, length, MatchResult, Some, None};
+ghost use Rattle.std.specs.Prelude.{◌≡◌, ◌<◌, ◌≤◌, ◌^◌, ◌==◌, ◌∷◌, length, MatchResult, Some, None};
 ghost use Rattle.btf_tables.specs.ResolvedTypes.{chain_end, max_depth, modified_type};
 ghost use Rattle.btf_records.specs.Fields.{name_offset_of};
 ghost use Rattle.btf_tables.specs.Tables.{type_by_id};
@@ -59,6 +59,14 @@ impl<'a> Btf<'a> {
         ensures { result ≡ (length self.now.types == 0) }
     {
         self.records.len() == 0
+    }
+
+    /// How many types there are, void aside.
+    pub fn len(&self) -> usize
+        ensures value { result ≡ length self.now.types }
+        ensures bounded { result < 2 ^ 32 }
+    {
+        self.records.len()
     }
 
     /// The allocator of its memory.
