@@ -161,10 +161,10 @@ fn ends_are_compatible(
 /// `UnknownBtfType` where a type isn't there, `UnexpectedBtfType` where functions, variables,
 /// sections or declaration tags are compared, `MaximumTypeDepthReached` with the local id where a
 /// pair of types is met inside itself or a chain of modifiers is too long.
-pub fn types_are_compatible(
-    local: &Btf<'_>,
+pub fn types_are_compatible<'t>(
+    local: &Btf<'t>,
     local_id: u32,
-    target: &Btf<'_>,
+    target: &Btf<'t>,
     target_id: u32,
 ) -> Result<bool, BtfError>
     ensures answer { IfOk result (λ yes. types_compatible local.now local_id target.now target_id ≡ Ok yes) }

@@ -112,10 +112,10 @@ fn compare_fields(
 /// `UnknownBtfType` where a type isn't there, `UnexpectedBtfType` where other kinds are compared,
 /// `InvalidStringOffset` where a name can't be read, `MaximumTypeDepthReached` with the local id
 /// where arrays are nested more than 31 deep or a chain of modifiers is too long.
-pub fn fields_are_compatible(
-    local: &Btf<'_>,
+pub fn fields_are_compatible<'t>(
+    local: &Btf<'t>,
     local_id: u32,
-    target: &Btf<'_>,
+    target: &Btf<'t>,
     target_id: u32,
 ) -> Result<bool, BtfError>
     ensures value { result ≡ fields_compatible local.now local_id target.now target_id }
