@@ -9,4 +9,5 @@ pub use btf_records::{
     Float, Func, FuncLinkage, FuncProto, Fwd, InfoBits, Int, IntEncoding, Items, Ptr, Restrict,
     Struct, TypeTag, Typedef, Union, Var, VarLinkage, Volatile,
 };
-pub use btf_tables::{Btf, Types};
+pub use btf_index::{TypeIds, TypeIndex};
+pub use btf_tables::{Btf, Types, essential_name};

@@ -4,7 +4,8 @@ use Rattle.std.specs.Prelude.{IfOk, nat_eq, ◌&&◌, if◌then◌else◌}
 use Rattle.std.specs.Cmp.Lexicographic.{pointwise}
 use Rattle.std.specs.Option.{option_map_or}
 use Rattle.btf_compatibility.specs.TypeCompatibility.{has_no_bit_offset, record_at, same_kind}
-use Rattle.btf_compatibility.specs.FieldCompatibility.{element_of, essential_name, field_verdict, fields_compared, fields_compatible, is_composite, field_answer, same_names}
+use Rattle.btf_tables.specs.EssentialNames.{essential_name}
+use Rattle.btf_compatibility.specs.FieldCompatibility.{element_of, field_verdict, fields_compared, fields_compatible, is_composite, field_answer, same_names}
 use Rattle.btf_tables.specs.ResolvedTypes.{max_depth}
 use Rattle.btf_compatibility.proofs.Exchanged.{Gives, Gives-ends, answer_of, both, exchanged, one_kind, same_kind-exchange, same_test}
 use Rattle.btf_records.specs.Fields.{kind_of_type, name_offset_of}

@@ -7,7 +7,6 @@ pub mod Exchanged
 pub mod FieldRounds
 pub mod FieldsAgreed
 pub mod FieldsExchanged
-pub mod Flavours
 pub mod FreePairs
 pub mod OpenPairs
 pub mod Parts

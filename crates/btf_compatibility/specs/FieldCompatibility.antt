@@ -9,6 +9,7 @@ use Rattle.btf_compatibility.specs.TypeCompatibility.{behind_modifiers, has_no_b
 use Rattle.btf_tables.specs.ResolvedTypes.{max_depth, modified_type}
 use Rattle.btf_records.specs.Fields.{array_of, kind_of_type, name_offset_of}
 use Rattle.btf_records.specs.Kinds.{number_of}
+use Rattle.btf_tables.specs.EssentialNames.{essential_name}
 use Rattle.btf_tables.specs.Tables.{Table}
 use Rattle.string_table.specs.Texts.{text_at}
 use Rattle.btf_records.specs.declared.error.BtfError.{BtfError}
@@ -16,11 +17,6 @@ use Rattle.btf_records.specs.declared.error.BtfError.TheVariants.{InvalidStringO
 use Rattle.btf_records.specs.declared.kind.BtfKind.{BtfKind}
 use Rattle.btf_records.specs.declared.kind.BtfKind.TheVariants as kinds
 use Rattle.btf_records.specs.declared.types.BtfType.{BtfType}
-
--- a name without its flavour, which is what follows from its first `___` on
-abbrev pub essential_name : List ℕ → List ℕ
-essential_name [] = []
-essential_name (b ∷ bs) = if starts_with nat_eq (b ∷ bs) (codes "___") then [] else b ∷ essential_name bs
 
 -- an answer for a record's name, where that can be read
 abbrev pub with_name : Table → BtfType → (List ℕ → Result Bool BtfError) → Result Bool BtfError

@@ -3,26 +3,16 @@
 ghost use Rattle.std.specs.Prelude.{◌≡◌, ◌&&◌, ◌==◌, Err, Ok, IfOk};
 ghost use Rattle.std.specs.Option.{option_map, option_zip};
 ghost use Rattle.btf_tables.specs.Agreement.{RestsOnNames};
-ghost use Rattle.btf_compatibility.specs.FieldCompatibility.{essential_name, field_ids, fields_compatible, is_composite, field_answer, same_names};
+ghost use Rattle.btf_compatibility.specs.FieldCompatibility.{field_ids, fields_compatible, is_composite, field_answer, same_names};
 ghost use Rattle.btf_records.specs.Fields.{array_of};
 
 use crate::compatibility::{has_no_bit_offset, record_at};
 use btf_encoding::TypeRef;
 use btf_records::{BtfError, BtfKind};
-use btf_tables::Btf;
+use btf_tables::{Btf, essential_name};
 
 /// Two arrays are followed into their elements in fewer rounds than this.
 const MAX_ROUNDS: usize = 32;
-
-/// A name without its flavour, which begins with `___`.
-fn essential_name(name: &str) -> &str
-    ensures { result.now ≡ essential_name name.now }
-{
-    match name.split_once("___") {
-        Some((front, _flavour)) => front,
-        None => name,
-    }
-}
 
 /// Whether the names of two records are the same without flavours.
 fn same_names(

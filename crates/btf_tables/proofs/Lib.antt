@@ -1,8 +1,4 @@
-pub mod Lookups
-pub mod Indexes
 pub mod Flavours
-pub mod NameHashes
-pub mod Links
 pub mod Added
 pub mod Chains
 pub mod Growth

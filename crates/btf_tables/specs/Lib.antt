@@ -1,15 +1,11 @@
-pub mod HashChains
 pub mod Agreement
-pub mod Candidates
 pub mod EssentialNames
 pub mod ByteLists
 pub mod GrownTables
 pub mod Headers
 pub mod Layout
-pub mod NameHashes
 pub mod ResolvedTypes
 pub mod Sections
 pub mod Tables
-pub mod TypeIndexes
 pub mod TypeSizes
 pub mod TypesByName

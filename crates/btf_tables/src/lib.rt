@@ -5,16 +5,13 @@
 mod byte_list;
 mod essential_names;
 mod growing;
-mod hash_chains;
 mod lookup;
 mod records;
 mod section;
 mod strings;
 mod table;
-mod type_index;
 mod types;
 
 pub use essential_names::essential_name;
 pub use table::Btf;
-pub use type_index::TypeIndex;
 pub use types::Types;
