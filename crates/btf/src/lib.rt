@@ -1,18 +1,7 @@
-//! Type tables of the BPF Type Format (BTF), over the bytes that they were read from
-//! (Documentation/bpf/btf.rst, "BTF Type and String Encoding").
+//! Type tables of the BPF Type Format (BTF): the items of the crates that they are made of.
 #![tactic(auto)]
 
-mod compatibility;
-mod fields;
-mod growing;
-mod lookup;
-mod pairs;
-mod records;
-mod section;
-mod table;
-mod text;
-mod types;
-
+pub use btf_compatibility::{fields_are_compatible, types_are_compatible};
 pub use btf_encoding::TypeRef;
 pub use btf_records::{
     Array, BtfArray, BtfEnum, BtfEnum64, BtfError, BtfFeature, BtfKind, BtfMember, BtfParam,
@@ -20,7 +9,5 @@ pub use btf_records::{
     Float, Func, FuncLinkage, FuncProto, Fwd, InfoBits, Int, IntEncoding, Items, Ptr, Restrict,
     Struct, TypeTag, Typedef, Union, Var, VarLinkage, Volatile,
 };
-pub use compatibility::types_are_compatible;
-pub use fields::fields_are_compatible;
-pub use table::Btf;
-pub use types::Types;
+pub use btf_index::{TypeIds, TypeIndex};
+pub use btf_tables::{Btf, Types, essential_name};

@@ -1,4 +1,2 @@
 pub mod Items
 pub mod Records
-pub mod Tables
-pub mod Texts

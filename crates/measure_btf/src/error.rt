@@ -1,7 +1,7 @@
 //! Why nothing is measured.
 
 use btf::BtfError;
-use std::alloc::AllocError;
+use std::alloc::{AllocError, AllocFailed};
 use std::io;
 use thiserror::Error;
 
@@ -15,4 +15,10 @@ pub(crate) enum MeasureError {
     Btf(#[from] BtfError),
     #[error("out of memory")]
     OutOfMemory(#[from] AllocError),
+}
+
+impl<T: Drop> From<AllocFailed<T>> for MeasureError {
+    fn from(_error: AllocFailed<T>) -> MeasureError {
+        MeasureError::OutOfMemory(AllocError)
+    }
 }

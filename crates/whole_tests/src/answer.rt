@@ -38,14 +38,9 @@ impl Answer {
             _ => Answer::Other,
         }
     }
-
-    /// Whether this is the wanted answer, or memory ran out in place of it.
-    pub(crate) fn is(self, wanted: Answer) -> bool {
-        self == wanted || self == Answer::OutOfMemory
-    }
 }
 
-fn yes_or_no(outcome: Result<bool, BtfError>) -> Answer {
+pub(crate) fn yes_or_no(outcome: Result<bool, BtfError>) -> Answer {
     match outcome {
         Ok(true) => Answer::Yes,
         Ok(false) => Answer::No,
@@ -81,7 +76,7 @@ pub(crate) enum Question {
 }
 
 impl Question {
-    pub(crate) fn ask(self, table: &Btf) -> Answer {
+    pub(crate) fn ask(self, table: &Btf<'_>) -> Answer {
         match self {
             Question::Resolve(type_id) => id(table.resolve_type(type_id)),
             Question::Size(type_id) => size(table.type_size(type_id)),

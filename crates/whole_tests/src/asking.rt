@@ -1,7 +1,7 @@
 //! Questions on a table, with the wanted answers.
 
 use crate::answer::{Answer, Question};
-use crate::sections::{ORDERS, table};
+use crate::sections::{ORDERS, parse, section_of};
 use btf::Btf;
 use std::alloc::Global;
 use std::process::Abort;
@@ -15,15 +15,14 @@ pub(crate) fn ask_all(
     asked: &[(Question, Answer)],
 ) {
     for order in ORDERS {
-        if let Some(table) = table(rt, alloc, order, words, strings) {
-            ask(rt, &table, asked);
-        }
+        let section = section_of(rt, alloc, order, words, strings);
+        let table = parse(rt, alloc, section.as_slice(), order);
+        ask(rt, &table, asked);
     }
 }
 
-pub(crate) fn ask(rt: &impl Abort, table: &Btf, asked: &[(Question, Answer)]) {
+pub(crate) fn ask(rt: &impl Abort, table: &Btf<'_>, asked: &[(Question, Answer)]) {
     for (question, wanted) in asked {
-        let answer = question.ask(table);
-        assert!(rt; answer.is(*wanted), "{question:?}: {answer:?}");
+        assert_eq!(rt; question.ask(table), *wanted, "{question:?}");
     }
 }

@@ -1,12 +1,14 @@
 //! Compatible and incompatible types: by kind, through pointers and signatures, and by name.
 
-use crate::answer::{Answer, Question};
+use crate::answer::{Answer, Question, yes_or_no};
 use crate::asking::{ask, ask_all};
 use crate::sections::{
-    ARRAY, CONST, FUNC, FWD, INT, NO_PARAMETERS, PTR, SIGNATURE, STRUCT, TYPEDEF, UNION, table,
+    ARRAY, CONST, FUNC, FWD, INT, NO_PARAMETERS, PTR, SIGNATURE, STRUCT, TYPEDEF, UNION, parse,
+    section_of,
 };
-use btf::{Endianness, types_are_compatible};
+use btf::{Btf, Endianness, types_are_compatible};
 use std::alloc::{AllocError, Global};
+use std::test::Fail;
 
 // An INT, one behind four bits, a TYPEDEF and a CONST of the first, a CONST of the TYPEDEF, a FUNC.
 #[test]
@@ -97,23 +99,25 @@ fn lattice(alloc: Global, last: u32) -> Result<Vec<u32>, AllocError> {
     Ok(words)
 }
 
+/// Compares the first types of two tables.
+fn compare(one: &Btf<'_>, other: &Btf<'_>) -> Answer {
+    yes_or_no(types_are_compatible(one, 1, other, 1))
+}
+
 #[test]
-fn a_lattice_of_signatures_is_quick(rt: HostRuntime) {
+fn a_lattice_of_signatures_is_quick(rt: HostRuntime) -> Result<(), Fail> {
     let alloc = rt.alloc();
-    let (Ok(to_void), Ok(to_pointer)) = (lattice(alloc, 0), lattice(alloc, 41)) else {
-        return;
-    };
-    let one = table(&rt, alloc, Endianness::Little, to_void.as_slice(), &[0]);
-    let other = table(&rt, alloc, Endianness::Big, to_pointer.as_slice(), &[0]);
-    if let (Some(one), Some(other)) = (one, other) {
-        ask(&rt, &one, &[(Question::Types(1, 1), Answer::Yes)]);
-        ask(
-            &rt,
-            &other,
-            &[(Question::Types(1, 1), Answer::MaximumTypeDepthReached(1))],
-        );
-        assert!(rt; !types_are_compatible(&one, 1, &other, 1).unwrap_or(false));
-    }
+    let words = lattice(alloc, 0)?;
+    let to_void = section_of(&rt, alloc, Endianness::Little, words.as_slice(), &[0]);
+    let words = lattice(alloc, 41)?;
+    let to_pointer = section_of(&rt, alloc, Endianness::Big, words.as_slice(), &[0]);
+    let one = parse(&rt, alloc, to_void.as_slice(), Endianness::Little);
+    let other = parse(&rt, alloc, to_pointer.as_slice(), Endianness::Big);
+    let too_deep = Answer::MaximumTypeDepthReached(1);
+    ask(&rt, &one, &[(Question::Types(1, 1), Answer::Yes)]);
+    ask(&rt, &other, &[(Question::Types(1, 1), too_deep)]);
+    assert_eq!(rt; compare(&one, &other), Answer::No);
+    Ok(())
 }
 
 // FWDs named `task_struct___old`, `task_`, with a name past the end, and named `task_struct`.
@@ -160,10 +164,8 @@ fn arrays(alloc: Global) -> Result<Vec<u32>, AllocError> {
 }
 
 #[test]
-fn arrays_are_compared_in_32_rounds(rt: HostRuntime) {
-    let Ok(words) = arrays(rt.alloc()) else {
-        return;
-    };
+fn arrays_are_compared_in_32_rounds(rt: HostRuntime) -> Result<(), Fail> {
+    let words = arrays(rt.alloc())?;
     let asked = [
         (Question::Fields(32, 32), Answer::Yes),
         (Question::Fields(32, 31), Answer::No),
@@ -174,4 +176,5 @@ fn arrays_are_compared_in_32_rounds(rt: HostRuntime) {
         (Question::Types(33, 33), Answer::Yes),
     ];
     ask_all(&rt, rt.alloc(), words.as_slice(), &[0], &asked);
+    Ok(())
 }

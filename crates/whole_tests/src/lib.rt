@@ -6,6 +6,8 @@ mod answer;
 #[cfg(test)]
 mod asking;
 #[cfg(test)]
+mod candidates;
+#[cfg(test)]
 mod comparisons;
 #[cfg(test)]
 mod sections;

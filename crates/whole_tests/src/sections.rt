@@ -2,7 +2,6 @@
 
 ghost use Rattle.std.specs.Prelude.{◌<◌, ◌^◌, length};
 
-use crate::answer::Answer;
 use btf::{Btf, Endianness};
 use std::alloc::{AllocError, Global};
 use std::process::Abort;
@@ -24,6 +23,9 @@ pub(crate) const ARRAY: u32 = 0x0300_0000;
 
 pub(crate) const STRUCT: u32 = 0x0400_0000;
 
+/// Of a struct with one member.
+pub(crate) const ONE_MEMBER: u32 = 0x0400_0001;
+
 pub(crate) const UNION: u32 = 0x0500_0000;
 
 pub(crate) const FWD: u32 = 0x0700_0000;
@@ -33,6 +35,8 @@ pub(crate) const TYPEDEF: u32 = 0x0800_0000;
 pub(crate) const CONST: u32 = 0x0a00_0000;
 
 pub(crate) const FUNC: u32 = 0x0c00_0000;
+
+pub(crate) const VAR: u32 = 0x0e00_0000;
 
 /// Of a signature with two parameters.
 pub(crate) const SIGNATURE: u32 = 0x0d00_0002;
@@ -56,7 +60,7 @@ fn push_words(out: &mut Vec<u8>, order: Endianness, words: &[u32]) -> Result<(),
 }
 
 /// A section of records with these words, and of these strings.
-pub(crate) fn section(
+fn section(
     alloc: Global,
     order: Endianness,
     words: &[u32],
@@ -77,32 +81,25 @@ pub(crate) fn section(
     Ok(out)
 }
 
-/// The table of a section; none where memory ran out.
-pub(crate) fn parse(
-    rt: &impl Abort,
-    alloc: Global,
-    section: &[u8],
-    order: Endianness,
-) -> Option<Btf> {
-    match Btf::parse(alloc, section, order) {
-        Ok(table) => Some(table),
-        Err(error) => {
-            assert_eq!(rt; Answer::refused(&error), Answer::OutOfMemory);
-            None
-        }
-    }
-}
-
-/// The table of records with these words, and of these strings; none where memory ran out.
-pub(crate) fn table(
+/// The section of records with these words, and of these strings.
+pub(crate) fn section_of(
     rt: &impl Abort,
     alloc: Global,
     order: Endianness,
     words: &[u32],
     strings: &[u8],
-) -> Option<Btf> {
+) -> Vec<u8> {
     assert!(rt; words.len() < 0x1_0000);
     assert!(rt; strings.len() < 0x1_0000);
-    let section = section(alloc, order, words, strings).ok()?;
-    parse(rt, alloc, section.as_slice(), order)
+    section(alloc, order, words, strings).expect(rt, "a section")
+}
+
+/// The table of a section.
+pub(crate) fn parse<'a>(
+    rt: &impl Abort,
+    alloc: Global,
+    section: &'a [u8],
+    order: Endianness,
+) -> Btf<'a> {
+    Btf::parse(alloc, section, order).expect(rt, "a table")
 }

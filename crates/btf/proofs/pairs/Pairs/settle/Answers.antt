@@ -1,5 +1,0 @@
-use Rattle.btf.proofs.States.{sets_state}
-use Rattle.btf.proofs.pairs.Pairs.settle.Goals as goal
-
-pub returns-clause-state : goal.returns-clause-state
-returns-clause-state c = sets_state _ _ _ _ _ c.in_ok-insert.ensures.updates.0

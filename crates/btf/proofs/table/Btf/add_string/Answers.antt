@@ -1,9 +1,0 @@
-use Rattle.std.proofs.Common.{◌≡◌, length, rules}
-use Rattle.std.proofs.lemmas.Str.{is_utf8-from_IsUtf8}
-use Rattle.btf.proofs.Strings.{added_text}
-use Rattle.btf.proofs.table.Btf.add_string.Goals as goal
-
-pub returns-clause-found : goal.returns-clause-found
-returns-clause-found c =
-    let offset : c.len-offset.result ≡ length c.self.inside.strings.items = search rules in
-    rw (c.in_ok-push_text.ensures.ok, offset) (added_text c.self.inside.strings.items c.args.text.now c.requires (is_utf8-from_IsUtf8 _ c.utf8.text))

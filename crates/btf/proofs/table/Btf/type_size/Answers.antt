@@ -1,5 +1,0 @@
-use Rattle.btf.proofs.Rests.{sized_rests}
-use Rattle.btf.proofs.table.Btf.type_size.Goals as goal
-
-pub returns-clause-rests : goal.returns-clause-rests
-returns-clause-rests c = sized_rests c.args.self.now c.args.type_id

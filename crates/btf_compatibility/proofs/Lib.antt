@@ -1,0 +1,17 @@
+pub mod Agreed
+pub mod Bounds
+pub mod Chains
+pub mod Comparisons
+pub mod Endings
+pub mod Exchanged
+pub mod FieldRounds
+pub mod FieldsAgreed
+pub mod FieldsExchanged
+pub mod FreePairs
+pub mod OpenPairs
+pub mod Parts
+pub mod Rounds
+pub mod Stacks
+pub mod States
+pub mod Steps
+pub mod Turns

@@ -1,0 +1,3 @@
+pub mod FieldCompatibility
+pub mod Pairs
+pub mod TypeCompatibility

@@ -1,0 +1,86 @@
+//! The pairs of types that a comparison has met.
+
+ghost use Rattle.std.specs.Prelude.{◌≡◌, ◌+◌, ◌<◌, ◌^◌, [], ◌∷◌, ◌++◌, OnOk};
+ghost use Rattle.btf_compatibility.specs.Pairs.{SetsState, state_of};
+
+use std::alloc::{AllocError, Global};
+use std::collections::BTreeMap;
+
+/// A pair of types whose parts are being compared.
+#[derive(Clone, Copy, Debug)]
+pub(crate) struct OpenPair {
+    pub(crate) left: u32,
+    pub(crate) right: u32,
+    /// Which of its parts is the next.
+    pub(crate) next: usize,
+}
+
+/// How far the comparison of a pair has come.
+#[derive(Clone, Copy, Debug)]
+pub(crate) enum PairState {
+    Open,
+    /// All its parts are compatible.
+    Settled,
+}
+
+/// The pairs that have been met, and those that are open, each a part of the one before.
+#[derive(Debug, Drop)]
+pub(crate) struct Pairs {
+    pub(crate) open: Vec<OpenPair>,
+    pub(crate) states: BTreeMap<(u32, u32), PairState>,
+}
+
+impl Pairs {
+    pub(crate) fn new(alloc: Global) -> Pairs
+        ensures open { result.open.items ≡ [] }
+        ensures states { result.states.entries ≡ [] }
+    {
+        Pairs {
+            open: Vec::new(alloc),
+            states: BTreeMap::new(alloc),
+        }
+    }
+
+    #[tactic(auto, unfolding(crate::specs::Pairs::state_of))]
+    pub(crate) fn state(&self, left: u32, right: u32) -> Option<PairState>
+        ensures { result ≡ state_of self.now.states.entries left right }
+    {
+        self.states.get(&(left, right)).copied()
+    }
+
+    /// Opens a pair that hasn't been met.
+    pub(crate) fn open(&mut self, left: u32, right: u32) -> Result<(), AllocError>
+        ensures pushed { OnOk result (self.new.open.items ≡ self.old.open.items ++ record { left = left; right = right; next = 0 } ∷ []) }
+        ensures state { OnOk result (SetsState self.old.states.entries self.new.states.entries left right PairState.Open) }
+    {
+        self.states.insert((left, right), PairState::Open)?;
+        self.open.push(OpenPair {
+            left,
+            right,
+            next: 0,
+        })?;
+        Ok(())
+    }
+
+    /// Goes on to the next part of a pair.
+    pub(crate) fn advance(&mut self, pair: OpenPair) -> Result<(), AllocError>
+        requires { pair.next + 1 < 2 ^ 64 }
+        ensures pushed { OnOk result (self.new.open.items ≡ self.old.open.items ++ record pair { next = pair.next + 1 } ∷ []) }
+        ensures states { self.new.states.entries ≡ self.old.states.entries }
+    {
+        self.open.push(OpenPair {
+            next: pair.next + 1,
+            ..pair
+        })?;
+        Ok(())
+    }
+
+    /// Remembers that a pair is compatible.
+    pub(crate) fn settle(&mut self, left: u32, right: u32) -> Result<(), AllocError>
+        ensures open { self.new.open.items ≡ self.old.open.items }
+        ensures state { OnOk result (SetsState self.old.states.entries self.new.states.entries left right PairState.Settled) }
+    {
+        self.states.insert((left, right), PairState::Settled)?;
+        Ok(())
+    }
+}

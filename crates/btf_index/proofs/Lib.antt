@@ -1,0 +1,4 @@
+pub mod Indexes
+pub mod Links
+pub mod Lookups
+pub mod NameHashes

@@ -1,0 +1,4 @@
+pub mod Candidates
+pub mod HashChains
+pub mod NameHashes
+pub mod TypeIndexes

@@ -1,0 +1,8 @@
+//! An index over a type table, by kind and name without flavour.
+#![tactic(auto)]
+
+mod hash_chains;
+mod name_hash;
+mod type_index;
+
+pub use type_index::{TypeIds, TypeIndex};

@@ -1,0 +1,11 @@
+pub mod Agreement
+pub mod EssentialNames
+pub mod ByteLists
+pub mod GrownTables
+pub mod Headers
+pub mod Layout
+pub mod ResolvedTypes
+pub mod Sections
+pub mod Tables
+pub mod TypeSizes
+pub mod TypesByName

@@ -1,0 +1,178 @@
+//! How types are found, and their sizes.
+
+ghost use Rattle.std.specs.Prelude.{◌≡◌, ◌≢◌, ◌*◌, true, false, ℕ, IfOk, IfErr, MatchOption, Ok, Some, None};
+ghost use Rattle.std.specs.Option.{IsSomeAnd, option_map};
+ghost use Rattle.btf_tables.specs.Agreement.{FoundAlike, IsReached, RestsOn, chain_ids, size_ids};
+ghost use Rattle.btf_tables.specs.ResolvedTypes.{IsEnd, resolved_type};
+ghost use Rattle.btf_tables.specs.TypeSizes.{IsSize, own_size, sized_by, type_size, type_size_in_32_bits};
+ghost use Rattle.btf_tables.specs.TypesByName.{IsFirstNamed, IsNotNamed, NameFault};
+ghost use Rattle.btf_records.specs.Fields.{kind_of_type, name_offset_of};
+ghost use Rattle.string_table.specs.Texts.{text_at};
+ghost use Rattle.btf_records.specs.declared.error.BtfError.TheVariants.{InvalidStringOffset, OutOfMemory};
+
+use crate::table::{Btf, MAX_DEPTH};
+use btf_encoding::TypeRef;
+use btf_records::{BtfError, BtfKind, BtfType};
+
+/// The size of a record that has one by itself.
+fn own_size(t: &TypeRef<'_>) -> Option<u32>
+    ensures { result ≡ own_size t.now }
+{
+    match t.kind() {
+        BtfKind::Ptr => Some(8),
+        _ => t.size(),
+    }
+}
+
+/// How many times the size of another type counts, and its id.
+#[derive(Clone, Copy)]
+struct SizedBy {
+    count: u32,
+    type_id: u32,
+}
+
+/// What the size of a record without one of its own comes from.
+fn sized_by(t: &TypeRef<'_>) -> Option<SizedBy>
+    ensures { option_map (λ by. (by.count, by.type_id)) result ≡ sized_by t.now }
+{
+    match t.kind() {
+        BtfKind::Ptr => None,
+        BtfKind::Array => t.array().map(|array| SizedBy {
+            count: array.len,
+            type_id: array.element_type,
+        }),
+        _ => t.btf_type().map(|type_id| SizedBy { count: 1, type_id }),
+    }
+}
+
+/// The bytes of so many items of a size.
+fn times(count: u32, size: u32) -> u64
+    ensures { result ≡ count * size }
+{
+    u64::from(count) * u64::from(size)
+}
+
+impl<'a> Btf<'a> {
+    /// The id at the end of a chain of `BTF_KIND_TYPEDEF`, `BTF_KIND_VOLATILE`, `BTF_KIND_CONST`,
+    /// `BTF_KIND_RESTRICT` and `BTF_KIND_TYPE_TAG`.
+    ///
+    /// `UnknownBtfType` where a type of the chain isn't there, `MaximumTypeDepthReached` where the
+    /// chain, with its end, has more than 32 types.
+    pub fn resolve_type(&self, type_id: u32) -> Result<u32, BtfError>
+        ensures value { result ≡ resolved_type self.now type_id }
+        ensures chain { IfOk result (λ end. IsEnd self.now type_id end) }
+        ensures no_chain { IfErr result (λ _. (end : ℕ) → IsEnd self.now type_id end → ⊥) }
+        ensures again { IfOk result (λ end. resolved_type self.now end ≡ Ok end) }
+        ensures reached { IfOk result (λ end. IsReached chain_ids self.now type_id end) }
+        ensures rests { RestsOn chain_ids self.now type_id (λ table. resolved_type table type_id) }
+    {
+        self.chain_end(type_id, type_id)
+    }
+
+    /// The size of a type in bytes.
+    ///
+    /// `UnexpectedBtfType` where the walk to it ends at a type without one, `UnknownBtfType` where
+    /// a type of the walk isn't there, `MaximumTypeDepthReached` where the walk has more than 32
+    /// types, `InvalidTypeInfo` where the lengths of the arrays so far multiply to 2^32 or more.
+    #[tactic(auto, using(crate::proofs::Walks::no_size, crate::proofs::Walks::sized_walk))]
+    pub fn type_size(&self, type_id: u32) -> Result<u64, BtfError>
+        ensures value { result ≡ type_size self.now type_id }
+        ensures walk { IfOk result (λ size. IsSize self.now type_id size) }
+        ensures no_walk { IfErr result (λ _. (size : ℕ) → IsSize self.now type_id size → ⊥) }
+        ensures rests { RestsOn size_ids self.now type_id (λ table. type_size table type_id) }
+    {
+        self.walk_size(type_id)
+    }
+
+    /// The size at the end of the walk from a type.
+    #[tactic(auto, using(crate::proofs::Chains::size_over, crate::proofs::Chains::size_unknown, crate::proofs::Chains::size_done, crate::proofs::Chains::size_none, crate::proofs::Chains::size_past, crate::proofs::Chains::size_more))]
+    fn walk_size(&self, type_id: u32) -> Result<u64, BtfError>
+        ensures { result ≡ type_size self.now type_id }
+    {
+        let mut count = 1;
+        let mut id = type_id;
+        for _ in 0..MAX_DEPTH {
+            let t = self.type_by_id(id)?;
+            if let Some(size) = own_size(&t) {
+                return Ok(times(count, size));
+            }
+            let Some(by) = sized_by(&t) else {
+                return Err(BtfError::UnexpectedBtfType { type_id: id });
+            };
+            let Some(product) = u32::checked_mul(count, by.count) else {
+                return Err(BtfError::InvalidTypeInfo);
+            };
+            count = product;
+            id = by.type_id;
+        }
+        Err(BtfError::MaximumTypeDepthReached { type_id })
+    }
+
+    /// The size of a type in bytes, where 32 bits are to hold it.
+    ///
+    /// `InvalidTypeInfo` where they can't; otherwise what `type_size` answers.
+    pub fn type_size_u32(&self, type_id: u32) -> Result<u32, BtfError>
+        ensures value { result ≡ type_size_in_32_bits self.now type_id }
+        ensures rests { RestsOn size_ids self.now type_id (λ table. type_size_in_32_bits table type_id) }
+    {
+        let size = self.type_size(type_id)?;
+        match u32::try_from(size) {
+            Ok(size) => Ok(size),
+            Err(_) => Err(BtfError::InvalidTypeInfo),
+        }
+    }
+
+    /// Whether this is the wanted record, by kind and name.
+    ///
+    /// `InvalidStringOffset` where it is of the kind and its name can't be read.
+    fn is_named(&self, t: &TypeRef<'_>, name: &str, kind: BtfKind) -> Result<bool, BtfError>
+        ensures named { IfOk result (λ found. found ≡ true → (kind_of_type t.now ≡ kind) × (text_at self.now.strings (name_offset_of t.now) ≡ Some name.now)) }
+        ensures other { IfOk result (λ found. found ≡ false → kind_of_type t.now ≡ kind → IsSomeAnd (text_at self.now.strings (name_offset_of t.now)) (λ text. text ≢ name.now)) }
+        ensures refused { IfErr result (λ e. (kind_of_type t.now ≡ kind) × (e ≡ InvalidStringOffset (name_offset_of t.now)) × (text_at self.now.strings (name_offset_of t.now) ≡ None)) }
+    {
+        if t.kind() != kind {
+            return Ok(false);
+        }
+        let offset = t.name_offset();
+        if self.strings.is_text_at(offset, name) {
+            return Ok(true);
+        }
+        self.string_at(offset)?;
+        Ok(false)
+    }
+
+    /// The least id of the types of this kind and name.
+    ///
+    /// `InvalidStringOffset` where the name of an earlier type of the kind can't be read,
+    /// `UnknownBtfTypeName` where no type of the kind has the name.
+    #[tactic(auto, using(crate::proofs::NamedAlike::found_alike))]
+    pub fn id_by_type_name_kind(&self, name: &str, kind: BtfKind) -> Result<u32, BtfError>
+        ensures found { IfOk result (λ id. IsFirstNamed self.now name.now kind id) }
+        ensures rests { IfOk result (λ id. FoundAlike self.now name.now kind id) }
+        ensures refused { IfErr result (λ e. e ≢ OutOfMemory → NameFault self.now name.now kind e) }
+    {
+        match self.first_named(name, kind)? {
+            Some(id) => Ok(id),
+            None => {
+                let type_name = String::from_str(self.allocator(), name)?;
+                Err(BtfError::UnknownBtfTypeName { type_name })
+            }
+        }
+    }
+
+    /// The least id of the types of this kind and name, where there is one.
+    #[tactic(auto, using(crate::proofs::Named::known_here, crate::proofs::Named::rest_here, crate::proofs::Named::none_more, crate::proofs::Named::none_left))]
+    fn first_named(&self, name: &str, kind: BtfKind) -> Result<Option<u32>, BtfError>
+        ensures found { IfOk result (λ found. MatchOption found ((id : ℕ) → IsNotNamed self.now name.now kind id) (λ id. IsFirstNamed self.now name.now kind id)) }
+        ensures refused { IfErr result (λ e. NameFault self.now name.now kind e) }
+    {
+        let mut id: usize = 0;
+        for t in self.types() {
+            if self.is_named(&t, name, kind)? {
+                return Ok(Some(id as u32));
+            }
+            id += 1;
+        }
+        Ok(None)
+    }
+}
