@@ -5,6 +5,7 @@
 mod byte_list;
 mod growing;
 mod lookup;
+mod other_texts;
 mod records;
 mod section;
 mod strings;
