@@ -133,7 +133,7 @@ impl<'a> Btf<'a> {
         t: &TypeRef<'_>,
         name: &str,
         kind: BtfKind,
-        others: &mut BTreeMap<u32, bool>,
+        others: &mut BTreeMap<u32, ()>,
     ) -> Result<bool, BtfError>
         requires others { AreOthers self.now.strings name.now others.old.entries }
         ensures named { IfOk result (λ found. found ≡ true → (kind_of_type t.now ≡ kind) × (text_at self.now.strings (name_offset_of t.now) ≡ Some name.now)) }

@@ -13,18 +13,18 @@ use std::collections::BTreeMap;
 const LONG: usize = 256;
 
 /// The note at an offset.
-fn note_at(others: &BTreeMap<u32, bool>, offset: u32) -> Option<&bool>
+fn note_at(others: &BTreeMap<u32, ()>, offset: u32) -> Option<&()>
     ensures { option_copied result ≡ note_at others.now.entries offset }
 {
     others.get(&offset)
 }
 
 /// Notes an offset.
-fn note(others: &mut BTreeMap<u32, bool>, offset: u32) -> Result<(), AllocError>
+fn note(others: &mut BTreeMap<u32, ()>, offset: u32) -> Result<(), AllocError>
     ensures ok { OnOk result (IsNoted others.old.entries others.new.entries offset) }
     ensures err { OnErr result (others.new.entries ≡ others.old.entries) }
 {
-    others.insert(offset, true)?;
+    others.insert(offset, ())?;
     Ok(())
 }
 
@@ -35,7 +35,7 @@ fn note(others: &mut BTreeMap<u32, bool>, offset: u32) -> Result<(), AllocError>
 pub(crate) fn is_name(
     strings: &Strings<'_>,
     name: &str,
-    others: &mut BTreeMap<u32, bool>,
+    others: &mut BTreeMap<u32, ()>,
     offset: u32,
     text: &str,
 ) -> Result<bool, AllocError>
