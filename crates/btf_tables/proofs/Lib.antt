@@ -7,6 +7,7 @@ pub mod Left
 pub mod Lengths
 pub mod Named
 pub mod NamedAlike
+pub mod OtherTexts
 pub mod Places
 pub mod Reading
 pub mod Rests

@@ -4,6 +4,7 @@ pub mod ByteLists
 pub mod GrownTables
 pub mod Headers
 pub mod Layout
+pub mod OtherTexts
 pub mod ResolvedTypes
 pub mod Sections
 pub mod Tables

@@ -6,6 +6,7 @@ mod byte_list;
 mod essential_names;
 mod growing;
 mod lookup;
+mod other_texts;
 mod records;
 mod section;
 mod strings;

@@ -3,6 +3,7 @@
 ghost use Rattle.std.specs.Prelude.{◌≡◌, ◌≢◌, ◌*◌, true, false, ℕ, IfOk, IfErr, MatchOption, Ok, Some, None};
 ghost use Rattle.std.specs.Option.{IsSomeAnd, option_map};
 ghost use Rattle.btf_tables.specs.Agreement.{FoundAlike, IsReached, RestsOn, chain_ids, size_ids};
+ghost use Rattle.btf_tables.specs.OtherTexts.{AreOthers};
 ghost use Rattle.btf_tables.specs.ResolvedTypes.{IsEnd, resolved_type};
 ghost use Rattle.btf_tables.specs.TypeSizes.{IsSize, own_size, sized_by, type_size, type_size_in_32_bits};
 ghost use Rattle.btf_tables.specs.TypesByName.{IsFirstNamed, IsNotNamed, NameFault};
@@ -10,9 +11,11 @@ ghost use Rattle.btf_records.specs.Fields.{kind_of_type, name_offset_of};
 ghost use Rattle.string_table.specs.Texts.{text_at};
 ghost use Rattle.btf_records.specs.declared.error.BtfError.TheVariants.{InvalidStringOffset, OutOfMemory};
 
+use crate::other_texts::is_name;
 use crate::table::{Btf, MAX_DEPTH};
 use btf_encoding::TypeRef;
 use btf_records::{BtfError, BtfKind, BtfType};
+use std::collections::BTreeMap;
 
 /// The size of a record that has one by itself.
 fn own_size(t: &TypeRef<'_>) -> Option<u32>
@@ -125,20 +128,25 @@ impl<'a> Btf<'a> {
     /// Whether this is the wanted record, by kind and name.
     ///
     /// `InvalidStringOffset` where it is of the kind and its name can't be read.
-    fn is_named(&self, t: &TypeRef<'_>, name: &str, kind: BtfKind) -> Result<bool, BtfError>
+    fn is_named(
+        &self,
+        t: &TypeRef<'_>,
+        name: &str,
+        kind: BtfKind,
+        others: &mut BTreeMap<u32, ()>,
+    ) -> Result<bool, BtfError>
+        requires others { AreOthers self.now.strings name.now others.old.entries }
         ensures named { IfOk result (λ found. found ≡ true → (kind_of_type t.now ≡ kind) × (text_at self.now.strings (name_offset_of t.now) ≡ Some name.now)) }
         ensures other { IfOk result (λ found. found ≡ false → kind_of_type t.now ≡ kind → IsSomeAnd (text_at self.now.strings (name_offset_of t.now)) (λ text. text ≢ name.now)) }
-        ensures refused { IfErr result (λ e. (kind_of_type t.now ≡ kind) × (e ≡ InvalidStringOffset (name_offset_of t.now)) × (text_at self.now.strings (name_offset_of t.now) ≡ None)) }
+        ensures refused { IfErr result (λ e. e ≢ OutOfMemory → (kind_of_type t.now ≡ kind) × (e ≡ InvalidStringOffset (name_offset_of t.now)) × (text_at self.now.strings (name_offset_of t.now) ≡ None)) }
+        ensures others { AreOthers self.now.strings name.now others.new.entries }
     {
         if t.kind() != kind {
             return Ok(false);
         }
         let offset = t.name_offset();
-        if self.strings.is_text_at(offset, name) {
-            return Ok(true);
-        }
-        self.string_at(offset)?;
-        Ok(false)
+        let text = self.string_at(offset)?;
+        Ok(is_name(&self.strings, name, others, offset, text)?)
     }
 
     /// The least id of the types of this kind and name.
@@ -161,14 +169,15 @@ impl<'a> Btf<'a> {
     }
 
     /// The least id of the types of this kind and name, where there is one.
-    #[tactic(auto, using(crate::proofs::Named::known_here, crate::proofs::Named::rest_here, crate::proofs::Named::none_more, crate::proofs::Named::none_left))]
+    #[tactic(auto, using(crate::proofs::Named::known_here, crate::proofs::Named::rest_here, crate::proofs::Named::none_more, crate::proofs::Named::none_left, crate::proofs::OtherTexts::no_others))]
     fn first_named(&self, name: &str, kind: BtfKind) -> Result<Option<u32>, BtfError>
         ensures found { IfOk result (λ found. MatchOption found ((id : ℕ) → IsNotNamed self.now name.now kind id) (λ id. IsFirstNamed self.now name.now kind id)) }
-        ensures refused { IfErr result (λ e. NameFault self.now name.now kind e) }
+        ensures refused { IfErr result (λ e. e ≢ OutOfMemory → NameFault self.now name.now kind e) }
     {
+        let mut others = BTreeMap::new(self.allocator());
         let mut id: usize = 0;
         for t in self.types() {
-            if self.is_named(&t, name, kind)? {
+            if self.is_named(&t, name, kind, &mut others)? {
                 return Ok(Some(id as u32));
             }
             id += 1;

@@ -1,6 +1,6 @@
 //! The strings of a table.
 
-ghost use Rattle.std.specs.Prelude.{◌≡◌, ◌≤◌, ◌↔◌, ◌∷◌, ◌++◌, [], IfOk, IsTrue, OnErr, OnOk, Some, length, take};
+ghost use Rattle.std.specs.Prelude.{◌≡◌, ◌≤◌, ◌∷◌, ◌++◌, [], IfOk, OnErr, OnOk, length, take};
 ghost use Rattle.std.specs.Option.{option_copied};
 ghost use Rattle.string_table.specs.LongTexts.{AreLongTextsOf};
 ghost use Rattle.string_table.specs.Texts.{text_at};
@@ -8,7 +8,7 @@ ghost use Rattle.string_table.specs.Texts.{text_at};
 use crate::byte_list::ByteList;
 use std::alloc::{AllocError, Global};
 use std::marker::Model;
-use string_table::{LongTexts, is_text_at};
+use string_table::LongTexts;
 
 /// The bytes of the strings, and where the long ones stand.
 #[derive(Debug, Drop)]
@@ -75,13 +75,6 @@ impl<'a> Strings<'a> {
         ensures { option_copied result ≡ text_at self.now offset }
     {
         self.long_texts.text_at(self.bytes.as_slice(), offset)
-    }
-
-    /// Whether this is the text at an offset.
-    pub(crate) fn is_text_at(&self, offset: u32, text: &str) -> bool
-        ensures { IsTrue result ↔ (text_at self.now offset ≡ Some text.now) }
-    {
-        is_text_at(self.bytes.as_slice(), offset, text)
     }
 
     /// Writes a text and a NUL behind the others.
