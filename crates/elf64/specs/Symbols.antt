@@ -1,5 +1,5 @@
 -- The symbols of a file: the entries of its first symbol table (ELF-64 object file format, Symbol Table).
-use Rattle.std.specs.Prelude.{ℕ, ◌+◌, ◌-◌, ◌*◌, ◌/◌, ◌%◌, List, [], length, map, find, slice_index, nat_lt, ◌==◌, ◌&&◌, ◌||◌, not, Bool, if◌then◌else◌, Option, Some, None, is_some, unwrap_or, option_and_then}
+use Rattle.std.specs.Prelude.{◌≡◌, ◌≤◌, ◌<◌, IfSome, ℕ, ◌+◌, ◌-◌, ◌*◌, ◌/◌, ◌%◌, List, [], length, map, find, slice_index, nat_lt, ◌==◌, ◌&&◌, ◌||◌, not, Bool, if◌then◌else◌, Option, Some, None, is_some, unwrap_or, option_and_then}
 use Rattle.std.specs.Option.{option_map}
 use Rattle.std.specs.List.{range_with_len}
 use Rattle.std.specs.Int.{w16, w32, w64}
@@ -77,6 +77,11 @@ symbol_from names index entry = record {
 -- the index of the first section of type SHT_SYMTAB
 abbrev pub symbol_table_index : ByteOrder → List ℕ → Option ℕ
 symbol_table_index order table = find (λ i. (section_header order table i).kind == 2) (section_indexes table)
+
+-- the index of the first symbol table, whose header lies in the section header table
+pub record IsSymbolTable (order : ByteOrder) (table : List ℕ) (index : Option ℕ) : Type 0 where
+  pub first : index ≡ symbol_table_index order table
+  pub within : IfSome index (λ i. (0 < i) × (64 * i + 64 ≤ length table))
 
 -- the bytes of the string table that a symbol table is linked to
 abbrev pub symbol_names_in : List ℕ → ByteOrder → List ℕ → SectionHeader → Option (List ℕ)

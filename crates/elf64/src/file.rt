@@ -25,17 +25,20 @@ pub struct ElfFile<'a> {
     bytes: &'a [u8],
     header: FileHeader,
     table: &'a [u8],
+    /// The index of the first symbol table.
+    symbol_table: Option<usize>,
 }
 
 impl<'a> Model for ElfFile<'a> {
     ghost use Rattle.std.specs.Prelude.{List, ℕ};
     ghost use Rattle.elf64.specs.Headers.{HasHeaders};
+    ghost use Rattle.elf64.specs.Symbols.{IsSymbolTable};
 
     ghost Value = { List ℕ };
 
     ghost view = { λ f. f.bytes.now };
 
-    ghost invariant = { λ f. HasHeaders f.bytes.now f.header f.table.now };
+    ghost invariant = { λ f. HasHeaders f.bytes.now f.header f.table.now × IsSymbolTable f.header.order f.table.now f.symbol_table };
 }
 
 /// Whether a section has a name.
@@ -59,7 +62,8 @@ impl<'a> ElfFile<'a> {
     {
         let header = check_file_header(bytes)?;
         let table = check_section_table(bytes, &header)?;
-        if let Some(index) = symbol_table_index(header.order, table) {
+        let symbol_table = symbol_table_index(header.order, table);
+        if let Some(index) = symbol_table {
             let symbols = section_header(header.order, table, index);
             check_symbol_table(bytes, header.order, table, &symbols)?;
             check_relocation_tables(bytes, header.order, table, index)?;
@@ -68,6 +72,7 @@ impl<'a> ElfFile<'a> {
             bytes,
             header,
             table,
+            symbol_table,
         })
     }
 
@@ -109,7 +114,7 @@ impl<'a> ElfFile<'a> {
         ensures countable { length result < 2 ^ 64 }
     {
         let order = self.order();
-        let Some(index) = symbol_table_index(order, self.table) else {
+        let Some(index) = self.symbol_table else {
             return Symbols::new(order, &[], None);
         };
         let header = section_header(order, self.table, index);
@@ -125,7 +130,7 @@ impl<'a> ElfFile<'a> {
         ensures countable { length result < 2 ^ 64 }
     {
         let order = self.order();
-        match symbol_table_index(order, self.table) {
+        match self.symbol_table {
             Some(index) => RelocationSections::new(self.bytes, order, self.table, index),
             None => RelocationSections::none(order),
         }
