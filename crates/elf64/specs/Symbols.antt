@@ -11,11 +11,12 @@ use Rattle.elf64.specs.declared.kind.SymbolKind.TheVariants.{Unknown, Text, Data
 use Rattle.elf64.specs.Numbers.{number_at, bytes_at}
 use Rattle.elf64.specs.Headers.{header_of, table_in, section_header, section_at, section_indexes}
 use Rattle.elf64.specs.Sections.{file_bytes_in}
-use Rattle.elf64.specs.Texts.{text_at}
+use Rattle.elf64.specs.Names.{name_in}
 
--- what a symbol shows: its name where it can be read, its section where it has one
+-- what a symbol shows: its name where it can be read, where in the names that begins, its section where it has one
 pub record Symbol : Type 0 where
   pub index : ℕ
+  pub name_offset : ℕ
   pub name : Option (List ℕ)
   pub section_index : Option ℕ
   pub address : ℕ
@@ -64,7 +65,8 @@ is_defined entry =
 unfoldable pub symbol_from : Option (List ℕ) → ℕ → SymbolEntry → Symbol
 symbol_from names index entry = record {
   index = index;
-  name = option_and_then (λ strings. text_at strings entry.name) names;
+  name_offset = entry.name;
+  name = name_in names entry.name;
   section_index = section_of entry;
   address = entry.value;
   size = entry.size;
@@ -108,3 +110,12 @@ symbols_in bytes order table =
 unfoldable pub symbols_of : List ℕ → List Symbol
 symbols_of bytes =
     unwrap_or (option_and_then (λ header. option_map (symbols_in bytes header.order) (table_in bytes header)) (header_of bytes)) []
+
+-- the bytes that hold the names of a file's symbols: none without a symbol table
+abbrev pub symbol_names_for : List ℕ → ByteOrder → List ℕ → Option (List ℕ)
+symbol_names_for bytes order table =
+    option_and_then (λ i. symbol_names_in bytes order table (section_header order table i)) (symbol_table_index order table)
+
+unfoldable pub symbol_names_of : List ℕ → Option (List ℕ)
+symbol_names_of bytes =
+    option_and_then (λ header. option_and_then (symbol_names_for bytes header.order) (table_in bytes header)) (header_of bytes)

@@ -2,8 +2,10 @@
 
 ghost use Rattle.std.specs.Prelude.{◌≡◌, ◌+◌, ◌*◌, ◌≤◌, ◌<◌, ◌^◌, ℕ, List, length, IfOk, IfErr, Some, find};
 ghost use Rattle.elf64.specs.Headers.{AreNumbered, order_of};
-ghost use Rattle.elf64.specs.Sections.{sections_of, has_name, section_named};
-ghost use Rattle.elf64.specs.Symbols.{symbols_of};
+ghost use Rattle.std.specs.Option.{option_copied};
+ghost use Rattle.elf64.specs.Names.{AreNamed};
+ghost use Rattle.elf64.specs.Sections.{sections_of, section_names_of, has_name, section_named};
+ghost use Rattle.elf64.specs.Symbols.{symbols_of, symbol_names_of};
 ghost use Rattle.elf64.specs.Relocations.{relocation_sections_of, relocations_of};
 ghost use Rattle.elf64.specs.Faults.{HasFault, IsFaultless};
 
@@ -83,15 +85,34 @@ impl<'a> ElfFile<'a> {
         self.header.order
     }
 
+    /// The bytes that hold the sections' names (`e_shstrndx`), where there are such.
+    #[tactic(auto, unfolding(crate::specs::Sections::section_names_of))]
+    pub fn section_names(&self) -> Option<&'a [u8]>
+        ensures { option_copied result ≡ section_names_of self.now }
+    {
+        section_names(self.bytes, &self.header, self.table)
+    }
+
+    /// The bytes that hold the symbols' names: the string table that the first symbol table is
+    /// linked to.
+    #[tactic(auto, unfolding(crate::specs::Symbols::symbol_names_of))]
+    pub fn symbol_names(&self) -> Option<&'a [u8]>
+        ensures { option_copied result ≡ symbol_names_of self.now }
+    {
+        let order = self.order();
+        let header = section_header(order, self.table, self.symbol_table?);
+        symbol_names(self.bytes, order, self.table, &header)
+    }
+
     /// The sections, in order of index, without section 0.
-    #[tactic(auto, unfolding(crate::specs::Sections::sections_of))]
+    #[tactic(auto, unfolding(crate::specs::Sections::sections_of, crate::specs::Sections::section_names_of))]
     pub fn sections(&self) -> Sections<'a>
         ensures value { result ≡ sections_of self.now }
         ensures numbered { AreNumbered (sections_of self.now) (λ s. s.index) }
+        ensures named { AreNamed (section_names_of self.now) (sections_of self.now) (λ s. s.name) (λ s. s.name_offset) }
         ensures countable { length result < 2 ^ 64 }
     {
-        let names = section_names(self.bytes, &self.header, self.table);
-        Sections::new(self.bytes, self.order(), self.table, names)
+        Sections::new(self.bytes, self.order(), self.table, self.section_names())
     }
 
     /// The first section of a name. One whose name can't be read is passed over.
@@ -111,6 +132,7 @@ impl<'a> ElfFile<'a> {
     pub fn symbols(&self) -> Symbols<'a>
         ensures value { result ≡ symbols_of self.now }
         ensures numbered { AreNumbered (symbols_of self.now) (λ s. s.index) }
+        ensures named { AreNamed (symbol_names_of self.now) (symbols_of self.now) (λ s. s.name) (λ s. s.name_offset) }
         ensures countable { length result < 2 ^ 64 }
     {
         let order = self.order();

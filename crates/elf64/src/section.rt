@@ -66,8 +66,16 @@ impl<'a> SectionView<'a> {
         self.index
     }
 
-    /// The name (`sh_name`): [`ElfError::Name`] where it isn't UTF-8 text that a NUL ends inside
-    /// the section of the names.
+    /// Where in the bytes of the names the name begins (`sh_name`).
+    #[tactic(auto, unfolding(crate::specs::Sections::section_from))]
+    pub fn name_offset(&self) -> u32
+        ensures { result ≡ self.now.name_offset }
+    {
+        self.header.name
+    }
+
+    /// The name: [`ElfError::Name`] where it isn't UTF-8 text that a NUL ends inside the section of
+    /// the names. Looks at each byte of it.
     #[tactic(auto, unfolding(crate::specs::Sections::section_from))]
     pub fn name(&self) -> Result<&'a str, ElfError>
         ensures { MatchResult result (λ s. self.now.name ≡ Some s.now) (λ e. (e ≡ ElfError.Name) × (self.now.name ≡ None)) }

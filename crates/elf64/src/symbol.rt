@@ -100,8 +100,16 @@ impl<'a> SymbolView<'a> {
         self.index
     }
 
-    /// The name (`st_name`): [`ElfError::Name`] where it isn't UTF-8 text that a NUL ends inside
-    /// the symbol table's string table.
+    /// Where in the bytes of the names the name begins (`st_name`).
+    #[tactic(auto, unfolding(crate::specs::Symbols::symbol_from))]
+    pub fn name_offset(&self) -> u32
+        ensures { result ≡ self.now.name_offset }
+    {
+        self.entry.name
+    }
+
+    /// The name: [`ElfError::Name`] where it isn't UTF-8 text that a NUL ends inside the symbol
+    /// table's string table. Looks at each byte of it.
     #[tactic(auto, unfolding(crate::specs::Symbols::symbol_from))]
     pub fn name(&self) -> Result<&'a str, ElfError>
         ensures { MatchResult result (λ s. self.now.name ≡ Some s.now) (λ e. (e ≡ ElfError.Name) × (self.now.name ≡ None)) }
