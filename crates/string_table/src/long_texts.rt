@@ -1,0 +1,198 @@
+//! The long texts of a string table.
+
+ghost use Rattle.std.specs.Prelude.{◌≡◌, ◌<◌, ◌≤◌, ◌↔◌, [], Contains, IfOk, IfSome, IsTrue, Some, length, take};
+ghost use Rattle.std.specs.Str.{IsCharBoundary};
+ghost use Rattle.std.specs.Option.{option_copied};
+ghost use Rattle.string_table.specs.Ends.{IsEnd, IsLeft};
+ghost use Rattle.string_table.specs.LongTexts.{AreLongTextsOf};
+ghost use Rattle.string_table.specs.Texts.{before_nul, text_at, text_of};
+
+use crate::text::{before_nul, from_offset, nul_position, text_at, text_of};
+use std::alloc::{AllocError, Global};
+use std::marker::Model;
+use std::str;
+
+/// So many bytes of a text are looked at each time it is read.
+const SHORT: usize = 256;
+
+/// A text that was read once.
+#[derive(Clone, Copy, Debug)]
+struct LongText {
+    offset: u32,
+    len: usize,
+}
+
+/// Where the long texts of a string table stand, so that none of them is looked at again each time
+/// it, or a part at its end, is read. The strings themselves stay with the caller.
+#[derive(Debug, Drop)]
+pub struct LongTexts {
+    texts: Vec<LongText>,
+}
+
+impl Model for LongTexts {
+    ghost use Rattle.std.specs.Prelude.{List, ℕ, map};
+
+    ghost Value = { List (ℕ × ℕ) };
+
+    ghost view = { λ t. map (λ text. (text.offset, text.len)) t.texts.items };
+}
+
+/// Whether no character goes on in the first byte.
+fn is_at_boundary(bytes: &[u8]) -> bool
+    ensures { IsTrue result ↔ IsCharBoundary bytes.now 0 }
+{
+    match bytes.first() {
+        Some(byte) => *byte < 0x80 || 0xc0 <= *byte,
+        None => true,
+    }
+}
+
+/// The end of a text as text, where it begins at a character.
+#[tactic(auto, using(crate::proofs::Ends::end_is_utf8, crate::proofs::Ends::end_is_text, crate::proofs::Ends::end_is_none))]
+fn end_of(bytes: &[u8]) -> Option<&str>
+    requires { IsEnd bytes.now }
+    ensures { option_copied result ≡ text_of bytes.now }
+{
+    if !is_at_boundary(bytes) {
+        return None;
+    }
+    // SAFETY: the bytes end a text, and begin at a character.
+    Some(unsafe { str::from_utf8_unchecked(bytes) })
+}
+
+/// How many bytes come before the longest text that ends the bytes.
+fn text_start(bytes: &[u8]) -> usize
+    ensures { result ≤ length bytes.now }
+{
+    let mut rest = bytes;
+    while let Err(error) = str::from_utf8(rest) {
+        rest = rest.get(error.valid_up_to() + 1..).unwrap_or(&[]);
+    }
+    bytes.len() - rest.len()
+}
+
+/// The bytes before the first NUL, where they are few.
+#[tactic(auto, using(crate::proofs::Ends::before_nul_stays))]
+fn short_bytes(bytes: &[u8]) -> Option<&[u8]>
+    ensures { IfSome result (λ text. before_nul bytes.now ≡ Some text.now) }
+{
+    before_nul(&bytes[..bytes.len().min(SHORT + 1)])
+}
+
+/// Where the last NUL of the first bytes stands.
+fn last_nul(bytes: &[u8]) -> Option<usize>
+    ensures { IfSome result (λ n. n < length bytes.now) }
+{
+    let first = &bytes[..bytes.len().min(SHORT + 1)];
+    first.iter().rposition(|byte| *byte == 0)
+}
+
+/// How many bytes of a text are left from an offset on that lies in it.
+fn left(text: LongText, offset: u32) -> Option<usize>
+    ensures { IfSome result (IsLeft (text.offset, text.len) offset) }
+{
+    let inside = offset.checked_sub(text.offset)?;
+    text.len.checked_sub(inside as usize)
+}
+
+impl LongTexts {
+    /// No texts.
+    pub fn empty(alloc: Global) -> LongTexts
+        ensures { result ≡ [] }
+    {
+        LongTexts {
+            texts: Vec::new(alloc),
+        }
+    }
+
+    /// The long texts of a string table.
+    pub fn new(alloc: Global, strings: &[u8]) -> Result<LongTexts, AllocError>
+        ensures { IfOk result (AreLongTextsOf strings.now) }
+    {
+        let mut texts = LongTexts::empty(alloc);
+        texts.extend(strings, 0)?;
+        Ok(texts)
+    }
+
+    /// A copy.
+    pub fn try_clone(&self) -> Result<LongTexts, AllocError>
+        ensures { IfOk result (λ copy. copy ≡ self.now) }
+    {
+        Ok(LongTexts {
+            texts: self.texts.clone()?,
+        })
+    }
+
+    /// Enters the text at an offset, where there is a long one.
+    fn enter(&mut self, strings: &[u8], offset: usize) -> Result<(), AllocError>
+        requires { AreLongTextsOf strings.now self.old }
+        ensures { AreLongTextsOf strings.now self.new }
+    {
+        let Ok(offset) = u32::try_from(offset) else {
+            return Ok(());
+        };
+        let Some(text) = text_at(strings, offset) else {
+            return Ok(());
+        };
+        if text.len() > SHORT {
+            let len = text.len();
+            self.texts.push(LongText { offset, len })?;
+        }
+        Ok(())
+    }
+
+    /// Enters the long texts behind an offset, where more was written behind the strings.
+    pub fn extend(&mut self, strings: &[u8], from: usize) -> Result<(), AllocError>
+        requires within { from ≤ length strings.now }
+        requires before { AreLongTextsOf (take from strings.now) self.old }
+        ensures { AreLongTextsOf strings.now self.new }
+    {
+        let mut rest = &strings[from..];
+        while !rest.is_empty() {
+            if let Some(last) = last_nul(rest) {
+                rest = &rest[last + 1..];
+                continue;
+            }
+            let Some(len) = nul_position(rest) else {
+                break;
+            };
+            let start = strings.len() - rest.len() + text_start(&rest[..len]);
+            self.enter(strings, start)?;
+            rest = &rest[len + 1..];
+        }
+        Ok(())
+    }
+
+    /// The last text that begins up to an offset.
+    fn last_up_to(&self, offset: u32) -> Option<LongText>
+        ensures { IfSome result (λ text. Contains self.now (text.offset, text.len)) }
+    {
+        let index = self
+            .texts
+            .partition_point(|text| text.offset <= offset)
+            .checked_sub(1)?;
+        self.texts.get(index).copied()
+    }
+
+    /// The text at an offset of the string table. Looks at 256 bytes at most, where the long texts
+    /// are entered.
+    #[tactic(auto, using(crate::proofs::Ends::text_past))]
+    pub fn text_at<'a>(&self, strings: &'a [u8], offset: u32) -> Option<&'a str>
+        requires { AreLongTextsOf strings.now self.now }
+        ensures { option_copied result ≡ text_at strings.now offset }
+    {
+        let Some(rest) = from_offset(strings, offset) else {
+            return None;
+        };
+        if let Some(bytes) = short_bytes(rest) {
+            return text_of(bytes);
+        }
+        match self.last_up_to(offset) {
+            Some(text) => match left(text, offset) {
+                Some(len) => end_of(&rest[..len]),
+                None => text_at(strings, offset),
+            },
+            None => text_at(strings, offset),
+        }
+    }
+}
