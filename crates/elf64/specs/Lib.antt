@@ -1,6 +1,5 @@
 pub mod Numbers
 pub mod Headers
-pub mod Texts
 pub mod Names
 pub mod Sections
 pub mod Symbols

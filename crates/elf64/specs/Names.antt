@@ -1,6 +1,6 @@
 -- Names of sections and of symbols, which stand in a string table.
 use Rattle.std.specs.Prelude.{◌≡◌, ℕ, List, map, Option, option_and_then}
-use Rattle.elf64.specs.Texts.{text_at}
+use Rattle.string_table.specs.Texts.{text_at}
 
 -- the name at an offset: none where there is no string table
 abbrev pub name_in : Option (List ℕ) → ℕ → Option (List ℕ)

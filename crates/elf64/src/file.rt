@@ -43,16 +43,6 @@ impl<'a> Model for ElfFile<'a> {
     ghost invariant = { λ f. HasHeaders f.bytes.now f.header f.table.now × IsSymbolTable f.header.order f.table.now f.symbol_table };
 }
 
-/// Whether a section has a name.
-fn has_name(section: &SectionView<'_>, name: &str) -> bool
-    ensures { result ≡ has_name name.now section.now }
-{
-    match section.name() {
-        Ok(text) => text == name,
-        Err(_) => false,
-    }
-}
-
 impl<'a> ElfFile<'a> {
     /// Reads a file's headers, and refuses a file that has one of the faults of [`ElfError`],
     /// [`ElfError::Name`] and [`ElfError::SectionData`] aside. A file without a section header
@@ -115,12 +105,13 @@ impl<'a> ElfFile<'a> {
         Sections::new(self.bytes, self.order(), self.table, self.section_names())
     }
 
-    /// The first section of a name. One whose name can't be read is passed over.
+    /// The first section of a name. One whose name can't be read is passed over. Looks at no more
+    /// bytes of each name than the name has that is looked for.
     pub fn section_by_name(&self, name: &str) -> Option<SectionView<'a>>
         ensures { result ≡ section_named self.now name.now }
     {
         for section in self.sections() {
-            if has_name(&section, name) {
+            if section.has_name(name) {
                 return Some(section);
             }
         }

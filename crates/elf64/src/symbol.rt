@@ -10,8 +10,8 @@ use crate::error::ElfError;
 use crate::header::{SYMBOL_SIZE, SymbolEntry, symbol_entry};
 use crate::kind::SymbolKind;
 use crate::order::ByteOrder;
-use crate::text::text_at;
 use std::marker::Model;
+use string_table::text_at;
 
 /// `SHN_LORESERVE`, from which on section indexes are reserved.
 const LORESERVE: u16 = 0xff00;
@@ -117,7 +117,7 @@ impl<'a> SymbolView<'a> {
         let Some(names) = self.names else {
             return Err(ElfError::Name);
         };
-        text_at(names, self.entry.name)
+        text_at(names, self.entry.name).ok_or(ElfError::Name)
     }
 
     /// The index of the section in which the symbol is defined (`st_shndx`): none for `SHN_UNDEF`
