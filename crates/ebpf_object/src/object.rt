@@ -7,10 +7,11 @@ ghost use Rattle.std.specs.Map.{lookup};
 ghost use Rattle.std.specs.Option.{option_copied};
 ghost use Rattle.elf64.specs.Symbols.{symbols_of};
 ghost use Rattle.ebpf_items.specs.declared.error.ParseError.TheVariants.{OutOfMemory};
-ghost use Rattle.ebpf_object.specs.Faults.{HasFault, HasSoundLicense, HasObjectFault, HasSoundVersion, is_unnamed, IsFaultless};
+ghost use Rattle.ebpf_object.specs.Faults.{HasFault, HasSoundLicense, HasObjectFault, HasSoundVersion, IsFaultless};
 ghost use Rattle.ebpf_object.specs.ParsedObject.{endianness_of, object_of};
 ghost use Rattle.ebpf_object.specs.License.{license_of, HasNoNul};
 ghost use Rattle.ebpf_object.specs.Programs.{key_cmp};
+ghost use Rattle.ebpf_object.specs.SymbolTable.{is_unnamed};
 ghost use Rattle.ebpf_object.specs.Version.{version_of, IsKnownVersion};
 
 use crate::by_name::Programs;
@@ -44,6 +45,7 @@ impl<'a> Model for Object<'a> {
 
     ghost use Rattle.ebpf_object.specs.License.{HasNoNul};
     ghost use Rattle.ebpf_object.specs.Programs.{key_cmp};
+    ghost use Rattle.ebpf_object.specs.SymbolTable.{is_unnamed};
     ghost use Rattle.ebpf_object.specs.Version.{IsKnownVersion};
 
     ghost invariant = { λ o. HasNoNul o.license.now × IsKnownVersion o.kernel_version };
@@ -89,10 +91,8 @@ fn check_symbols(file: &ObjectFile<'_>) -> Result<(), ParseError>
     ensures accepted { OnOk result (list_any is_unnamed (symbols_of file.now) ≡ false) }
     ensures refused { IfErr result (HasObjectFault file.now) }
 {
-    for symbol in file.elf.symbols() {
-        if symbol.name().is_err() {
-            return Err(ParseError::BtfError(BtfError::InvalidSymbolName));
-        }
+    if file.symbols.has_unnamed() {
+        return Err(ParseError::BtfError(BtfError::InvalidSymbolName));
     }
     Ok(())
 }
