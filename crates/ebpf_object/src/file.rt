@@ -4,14 +4,16 @@ ghost use Rattle.std.specs.Prelude.{◌≡◌, ◌≢◌, [], IfOk, IfErr, OnOk}
 ghost use Rattle.std.specs.Option.{option_copied, option_map_or};
 ghost use Rattle.elf64.specs.Symbols.{symbols_of};
 ghost use Rattle.ebpf_items.specs.declared.error.ParseError.TheVariants.{OutOfMemory};
+ghost use Rattle.ebpf_object.specs.ByteOrders.{file_endianness};
 ghost use Rattle.ebpf_object.specs.Reading.{HasReadingFault, IsReadable, contents_named};
 ghost use Rattle.ebpf_object.specs.Symbols.{symbols_in};
 
 use crate::names::{NamedSection, NamedSymbol, Names};
 use crate::reading::read_sections;
 use crate::symbols::SymbolTable;
+use btf_records::Endianness;
 use ebpf_items::ParseError;
-use elf64::ElfFile;
+use elf64::{ByteOrder, ElfFile};
 use std::alloc::Global;
 use std::marker::Model;
 
@@ -59,6 +61,16 @@ impl<'a> ObjectFile<'a> {
             sections,
             symbols,
         })
+    }
+
+    /// The byte order of the file's numbers, as type information has it.
+    pub(crate) fn endianness(&self) -> Endianness
+        ensures { result ≡ file_endianness self.now }
+    {
+        match self.elf.order() {
+            ByteOrder::Little => Endianness::Little,
+            ByteOrder::Big => Endianness::Big,
+        }
     }
 
     /// The symbols that lie in the section of an index, in order, if there are any.
