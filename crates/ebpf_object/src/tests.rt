@@ -2,25 +2,25 @@
 
 use crate::Object;
 use btf_records::{BtfError, Endianness};
-use ebpf_items::{ParseError, ProgramSection};
+use ebpf_items::{ParseError, ProgramSection, Slots};
 use elf64::ElfError;
 use sample_objects::{ONE_PROGRAM, ONE_PROGRAM_BIG, with_bytes};
-use std::test::Fail;
+use std::alloc::Global;
 
 /// Other bytes at some offsets of the object of one program: `license` is named at 142 and has four
 /// bytes at 64, its size at 280; the symbol has its name at 112, section at 118, value at 120 and
 /// size at 128; the program's section has its name at 312, address at 328 and offset at 336.
 type Changes = &'static [(usize, &'static [u8])];
 
-/// An object with changes, and what it holds: its kernel version, the address of its function, and
-/// the code of each of its slots.
-#[derive(Clone, Copy)]
-struct Accepted {
-    object: &'static [u8; 568],
-    changes: Changes,
+/// What the object of the function `foo` holds: its byte order and version, the key of its program,
+/// the offset of the code, and the code of its slots.
+#[derive(Clone, Copy, PartialEq)]
+struct Content {
+    endianness: Endianness,
     version: Option<u32>,
-    address: u64,
-    codes: &'static [u8],
+    key: (usize, u64),
+    offset: usize,
+    codes: [Option<u8>; 3],
 }
 
 /// Why an object is refused.
@@ -34,6 +34,7 @@ enum Refusal {
     NoCode,
     UnnamedSymbol,
     Section(ElfError),
+    NoElf,
 }
 
 /// Whether an error is the one that is expected.
@@ -59,92 +60,105 @@ fn is_refusal(error: &ParseError, expected: Refusal) -> bool {
         (ParseError::SectionError { index: 2, error }, Refusal::Section(expected)) => {
             *error == expected
         }
+        (ParseError::ElfError(ElfError::NotElf), Refusal::NoElf) => true,
         _ => false,
     }
 }
 
-#[test]
-fn accepted_objects(rt: HostRuntime) -> Result<(), Fail> {
-    let whole: &'static [u8] = &[0xb7, 0x95];
-    let questions = [
-        Accepted {
-            object: &ONE_PROGRAM,
-            changes: &[],
-            version: None,
-            address: 0,
-            codes: whole,
-        },
-        Accepted {
-            object: &ONE_PROGRAM_BIG,
-            changes: &[],
-            version: None,
-            address: 0,
-            codes: whole,
-        },
-        // The license's section is called `version` in its place, and the default license holds.
-        Accepted {
-            object: &ONE_PROGRAM,
-            changes: &[(142, b"version")],
-            version: Some(0x004c_5047),
-            address: 0,
-            codes: whole,
-        },
-        Accepted {
-            object: &ONE_PROGRAM_BIG,
-            changes: &[(142, b"version")],
-            version: Some(0x4750_4c00),
-            address: 0,
-            codes: whole,
-        },
-        Accepted {
-            object: &ONE_PROGRAM,
-            changes: &[(142, b"version"), (64, &[0xfe, 0xff, 0xff, 0xff])],
-            version: None,
-            address: 0,
-            codes: whole,
-        },
-        // The function of the second slot, and one without any.
-        Accepted {
-            object: &ONE_PROGRAM,
-            changes: &[(120, &[8]), (128, &[8])],
-            version: None,
-            address: 8,
-            codes: &[0x95],
-        },
-        Accepted {
-            object: &ONE_PROGRAM,
-            changes: &[(128, &[0])],
-            version: None,
-            address: 0,
-            codes: &[],
-        },
-    ];
-    for question in questions {
-        let bytes = with_bytes(question.object, question.changes);
-        let object = Object::parse(rt.alloc(), &bytes).ok().ok_or("refused")?;
-        assert_eq!(rt; object.license(), b"GPL".as_slice());
-        assert_eq!(rt; object.kernel_version(), question.version);
-        assert_eq!(rt; object.endianness() == Endianness::Big, bytes[5] == 2);
-        assert_eq!(rt; (object.programs().len(), object.functions().len()), (1, 1));
-        for (name, program) in object.programs().iter() {
-            assert_eq!(rt; *name, "foo");
-            assert!(rt; matches!(program.section, ProgramSection::KProbe));
-            assert_eq!(rt; program.function_key(), (2, question.address));
-        }
-        let function = object.function((2, question.address)).ok_or("no function")?;
-        assert_eq!(rt; function.name, "foo");
-        assert_eq!(rt; function.section_offset as u64, question.address);
-        assert!(rt; function.instructions.is_borrowed());
-        assert_eq!(rt; function.instructions.len(), question.codes.len());
-        for (slot, code) in function.instructions.iter().zip(question.codes) {
-            assert_eq!(rt; slot.code, *code);
-        }
+/// What an object holds, if that is one program `foo` whose code stands in the file.
+fn content_of(object: &Object<'_>) -> Option<Content> {
+    let (name, program) = object.programs().iter().next()?;
+    let function = object.function(program.function_key())?;
+    let slots = &function.instructions;
+    if object.programs().len() != 1 || object.functions().len() != 1 {
+        return None;
     }
-    Ok(())
+    if *name != "foo" || function.name != "foo" || !slots.is_borrowed() {
+        return None;
+    }
+    if object.license() != b"GPL".as_slice() || !matches!(program.section, ProgramSection::KProbe) {
+        return None;
+    }
+    Some(Content {
+        endianness: object.endianness(),
+        version: object.kernel_version(),
+        key: program.function_key(),
+        offset: function.section_offset,
+        codes: [code(slots, 0), code(slots, 1), code(slots, 2)],
+    })
+}
+
+/// The code of a slot, if there is one.
+fn code(slots: &Slots<'_>, index: usize) -> Option<u8> {
+    slots.get(index).map(|slot| slot.code)
 }
 
 #[test]
-fn refused_objects(rt: HostRuntime) -> Result<(), Fail> {
+fn accepted_objects(rt: HostRuntime) {
+    let one = Content {
+        endianness: Endianness::Little,
+        version: None,
+        key: (2, 0),
+        offset: 0,
+        codes: [Some(0xb7), Some(0x95), None],
+    };
+    let big = Content {
+        endianness: Endianness::Big,
+        ..one
+    };
+    let second = Content {
+        key: (2, 8),
+        offset: 8,
+        codes: [Some(0x95), None, None],
+        ..one
+    };
+    let empty = Content {
+        codes: [None, None, None],
+        ..one
+    };
+    let named = Content {
+        version: Some(0x004c_5047),
+        ..one
+    };
+    let big_named = Content {
+        version: Some(0x4750_4c00),
+        ..big
+    };
+    let questions: [(&[u8; 568], Changes, Content); 7] = [
+        (&ONE_PROGRAM, &[], one),
+        (&ONE_PROGRAM_BIG, &[], big),
+        // The license's section is called `version` in its place, and the default license holds.
+        (&ONE_PROGRAM, &[(142, b"version")], named),
+        (&ONE_PROGRAM_BIG, &[(142, b"version")], big_named),
+        (
+            &ONE_PROGRAM,
+            &[(142, b"version"), (64, &[0xfe, 0xff, 0xff, 0xff])],
+            one,
+        ),
+        // The function of the second slot, and one without any.
+        (&ONE_PROGRAM, &[(120, &[8]), (128, &[8])], second),
+        (&ONE_PROGRAM, &[(128, &[0])], empty),
+    ];
+    for (object, changes, expected) in questions {
+        let bytes = with_bytes(object, changes);
+        let found = match Object::parse(rt.alloc(), &bytes) {
+            Ok(object) => content_of(&object),
+            Err(_) => None,
+        };
+        assert!(rt; found == Some(expected));
+    }
+}
+
+/// Whether an object is refused as expected.
+fn is_refused(alloc: Global, bytes: &[u8], expected: Refusal) -> bool {
+    match Object::parse(alloc, bytes) {
+        Ok(_) => false,
+        Err(error) => is_refusal(&error, expected),
+    }
+}
+
+#[test]
+fn refused_objects(rt: HostRuntime) {
     let questions: [(Changes, Refusal); 14] = [
         (&[(280, &[0])], Refusal::InvalidLicense(b"")),
         (&[(280, &[1]), (64, &[0])], Refusal::InvalidLicense(b"\0")),
@@ -170,10 +184,7 @@ fn refused_objects(rt: HostRuntime) -> Result<(), Fail> {
     ];
     for (changes, expected) in questions {
         let bytes = with_bytes(&ONE_PROGRAM, changes);
-        let error = Object::parse(rt.alloc(), &bytes).err().ok_or("accepted")?;
-        assert!(rt; is_refusal(&error, expected));
+        assert!(rt; is_refused(rt.alloc(), &bytes, expected));
     }
-    let error = Object::parse(rt.alloc(), b"foo").err().ok_or("accepted")?;
-    assert!(rt; matches!(error, ParseError::ElfError(ElfError::NotElf)));
-    Ok(())
+    assert!(rt; is_refused(rt.alloc(), b"foo", Refusal::NoElf));
 }
