@@ -10,7 +10,8 @@ use Rattle.elf64.specs.Symbols.{symbols_of}
 use Rattle.ebpf_items.specs.declared.error.ParseError.{ParseError}
 use Rattle.ebpf_items.specs.declared.error.ParseError.TheVariants as error
 use Rattle.btf_records.specs.declared.error.BtfError.TheVariants as btf
-use Rattle.ebpf_object.specs.Faults.{HasFault, HasObjectFault, AreSound, HasSoundLicense, HasSoundVersion, is_unnamed}
+use Rattle.ebpf_object.specs.Faults.{HasFault, HasObjectFault, AreSound, HasSoundLicense, HasSoundVersion}
+use Rattle.ebpf_object.specs.SymbolTable.{is_unnamed}
 use Rattle.ebpf_object.specs.License.{IsLicense, IsInvalidLicense, LacksNul, license_bytes}
 use Rattle.ebpf_object.specs.Version.{version_bytes}
 use Rattle.ebpf_object.specs.Reading.{read_sections, is_unreadable, cannot_read, HasReadingFault}

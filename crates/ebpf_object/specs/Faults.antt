@@ -15,11 +15,8 @@ use Rattle.ebpf_object.specs.License.{license_bytes, IsLicense, IsInvalidLicense
 use Rattle.ebpf_object.specs.Programs.{kind_of, is_program, is_text_kind, program_kind, has_no_code}
 use Rattle.ebpf_object.specs.Reading.{read_sections, HasUnreadable}
 use Rattle.ebpf_object.specs.Symbols.{symbols_in}
+use Rattle.ebpf_object.specs.SymbolTable.{is_unnamed}
 use Rattle.ebpf_object.specs.Version.{version_bytes}
-
--- a symbol whose name can't be read
-abbrev pub is_unnamed : Symbol → Bool
-is_unnamed s = is_none s.name
 
 -- a program section of a name that names no kind of program
 abbrev pub is_invalid : Section → Bool

@@ -1,4 +1,5 @@
 pub mod Addresses
+pub mod ByteOrders
 pub mod Content
 pub mod Faults
 pub mod License

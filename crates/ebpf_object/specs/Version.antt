@@ -1,11 +1,10 @@
 -- The kernel version that an object was made for.
 use Rattle.std.specs.Prelude.{◌≡◌, ◌≢◌, ℕ, List, length, codes, ◌==◌, if◌then◌else◌, Option, IfSome, Some, None, option_and_then}
-use Rattle.std.specs.Int.{w32}
-use Rattle.elf64.specs.declared.order.ByteOrder.{ByteOrder}
-use Rattle.elf64.specs.Headers.{order_of}
-use Rattle.elf64.specs.Numbers.{number}
+use Rattle.btf_records.specs.declared.words.Endianness.{Endianness}
+use Rattle.btf_records.specs.Words.{word_at}
 use Rattle.ebpf_items.specs.declared.error.ParseError.{ParseError}
 use Rattle.ebpf_items.specs.declared.error.ParseError.TheVariants.{InvalidKernelVersion}
+use Rattle.ebpf_object.specs.ByteOrders.{file_endianness}
 use Rattle.ebpf_object.specs.Reading.{contents_named}
 
 -- the number that stands for any version
@@ -17,12 +16,12 @@ abbrev pub version_bytes : List ℕ → Option (List ℕ)
 version_bytes file = contents_named file (codes "version")
 
 -- the version that four bytes name: none stands for any
-abbrev pub version_in : ByteOrder → List ℕ → Option ℕ
-version_in order bytes = if number order w32 bytes == any_version then None else Some (number order w32 bytes)
+abbrev pub version_in : Endianness → List ℕ → Option ℕ
+version_in order bytes = if word_at order bytes 0 == any_version then None else Some (word_at order bytes 0)
 
 -- the version of an object
 abbrev pub version_of : List ℕ → Option ℕ
-version_of file = option_and_then (λ order. option_and_then (version_in order) (version_bytes file)) (order_of file)
+version_of file = option_and_then (version_in (file_endianness file)) (version_bytes file)
 
 -- what is wrong with the bytes of a version
 abbrev pub IsVersionFault : List ℕ → ParseError → Type 0

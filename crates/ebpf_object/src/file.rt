@@ -4,13 +4,16 @@ ghost use Rattle.std.specs.Prelude.{◌≡◌, ◌≢◌, [], IfOk, IfErr, OnOk}
 ghost use Rattle.std.specs.Option.{option_copied, option_map_or};
 ghost use Rattle.elf64.specs.Symbols.{symbols_of};
 ghost use Rattle.ebpf_items.specs.declared.error.ParseError.TheVariants.{OutOfMemory};
+ghost use Rattle.ebpf_object.specs.ByteOrders.{file_endianness};
 ghost use Rattle.ebpf_object.specs.Reading.{HasReadingFault, IsReadable, contents_named};
 ghost use Rattle.ebpf_object.specs.Symbols.{symbols_in};
 
+use crate::names::{NamedSection, NamedSymbol, Names};
 use crate::reading::read_sections;
 use crate::symbols::SymbolTable;
+use btf_records::Endianness;
 use ebpf_items::ParseError;
-use elf64::{ElfFile, SectionView, SymbolView};
+use elf64::{ByteOrder, ElfFile};
 use std::alloc::Global;
 use std::marker::Model;
 
@@ -18,7 +21,9 @@ use std::marker::Model;
 #[derive(Debug, Drop)]
 pub struct ObjectFile<'a> {
     pub(crate) elf: ElfFile<'a>,
-    pub(crate) sections: Vec<SectionView<'a>>,
+    pub(crate) section_names: Names<'a>,
+    /// The sections that are read.
+    pub(crate) sections: Vec<NamedSection<'a>>,
     pub(crate) symbols: SymbolTable<'a>,
 }
 
@@ -30,7 +35,7 @@ impl<'a> Model for ObjectFile<'a> {
 
     ghost view = { λ f. f.elf };
 
-    ghost invariant = { λ f. IsObjectFile f.elf f.sections.items f.symbols };
+    ghost invariant = { λ f. IsObjectFile f.elf f.section_names f.sections.items f.symbols };
 }
 
 impl<'a> ObjectFile<'a> {
@@ -46,17 +51,30 @@ impl<'a> ObjectFile<'a> {
         ensures refused { IfErr result (λ e. e ≢ OutOfMemory → HasReadingFault bytes.entry.now e) }
     {
         let elf = ElfFile::parse(bytes)?;
-        let sections = read_sections(alloc, &elf)?;
-        let symbols = SymbolTable::read(alloc, &elf)?;
+        let section_names = Names::new(alloc, elf.section_names())?;
+        let symbol_names = Names::new(alloc, elf.symbol_names())?;
+        let sections = read_sections(alloc, &elf, &section_names)?;
+        let symbols = SymbolTable::read(alloc, &elf, &symbol_names)?;
         Ok(ObjectFile {
             elf,
+            section_names,
             sections,
             symbols,
         })
     }
 
+    /// The byte order of the file's numbers, as type information has it.
+    pub(crate) fn endianness(&self) -> Endianness
+        ensures { result ≡ file_endianness self.now }
+    {
+        match self.elf.order() {
+            ByteOrder::Little => Endianness::Little,
+            ByteOrder::Big => Endianness::Big,
+        }
+    }
+
     /// The symbols that lie in the section of an index, in order, if there are any.
-    pub(crate) fn symbols_in(&self, index: usize) -> Option<&Vec<SymbolView<'a>>>
+    pub(crate) fn symbols_in(&self, index: usize) -> Option<&Vec<NamedSymbol<'a>>>
         ensures { option_map_or (λ v. v.now.items) result [] ≡ symbols_in (symbols_of self.now) index }
     {
         self.symbols.in_section(index)

@@ -6,30 +6,32 @@ ghost use Rattle.ebpf_object.specs.Addresses.{AddsAddress};
 ghost use Rattle.ebpf_object.specs.Faults.{AreDistinct, function_addresses, repeats};
 ghost use Rattle.ebpf_object.specs.Programs.{is_function, code_in, code_of, kind_of};
 
+use crate::names::{NamedSection, NamedSymbol};
 use ebpf_items::EbpfSectionKind;
 use elf64::{SectionView, SymbolKind, SymbolView};
 use std::alloc::{AllocError, Global};
 use std::collections::BTreeSet;
 
 /// The kind of a section whose name can be read.
-pub(crate) fn section_kind(section: &SectionView<'_>) -> EbpfSectionKind
+pub(crate) fn section_kind(section: &NamedSection<'_>) -> EbpfSectionKind
     ensures { result ≡ kind_of section.now }
 {
-    match section.name() {
-        Ok(name) => EbpfSectionKind::of_section(name, section.is_text(), section.size()),
-        Err(_) => EbpfSectionKind::of_section("", section.is_text(), section.size()),
+    let view = &section.view;
+    match section.name {
+        Some(name) => EbpfSectionKind::of_section(name, view.is_text(), view.size()),
+        None => EbpfSectionKind::of_section("", view.is_text(), view.size()),
     }
 }
 
 /// The name of a function, where a symbol is one.
-pub(crate) fn function_name<'a>(symbol: &SymbolView<'a>) -> Option<&'a str>
+pub(crate) fn function_name<'a>(symbol: &NamedSymbol<'a>) -> Option<&'a str>
     ensures found { IsSome result ↔ (is_function symbol.now ≡ true) }
     ensures name { IfSome result (λ name. symbol.now.name ≡ Some name.now) }
 {
-    if symbol.kind() != SymbolKind::Text {
+    if symbol.view.kind() != SymbolKind::Text {
         return None;
     }
-    let name = symbol.name().ok()?;
+    let name = symbol.name?;
     if name.is_empty() {
         return None;
     }
@@ -61,19 +63,20 @@ pub(crate) fn code_of<'a>(section: &SectionView<'a>, symbol: &SymbolView<'_>) ->
 }
 
 /// Adds the address of a symbol that defines a function, and says whether it was there before.
-fn is_repeated(addresses: &mut BTreeSet<u64>, symbol: &SymbolView<'_>) -> Result<bool, AllocError>
+fn is_repeated(addresses: &mut BTreeSet<u64>, symbol: &NamedSymbol<'_>) -> Result<bool, AllocError>
     ensures { IfOk result (λ r. AddsAddress addresses.old addresses.new symbol.now r) }
 {
-    if symbol.kind() != SymbolKind::Text || !symbol.is_definition() {
+    let view = &symbol.view;
+    if view.kind() != SymbolKind::Text || !view.is_definition() {
         return Ok(false);
     }
-    Ok(!addresses.insert(symbol.address())?)
+    Ok(!addresses.insert(view.address())?)
 }
 
 /// An address at which symbols define two functions, if there is one.
 pub(crate) fn repeated_address(
     alloc: Global,
-    symbols: &[SymbolView<'_>],
+    symbols: &[NamedSymbol<'_>],
 ) -> Result<Option<u64>, AllocError>
     ensures found { IfOk result (λ r. IfSome r (λ address. repeats address (function_addresses symbols.now) ≡ true)) }
     ensures none { IfOk result (λ r. IfNone r (AreDistinct (function_addresses symbols.now))) }
@@ -81,7 +84,7 @@ pub(crate) fn repeated_address(
     let mut addresses = BTreeSet::new(alloc);
     for symbol in symbols {
         if is_repeated(&mut addresses, symbol)? {
-            return Ok(Some(symbol.address()));
+            return Ok(Some(symbol.view.address()));
         }
     }
     Ok(None)

@@ -5,6 +5,7 @@ mod by_name;
 mod file;
 mod function;
 mod license;
+mod names;
 mod object;
 mod program;
 mod reading;

@@ -7,10 +7,11 @@ ghost use Rattle.std.specs.Map.{lookup};
 ghost use Rattle.std.specs.Option.{option_copied};
 ghost use Rattle.elf64.specs.Symbols.{symbols_of};
 ghost use Rattle.ebpf_items.specs.declared.error.ParseError.TheVariants.{OutOfMemory};
-ghost use Rattle.ebpf_object.specs.Faults.{HasFault, HasSoundLicense, HasObjectFault, HasSoundVersion, is_unnamed, IsFaultless};
-ghost use Rattle.ebpf_object.specs.ParsedObject.{endianness_of, object_of};
+ghost use Rattle.ebpf_object.specs.Faults.{HasFault, HasSoundLicense, HasObjectFault, HasSoundVersion, IsFaultless};
+ghost use Rattle.ebpf_object.specs.ParsedObject.{object_of};
 ghost use Rattle.ebpf_object.specs.License.{license_of, HasNoNul};
 ghost use Rattle.ebpf_object.specs.Programs.{key_cmp};
+ghost use Rattle.ebpf_object.specs.SymbolTable.{is_unnamed};
 ghost use Rattle.ebpf_object.specs.Version.{version_of, IsKnownVersion};
 
 use crate::by_name::Programs;
@@ -20,7 +21,6 @@ use crate::program::Function;
 use crate::version::parse_version;
 use btf_records::{BtfError, Endianness};
 use ebpf_items::ParseError;
-use elf64::ByteOrder;
 use std::alloc::Global;
 use std::collections::BTreeMap;
 use std::marker::Model;
@@ -44,18 +44,10 @@ impl<'a> Model for Object<'a> {
 
     ghost use Rattle.ebpf_object.specs.License.{HasNoNul};
     ghost use Rattle.ebpf_object.specs.Programs.{key_cmp};
+    ghost use Rattle.ebpf_object.specs.SymbolTable.{is_unnamed};
     ghost use Rattle.ebpf_object.specs.Version.{IsKnownVersion};
 
     ghost invariant = { λ o. HasNoNul o.license.now × IsKnownVersion o.kernel_version };
-}
-
-fn endianness_of(order: ByteOrder) -> Endianness
-    ensures { result ≡ endianness_of order }
-{
-    match order {
-        ByteOrder::Little => Endianness::Little,
-        ByteOrder::Big => Endianness::Big,
-    }
 }
 
 /// The license of a file: `GPL` where it names none.
@@ -79,7 +71,7 @@ fn kernel_version(alloc: Global, file: &ObjectFile<'_>) -> Result<Option<u32>, P
     ensures refused { IfErr result (λ e. e ≢ OutOfMemory → HasObjectFault file.now e) }
 {
     match file.contents_of("version") {
-        Some(bytes) => parse_version(alloc, file.elf.order(), bytes),
+        Some(bytes) => parse_version(alloc, file.endianness(), bytes),
         None => Ok(None),
     }
 }
@@ -89,10 +81,8 @@ fn check_symbols(file: &ObjectFile<'_>) -> Result<(), ParseError>
     ensures accepted { OnOk result (list_any is_unnamed (symbols_of file.now) ≡ false) }
     ensures refused { IfErr result (HasObjectFault file.now) }
 {
-    for symbol in file.elf.symbols() {
-        if symbol.name().is_err() {
-            return Err(ParseError::BtfError(BtfError::InvalidSymbolName));
-        }
+    if file.symbols.has_unnamed() {
+        return Err(ParseError::BtfError(BtfError::InvalidSymbolName));
     }
     Ok(())
 }
@@ -142,26 +132,6 @@ impl<'a> Object<'a> {
         self.functions.get(&key)
     }
 
-    /// The object of a file, refused by what its license, version, symbols and sections hold.
-    fn read(alloc: Global, file: &ObjectFile<'a>) -> Result<Object<'a>, ParseError>
-        ensures value { IfOk result (λ o. o ≡ object_of file.now) }
-        ensures accepted { OnOk result (IsFaultless file.now) }
-        ensures refused { IfErr result (λ e. e ≢ OutOfMemory → HasObjectFault file.now e) }
-    {
-        let license = license(alloc, file)?;
-        let kernel_version = kernel_version(alloc, file)?;
-        check_symbols(file)?;
-        let mut object = Object {
-            endianness: endianness_of(file.elf.order()),
-            license,
-            kernel_version,
-            programs: Programs::new(alloc),
-            functions: BTreeMap::new(alloc),
-        };
-        object.read_sections(alloc, file, file.sections.as_slice())?;
-        Ok(object)
-    }
-
     /// The object of a file: its license and version, and the programs and functions of its
     /// program sections. Maps, types, data, relocations and the functions of `.text` sections
     /// aren't looked at yet.
@@ -180,8 +150,19 @@ impl<'a> Object<'a> {
         ensures accepted { OnOk result (IsFaultless file.now) }
         ensures refused { IfErr result (λ e. e ≢ OutOfMemory → HasFault file.now e) }
     {
-        let _elf = &file.elf;
-        Object::read(alloc, file)
+        let sections = file.sections.as_slice();
+        let license = license(alloc, file)?;
+        let kernel_version = kernel_version(alloc, file)?;
+        check_symbols(file)?;
+        let mut object = Object {
+            endianness: file.endianness(),
+            license,
+            kernel_version,
+            programs: Programs::new(alloc),
+            functions: BTreeMap::new(alloc),
+        };
+        object.read_sections(alloc, file, sections)?;
+        Ok(object)
     }
 
     /// Parses an object file: [`ObjectFile::parse`], and then [`Object::from_file`].

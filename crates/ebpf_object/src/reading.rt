@@ -3,23 +3,15 @@
 ghost use Rattle.std.specs.Prelude.{◌≡◌, ◌≢◌, true, false, Some, None, IfOk, IfErr, OnOk};
 ghost use Rattle.std.specs.List.{list_any};
 ghost use Rattle.std.specs.Option.{option_copied};
-ghost use Rattle.elf64.specs.Sections.{has_name};
+ghost use Rattle.elf64.specs.Sections.{section_names_of};
+ghost use Rattle.ebpf_items.specs.Section.{IsUnreadable};
 ghost use Rattle.ebpf_items.specs.declared.error.ParseError.TheVariants.{SectionError, OutOfMemory};
 ghost use Rattle.ebpf_object.specs.Reading.{is_found, is_read, is_unreadable, HasUnreadable, read_sections};
 
-use ebpf_items::{ParseError, Section};
-use elf64::{ElfFile, SectionView};
+use crate::names::{NamedSection, Names};
+use ebpf_items::ParseError;
+use elf64::{ElfError, ElfFile, SectionView};
 use std::alloc::Global;
-
-/// Whether a section has a name.
-fn has_name(section: &SectionView<'_>, name: &str) -> bool
-    ensures { result ≡ has_name name.now section.now }
-{
-    match section.name() {
-        Ok(text) => text == name,
-        Err(_) => false,
-    }
-}
 
 /// Whether a section is the one that was found.
 fn is_found(found: &Option<SectionView<'_>>, section: &SectionView<'_>) -> bool
@@ -39,20 +31,40 @@ fn is_read(
 ) -> bool
     ensures { result ≡ is_read types.now extension.now section.now }
 {
-    if has_name(section, ".BTF") {
+    if section.has_name(".BTF") {
         return is_found(types, section);
     }
-    if has_name(section, ".BTF.ext") {
+    if section.has_name(".BTF.ext") {
         return types.is_some() && is_found(extension, section);
     }
     true
+}
+
+/// Refuses a section whose name or bytes can't be read.
+fn check_readable(section: &NamedSection<'_>) -> Result<(), ParseError>
+    ensures accepted { OnOk result (is_unreadable section.now ≡ false) }
+    ensures refused { IfErr result (IsUnreadable section.now) }
+{
+    let index = section.view.index();
+    if section.name.is_none() {
+        return Err(ParseError::SectionError {
+            index,
+            error: ElfError::Name,
+        });
+    }
+    match section.view.data() {
+        Ok(_) => Ok(()),
+        Err(error) => Err(ParseError::SectionError { index, error }),
+    }
 }
 
 /// The sections of a file that are read, in order of index.
 pub(crate) fn read_sections<'a>(
     alloc: Global,
     elf: &ElfFile<'a>,
-) -> Result<Vec<SectionView<'a>>, ParseError>
+    names: &Names<'a>,
+) -> Result<Vec<NamedSection<'a>>, ParseError>
+    requires { names.now ≡ section_names_of elf.now }
     ensures value { IfOk result (λ v. v.items ≡ read_sections elf.now) }
     ensures readable { OnOk result (list_any is_unreadable (read_sections elf.now) ≡ false) }
     ensures refused { IfErr result (λ e. e ≢ OutOfMemory → HasUnreadable (read_sections elf.now) e) }
@@ -60,9 +72,10 @@ pub(crate) fn read_sections<'a>(
     let types = elf.section_by_name(".BTF");
     let extension = elf.section_by_name(".BTF.ext");
     let mut sections = Vec::new(alloc);
-    for section in elf.sections() {
-        if is_read(&types, &extension, &section) {
-            Section::try_from(&section)?;
+    for view in elf.sections() {
+        if is_read(&types, &extension, &view) {
+            let section = names.section(view);
+            check_readable(&section)?;
             sections.push(section)?;
         }
     }

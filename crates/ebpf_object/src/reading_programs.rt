@@ -11,28 +11,29 @@ ghost use Rattle.ebpf_object.specs.Reading.{is_unreadable};
 
 use crate::file::ObjectFile;
 use crate::function::{code_of, function_name, repeated_address, section_kind};
+use crate::names::{NamedSection, NamedSymbol};
 use crate::object::Object;
 use crate::program::{Function, Program};
 use ebpf_items::{EbpfSectionKind, ParseError, ProgramSection, Slots};
-use elf64::{SectionView, SymbolView};
+use elf64::ElfError;
 use std::alloc::Global;
 
 /// Refuses a `.text` section with two functions at one address.
 fn check_text(
     alloc: Global,
     file: &ObjectFile<'_>,
-    section: &SectionView<'_>,
+    section: &NamedSection<'_>,
 ) -> Result<(), ParseError>
     requires { is_text_section section.now ≡ true }
     ensures accepted { OnOk result (AreSound (symbols_of file.now) (section.now ∷ [])) }
     ensures refused { IfErr result (λ e. e ≢ OutOfMemory → HasSectionFault (symbols_of file.now) (section.now ∷ []) e) }
 {
-    let Some(symbols) = file.symbols_in(section.index()) else {
+    let Some(symbols) = file.symbols_in(section.view.index()) else {
         return Ok(());
     };
     match repeated_address(alloc, symbols.as_slice())? {
         Some(address) => Err(ParseError::SymbolTableConflict {
-            section_index: section.index(),
+            section_index: section.view.index(),
             address,
         }),
         None => Ok(()),
@@ -44,9 +45,9 @@ impl<'a> Object<'a> {
     fn read_function(
         &mut self,
         alloc: Global,
-        section: &SectionView<'a>,
+        section: &NamedSection<'a>,
         kind: &ProgramSection,
-        symbol: &SymbolView<'a>,
+        symbol: &NamedSymbol<'a>,
     ) -> Result<(), ParseError>
         requires { is_unreadable section.now ≡ false }
         ensures programs { OnOk result (self.new.programs ≡ with_program self.old.license self.old.kernel_version section.now kind.now self.old.programs symbol.now) }
@@ -58,7 +59,7 @@ impl<'a> Object<'a> {
         let Some(name) = function_name(symbol) else {
             return Ok(());
         };
-        let Some(code) = code_of(section, symbol) else {
+        let Some(code) = code_of(&section.view, &symbol.view) else {
             return Err(ParseError::InvalidProgramCode);
         };
         let Some(instructions) = Slots::borrowed(alloc, code) else {
@@ -68,14 +69,14 @@ impl<'a> Object<'a> {
             license: self.license,
             kernel_version: self.kernel_version,
             section: kind.clone()?,
-            section_index: section.index(),
-            address: symbol.address(),
+            section_index: section.view.index(),
+            address: symbol.view.address(),
         };
         let function = Function {
-            address: symbol.address(),
+            address: symbol.view.address(),
             name,
-            section_index: section.index(),
-            section_offset: symbol.address() as usize,
+            section_index: section.view.index(),
+            section_offset: symbol.view.address() as usize,
             instructions,
         };
         self.functions.insert(program.function_key(), function)?;
@@ -87,9 +88,9 @@ impl<'a> Object<'a> {
     fn read_functions(
         &mut self,
         alloc: Global,
-        section: &SectionView<'a>,
+        section: &NamedSection<'a>,
         kind: &ProgramSection,
-        symbols: &[SymbolView<'a>],
+        symbols: &[NamedSymbol<'a>],
     ) -> Result<(), ParseError>
         requires { is_unreadable section.now ≡ false }
         ensures programs { OnOk result (self.new.programs ≡ fold (with_program self.old.license self.old.kernel_version section.now kind.now) self.old.programs symbols.now) }
@@ -109,7 +110,7 @@ impl<'a> Object<'a> {
         &mut self,
         alloc: Global,
         file: &ObjectFile<'a>,
-        section: &SectionView<'a>,
+        section: &NamedSection<'a>,
     ) -> Result<(), ParseError>
         requires program { is_program section.now ≡ true }
         requires readable { is_unreadable section.now ≡ false }
@@ -119,13 +120,19 @@ impl<'a> Object<'a> {
         ensures accepted { OnOk result (AreSound (symbols_of file.now) (section.now ∷ [])) }
         ensures refused { IfErr result (λ e. e ≢ OutOfMemory → HasSectionFault (symbols_of file.now) (section.now ∷ []) e) }
     {
-        let name = section.name()?;
+        let index = section.view.index();
+        let Some(name) = section.name else {
+            return Err(ParseError::SectionError {
+                index,
+                error: ElfError::Name,
+            });
+        };
         let Ok(kind) = name.parse::<ProgramSection>() else {
             return Err(ParseError::InvalidProgramSection {
                 section: String::from_str(alloc, name)?,
             });
         };
-        match file.symbols_in(section.index()) {
+        match file.symbols_in(index) {
             Some(symbols) if !symbols.is_empty() => {
                 self.read_functions(alloc, section, &kind, symbols.as_slice())
             }
@@ -140,7 +147,7 @@ impl<'a> Object<'a> {
         &mut self,
         alloc: Global,
         file: &ObjectFile<'a>,
-        sections: &[SectionView<'a>],
+        sections: &[NamedSection<'a>],
     ) -> Result<(), ParseError>
         requires { list_any is_unreadable sections.now ≡ false }
         ensures programs { OnOk result (self.new.programs ≡ fold (with_programs self.old.license self.old.kernel_version (symbols_of file.now)) self.old.programs (filter is_program sections.now)) }

@@ -11,8 +11,8 @@ ghost use Rattle.ebpf_object.specs.Served.{has_call, is_served_kind, is_served_s
 
 use crate::file::ObjectFile;
 use crate::function::{code_of, function_name, section_kind};
+use crate::names::{NamedSection, NamedSymbol};
 use ebpf_items::{EbpfSectionKind, Slots};
-use elf64::{SectionView, SymbolView};
 use std::alloc::Global;
 
 /// Whether a slot calls another function.
@@ -28,13 +28,13 @@ fn has_pseudo_call(slots: &Slots<'_>) -> bool
 }
 
 /// Whether a symbol of a section is a function with a slot that calls another.
-fn has_call(alloc: Global, section: &SectionView<'_>, symbol: &SymbolView<'_>) -> bool
+fn has_call(alloc: Global, section: &NamedSection<'_>, symbol: &NamedSymbol<'_>) -> bool
     ensures { result ≡ has_call section.now symbol.now }
 {
     if function_name(symbol).is_none() {
         return false;
     }
-    let Some(code) = code_of(section, symbol) else {
+    let Some(code) = code_of(&section.view, &symbol.view) else {
         return false;
     };
     match Slots::borrowed(alloc, code) {
@@ -44,7 +44,7 @@ fn has_call(alloc: Global, section: &SectionView<'_>, symbol: &SymbolView<'_>) -
 }
 
 /// Whether a function of a section calls another.
-fn any_call(alloc: Global, section: &SectionView<'_>, symbols: &[SymbolView<'_>]) -> bool
+fn any_call(alloc: Global, section: &NamedSection<'_>, symbols: &[NamedSymbol<'_>]) -> bool
     ensures { result ≡ list_any (has_call section.now) symbols.now }
 {
     for symbol in symbols {
@@ -58,14 +58,14 @@ fn any_call(alloc: Global, section: &SectionView<'_>, symbols: &[SymbolView<'_>]
 impl<'a> ObjectFile<'a> {
     /// Whether a section is served: it holds a license, a version, nothing that is looked at, or
     /// functions that call no other.
-    fn is_served_section(&self, alloc: Global, section: &SectionView<'a>) -> bool
+    fn is_served_section(&self, alloc: Global, section: &NamedSection<'a>) -> bool
         ensures { result ≡ is_served_section self.now section.now }
     {
         match section_kind(section) {
             EbpfSectionKind::License | EbpfSectionKind::Version | EbpfSectionKind::Undefined =>
                 true,
-            EbpfSectionKind::Text => section.size() == 0,
-            EbpfSectionKind::Program => match self.symbols.in_section(section.index()) {
+            EbpfSectionKind::Text => section.view.size() == 0,
+            EbpfSectionKind::Program => match self.symbols.in_section(section.view.index()) {
                 Some(symbols) => !any_call(alloc, section, symbols.as_slice()),
                 None => true,
             },
@@ -88,7 +88,8 @@ impl<'a> ObjectFile<'a> {
     fn are_sections_served(&self, alloc: Global) -> bool
         ensures { result ≡ list_all (is_served_section self.now) (sections_of self.now) }
     {
-        for section in self.elf.sections() {
+        for view in self.elf.sections() {
+            let section = self.section_names.section(view);
             if !self.is_served_section(alloc, &section) {
                 return false;
             }

@@ -1,250 +1,190 @@
 //! Objects of one program, and what is wrong with others.
 
-ghost use Rattle.std.specs.Prelude.{◌+◌, ◌≤◌, length};
-
 use crate::Object;
-use btf_records::BtfError;
-use ebpf_items::{ParseError, ProgramSection};
+use btf_records::{BtfError, Endianness};
+use ebpf_items::{ParseError, ProgramSection, Slots};
 use elf64::ElfError;
-use sample_objects::ONE_PROGRAM;
+use sample_objects::{ONE_PROGRAM, ONE_PROGRAM_BIG, with_bytes};
 use std::alloc::Global;
-use std::test::Fail;
 
-/// Where fields of the object lie.
-const LICENSE: usize = 64;
+/// Other bytes at some offsets of the object of one program: `license` is named at 142 and has four
+/// bytes at 64, its size at 280; the symbol has its name at 112, section at 118, value at 120 and
+/// size at 128; the program's section has its name at 312, address at 328 and offset at 336.
+type Changes = &'static [(usize, &'static [u8])];
 
-const SYMBOL_NAME: usize = 112;
+/// What the object of the function `foo` holds: its byte order and version, the key of its program,
+/// the offset of the code, and the code of its slots.
+#[derive(Clone, Copy, PartialEq)]
+struct Content {
+    endianness: Endianness,
+    version: Option<u32>,
+    key: (usize, u64),
+    offset: usize,
+    codes: [Option<u8>; 3],
+}
 
-const SYMBOL_SECTION: usize = 118;
+/// Why an object is refused.
+#[derive(Clone, Copy)]
+enum Refusal {
+    InvalidLicense(&'static [u8]),
+    UnendedLicense(&'static [u8]),
+    InvalidVersion(&'static [u8]),
+    NoSymbols(&'static str),
+    UnknownProgram(&'static str),
+    NoCode,
+    UnnamedSymbol,
+    Section(ElfError),
+    NoElf,
+}
 
-const SYMBOL_VALUE: usize = 120;
+/// Whether an error is the one that is expected.
+fn is_refusal(error: &ParseError, expected: Refusal) -> bool {
+    match (error, expected) {
+        (ParseError::InvalidLicense { bytes }, Refusal::InvalidLicense(kept)) => {
+            bytes.as_slice() == kept
+        }
+        (ParseError::MissingLicenseNullTerminator { bytes }, Refusal::UnendedLicense(kept)) => {
+            bytes.as_slice() == kept
+        }
+        (ParseError::InvalidKernelVersion { bytes }, Refusal::InvalidVersion(kept)) => {
+            bytes.as_slice() == kept
+        }
+        (ParseError::NoSymbolsForSection { section_name }, Refusal::NoSymbols(name)) => {
+            section_name.as_str() == name
+        }
+        (ParseError::InvalidProgramSection { section }, Refusal::UnknownProgram(name)) => {
+            section.as_str() == name
+        }
+        (ParseError::InvalidProgramCode, Refusal::NoCode) => true,
+        (ParseError::BtfError(BtfError::InvalidSymbolName), Refusal::UnnamedSymbol) => true,
+        (ParseError::SectionError { index: 2, error }, Refusal::Section(expected)) => {
+            *error == expected
+        }
+        (ParseError::ElfError(ElfError::NotElf), Refusal::NoElf) => true,
+        _ => false,
+    }
+}
 
-const SYMBOL_SIZE: usize = 128;
+/// What an object holds, if that is one program `foo` whose code stands in the file.
+fn content_of(object: &Object<'_>) -> Option<Content> {
+    let (name, program) = object.programs().iter().next()?;
+    let function = object.function(program.function_key())?;
+    let slots = &function.instructions;
+    if object.programs().len() != 1 || object.functions().len() != 1 {
+        return None;
+    }
+    if *name != "foo" || function.name != "foo" || !slots.is_borrowed() {
+        return None;
+    }
+    if object.license() != b"GPL".as_slice() || !matches!(program.section, ProgramSection::KProbe) {
+        return None;
+    }
+    Some(Content {
+        endianness: object.endianness(),
+        version: object.kernel_version(),
+        key: program.function_key(),
+        offset: function.section_offset,
+        codes: [code(slots, 0), code(slots, 1), code(slots, 2)],
+    })
+}
 
-const SECTION_NAMES: usize = 141;
-
-const LICENSE_SIZE: usize = 280;
-
-const PROGRAM_NAME: usize = 312;
-
-const PROGRAM_OFFSET: usize = 336;
-
-/// Whether memory ran out, which ends a test well: nothing else may come of it.
-fn is_memory(error: &ParseError) -> bool {
-    matches!(error, ParseError::OutOfMemory)
+/// The code of a slot, if there is one.
+fn code(slots: &Slots<'_>, index: usize) -> Option<u8> {
+    slots.get(index).map(|slot| slot.code)
 }
 
 #[test]
-fn one_program(rt: HostRuntime) -> Result<(), Fail> {
-    let object = match Object::parse(rt.alloc(), &ONE_PROGRAM) {
-        Ok(object) => object,
-        Err(error) => {
-            assert!(rt; is_memory(&error));
-            return Ok(());
-        }
+fn accepted_objects(rt: HostRuntime) {
+    let one = Content {
+        endianness: Endianness::Little,
+        version: None,
+        key: (2, 0),
+        offset: 0,
+        codes: [Some(0xb7), Some(0x95), None],
     };
-    assert_eq!(rt; object.license(), b"GPL".as_slice());
-    assert_eq!(rt; object.kernel_version(), None);
-    assert_eq!(rt; object.programs().len(), 1);
-    assert_eq!(rt; object.functions().len(), 1);
-    for (name, program) in object.programs().iter() {
-        assert!(rt; *name == "foo");
-        assert!(rt; matches!(program.section, ProgramSection::KProbe));
-        assert!(rt; program.license == b"GPL".as_slice());
-        assert_eq!(rt; program.function_key(), (2, 0));
-        let function = object.functions().get(&(2, 0)).ok_or("no function")?;
-        assert!(rt; function.name == "foo");
-        assert_eq!(rt; function.section_offset, 0);
-        assert!(rt; function.instructions.is_borrowed());
-        let codes: [u8; 2] = [0xb7, 0x95];
-        for (slot, code) in function.instructions.iter().zip(codes) {
-            assert_eq!(rt; slot.code, code);
-        }
-        assert_eq!(rt; function.instructions.len(), 2);
+    let big = Content {
+        endianness: Endianness::Big,
+        ..one
+    };
+    let second = Content {
+        key: (2, 8),
+        offset: 8,
+        codes: [Some(0x95), None, None],
+        ..one
+    };
+    let empty = Content {
+        codes: [None, None, None],
+        ..one
+    };
+    let named = Content {
+        version: Some(0x004c_5047),
+        ..one
+    };
+    let big_named = Content {
+        version: Some(0x4750_4c00),
+        ..big
+    };
+    let questions: [(&[u8; 568], Changes, Content); 7] = [
+        (&ONE_PROGRAM, &[], one),
+        (&ONE_PROGRAM_BIG, &[], big),
+        // The license's section is called `version` in its place, and the default license holds.
+        (&ONE_PROGRAM, &[(142, b"version")], named),
+        (&ONE_PROGRAM_BIG, &[(142, b"version")], big_named),
+        (
+            &ONE_PROGRAM,
+            &[(142, b"version"), (64, &[0xfe, 0xff, 0xff, 0xff])],
+            one,
+        ),
+        // The function of the second slot, and one without any.
+        (&ONE_PROGRAM, &[(120, &[8]), (128, &[8])], second),
+        (&ONE_PROGRAM, &[(128, &[0])], empty),
+    ];
+    for (object, changes, expected) in questions {
+        let bytes = with_bytes(object, changes);
+        let found = match Object::parse(rt.alloc(), &bytes) {
+            Ok(object) => content_of(&object),
+            Err(_) => None,
+        };
+        assert!(rt; found == Some(expected));
     }
-    Ok(())
 }
 
-/// The object with some bytes at an offset.
-fn with_bytes(at: usize, bytes: &[u8]) -> [u8; 568]
-    requires { at + length bytes.now ≤ 568 }
-{
-    let mut file = ONE_PROGRAM;
-    file[at..at + bytes.len()].copy_from_slice(bytes);
-    file
-}
-
-/// Why a file is refused; none where it is accepted.
-fn refusal(alloc: Global, file: &[u8]) -> Option<ParseError> {
-    Object::parse(alloc, file).err()
-}
-
-#[test]
-fn licenses(rt: HostRuntime) {
-    let alloc = rt.alloc();
-    let mut empty = with_bytes(LICENSE_SIZE, &[0]);
-    let error = refusal(alloc, &empty).expect(&rt, "an empty license");
-    assert!(rt;
-        matches!(&error, ParseError::InvalidLicense { bytes } if bytes.is_empty())
-            || is_memory(&error)
-    );
-
-    empty[LICENSE_SIZE] = 1;
-    empty[LICENSE] = 0;
-    let error = refusal(alloc, &empty).expect(&rt, "a NUL alone");
-    assert!(rt;
-        matches!(&error, ParseError::InvalidLicense { bytes } if bytes.as_slice() == [0].as_slice())
-            || is_memory(&error)
-    );
-
-    let unended = with_bytes(LICENSE_SIZE, &[3]);
-    let error = refusal(alloc, &unended).expect(&rt, "no NUL");
-    assert!(rt;
-        matches!(&error, ParseError::MissingLicenseNullTerminator { bytes } if bytes.as_slice() == b"GPL".as_slice())
-            || is_memory(&error)
-    );
-
-    let inner = with_bytes(LICENSE + 1, &[0]);
-    let error = refusal(alloc, &inner).expect(&rt, "a NUL inside");
-    assert!(rt;
-        matches!(
-            error,
-            ParseError::InvalidLicense { bytes: _ } | ParseError::OutOfMemory
-        )
-    );
-
-    let accepted = refusal(alloc, &ONE_PROGRAM);
-    assert!(rt; accepted.is_none_or(|error| is_memory(&error)));
-}
-
-#[test]
-fn versions(rt: HostRuntime) -> Result<(), Fail> {
-    let alloc = rt.alloc();
-    // The license's section is called `version` in its place, and the default license holds.
-    let named = with_bytes(SECTION_NAMES + 1, b"version");
-    match Object::parse(alloc, &named) {
-        Ok(object) => {
-            assert_eq!(rt; object.license(), b"GPL".as_slice());
-            assert_eq!(rt; object.kernel_version(), Some(0x004c_5047));
-        }
-        Err(error) => assert!(rt; is_memory(&error)),
-    }
-    let mut any = named;
-    any[LICENSE] = 0xfe;
-    any[LICENSE + 1] = 0xff;
-    any[LICENSE + 2] = 0xff;
-    any[LICENSE + 3] = 0xff;
-    match Object::parse(alloc, &any) {
-        Ok(object) => assert_eq!(rt; object.kernel_version(), None),
-        Err(error) => assert!(rt; is_memory(&error)),
-    }
-    let mut short = named;
-    short[LICENSE_SIZE] = 3;
-    let error = refusal(alloc, &short).ok_or("three bytes")?;
-    assert!(rt;
-        matches!(
-            error,
-            ParseError::InvalidKernelVersion { bytes: _ } | ParseError::OutOfMemory
-        )
-    );
-    Ok(())
-}
-
-#[test]
-fn code_of_a_function(rt: HostRuntime) {
-    let alloc = rt.alloc();
-    let mut second = with_bytes(SYMBOL_VALUE, &[8]);
-    second[SYMBOL_SIZE] = 8;
-    match Object::parse(alloc, &second) {
-        Ok(object) => {
-            let function = object.functions().get(&(2, 8)).expect(&rt, "a function");
-            assert_eq!(rt; function.instructions.len(), 1);
-            assert_eq!(rt;
-                function.instructions.get(0).map(|slot| slot.code),
-                Some(0x95)
-            );
-        }
-        Err(error) => assert!(rt; is_memory(&error)),
-    }
-    let empty = with_bytes(SYMBOL_SIZE, &[0]);
-    match Object::parse(alloc, &empty) {
-        Ok(object) => {
-            let function = object.functions().get(&(2, 0)).expect(&rt, "a function");
-            assert_eq!(rt; function.instructions.len(), 0);
-        }
-        Err(error) => assert!(rt; is_memory(&error)),
-    }
-    let unwhole = with_bytes(SYMBOL_SIZE, &[12]);
-    let past = with_bytes(SYMBOL_SIZE, &[24]);
-    let far = with_bytes(
-        SYMBOL_VALUE,
-        &[0xf8, 0xff, 0xff, 0xff, 0xff, 0xff, 0xff, 0xff],
-    );
-    // The section's address lies above the symbol's.
-    let below = with_bytes(PROGRAM_NAME + 16, &[8]);
-    for file in [unwhole, past, far, below] {
-        let error = refusal(alloc, &file).expect(&rt, "no code");
-        assert!(rt;
-            matches!(
-                error,
-                ParseError::InvalidProgramCode | ParseError::OutOfMemory
-            )
-        );
+/// Whether an object is refused as expected.
+fn is_refused(alloc: Global, bytes: &[u8], expected: Refusal) -> bool {
+    match Object::parse(alloc, bytes) {
+        Ok(_) => false,
+        Err(error) => is_refusal(&error, expected),
     }
 }
 
 #[test]
-fn sections_and_symbols(rt: HostRuntime) {
-    let alloc = rt.alloc();
-    // The symbol lies in section 1.
-    let elsewhere = with_bytes(SYMBOL_SECTION, &[1]);
-    let error = refusal(alloc, &elsewhere).expect(&rt, "no symbols");
-    assert!(rt;
-        matches!(&error, ParseError::NoSymbolsForSection { section_name } if section_name.as_str() == "kprobe")
-            || is_memory(&error)
-    );
-
-    // The section is called `probe`.
-    let unknown = with_bytes(PROGRAM_NAME, &[10]);
-    let error = refusal(alloc, &unknown).expect(&rt, "an unknown kind");
-    assert!(rt;
-        matches!(&error, ParseError::InvalidProgramSection { section } if section.as_str() == "probe")
-            || is_memory(&error)
-    );
-
-    let unnamed = with_bytes(SYMBOL_NAME, &[200]);
-    let error = refusal(alloc, &unnamed).expect(&rt, "an unreadable name");
-    assert!(rt;
-        matches!(
-            error,
-            ParseError::BtfError(BtfError::InvalidSymbolName) | ParseError::OutOfMemory
-        )
-    );
-
-    let unreadable = with_bytes(PROGRAM_NAME, &[200]);
-    let error = refusal(alloc, &unreadable).expect(&rt, "an unreadable section");
-    assert!(rt;
-        matches!(
-            error,
-            ParseError::SectionError {
-                index: 2,
-                error: ElfError::Name
-            } | ParseError::OutOfMemory
-        )
-    );
-
-    let outside = with_bytes(PROGRAM_OFFSET, &[48, 2]);
-    let error = refusal(alloc, &outside).expect(&rt, "bytes past the end");
-    assert!(rt;
-        matches!(
-            error,
-            ParseError::SectionError {
-                index: 2,
-                error: ElfError::SectionData
-            } | ParseError::OutOfMemory
-        )
-    );
-
-    let error = refusal(alloc, b"foo").expect(&rt, "no ELF file");
-    assert!(rt; matches!(error, ParseError::ElfError(ElfError::NotElf)));
+fn refused_objects(rt: HostRuntime) {
+    let questions: [(Changes, Refusal); 14] = [
+        (&[(280, &[0])], Refusal::InvalidLicense(b"")),
+        (&[(280, &[1]), (64, &[0])], Refusal::InvalidLicense(b"\0")),
+        (&[(65, &[0])], Refusal::InvalidLicense(b"G\0L\0")),
+        (&[(280, &[3])], Refusal::UnendedLicense(b"GPL")),
+        (
+            &[(142, b"version"), (280, &[3])],
+            Refusal::InvalidVersion(b"GPL"),
+        ),
+        // Code of one slot and a half, past the section's bytes, far away, below its address.
+        (&[(128, &[12])], Refusal::NoCode),
+        (&[(128, &[24])], Refusal::NoCode),
+        (
+            &[(120, &[0xf8, 0xff, 0xff, 0xff, 0xff, 0xff, 0xff, 0xff])],
+            Refusal::NoCode,
+        ),
+        (&[(328, &[8])], Refusal::NoCode),
+        (&[(118, &[1])], Refusal::NoSymbols("kprobe")),
+        (&[(312, &[10])], Refusal::UnknownProgram("probe")),
+        (&[(112, &[200])], Refusal::UnnamedSymbol),
+        (&[(312, &[200])], Refusal::Section(ElfError::Name)),
+        (&[(336, &[48, 2])], Refusal::Section(ElfError::SectionData)),
+    ];
+    for (changes, expected) in questions {
+        let bytes = with_bytes(&ONE_PROGRAM, changes);
+        assert!(rt; is_refused(rt.alloc(), &bytes, expected));
+    }
+    assert!(rt; is_refused(rt.alloc(), b"foo", Refusal::NoElf));
 }

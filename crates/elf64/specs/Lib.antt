@@ -1,6 +1,6 @@
 pub mod Numbers
 pub mod Headers
-pub mod Texts
+pub mod Names
 pub mod Sections
 pub mod Symbols
 pub mod Relocations

@@ -7,11 +7,12 @@ use Rattle.elf64.specs.declared.header.FileHeader.{FileHeader}
 use Rattle.elf64.specs.declared.header.SectionHeader.{SectionHeader}
 use Rattle.elf64.specs.Numbers.{bytes_at}
 use Rattle.elf64.specs.Headers.{header_of, table_in, section_header, section_at, section_indexes}
-use Rattle.elf64.specs.Texts.{text_at}
+use Rattle.elf64.specs.Names.{name_in}
 
--- what a section shows: its name and contents where they can be read
+-- what a section shows: its name and contents where they can be read, and where in the names its name begins
 pub record Section : Type 0 where
   pub index : ℕ
+  pub name_offset : ℕ
   pub name : Option (List ℕ)
   pub contents : Option (List ℕ)
   pub address : ℕ
@@ -39,7 +40,8 @@ is_executable header = (header.kind == 1) && (bit_and header.flags 6 == 6)
 unfoldable pub section_from : List ℕ → Option (List ℕ) → ℕ → SectionHeader → Section
 section_from bytes names index header = record {
   index = index;
-  name = option_and_then (λ strings. text_at strings header.name) names;
+  name_offset = header.name;
+  name = name_in names header.name;
   contents = contents_in bytes header;
   address = header.address;
   size = header.size;
@@ -58,6 +60,11 @@ sections_in bytes header table =
 unfoldable pub sections_of : List ℕ → List Section
 sections_of bytes =
     unwrap_or (option_and_then (λ header. option_map (sections_in bytes header) (table_in bytes header)) (header_of bytes)) []
+
+-- the bytes that hold the names of a file's sections
+unfoldable pub section_names_of : List ℕ → Option (List ℕ)
+section_names_of bytes =
+    option_and_then (λ header. option_and_then (section_names_in bytes header) (table_in bytes header)) (header_of bytes)
 
 -- whether a section has a name
 abbrev pub has_name : List ℕ → Section → Bool

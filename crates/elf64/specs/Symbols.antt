@@ -1,5 +1,5 @@
 -- The symbols of a file: the entries of its first symbol table (ELF-64 object file format, Symbol Table).
-use Rattle.std.specs.Prelude.{ℕ, ◌+◌, ◌-◌, ◌*◌, ◌/◌, ◌%◌, List, [], length, map, find, slice_index, nat_lt, ◌==◌, ◌&&◌, ◌||◌, not, Bool, if◌then◌else◌, Option, Some, None, is_some, unwrap_or, option_and_then}
+use Rattle.std.specs.Prelude.{◌≡◌, ◌≤◌, ◌<◌, IfSome, ℕ, ◌+◌, ◌-◌, ◌*◌, ◌/◌, ◌%◌, List, [], length, map, find, slice_index, nat_lt, ◌==◌, ◌&&◌, ◌||◌, not, Bool, if◌then◌else◌, Option, Some, None, is_some, unwrap_or, option_and_then}
 use Rattle.std.specs.Option.{option_map}
 use Rattle.std.specs.List.{range_with_len}
 use Rattle.std.specs.Int.{w16, w32, w64}
@@ -11,11 +11,12 @@ use Rattle.elf64.specs.declared.kind.SymbolKind.TheVariants.{Unknown, Text, Data
 use Rattle.elf64.specs.Numbers.{number_at, bytes_at}
 use Rattle.elf64.specs.Headers.{header_of, table_in, section_header, section_at, section_indexes}
 use Rattle.elf64.specs.Sections.{file_bytes_in}
-use Rattle.elf64.specs.Texts.{text_at}
+use Rattle.elf64.specs.Names.{name_in}
 
--- what a symbol shows: its name where it can be read, its section where it has one
+-- what a symbol shows: its name where it can be read, where in the names that begins, its section where it has one
 pub record Symbol : Type 0 where
   pub index : ℕ
+  pub name_offset : ℕ
   pub name : Option (List ℕ)
   pub section_index : Option ℕ
   pub address : ℕ
@@ -64,7 +65,8 @@ is_defined entry =
 unfoldable pub symbol_from : Option (List ℕ) → ℕ → SymbolEntry → Symbol
 symbol_from names index entry = record {
   index = index;
-  name = option_and_then (λ strings. text_at strings entry.name) names;
+  name_offset = entry.name;
+  name = name_in names entry.name;
   section_index = section_of entry;
   address = entry.value;
   size = entry.size;
@@ -77,6 +79,11 @@ symbol_from names index entry = record {
 -- the index of the first section of type SHT_SYMTAB
 abbrev pub symbol_table_index : ByteOrder → List ℕ → Option ℕ
 symbol_table_index order table = find (λ i. (section_header order table i).kind == 2) (section_indexes table)
+
+-- the index of the first symbol table, whose header lies in the section header table
+pub record IsSymbolTable (order : ByteOrder) (table : List ℕ) (index : Option ℕ) : Type 0 where
+  pub first : index ≡ symbol_table_index order table
+  pub within : IfSome index (λ i. (0 < i) × (64 * i + 64 ≤ length table))
 
 -- the bytes of the string table that a symbol table is linked to
 abbrev pub symbol_names_in : List ℕ → ByteOrder → List ℕ → SectionHeader → Option (List ℕ)
@@ -103,3 +110,12 @@ symbols_in bytes order table =
 unfoldable pub symbols_of : List ℕ → List Symbol
 symbols_of bytes =
     unwrap_or (option_and_then (λ header. option_map (symbols_in bytes header.order) (table_in bytes header)) (header_of bytes)) []
+
+-- the bytes that hold the names of a file's symbols: none without a symbol table
+abbrev pub symbol_names_for : List ℕ → ByteOrder → List ℕ → Option (List ℕ)
+symbol_names_for bytes order table =
+    option_and_then (λ i. symbol_names_in bytes order table (section_header order table i)) (symbol_table_index order table)
+
+unfoldable pub symbol_names_of : List ℕ → Option (List ℕ)
+symbol_names_of bytes =
+    option_and_then (λ header. option_and_then (symbol_names_for bytes header.order) (table_in bytes header)) (header_of bytes)

@@ -2,8 +2,10 @@
 
 ghost use Rattle.std.specs.Prelude.{◌≡◌, ◌+◌, ◌*◌, ◌≤◌, ◌<◌, ◌^◌, ℕ, List, length, IfOk, IfErr, Some, find};
 ghost use Rattle.elf64.specs.Headers.{AreNumbered, order_of};
-ghost use Rattle.elf64.specs.Sections.{sections_of, has_name, section_named};
-ghost use Rattle.elf64.specs.Symbols.{symbols_of};
+ghost use Rattle.std.specs.Option.{option_copied};
+ghost use Rattle.elf64.specs.Names.{AreNamed};
+ghost use Rattle.elf64.specs.Sections.{sections_of, section_names_of, has_name, section_named};
+ghost use Rattle.elf64.specs.Symbols.{symbols_of, symbol_names_of};
 ghost use Rattle.elf64.specs.Relocations.{relocation_sections_of, relocations_of};
 ghost use Rattle.elf64.specs.Faults.{HasFault, IsFaultless};
 
@@ -25,27 +27,20 @@ pub struct ElfFile<'a> {
     bytes: &'a [u8],
     header: FileHeader,
     table: &'a [u8],
+    /// The index of the first symbol table.
+    symbol_table: Option<usize>,
 }
 
 impl<'a> Model for ElfFile<'a> {
     ghost use Rattle.std.specs.Prelude.{List, ℕ};
     ghost use Rattle.elf64.specs.Headers.{HasHeaders};
+    ghost use Rattle.elf64.specs.Symbols.{IsSymbolTable};
 
     ghost Value = { List ℕ };
 
     ghost view = { λ f. f.bytes.now };
 
-    ghost invariant = { λ f. HasHeaders f.bytes.now f.header f.table.now };
-}
-
-/// Whether a section has a name.
-fn has_name(section: &SectionView<'_>, name: &str) -> bool
-    ensures { result ≡ has_name name.now section.now }
-{
-    match section.name() {
-        Ok(text) => text == name,
-        Err(_) => false,
-    }
+    ghost invariant = { λ f. HasHeaders f.bytes.now f.header f.table.now × IsSymbolTable f.header.order f.table.now f.symbol_table };
 }
 
 impl<'a> ElfFile<'a> {
@@ -59,7 +54,8 @@ impl<'a> ElfFile<'a> {
     {
         let header = check_file_header(bytes)?;
         let table = check_section_table(bytes, &header)?;
-        if let Some(index) = symbol_table_index(header.order, table) {
+        let symbol_table = symbol_table_index(header.order, table);
+        if let Some(index) = symbol_table {
             let symbols = section_header(header.order, table, index);
             check_symbol_table(bytes, header.order, table, &symbols)?;
             check_relocation_tables(bytes, header.order, table, index)?;
@@ -68,6 +64,7 @@ impl<'a> ElfFile<'a> {
             bytes,
             header,
             table,
+            symbol_table,
         })
     }
 
@@ -78,23 +75,43 @@ impl<'a> ElfFile<'a> {
         self.header.order
     }
 
+    /// The bytes that hold the sections' names (`e_shstrndx`), where there are such.
+    #[tactic(auto, unfolding(crate::specs::Sections::section_names_of))]
+    pub fn section_names(&self) -> Option<&'a [u8]>
+        ensures { option_copied result ≡ section_names_of self.now }
+    {
+        section_names(self.bytes, &self.header, self.table)
+    }
+
+    /// The bytes that hold the symbols' names: the string table that the first symbol table is
+    /// linked to.
+    #[tactic(auto, unfolding(crate::specs::Symbols::symbol_names_of))]
+    pub fn symbol_names(&self) -> Option<&'a [u8]>
+        ensures { option_copied result ≡ symbol_names_of self.now }
+    {
+        let order = self.order();
+        let header = section_header(order, self.table, self.symbol_table?);
+        symbol_names(self.bytes, order, self.table, &header)
+    }
+
     /// The sections, in order of index, without section 0.
-    #[tactic(auto, unfolding(crate::specs::Sections::sections_of))]
+    #[tactic(auto, unfolding(crate::specs::Sections::sections_of, crate::specs::Sections::section_names_of))]
     pub fn sections(&self) -> Sections<'a>
         ensures value { result ≡ sections_of self.now }
         ensures numbered { AreNumbered (sections_of self.now) (λ s. s.index) }
+        ensures named { AreNamed (section_names_of self.now) (sections_of self.now) (λ s. s.name) (λ s. s.name_offset) }
         ensures countable { length result < 2 ^ 64 }
     {
-        let names = section_names(self.bytes, &self.header, self.table);
-        Sections::new(self.bytes, self.order(), self.table, names)
+        Sections::new(self.bytes, self.order(), self.table, self.section_names())
     }
 
-    /// The first section of a name. One whose name can't be read is passed over.
+    /// The first section of a name. One whose name can't be read is passed over. Looks at no more
+    /// bytes of each name than the name has that is looked for.
     pub fn section_by_name(&self, name: &str) -> Option<SectionView<'a>>
         ensures { result ≡ section_named self.now name.now }
     {
         for section in self.sections() {
-            if has_name(&section, name) {
+            if section.has_name(name) {
                 return Some(section);
             }
         }
@@ -106,10 +123,11 @@ impl<'a> ElfFile<'a> {
     pub fn symbols(&self) -> Symbols<'a>
         ensures value { result ≡ symbols_of self.now }
         ensures numbered { AreNumbered (symbols_of self.now) (λ s. s.index) }
+        ensures named { AreNamed (symbol_names_of self.now) (symbols_of self.now) (λ s. s.name) (λ s. s.name_offset) }
         ensures countable { length result < 2 ^ 64 }
     {
         let order = self.order();
-        let Some(index) = symbol_table_index(order, self.table) else {
+        let Some(index) = self.symbol_table else {
             return Symbols::new(order, &[], None);
         };
         let header = section_header(order, self.table, index);
@@ -125,7 +143,7 @@ impl<'a> ElfFile<'a> {
         ensures countable { length result < 2 ^ 64 }
     {
         let order = self.order();
-        match symbol_table_index(order, self.table) {
+        match self.symbol_table {
             Some(index) => RelocationSections::new(self.bytes, order, self.table, index),
             None => RelocationSections::none(order),
         }

@@ -11,7 +11,6 @@ mod relocation_section;
 mod section;
 mod symbol;
 mod table;
-mod text;
 
 pub use error::ElfError;
 pub use file::ElfFile;

@@ -5,13 +5,13 @@ ghost use Rattle.std.specs.Iterator.{YieldsFirst, item_count};
 ghost use Rattle.std.specs.List.{range_with_len};
 ghost use Rattle.std.specs.Option.{option_copied};
 ghost use Rattle.elf64.specs.Headers.{section_indexes};
-ghost use Rattle.elf64.specs.Sections.{contents_in, file_bytes_in, is_executable, section_from, sections_at};
+ghost use Rattle.elf64.specs.Sections.{contents_in, file_bytes_in, is_executable, section_from, sections_at, has_name};
 
 use crate::error::ElfError;
 use crate::header::{SectionHeader, section_header, section_header_count};
 use crate::order::{ByteOrder, bytes_at};
-use crate::text::text_at;
 use std::marker::Model;
+use string_table::{is_text_at, text_at};
 
 const PROGBITS: u32 = 1;
 
@@ -66,8 +66,16 @@ impl<'a> SectionView<'a> {
         self.index
     }
 
-    /// The name (`sh_name`): [`ElfError::Name`] where it isn't UTF-8 text that a NUL ends inside
-    /// the section of the names.
+    /// Where in the bytes of the names the name begins (`sh_name`).
+    #[tactic(auto, unfolding(crate::specs::Sections::section_from))]
+    pub fn name_offset(&self) -> u32
+        ensures { result ≡ self.now.name_offset }
+    {
+        self.header.name
+    }
+
+    /// The name: [`ElfError::Name`] where it isn't UTF-8 text that a NUL ends inside the section of
+    /// the names. Looks at each byte of it.
     #[tactic(auto, unfolding(crate::specs::Sections::section_from))]
     pub fn name(&self) -> Result<&'a str, ElfError>
         ensures { MatchResult result (λ s. self.now.name ≡ Some s.now) (λ e. (e ≡ ElfError.Name) × (self.now.name ≡ None)) }
@@ -75,7 +83,18 @@ impl<'a> SectionView<'a> {
         let Some(names) = self.names else {
             return Err(ElfError::Name);
         };
-        text_at(names, self.header.name)
+        text_at(names, self.header.name).ok_or(ElfError::Name)
+    }
+
+    /// Whether this is the section's name. Looks at no more bytes than it has.
+    #[tactic(auto, unfolding(crate::specs::Sections::section_from))]
+    pub fn has_name(&self, name: &str) -> bool
+        ensures { result ≡ has_name name.now self.now }
+    {
+        match self.names {
+            Some(names) => is_text_at(names, self.header.name, name),
+            None => false,
+        }
     }
 
     /// The contents, which are empty for `SHT_NOBITS`: [`ElfError::SectionData`] where they lie

@@ -10,8 +10,8 @@ use crate::error::ElfError;
 use crate::header::{SYMBOL_SIZE, SymbolEntry, symbol_entry};
 use crate::kind::SymbolKind;
 use crate::order::ByteOrder;
-use crate::text::text_at;
 use std::marker::Model;
+use string_table::text_at;
 
 /// `SHN_LORESERVE`, from which on section indexes are reserved.
 const LORESERVE: u16 = 0xff00;
@@ -100,8 +100,16 @@ impl<'a> SymbolView<'a> {
         self.index
     }
 
-    /// The name (`st_name`): [`ElfError::Name`] where it isn't UTF-8 text that a NUL ends inside
-    /// the symbol table's string table.
+    /// Where in the bytes of the names the name begins (`st_name`).
+    #[tactic(auto, unfolding(crate::specs::Symbols::symbol_from))]
+    pub fn name_offset(&self) -> u32
+        ensures { result ≡ self.now.name_offset }
+    {
+        self.entry.name
+    }
+
+    /// The name: [`ElfError::Name`] where it isn't UTF-8 text that a NUL ends inside the symbol
+    /// table's string table. Looks at each byte of it.
     #[tactic(auto, unfolding(crate::specs::Symbols::symbol_from))]
     pub fn name(&self) -> Result<&'a str, ElfError>
         ensures { MatchResult result (λ s. self.now.name ≡ Some s.now) (λ e. (e ≡ ElfError.Name) × (self.now.name ≡ None)) }
@@ -109,7 +117,7 @@ impl<'a> SymbolView<'a> {
         let Some(names) = self.names else {
             return Err(ElfError::Name);
         };
-        text_at(names, self.entry.name)
+        text_at(names, self.entry.name).ok_or(ElfError::Name)
     }
 
     /// The index of the section in which the symbol is defined (`st_shndx`): none for `SHN_UNDEF`

@@ -4,7 +4,7 @@ ghost use Rattle.std.specs.Prelude.{◌≡◌, ◌≢◌, ◌+◌, ◌*◌, ◌�
 ghost use Rattle.std.specs.Option.{option_copied};
 ghost use Rattle.elf64.specs.Headers.{order_of, header_of, table_in, section_header, section_at, header_count};
 ghost use Rattle.elf64.specs.Sections.{section_names_in};
-ghost use Rattle.elf64.specs.Symbols.{symbol_table_index, symbol_names_in, symbol_entry};
+ghost use Rattle.elf64.specs.Symbols.{IsSymbolTable, symbol_names_in, symbol_entry};
 ghost use Rattle.elf64.specs.Relocations.{is_relocation_table, entry_size};
 ghost use Rattle.elf64.specs.Faults.{HasFault, IsBadSectionTable, HasExtendedIndex, IsBadSymbolTable, IsBadRelocationTable, HasBadRelocationTable};
 
@@ -48,8 +48,7 @@ pub(crate) fn symbol_names<'a>(
 
 /// The index of the first symbol table.
 pub(crate) fn symbol_table_index(order: ByteOrder, table: &[u8]) -> Option<usize>
-    ensures value { result ≡ symbol_table_index order table.now }
-    ensures within { IfSome result (λ i. (0 < i) × (64 * i + 64 ≤ length table.now)) }
+    ensures { IsSymbolTable order table.now result }
 {
     for index in 1..section_header_count(table) {
         if section_header(order, table, index).kind == SYMTAB {

@@ -1,9 +1,13 @@
 use Rattle.std.proofs.Common.{◌≡◌}
+use Rattle.std.specs.Prelude.{map}
 use Rattle.std.specs.List.{list_all}
-use Rattle.elf64.specs.Sections.{sections_of}
+use Rattle.elf64.specs.Names.{name_in}
+use Rattle.elf64.specs.Sections.{sections_of, section_names_of}
 use Rattle.ebpf_object.specs.Served.{is_served_section}
 use Rattle.ebpf_object.proofs.file.ObjectFile.are_sections_served.Given as goal
 
-abbrev pub invariant-loop-section : goal.invariant-loop-section
-invariant-loop-section l =
-    list_all (is_served_section l.fn.self) l.section-iterator ≡ list_all (is_served_section l.fn.self) (sections_of l.fn.self)
+abbrev pub invariant-loop-view : goal.invariant-loop-view
+invariant-loop-view l = record {
+  served : list_all (is_served_section l.fn.self) l.view-iterator ≡ list_all (is_served_section l.fn.self) (sections_of l.fn.self);
+  named : map (λ s. s.name) l.view-iterator ≡ map (λ s. name_in (section_names_of l.fn.self) s.name_offset) l.view-iterator;
+}
