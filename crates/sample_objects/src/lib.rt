@@ -1,5 +1,8 @@
-//! Object files for the tests of several crates.
+//! Object files for the tests of several crates, and what is to be made of them.
 #![tactic(auto)]
+
+ghost use Rattle.std.specs.Prelude.{◌≡◌, fold};
+ghost use Rattle.sample_objects.specs.Changes.{with_change};
 
 /// An object of 568 bytes, numbers least byte first: a section `license` (index 1, its four bytes
 /// `GPL` and a NUL at 64), a section `kprobe` (index 2, two slots at 72), a symbol table (index 3,
@@ -28,3 +31,29 @@ pub static ONE_PROGRAM: [u8; 568] = [
     0, 0, 0, 0, 0, 0, 0, 0, 0, 0, 0, 0, 0, 0, 0, 0, 0x8d, 0, 0, 0, 0, 0, 0, 0, 0x2a, 0, 0, 0, 0, 0,
     0, 0, 0, 0, 0, 0, 0, 0, 0, 0, 0, 0, 0, 0, 0, 0, 0, 0, 0, 0, 0, 0, 0, 0, 0, 0,
 ];
+
+/// The text of the plan of [`ONE_PROGRAM`].
+pub static ONE_PROGRAM_PLAN: &[u8] =
+    b"bpf-plan 1\nlicense 47504c\nversion any\ntypes none\nprogram 666f6f 1 0 0\nslots b7000000000000009500000000000000\nend\n";
+
+/// Writes a change over a file, unless it goes past the end.
+fn change(file: &mut [u8], change: &(usize, &[u8]))
+    ensures { file.new ≡ with_change file.old change.now }
+{
+    let (at, bytes) = *change;
+    if at <= file.len() && bytes.len() <= file.len() - at {
+        file[at..at + bytes.len()].copy_from_slice(bytes);
+    }
+}
+
+/// An object with other bytes at some offsets, one change after the other. A change that goes past
+/// the end is left out.
+pub fn with_bytes<const N: usize>(object: &[u8; N], changes: &[(usize, &[u8])]) -> [u8; N]
+    ensures { result ≡ fold with_change object.now changes.now }
+{
+    let mut changed = *object;
+    for one in changes {
+        change(&mut changed[..], one);
+    }
+    changed
+}
