@@ -226,6 +226,10 @@ fn says_what_is_wrong(rt: HostRuntime) -> Result<(), Fail> {
     };
     let text = format!(in rt.alloc(); "{error}")?;
     assert_eq!(rt; text.as_str(), "no function of section 2 at address 0x8");
+    let bytes = Vec::from_slice(rt.alloc(), b"GPL\0x\0")?;
+    let error = ParseError::InvalidLicense { bytes };
+    let text = format!(in rt.alloc(); "{error}")?;
+    assert_eq!(rt; text.as_str(), "invalid license \"GPL\\x00x\\x00\"");
     Ok(())
 }
 
