@@ -7,5 +7,5 @@ use Rattle.bpf_prepare.specs.declared.error.RunError.TheVariants.{Parse, NotYet}
 -- 1 where the object is refused, else 2
 abbrev pub status_of : ProgramError → ℕ
 status_of (Run (Parse e)) = 1
-status_of (Run NotYet) = 1
+status_of (Run (NotYet e)) = 1
 status_of _ = 2

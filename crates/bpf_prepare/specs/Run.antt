@@ -11,7 +11,7 @@ use Rattle.bpf_prepare.specs.declared.error.RunError.TheVariants.{Parse, NotYet,
 
 abbrev pub run_error_of : PrepareError → RunError
 run_error_of (prepare.Parse e) = Parse e
-run_error_of prepare.NotYet = NotYet
+run_error_of (prepare.NotYet e) = NotYet e
 run_error_of prepare.OutOfMemory = Parse error.OutOfMemory
 
 -- the text of the plan of an object
@@ -21,5 +21,5 @@ text_of file = plan.text_of (plan_of (object_of file))
 -- what an error says of the object's bytes
 abbrev pub IsRunRefusal : List ℕ → RunError → Type 0
 IsRunRefusal file (Parse e) = IsRefusal file (prepare.Parse e)
-IsRunRefusal file NotYet = IsRefusal file prepare.NotYet
+IsRunRefusal file (NotYet e) = IsRefusal file (prepare.NotYet e)
 IsRunRefusal file Output = Unit {0}

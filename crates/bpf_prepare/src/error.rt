@@ -5,7 +5,7 @@ ghost use Rattle.bpf_prepare.specs.Run.{run_error_of};
 ghost use Rattle.bpf_prepare.specs.declared.error.ProgramError.TheVariants.{Run};
 ghost use Rattle.bpf_prepare.specs.Program.{status_of};
 
-use load_plan::{ParseError, PrepareError};
+use load_plan::{NotYet, ParseError, PrepareError};
 use std::io;
 use thiserror::Error;
 
@@ -15,9 +15,9 @@ pub enum RunError {
     /// The object can't be parsed.
     #[error("refused: {0}")]
     Parse(ParseError),
-    /// The object asks for something that isn't there yet.
-    #[error("refused: {}", PrepareError::NotYet)]
-    NotYet,
+    /// The object has something that isn't looked at yet.
+    #[error("refused: {0}")]
+    NotYet(NotYet),
     /// The writer failed, or took nothing.
     #[error("the plan can't be written")]
     Output,
@@ -29,7 +29,7 @@ impl From<PrepareError> for RunError {
     fn from(error: PrepareError) -> RunError {
         match error {
             PrepareError::Parse(error) => RunError::Parse(error),
-            PrepareError::NotYet => RunError::NotYet,
+            PrepareError::NotYet(error) => RunError::NotYet(error),
             PrepareError::OutOfMemory => RunError::Parse(ParseError::OutOfMemory),
         }
     }
@@ -66,7 +66,7 @@ impl ProgramError {
         ensures { result ≡ status_of self.now }
     {
         match self {
-            ProgramError::Run(RunError::Parse(_) | RunError::NotYet) => 1,
+            ProgramError::Run(RunError::Parse(_) | RunError::NotYet(_)) => 1,
             _ => 2,
         }
     }

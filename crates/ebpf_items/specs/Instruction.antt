@@ -11,11 +11,12 @@ dst_reg_of slot = slot.registers % 16
 abbrev pub src_reg_of : bpf_insn → ℕ
 src_reg_of slot = slot.registers / 16
 
+-- of the register's number the low four bits count
 abbrev pub with_dst_reg : bpf_insn → ℕ → bpf_insn
-with_dst_reg slot reg = record slot { registers = src_reg_of slot * 16 + reg }
+with_dst_reg slot reg = record slot { registers = src_reg_of slot * 16 + reg % 16 }
 
 abbrev pub with_src_reg : bpf_insn → ℕ → bpf_insn
-with_src_reg slot reg = record slot { registers = reg * 16 + dst_reg_of slot }
+with_src_reg slot reg = record slot { registers = reg % 16 * 16 + dst_reg_of slot }
 
 -- the slot that eight bytes encode: code, registers, offset, immediate
 abbrev pub slot_of : List ℕ → bpf_insn

@@ -15,6 +15,31 @@ use Rattle.ebpf_items.specs.declared.maps.Map.TheVariants.{Legacy, Btf}
 abbrev pub pinning_of : ℕ → Option PinningType
 pinning_of value = if value == 0 then Some pinning.None else if value == 1 then Some pinning.ByName else None
 
+-- what a definition holds by default: zeros, and no pinning
+abbrev pub zero_map_def : bpf_map_def
+zero_map_def = record {
+  map_type = 0;
+  key_size = 0;
+  value_size = 0;
+  max_entries = 0;
+  map_flags = 0;
+  id = 0;
+  pinning = pinning.None;
+}
+
+abbrev pub zero_btf_map_def : BtfMapDef
+zero_btf_map_def = record {
+  map_type = 0;
+  key_size = 0;
+  value_size = 0;
+  max_entries = 0;
+  map_flags = 0;
+  map_extra = 0;
+  pinning = pinning.None;
+  btf_key_type_id = 0;
+  btf_value_type_id = 0;
+}
+
 -- the words that define a map
 pub record MapWords : Type 0 where
   pub map_type : ℕ

@@ -1,8 +1,9 @@
 -- What is known of a watched reader or writer.
-use Rattle.std.specs.Prelude.{◌≡◌, ℕ, ◌-◌, Bool, true, false, List, [], ◌++◌, length, take, drop, Option, refl, ◌⊎◌}
+use Rattle.std.specs.Prelude.{◌≡◌, ℕ, ◌-◌, ◌≤◌, Bool, true, false, List, [], ◌++◌, length, take, drop, Option, refl, ◌⊎◌}
 use Rattle.std.specs.Io.KnownBytes.{Appends}
 use Rattle.std.proofs.Common.{sym, ap, ◌∙◌, subst, append_assoc, take-append-drop, inl, inr}
 use Rattle.std.proofs.lemmas.List.{take_rest}
+use Rattle.std.proofs.Math.Nat.{le_refl, le_trans}
 use Rattle.std.proofs.KnownBytes.{Appends-nil, Appends-trans}
 use Rattle.ebpf_items.specs.declared.watch.Watched.{Watched}
 
@@ -28,11 +29,12 @@ abbrev pub AppendsPart : Option (List ℕ) → Option (List ℕ) → List ℕ �
 AppendsPart old new text = (rest : List ℕ) × AppendsAllBut old new text rest
 
 -- The whole text was appended, or a beginning of it where the writer has failed. One that had
--- failed before is left as it was.
+-- failed before is left as it was, and no call that may be passed on is gained.
 pub record Sends {W : Type 0} (contents : W → Option (List ℕ)) (old new : Watched W) (text : List ℕ) : Type 0 where
   pub ok : has_failed new ≡ false → (has_failed old ≡ false) × Appends (contents (watched_inner old)) (contents (watched_inner new)) text
   pub part : has_failed new ≡ true → AppendsPart (contents (watched_inner old)) (contents (watched_inner new)) text
   pub still : has_failed old ≡ true → new ≡ old
+  pub calls : calls_left new ≤ calls_left old
 
 -- ---- laws
 
@@ -74,6 +76,7 @@ module _ {W : Type 0} (contents : W → Option (List ℕ)) where
     ok = λ well. (well, Appends-nil (contents (watched_inner out)));
     part = λ _. ([], AppendsAllBut-none (contents (watched_inner out)) []);
     still = λ _. refl;
+    calls = le_refl (calls_left out);
   }
 
   -- one text is sent, and then another
@@ -91,4 +94,5 @@ module _ {W : Type 0} (contents : W → Option (List ℕ)) where
           (w.0, AppendsAllBut-after (contents (watched_inner a)) (contents (watched_inner b)) (contents (watched_inner c)) first last w.0 whole.1 w.1)
     ];
     still = λ failed. let same : b ≡ a = p.still failed in q.still (ap has_failed same ∙ failed) ∙ same;
+    calls = le_trans q.calls p.calls;
   }

@@ -19,17 +19,17 @@ pub enum ParseError {
     #[error("BTF error: {0}")]
     BtfError(BtfError),
     /// The section `license` doesn't end with a NUL.
-    #[error("license {bytes:?} doesn't end with a NUL")]
+    #[error("license \"{}\" doesn't end with a NUL", bytes.escape_ascii())]
     MissingLicenseNullTerminator {
         bytes: Vec<u8>,
     },
     /// The section `license` is too short, or holds a NUL before its last byte.
-    #[error("invalid license {bytes:?}")]
+    #[error("invalid license \"{}\"", bytes.escape_ascii())]
     InvalidLicense {
         bytes: Vec<u8>,
     },
     /// The section `version` isn't four bytes.
-    #[error("invalid kernel version {bytes:?}")]
+    #[error("invalid kernel version \"{}\"", bytes.escape_ascii())]
     InvalidKernelVersion {
         bytes: Vec<u8>,
     },

@@ -1,6 +1,6 @@
 //! One slot of the eBPF instruction set.
 
-ghost use Rattle.std.specs.Prelude.{◌≡◌, ◌<◌, length};
+ghost use Rattle.std.specs.Prelude.{◌≡◌, ◌<◌, ◌%◌, length};
 ghost use Rattle.ebpf_items.specs.Instruction.{dst_reg_of, src_reg_of, with_dst_reg, with_src_reg, slot_of, bytes_of, is_pseudo_call, is_helper_call, older_helper, calls_newer_helper, with_older_helper};
 
 // Numbers of helpers, from `enum bpf_func_id` of the kernel's `bpf.h`.
@@ -87,24 +87,22 @@ impl bpf_insn {
         self.registers / 16
     }
 
-    /// Sets the number of the destination register.
+    /// Sets the number of the destination register: the low four bits of `reg`.
     pub fn set_dst_reg(&mut self, reg: u8)
-        requires { reg < 16 }
         ensures value { self.new ≡ with_dst_reg self.old reg }
-        ensures dst { dst_reg_of self.new ≡ reg }
+        ensures dst { dst_reg_of self.new ≡ reg % 16 }
         ensures src { src_reg_of self.new ≡ src_reg_of self.old }
     {
-        self.registers = self.src_reg() * 16 + reg;
+        self.registers = self.src_reg() * 16 + reg % 16;
     }
 
-    /// Sets the number of the source register.
+    /// Sets the number of the source register: the low four bits of `reg`.
     pub fn set_src_reg(&mut self, reg: u8)
-        requires { reg < 16 }
         ensures value { self.new ≡ with_src_reg self.old reg }
-        ensures src { src_reg_of self.new ≡ reg }
+        ensures src { src_reg_of self.new ≡ reg % 16 }
         ensures dst { dst_reg_of self.new ≡ dst_reg_of self.old }
     {
-        self.registers = reg * 16 + self.dst_reg();
+        self.registers = reg % 16 * 16 + self.dst_reg();
     }
 
     /// Whether the slot calls a function of the program: `BPF_JMP | BPF_CALL` with source

@@ -5,20 +5,30 @@ ghost use Rattle.std.specs.Option.{option_map};
 ghost use Rattle.std.specs.Result.{result_ok};
 ghost use Rattle.std.specs.Borrow.{sem};
 ghost use Rattle.ebpf_items.specs.LentContents.{LendsContents};
-ghost use Rattle.ebpf_items.specs.Maps.{map_view, with_value_size, with_max_entries, inner_view, bare_view, view_of_info, pinning_of, legacy_words, btf_words};
+ghost use Rattle.ebpf_items.specs.Maps.{map_view, with_value_size, with_max_entries, zero_map_def, zero_btf_map_def, inner_view, bare_view, view_of_info, pinning_of, legacy_words, btf_words};
 
 use program_kinds::EbpfSectionKind;
 use std::alloc::{AllocError, Global};
 use thiserror::Error;
 
 /// Whether a map is pinned: kept under a name in the BPF file system.
-#[derive(Clone, Copy, Debug, PartialEq, Eq, Default)]
+#[derive(Clone, Copy, Debug, PartialEq, Eq)]
 pub enum PinningType {
     /// It isn't.
-    #[default]
     None = 0,
     /// It is, under its own name.
     ByName = 1,
+}
+
+/// Not pinned.
+impl Default for PinningType {
+    ghost use Rattle.ebpf_items.specs.declared.maps.PinningType.TheVariants as pinning;
+
+    ghost is_default = { λ p. p ≡ pinning.None };
+
+    fn default() -> PinningType {
+        PinningType::None
+    }
 }
 
 /// Why a number is no way of pinning.
@@ -45,7 +55,7 @@ impl TryFrom<u32> for PinningType {
 }
 
 /// The words that define a map of a section `maps`, sizes in bytes.
-#[derive(Clone, Copy, Debug, Default, PartialEq, Eq)]
+#[derive(Clone, Copy, Debug, PartialEq, Eq)]
 pub struct bpf_map_def {
     pub map_type: u32,
     pub key_size: u32,
@@ -56,19 +66,57 @@ pub struct bpf_map_def {
     pub pinning: PinningType,
 }
 
+/// Zeros, and no pinning.
+impl Default for bpf_map_def {
+    ghost is_default = { λ def. def ≡ zero_map_def };
+
+    fn default() -> bpf_map_def {
+        bpf_map_def {
+            map_type: 0,
+            key_size: 0,
+            value_size: 0,
+            max_entries: 0,
+            map_flags: 0,
+            id: 0,
+            pinning: PinningType::default(),
+        }
+    }
+}
+
 /// The words that define a map of a section `.maps`, sizes in bytes. The ids name types of the
 /// object's table, 0 none.
-#[derive(Clone, Copy, Debug, Default, PartialEq, Eq)]
+#[derive(Clone, Copy, Debug, PartialEq, Eq)]
 pub struct BtfMapDef {
-    pub map_type: u32,
-    pub key_size: u32,
-    pub value_size: u32,
-    pub max_entries: u32,
-    pub map_flags: u32,
-    pub map_extra: u64,
-    pub pinning: PinningType,
+    pub(crate) map_type: u32,
+    pub(crate) key_size: u32,
+    pub(crate) value_size: u32,
+    pub(crate) max_entries: u32,
+    pub(crate) map_flags: u32,
+    pub(crate) map_extra: u64,
+    pub(crate) pinning: PinningType,
+    /// The type of keys.
     pub btf_key_type_id: u32,
+    /// The type of values.
     pub btf_value_type_id: u32,
+}
+
+/// Zeros, and no pinning.
+impl Default for BtfMapDef {
+    ghost is_default = { λ def. def ≡ zero_btf_map_def };
+
+    fn default() -> BtfMapDef {
+        BtfMapDef {
+            map_type: 0,
+            key_size: 0,
+            value_size: 0,
+            max_entries: 0,
+            map_flags: 0,
+            map_extra: 0,
+            pinning: PinningType::default(),
+            btf_key_type_id: 0,
+            btf_value_type_id: 0,
+        }
+    }
 }
 
 /// What the kernel tells of a map: nine fields of `struct bpf_map_info` of its `bpf.h`.
@@ -104,10 +152,10 @@ pub struct LegacyMap {
 pub struct BtfMap {
     pub def: BtfMapDef,
     /// The words of the maps that it holds.
-    pub inner_def: Option<BtfMapDef>,
-    pub section_index: usize,
-    pub symbol_index: usize,
-    pub contents: Vec<u8>,
+    pub(crate) inner_def: Option<BtfMapDef>,
+    pub(crate) section_index: usize,
+    pub(crate) symbol_index: usize,
+    pub(crate) contents: Vec<u8>,
 }
 
 /// A map of an object, as libbpf's two ways of defining maps give it.

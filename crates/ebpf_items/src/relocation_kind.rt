@@ -1,8 +1,8 @@
 //! Kinds of type relocations.
 
-ghost use Rattle.std.specs.Prelude.{◌≡◌, IfErr, slice_get};
+ghost use Rattle.std.specs.Prelude.{◌≡◌, Some, IfErr, slice_get};
 ghost use Rattle.std.specs.Result.{result_ok};
-ghost use Rattle.ebpf_items.specs.RelocationKind.{relocation_kinds};
+ghost use Rattle.ebpf_items.specs.RelocationKind.{relocation_kinds, relocation_kind_number};
 ghost use Rattle.btf_records.specs.declared.error.BtfError.TheVariants.{InvalidRelocationKind};
 
 use btf_records::BtfError;
@@ -35,6 +35,16 @@ pub enum RelocationKind {
     EnumVariantExists = 10,
     /// The value of a variant of an enum.
     EnumVariantValue = 11,
+}
+
+impl RelocationKind {
+    /// Its number in the kernel's `bpf.h`, from which `try_from` gives it back.
+    pub fn number(self) -> u32
+        ensures value { result ≡ relocation_kind_number self }
+        ensures entry { slice_get relocation_kinds result ≡ Some self }
+    {
+        self as u32
+    }
 }
 
 const RELOCATION_KINDS: [RelocationKind; 12] = [

@@ -1,182 +1,173 @@
-//! Worked slots, names and numbers, and memory that runs out.
+//! Worked slots, names and numbers.
 
-ghost use Rattle.std.specs.Prelude.{◌≡◌, ◌+◌, ◌≤◌, length, take};
+ghost use Rattle.std.specs.Prelude.{◌≡◌, take};
 ghost use Rattle.ebpf_items.specs.Maps.{map_view};
 
 use crate::{
-    BtfMap, BtfMapDef, EbpfSectionKind, LegacyMap, Map, ParseError, PinningError, PinningType,
-    RelocationKind, Section, Slots, bpf_insn, bpf_map_def, bpf_map_info, copy_instructions,
-    parse_map_info,
+    BtfMap, BtfMapDef, EbpfSectionKind, LegacyMap, Map, ParseError, PinningType, RelocationKind,
+    Section, Slots, bpf_insn, bpf_map_def, bpf_map_info, copy_instructions, parse_map_info,
 };
 use elf64::{ElfError, ElfFile};
+use sample_objects::{ONE_PROGRAM, with_bytes};
 use std::alloc::Global;
 use std::test::Fail;
 
 const CALL: [u8; 8] = [0x85, 0x10, 0, 0, 0xff, 0xff, 0xff, 0xff];
 
-// Calls of bpf_probe_read_kernel and bpf_probe_read_kernel_str.
-const PROBES: &[u8] = &[
-    0x85, 0, 0, 0, 0x71, 0, 0, 0, 0x85, 0, 0, 0, 0x73, 0, 0, 0, 0x95, 0, 0, 0, 0, 0, 0, 0,
+// Slots, with their code, offset, immediate, destination and source.
+const SLOTS: [([u8; 8], (u8, i16, i32, u8, u8)); 3] = [
+    (CALL, (0x85, 0, -1, 0, 1)),
+    ([0x18, 0x21, 0, 0, 4, 0, 0, 0], (0x18, 0, 4, 1, 2)),
+    ([0x61, 0x10, 0xff, 0x7f, 0, 0, 0, 0], (0x61, 32767, 0, 0, 1)),
 ];
 
 #[test]
 fn encodes_slots(rt: HostRuntime) {
-    let call = bpf_insn::from_bytes(CALL);
-    assert_eq!(rt; (call.code, call.off, call.imm), (0x85, 0, -1));
-    assert_eq!(rt; (call.dst_reg(), call.src_reg()), (0, 1));
-    assert!(rt; call.is_pseudo_call());
-    assert_eq!(rt; call.to_bytes(), CALL);
-    let mut load = bpf_insn::from_bytes([0x18, 0x01, 0, 0, 4, 0, 0, 0]);
-    assert!(rt; !load.is_pseudo_call());
-    load.set_src_reg(2);
-    load.imm = 9;
-    assert_eq!(rt; load.to_bytes(), [0x18, 0x21, 0, 0, 9, 0, 0, 0]);
-    load.set_dst_reg(15);
-    assert_eq!(rt; load.to_bytes(), [0x18, 0x2f, 0, 0, 9, 0, 0, 0]);
-    let store = bpf_insn::from_bytes([0x61, 0x10, 0xff, 0x7f, 0, 0, 0, 0]);
-    assert_eq!(rt; store.off, 32767);
+    for (bytes, numbers) in SLOTS.iter() {
+        let mut slot = bpf_insn::from_bytes(*bytes);
+        assert_eq!(rt;
+            (
+                slot.code,
+                slot.off,
+                slot.imm,
+                slot.dst_reg(),
+                slot.src_reg()
+            ),
+            *numbers
+        );
+        assert_eq!(rt; slot.to_bytes(), *bytes);
+        assert_eq!(rt; slot.is_pseudo_call(), *bytes == CALL);
+        // Of a register's number the low four bits count.
+        slot.set_dst_reg(0xff);
+        slot.set_src_reg(0x12);
+        assert_eq!(rt; slot.to_bytes()[1], 0x2f);
+    }
 }
 
-fn immediates(slots: &Slots<'_>) -> (Option<i32>, Option<i32>) {
+// Calls of bpf_probe_read_kernel and bpf_probe_read_kernel_str, and an exit.
+const PROBES: &[u8] = &[
+    0x85, 0, 0, 0, 0x71, 0, 0, 0, 0x85, 0, 0, 0, 0x73, 0, 0, 0, 0x95, 0, 0, 0, 0, 0, 0, 0,
+];
+
+// Whether the slots stand in the file, how many there are, and the first two immediates.
+fn seen(slots: &Slots<'_>) -> (bool, usize, Option<i32>, Option<i32>) {
     (
+        slots.is_borrowed(),
+        slots.len(),
         slots.get(0).map(|slot| slot.imm),
         slots.get(1).map(|slot| slot.imm),
     )
 }
 
 #[test]
-fn renames_helpers_in_the_file(rt: HostRuntime) -> Result<(), Fail> {
+fn keeps_slots_in_the_file(rt: HostRuntime) -> Result<(), Fail> {
     let mut slots = Slots::borrowed(rt.alloc(), PROBES).ok_or("whole slots")?;
-    assert!(rt; slots.iter().any(|slot| slot.calls_newer_helper()));
-    assert_eq!(rt; immediates(&slots), (Some(113), Some(115)));
+    assert_eq!(rt; seen(&slots), (true, 3, Some(113), Some(115)));
     slots.rename_helpers();
-    assert!(rt; slots.is_borrowed());
-    assert_eq!(rt; immediates(&slots), (Some(4), Some(45)));
-    assert_eq!(rt; slots.len(), 3);
-    assert!(rt; slots.get(3).is_none());
+    assert_eq!(rt; seen(&slots), (true, 3, Some(4), Some(45)));
     assert!(rt; !slots.iter().any(|slot| slot.calls_newer_helper()));
+    let mut copy = slots.try_clone()?;
+    assert_eq!(rt; seen(&copy), (true, 3, Some(4), Some(45)));
+    assert!(rt; copy.len() > 1);
+    copy.set(1, bpf_insn::from_bytes(CALL))?;
+    assert_eq!(rt; seen(&copy), (false, 3, Some(4), Some(-1)));
+    assert_eq!(rt; seen(&slots), (true, 3, Some(4), Some(45)));
+    let again = copy.try_clone()?;
+    assert_eq!(rt; seen(&again), (false, 3, Some(4), Some(-1)));
     Ok(())
 }
 
-// Writes slot 1. Where memory runs out, everything is as before.
-#[test]
-fn writes_a_slot(rt: HostRuntime) -> Result<(), Fail> {
-    let mut slots = Slots::borrowed(rt.alloc(), PROBES).ok_or("whole slots")?;
-    slots.rename_helpers();
-    if slots.set(1, bpf_insn::from_bytes(CALL)).is_err() {
-        assert!(rt; slots.is_borrowed());
-        assert_eq!(rt; immediates(&slots), (Some(4), Some(45)));
-        return Ok(());
-    }
-    assert!(rt; !slots.is_borrowed());
-    assert_eq!(rt; immediates(&slots), (Some(4), Some(-1)));
-    slots.rename_helpers();
-    assert_eq!(rt; immediates(&slots), (Some(4), Some(-1)));
-    let Ok(copy) = slots.try_clone() else {
-        return Ok(());
-    };
-    assert_eq!(rt; immediates(&copy), (Some(4), Some(-1)));
-    Ok(())
+// Whether a list of slots is made of bytes, which it isn't of a cut slot.
+fn is_code(alloc: Global, bytes: &[u8]) -> bool {
+    !matches!(
+        copy_instructions(alloc, bytes),
+        Err(ParseError::InvalidProgramCode)
+    )
 }
 
 #[test]
 fn copies_whole_slots(rt: HostRuntime) -> Result<(), Fail> {
-    let list = match copy_instructions(rt.alloc(), PROBES) {
-        Ok(list) => list,
-        Err(ParseError::OutOfMemory) => return Ok(()),
+    let mut slots = match copy_instructions(rt.alloc(), PROBES) {
+        Ok(list) => Slots::owned(list),
         Err(_) => return Err(Fail::from("refused")),
     };
-    assert_eq!(rt; list.len(), 3);
-    assert_eq!(rt; list[1].imm, 115);
-    assert!(rt;
-        matches!(
-            copy_instructions(rt.alloc(), &PROBES[..12]),
-            Err(ParseError::InvalidProgramCode)
-        )
-    );
-    assert!(rt; Slots::borrowed(rt.alloc(), &PROBES[..7]).is_none());
-    let mut slots = Slots::owned(list);
-    assert!(rt; !slots.is_borrowed());
     slots.rename_helpers();
-    assert_eq!(rt; immediates(&slots), (Some(4), Some(45)));
+    assert_eq!(rt; seen(&slots), (false, 3, Some(4), Some(45)));
     let mut program = Vec::new(rt.alloc());
-    if slots.append_to(&mut program).is_ok() && slots.append_to(&mut program).is_ok() {
-        assert_eq!(rt; program.len(), 6);
-        assert_eq!(rt; program[4].imm, 45);
-    }
+    slots.append_to(&mut program)?;
+    slots.append_to(&mut program)?;
+    assert_eq!(rt; program.len(), 6);
+    assert!(rt; !is_code(rt.alloc(), &CALL[..7]));
+    assert!(rt; is_code(rt.alloc(), &CALL));
     Ok(())
 }
 
 #[test]
 fn numbers_kinds(rt: HostRuntime) {
-    assert!(rt;
-        matches!(
-            RelocationKind::try_from(0),
-            Ok(RelocationKind::FieldByteOffset)
-        )
+    assert_eq!(rt;
+        RelocationKind::try_from(0).ok(),
+        Some(RelocationKind::FieldByteOffset)
     );
-    assert!(rt;
-        matches!(
-            RelocationKind::try_from(11),
-            Ok(RelocationKind::EnumVariantValue)
-        )
+    assert_eq!(rt;
+        RelocationKind::try_from(11).ok(),
+        Some(RelocationKind::EnumVariantValue)
     );
-    assert!(rt; RelocationKind::try_from(12).is_err());
-    assert!(rt; matches!(PinningType::try_from(1), Ok(PinningType::ByName)));
-    assert!(rt;
-        matches!(
-            PinningType::try_from(2),
-            Err(PinningError::Unsupported { pinning_type: 2 })
-        )
-    );
+    assert_eq!(rt; RelocationKind::try_from(12).ok(), None);
+    assert_eq!(rt; RelocationKind::TypeIdLocal.number(), 6);
+    assert_eq!(rt; PinningType::try_from(1).ok(), Some(PinningType::ByName));
+    assert_eq!(rt; PinningType::try_from(2).ok(), None);
 }
 
-const INFO: bpf_map_info = bpf_map_info {
-    type_: 1,
-    id: 7,
-    key_size: 4,
-    value_size: 8,
-    max_entries: 16,
-    map_flags: 128,
-    map_extra: 5,
-    btf_key_type_id: 0,
-    btf_value_type_id: 0,
-};
+// What the kernel tells of a map, with ids of the types of its keys and values.
+fn told(key: u32, value: u32) -> bpf_map_info {
+    bpf_map_info {
+        type_: 1,
+        id: 7,
+        key_size: 4,
+        value_size: 8,
+        max_entries: 16,
+        map_flags: 128,
+        map_extra: 5,
+        btf_key_type_id: key,
+        btf_value_type_id: value,
+    }
+}
+
+// Type, sizes of keys and values, entries, flags and the extra word.
+fn words(map: &Map) -> (u32, u32, u32, u32, u32, u64) {
+    (
+        map.map_type(),
+        map.key_size(),
+        map.value_size(),
+        map.max_entries(),
+        map.map_flags(),
+        map.map_extra(),
+    )
+}
+
+// Pinning, the section's index and kind, and the symbol.
+fn place(map: &Map) -> (PinningType, usize, EbpfSectionKind, Option<usize>) {
+    (
+        map.pinning(),
+        map.section_index(),
+        map.section_kind(),
+        map.symbol_index(),
+    )
+}
 
 #[test]
 fn reads_what_the_kernel_tells(rt: HostRuntime) {
-    let legacy = parse_map_info(rt.alloc(), INFO, PinningType::ByName);
-    assert!(rt; matches!(&legacy, Map::Legacy(map) if map.def.id == 7));
-    assert_eq!(rt; legacy.section_kind(), EbpfSectionKind::Undefined);
-    assert_eq!(rt;
-        (legacy.map_type(), legacy.key_size(), legacy.value_size()),
-        (1, 4, 8)
-    );
-    assert_eq!(rt;
-        (legacy.max_entries(), legacy.map_flags(), legacy.map_extra()),
-        (16, 128, 0)
-    );
-    assert_eq!(rt; legacy.pinning(), PinningType::ByName);
-    assert_eq!(rt; legacy.symbol_index(), None);
-    let keyless = bpf_map_info {
-        btf_value_type_id: 3,
-        ..INFO
-    };
-    let btf = parse_map_info(rt.alloc(), keyless, PinningType::None);
-    assert!(rt; matches!(&btf, Map::Btf(map) if map.def.btf_value_type_id == 3));
-    assert_eq!(rt; btf.section_kind(), EbpfSectionKind::BtfMaps);
-    assert_eq!(rt; btf.map_extra(), 5);
-    assert_eq!(rt; btf.symbol_index(), Some(0));
-    let keyed = bpf_map_info {
-        btf_key_type_id: 3,
-        ..INFO
-    };
-    assert!(rt;
-        matches!(
-            parse_map_info(rt.alloc(), keyed, PinningType::None),
-            Map::Legacy(_)
-        )
-    );
+    for (key, value, is_btf) in [(0, 0, false), (3, 0, false), (0, 3, true)] {
+        let map = parse_map_info(rt.alloc(), told(key, value), PinningType::ByName);
+        assert_eq!(rt; matches!(map, Map::Btf(_)), is_btf);
+        let (extra, kind, symbol) = if is_btf {
+            (5, EbpfSectionKind::BtfMaps, Some(0))
+        } else {
+            (0, EbpfSectionKind::Undefined, None)
+        };
+        assert_eq!(rt; words(&map), (1, 4, 8, 16, 128, extra));
+        assert_eq!(rt; place(&map), (PinningType::ByName, 0, kind, symbol));
+    }
 }
 
 // Keeps so many bytes of a map.
@@ -186,82 +177,44 @@ fn shorten(map: &mut Map, count: usize)
     map.data_mut().truncate(count);
 }
 
-fn rodata(alloc: Global, contents: Vec<u8>) -> Map {
-    let bare = Map::new_from_params(alloc, 2, 4, 8, 1, 128);
-    match bare {
-        Map::Legacy(map) => Map::Legacy(LegacyMap {
-            inner_def: Some(bpf_map_def::default()),
-            section_index: 3,
-            section_kind: EbpfSectionKind::Rodata,
-            contents,
-            ..map
-        }),
-        map => map,
+// A map of constants, and a map that types define, each holding maps.
+fn outer_maps(alloc: Global, contents: Vec<u8>, more: Vec<u8>) -> [Map; 2] {
+    let constants = LegacyMap {
+        def: bpf_map_def::default(),
+        inner_def: Some(bpf_map_def::default()),
+        section_index: 3,
+        section_kind: EbpfSectionKind::Rodata,
+        symbol_index: Some(1),
+        contents,
+    };
+    let typed = BtfMap {
+        def: BtfMapDef::default(),
+        inner_def: Some(BtfMapDef::default()),
+        section_index: 3,
+        symbol_index: 1,
+        contents: more,
+    };
+    [Map::Legacy(constants), Map::Btf(typed)]
+}
+
+#[test]
+fn changes_maps(rt: HostRuntime) -> Result<(), Fail> {
+    let bytes = Vec::from_slice(rt.alloc(), &[1, 2, 3, 4, 5, 6, 7, 8])?;
+    let more = Vec::from_slice(rt.alloc(), &[1, 2, 3, 4])?;
+    for mut map in outer_maps(rt.alloc(), bytes, more) {
+        let copy = map.try_clone()?;
+        map.set_value_size(24);
+        map.set_max_entries(2);
+        shorten(&mut map, 3);
+        assert_eq!(rt; words(&map), (0, 0, 24, 2, 0, 0));
+        assert_eq!(rt; map.data(), [1, 2, 3].as_slice());
+        assert_eq!(rt; words(&copy), (0, 0, 0, 0, 0, 0));
+        assert!(rt; copy.data().len() > 3);
+        assert_eq!(rt; (copy.section_index(), copy.symbol_index()), (3, Some(1)));
+        let inner = copy.inner().ok_or("an inner map")?;
+        assert_eq!(rt; (inner.section_index(), inner.data().len()), (0, 0));
+        assert!(rt; inner.inner().is_none());
     }
-}
-
-#[test]
-fn changes_a_map(rt: HostRuntime) -> Result<(), Fail> {
-    let Ok(contents) = Vec::from_slice(rt.alloc(), &[1, 2, 3, 4, 5, 6, 7, 8]) else {
-        return Ok(());
-    };
-    let mut map = rodata(rt.alloc(), contents);
-    let Ok(copy) = map.try_clone() else {
-        return Ok(());
-    };
-    map.set_value_size(4);
-    map.set_max_entries(2);
-    shorten(&mut map, 4);
-    assert_eq!(rt;
-        (map.value_size(), map.max_entries(), map.map_flags()),
-        (4, 2, 128)
-    );
-    assert_eq!(rt; map.data(), [1, 2, 3, 4].as_slice());
-    assert_eq!(rt;
-        (copy.value_size(), copy.max_entries(), copy.data().len()),
-        (8, 1, 8)
-    );
-    assert_eq!(rt;
-        (copy.section_index(), copy.section_kind()),
-        (3, EbpfSectionKind::Rodata)
-    );
-    let inner = copy.inner().ok_or("an inner map")?;
-    assert_eq!(rt;
-        (inner.map_type(), inner.section_index(), inner.data().len()),
-        (0, 0, 0)
-    );
-    assert!(rt; inner.inner().is_none());
-    Ok(())
-}
-
-#[test]
-fn changes_a_map_of_types(rt: HostRuntime) -> Result<(), Fail> {
-    let inner_def = Some(BtfMapDef {
-        map_type: 2,
-        map_extra: 6,
-        btf_value_type_id: 9,
-        ..BtfMapDef::default()
-    });
-    let told = bpf_map_info {
-        btf_value_type_id: 3,
-        ..INFO
-    };
-    let mut map = match parse_map_info(rt.alloc(), told, PinningType::ByName) {
-        Map::Btf(map) => Map::Btf(BtfMap { inner_def, ..map }),
-        map => map,
-    };
-    map.set_value_size(24);
-    map.set_max_entries(2);
-    assert_eq!(rt;
-        (map.key_size(), map.value_size(), map.max_entries()),
-        (4, 24, 2)
-    );
-    assert_eq!(rt; map.pinning(), PinningType::ByName);
-    let inner = map.inner().ok_or("an inner map")?;
-    assert!(rt; matches!(&inner, Map::Btf(map) if map.def.btf_value_type_id == 9));
-    assert_eq!(rt; (inner.map_type(), inner.map_extra()), (2, 6));
-    assert_eq!(rt; inner.section_kind(), EbpfSectionKind::BtfMaps);
-    assert!(rt; inner.inner().is_none());
     Ok(())
 }
 
@@ -271,90 +224,55 @@ fn says_what_is_wrong(rt: HostRuntime) -> Result<(), Fail> {
         section_index: 2,
         address: 8,
     };
-    if let Ok(text) = format!(in rt.alloc(); "{error}") {
-        assert_eq!(rt; text.as_str(), "no function of section 2 at address 0x8");
-    }
+    let text = format!(in rt.alloc(); "{error}")?;
+    assert_eq!(rt; text.as_str(), "no function of section 2 at address 0x8");
+    let bytes = Vec::from_slice(rt.alloc(), b"GPL\0x\0")?;
+    let error = ParseError::InvalidLicense { bytes };
+    let text = format!(in rt.alloc(); "{error}")?;
+    assert_eq!(rt; text.as_str(), "invalid license \"GPL\\x00x\\x00\"");
     Ok(())
 }
 
-const LEN: usize = 272;
+// Where the program's section of the sample has its name and its offset.
+const NAME: usize = 312;
 
-fn put(file: &mut [u8; LEN], at: usize, bytes: &[u8])
-    requires { at + length bytes.now ≤ LEN }
-{
-    file[at..at + bytes.len()].copy_from_slice(bytes);
-}
+const OFFSET: usize = 336;
 
-// A file whose section 1, `kprobe`, holds eight bytes of code from an offset on. Section 2 holds
-// the names.
-fn object(offset: u8) -> [u8; LEN] {
-    let mut file = [0; LEN];
-    put(&mut file, 0, &[0x7f, b'E', b'L', b'F', 2, 1]);
-    put(&mut file, 40, &[80]);
-    put(&mut file, 58, &[64, 0, 3, 0, 2]);
-    put(&mut file, 64, b"\0kprobe\0");
-    put(&mut file, 72, &[0x95]);
-    put(&mut file, 144, &[1, 0, 0, 0, 1, 0, 0, 0, 6]);
-    put(&mut file, 144 + 16, &[0x20]);
-    put(&mut file, 144 + 24, &[offset]);
-    put(&mut file, 144 + 32, &[8]);
-    put(&mut file, 208 + 4, &[3]);
-    put(&mut file, 208 + 24, &[64]);
-    put(&mut file, 208 + 32, &[8]);
-    file
-}
-
-#[test]
-fn reads_a_section(rt: HostRuntime) -> Result<(), Fail> {
-    let bytes = object(72);
-    let file = ElfFile::parse(&bytes)?;
-    let view = file.section_by_name("kprobe").ok_or("no section")?;
+// The index, address, size and kind of the program's section, or why it can't be read.
+fn section(object: &[u8]) -> Result<(usize, u64, u64, EbpfSectionKind), ParseError> {
+    let file = ElfFile::parse(object)?;
+    let Some(view) = file.sections().nth(1) else {
+        return Err(ParseError::NoBTF);
+    };
     let section = Section::try_from(&view)?;
-    assert_eq!(rt;
-        (section.index, section.name, section.size),
-        (1, "kprobe", 8)
-    );
-    assert_eq!(rt;
-        (section.kind, section.address),
-        (EbpfSectionKind::Program, 0x20)
-    );
-    assert_eq!(rt; section.bytes, [0x95, 0, 0, 0, 0, 0, 0, 0].as_slice());
-    Ok(())
+    Ok((section.index, section.address, section.size, section.kind))
 }
 
 #[test]
-fn refuses_a_section_past_the_end(rt: HostRuntime) -> Result<(), Fail> {
-    let mut bytes = object(72);
-    bytes[144 + 25] = 1;
-    let file = ElfFile::parse(&bytes)?;
-    let view = file.section_by_name("kprobe").ok_or("no section")?;
+fn reads_sections(rt: HostRuntime) {
+    let section_of = |at: usize, bytes: &[u8]| section(&with_bytes(&ONE_PROGRAM, &[(at, bytes)]));
     assert!(rt;
         matches!(
-            Section::try_from(&view),
+            section_of(OFFSET, &[0x48]),
+            Ok((2, 0, 16, EbpfSectionKind::Program))
+        )
+    );
+    assert!(rt;
+        matches!(
+            section_of(OFFSET, &[0, 0, 0, 1]),
             Err(ParseError::SectionError {
-                index: 1,
+                index: 2,
                 error: ElfError::SectionData
             })
         )
     );
-    Ok(())
-}
-
-#[test]
-fn refuses_a_section_whose_name_is_no_text(rt: HostRuntime) -> Result<(), Fail> {
-    let mut bytes = object(72);
-    bytes[65] = 0xff;
-    let file = ElfFile::parse(&bytes)?;
-    assert!(rt; file.section_by_name("kprobe").is_none());
-    let view = file.sections().next().ok_or("no section")?;
     assert!(rt;
         matches!(
-            Section::try_from(&view),
+            section_of(NAME, &[0, 0, 0, 1]),
             Err(ParseError::SectionError {
-                index: 1,
+                index: 2,
                 error: ElfError::Name
             })
         )
     );
-    Ok(())
 }

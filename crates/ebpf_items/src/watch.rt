@@ -1,6 +1,6 @@
 //! Readers and writers that keep whether they failed.
 
-ghost use Rattle.std.specs.Prelude.{◌≡◌, ◌+◌, ◌-◌, ◌<◌, ◌^◌, ◌↔◌, ◌⊎◌, true, false, length, IfOk, OnOk, OnErr, IsErr};
+ghost use Rattle.std.specs.Prelude.{◌≡◌, ◌+◌, ◌-◌, ◌≤◌, ◌<◌, ◌^◌, ◌↔◌, ◌⊎◌, true, false, length, IfOk, OnOk, OnErr, IsErr};
 ghost use Rattle.std.specs.Io.{ReadsAtMost, WritesAtMost};
 ghost use Rattle.std.specs.Io.KnownBytes.{Appends, ReadConsumes, WriteAppends};
 ghost use Rattle.ebpf_items.specs.Watched.{watched_inner, has_failed, calls_left, AppendsPart, Sends};
@@ -44,6 +44,24 @@ impl<T> Watched<T> {
     {
         self.has_failed
     }
+
+    /// Counts a call that is to be passed on. After a failure, or where no call is left, this
+    /// fails.
+    fn count_call(&mut self) -> io::Result<()>
+        ensures inner { watched_inner self.new ≡ watched_inner self.old }
+        ensures counted { OnOk result ((calls_left self.new + 1 ≡ calls_left self.old) × (has_failed self.old ≡ false)) }
+        ensures refused { OnErr result ((has_failed self.old ≡ true) ⊎ (calls_left self.old ≡ 0)) }
+        ensures kept { OnErr result (calls_left self.new ≡ calls_left self.old) }
+        ensures failed { IsErr result ↔ (has_failed self.new ≡ true) }
+        ensures at_once { has_failed self.old ≡ true → self.new ≡ self.old }
+    {
+        if self.has_failed || self.calls_left == 0 {
+            self.has_failed = true;
+            return Err(io::Error::from(ErrorKind::Other));
+        }
+        self.calls_left -= 1;
+        Ok(())
+    }
 }
 
 // What a write comes to: a write that takes nothing of something fails.
@@ -67,16 +85,11 @@ impl<R: Read> Watched<R> {
         ensures counted { OnOk result ((calls_left self.new + 1 ≡ calls_left self.old) × (has_failed self.old ≡ false)) }
         ensures passed_on { has_failed self.old ≡ false → 0 < calls_left self.old → calls_left self.new + 1 ≡ calls_left self.old }
         ensures exhausted { calls_left self.old ≡ 0 → watched_inner self.new ≡ watched_inner self.old }
+        ensures calls { calls_left self.new ≤ calls_left self.old }
     {
-        if self.has_failed || self.calls_left == 0 {
-            self.has_failed = true;
-            return Err(io::Error::from(ErrorKind::Other));
-        }
-        self.calls_left -= 1;
+        self.count_call()?;
         let count = self.inner.read(buf);
-        if count.is_err() {
-            self.has_failed = true;
-        }
+        self.has_failed = count.is_err();
         count
     }
 }
@@ -91,17 +104,12 @@ impl<W: Write> Watched<W> {
         ensures counted { OnOk result ((calls_left self.new + 1 ≡ calls_left self.old) × (has_failed self.old ≡ false)) }
         ensures passed_on { has_failed self.old ≡ false → 0 < calls_left self.old → calls_left self.new + 1 ≡ calls_left self.old }
         ensures exhausted { calls_left self.old ≡ 0 → watched_inner self.new ≡ watched_inner self.old }
+        ensures calls { calls_left self.new ≤ calls_left self.old }
         ensures moves { IfOk result (λ count. 0 < length buf.now → 0 < count) }
     {
-        if self.calls_left == 0 || self.has_failed {
-            self.has_failed = true;
-            return Err(io::Error::from(ErrorKind::Other));
-        }
-        self.calls_left -= 1;
+        self.count_call()?;
         let count = judged(self.inner.write(buf), !buf.is_empty());
-        if count.is_err() {
-            self.has_failed = true;
-        }
+        self.has_failed = count.is_err();
         count
     }
 
@@ -111,6 +119,7 @@ impl<W: Write> Watched<W> {
         ensures part { OnErr result (AppendsPart (W.contents (watched_inner self.old)) (W.contents (watched_inner self.new)) buf.now) }
         ensures failed { IsErr result ↔ (has_failed self.new ≡ true) }
         ensures at_once { has_failed self.old ≡ true → self.new ≡ self.old }
+        ensures calls { calls_left self.new ≤ calls_left self.old }
     {
         if self.has_failed {
             return Err(io::Error::from(ErrorKind::Other));

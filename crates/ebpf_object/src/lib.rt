@@ -26,6 +26,7 @@ pub use ebpf_items::{
 pub use file::ObjectFile;
 pub use object::Object;
 pub use program::{Function, Program};
+pub use served::{Subject, Unserved};
 
 #[cfg(test)]
 mod tests;

@@ -41,11 +41,9 @@ pub encode_lower-more : (bytes : List ℕ) (i : ℕ) → i < length bytes → en
 encode_lower-more bytes i within =
     ap encode_lower (take_more bytes i 0 within) ∙ encode_with-append lower_digits (take i bytes) (get_or bytes i 0 ∷ [])
 
-pub slot_digits-more : (slots : List bpf_insn) (i : ℕ) (slot : bpf_insn) → i < length slots → encode_lower (slot_bytes (take (i + 1) slots)) ≡ encode_lower (slot_bytes (take i slots)) ++ encode_lower (bytes_of (get_or slots i slot))
-slot_digits-more slots i slot within =
-    ap (λ some. encode_lower (slot_bytes some)) (take_more slots i slot within)
-    ∙ ap encode_lower (flat_map-append bytes_of (take i slots) (get_or slots i slot ∷ []) ∙ ap (λ last. slot_bytes (take i slots) ++ last) (append-nil (bytes_of (get_or slots i slot))))
-    ∙ encode_with-append lower_digits (slot_bytes (take i slots)) (bytes_of (get_or slots i slot))
+-- the digits of a slot, and then those of others
+pub slot_digits-first : (slot : bpf_insn) (slots : List bpf_insn) → encode_lower (slot_bytes (slot ∷ slots)) ≡ encode_lower (bytes_of slot) ++ encode_lower (slot_bytes slots)
+slot_digits-first slot slots = encode_with-append lower_digits (bytes_of slot) (slot_bytes slots)
 
 pub program_lines-more : (programs : List ProgramContent) (i : ℕ) (program : ProgramContent) → i < length programs → text_of_lines (flat_map program_lines (take (i + 1) programs)) ≡ text_of_lines (flat_map program_lines (take i programs)) ++ text_of_lines (program_lines (get_or programs i program))
 program_lines-more programs i program within =

@@ -3,13 +3,14 @@ use Rattle.std.specs.Prelude.{◌≡◌, ◌≢◌, ◌⊎◌, ℕ, List, [], ma
 use Rattle.std.specs.BTreeMap.{is_at}
 use Rattle.std.specs.Map.{lookup}
 use Rattle.std.specs.Option.{option_map_or}
+use Rattle.std.specs.String.{string_bytes}
 use Rattle.ebpf_items.specs.declared.error.ParseError.TheVariants as error
 use Rattle.ebpf_items.specs.declared.instruction.bpf_insn.{bpf_insn}
 use Rattle.ebpf_object.specs.Content as object
 use Rattle.ebpf_object.specs.Faults.{HasFault, IsFaultless}
 use Rattle.ebpf_object.specs.Programs.{key_cmp}
 use Rattle.ebpf_object.specs.Reading.{HasReadingFault, IsReadable}
-use Rattle.ebpf_object.specs.Served.{is_served}
+use Rattle.ebpf_object.specs.Served.{is_served, AsksFor, name_at}
 use Rattle.load_plan.specs.Content.{PlanContent, ProgramContent}
 use Rattle.load_plan.specs.declared.error.PrepareError.{PrepareError}
 use Rattle.load_plan.specs.declared.error.PrepareError.TheVariants.{Parse, NotYet, OutOfMemory}
@@ -31,10 +32,11 @@ abbrev pub plan_of : object.ObjectContent → PlanContent
 plan_of o = record { license = o.license; version = o.kernel_version; programs = map (plan_program_of o.functions) o.programs }
 
 -- What a refusal says of a file, memory apart: a fault of reading, or that an object whose sections can be read isn't
--- served, or another fault of one that is.
+-- served, of which a section that isn't is named, or another fault of one that is.
 abbrev pub IsRefusal : List ℕ → PrepareError → Type 0
 IsRefusal file (Parse e) = e ≢ error.OutOfMemory → HasReadingFault file e ⊎ (IsReadable file × (is_served file ≡ true) × HasFault file e)
-IsRefusal file NotYet = IsReadable file × (is_served file ≡ false)
+IsRefusal file (NotYet n) =
+    IsReadable file × (is_served file ≡ false) × AsksFor file n.subject n.index × (string_bytes n.name ≡ name_at file n.index)
 IsRefusal file OutOfMemory = Unit {0}
 
 -- what is known of a file whose plan is made

@@ -4,8 +4,31 @@ ghost use Rattle.std.specs.Prelude.{◌≡◌};
 ghost use Rattle.load_plan.specs.declared.error.PrepareError.TheVariants.{Parse, OutOfMemory};
 
 use ebpf_items::ParseError;
+use ebpf_object::Subject;
 use std::alloc::{AllocError, AllocFailed};
 use thiserror::Error;
+
+/// What a section of an object has that isn't looked at yet.
+#[derive(Debug, Drop, Error)]
+#[error("not yet: {} in section {index} {name:?}", words(*subject))]
+pub struct NotYet {
+    pub subject: Subject,
+    /// The section's index in the section header table.
+    pub index: usize,
+    /// The section's name.
+    pub name: String,
+}
+
+fn words(subject: Subject) -> &'static str {
+    match subject {
+        Subject::Maps => "maps",
+        Subject::Types => "types",
+        Subject::Data => "variables",
+        Subject::Functions => "functions",
+        Subject::Relocations => "relocations",
+        Subject::Calls => "calls of functions",
+    }
+}
 
 /// Why an object gets no plan.
 #[derive(Debug, Drop, Error)]
@@ -13,10 +36,9 @@ pub enum PrepareError {
     /// The object can't be parsed.
     #[error("{0}")]
     Parse(ParseError),
-    /// The object asks for something that isn't there yet: maps, types, data, functions in
-    /// `.text`, relocations or calls of other functions.
-    #[error("not yet: the object has maps, types, data, functions in .text, relocations or calls")]
-    NotYet,
+    /// The object has something that isn't looked at yet.
+    #[error("{0}")]
+    NotYet(NotYet),
     /// Memory ran out.
     #[error("out of memory")]
     OutOfMemory,

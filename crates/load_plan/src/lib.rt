@@ -7,8 +7,8 @@ mod planning;
 mod program_kind;
 mod writing;
 
-pub use ebpf_object::{ParseError, ProgramSection, Watched, bpf_insn};
-pub use error::PrepareError;
+pub use ebpf_object::{ParseError, ProgramSection, Slots, Subject, Watched, bpf_insn};
+pub use error::{NotYet, PrepareError};
 pub use plan::{Plan, PlanProgram};
 pub use planning::prepare;
 

@@ -5,32 +5,31 @@ ghost use Rattle.ebpf_object.specs.License.{HasNoNul};
 ghost use Rattle.ebpf_object.specs.Version.{IsKnownVersion};
 ghost use Rattle.load_plan.specs.Content.{AreRising};
 
-use ebpf_items::{ProgramSection, bpf_insn};
+use ebpf_items::{ProgramSection, Slots};
 use std::marker::Model;
 
 /// A program of a plan.
 #[derive(Debug, Drop)]
-pub struct PlanProgram {
-    pub(crate) name: String,
+pub struct PlanProgram<'a> {
+    pub(crate) name: &'a str,
     pub(crate) section: ProgramSection,
-    pub(crate) slots: Vec<bpf_insn>,
+    pub(crate) slots: Slots<'a>,
 }
 
-impl Model for PlanProgram {
-    ghost use Rattle.std.specs.String.{string_bytes};
+impl<'a> Model for PlanProgram<'a> {
     ghost use Rattle.load_plan.specs.Content.{ProgramContent};
 
     ghost Value = { ProgramContent };
 
-    ghost view = { λ p. record { name = string_bytes p.name; section = p.section; slots = p.slots.items } };
+    ghost view = { λ p. record { name = p.name.now; section = p.section; slots = p.slots } };
 }
 
-impl PlanProgram {
+impl<'a> PlanProgram<'a> {
     /// The program's name in the object.
-    pub fn name(&self) -> &str
+    pub fn name(&self) -> &'a str
         ensures { result.now ≡ self.now.name }
     {
-        self.name.as_str()
+        self.name
     }
 
     /// The kind of program, with its attach type.
@@ -40,44 +39,44 @@ impl PlanProgram {
         &self.section
     }
 
-    /// The instruction slots.
-    pub fn slots(&self) -> &[bpf_insn]
+    /// The instruction slots: those of the object's bytes, as long as none was written.
+    pub fn slots(&self) -> &Slots<'a>
         ensures { result.now ≡ self.now.slots }
     {
-        self.slots.as_slice()
+        &self.slots
     }
 }
 
 /// What a loader hands to one kernel: the license, the kernel version that the object was made
-/// for, and the programs, by name.
+/// for, and the programs, by name. Names, license and slots are those of the object's bytes.
 #[derive(Debug, Drop)]
-pub struct Plan {
-    pub(crate) license: Vec<u8>,
+pub struct Plan<'a> {
+    pub(crate) license: &'a [u8],
     pub(crate) version: Option<u32>,
-    pub(crate) programs: Vec<PlanProgram>,
+    pub(crate) programs: Vec<PlanProgram<'a>>,
 }
 
-impl Model for Plan {
+impl<'a> Model for Plan<'a> {
     ghost use Rattle.load_plan.specs.Content.{PlanContent};
 
     ghost Value = { PlanContent };
 
-    ghost view = { λ p. record { license = p.license.items; version = p.version; programs = p.programs.items } };
+    ghost view = { λ p. record { license = p.license.now; version = p.version; programs = p.programs.items } };
 
     ghost use Rattle.ebpf_object.specs.License.{HasNoNul};
     ghost use Rattle.ebpf_object.specs.Version.{IsKnownVersion};
     ghost use Rattle.load_plan.specs.Content.{AreRising};
 
-    ghost invariant = { λ p. HasNoNul p.license.items × IsKnownVersion p.version × AreRising p.programs.items };
+    ghost invariant = { λ p. HasNoNul p.license.now × IsKnownVersion p.version × AreRising p.programs.items };
 }
 
-impl Plan {
+impl<'a> Plan<'a> {
     /// The license, without the NUL that ends it in the object.
-    pub fn license(&self) -> &[u8]
+    pub fn license(&self) -> &'a [u8]
         ensures value { result.now ≡ self.now.license }
         ensures text { HasNoNul self.now.license }
     {
-        self.license.as_slice()
+        self.license
     }
 
     /// The kernel version that the object was made for. `None` is any version.
@@ -89,7 +88,7 @@ impl Plan {
     }
 
     /// The programs, names strictly rising by bytes.
-    pub fn programs(&self) -> &[PlanProgram]
+    pub fn programs(&self) -> &[PlanProgram<'a>]
         ensures value { result.now ≡ self.now.programs }
         ensures rising { AreRising self.now.programs }
     {

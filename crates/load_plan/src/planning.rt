@@ -5,56 +5,45 @@ ghost use Rattle.ebpf_object.specs.ParsedObject.{object_of};
 ghost use Rattle.load_plan.specs.Content.{AreRising};
 ghost use Rattle.load_plan.specs.Planned.{slots_at, plan_program_of, plan_of, IsRefusal, IsPrepared};
 
-use crate::error::PrepareError;
+use crate::error::{NotYet, PrepareError};
 use crate::plan::{Plan, PlanProgram};
-use ebpf_items::{Slots, bpf_insn};
+use ebpf_items::Slots;
 use ebpf_object::{Object, ObjectFile, Program};
 use std::alloc::{AllocError, Global};
 
-/// A list of a function's slots.
-fn copied(alloc: Global, slots: &Slots<'_>) -> Result<Vec<bpf_insn>, AllocError>
-    ensures { IfOk result (λ list. list.items ≡ slots.now) }
-{
-    let mut list = Vec::new(alloc);
-    for slot in slots.iter() {
-        list.push(slot)?;
-    }
-    Ok(list)
-}
-
 /// The slots of the function of a key, none where there is no such function.
-fn slots_at(
+fn slots_at<'a>(
     alloc: Global,
-    object: &Object<'_>,
+    object: &Object<'a>,
     key: (usize, u64),
-) -> Result<Vec<bpf_insn>, AllocError>
-    ensures { IfOk result (λ list. list.items ≡ slots_at object.now.functions key) }
+) -> Result<Slots<'a>, AllocError>
+    ensures { IfOk result (λ slots. slots ≡ slots_at object.now.functions key) }
 {
-    let Some(function) = object.function(key) else {
-        return Ok(Vec::new(alloc));
-    };
-    copied(alloc, &function.instructions)
+    match object.function(key) {
+        Some(function) => function.instructions.try_clone(),
+        None => Ok(Slots::owned(Vec::new(alloc))),
+    }
 }
 
 /// A program with the slots of its function.
-fn plan_program(
+fn plan_program<'a>(
     alloc: Global,
-    object: &Object<'_>,
-    name: &str,
-    program: &Program<'_>,
-) -> Result<PlanProgram, AllocError>
+    object: &Object<'a>,
+    name: &'a str,
+    program: &Program<'a>,
+) -> Result<PlanProgram<'a>, AllocError>
     ensures { IfOk result (λ p. p ≡ plan_program_of object.now.functions (name.now, program.now)) }
 {
     let slots = slots_at(alloc, object, program.function_key())?;
     Ok(PlanProgram {
-        name: String::from_str(alloc, name)?,
+        name,
         section: program.section.clone()?,
         slots,
     })
 }
 
 /// The programs of a plan, by name.
-fn plan_programs(alloc: Global, object: &Object<'_>) -> Result<Vec<PlanProgram>, AllocError>
+fn plan_programs<'a>(alloc: Global, object: &Object<'a>) -> Result<Vec<PlanProgram<'a>>, AllocError>
     ensures value { IfOk result (λ list. list.items ≡ map (plan_program_of object.now.functions) object.now.programs) }
     ensures rising { IfOk result (λ list. AreRising list.items) }
 {
@@ -66,12 +55,12 @@ fn plan_programs(alloc: Global, object: &Object<'_>) -> Result<Vec<PlanProgram>,
 }
 
 /// The plan of an object.
-fn plan_of(alloc: Global, object: &Object<'_>) -> Result<Plan, AllocError>
+fn plan_of<'a>(alloc: Global, object: &Object<'a>) -> Result<Plan<'a>, AllocError>
     ensures { IfOk result (λ p. p ≡ plan_of object.now) }
 {
     let programs = plan_programs(alloc, object)?;
     Ok(Plan {
-        license: Vec::from_slice(alloc, object.license())?,
+        license: object.license(),
         version: object.kernel_version(),
         programs,
     })
@@ -82,15 +71,19 @@ fn plan_of(alloc: Global, object: &Object<'_>) -> Result<Plan, AllocError>
 /// # Errors
 ///
 /// [`PrepareError::Parse`] where the file isn't an object that can be parsed, and
-/// [`PrepareError::NotYet`] for an object that asks for more than is there yet.
-pub fn prepare(alloc: Global, object: &[u8]) -> Result<Plan, PrepareError>
-    ensures value { IfOk result (λ p. p ≡ plan_of (object_of object.now)) }
-    ensures accepted { OnOk result (IsPrepared object.now) }
-    ensures refused { IfErr result (IsRefusal object.now) }
+/// [`PrepareError::NotYet`] for an object with a section that isn't served yet, which it names.
+pub fn prepare<'a>(alloc: Global, object: &'a [u8]) -> Result<Plan<'a>, PrepareError>
+    ensures value { IfOk result (λ p. p ≡ plan_of (object_of object.entry.now)) }
+    ensures accepted { OnOk result (IsPrepared object.entry.now) }
+    ensures refused { IfErr result (IsRefusal object.entry.now) }
 {
     let file = ObjectFile::parse(alloc, object)?;
-    if !file.is_served(alloc) {
-        return Err(PrepareError::NotYet);
+    if let Err(section) = file.check_served(alloc) {
+        return Err(PrepareError::NotYet(NotYet {
+            subject: section.subject,
+            index: section.index,
+            name: String::from_str(alloc, section.name)?,
+        }));
     }
     let object = Object::from_file(alloc, &file)?;
     Ok(plan_of(alloc, &object)?)

@@ -29,35 +29,25 @@ fn numbered(kind: u8, first: u8, second: u8) -> KindNumbers
 fn flag_number(flag: bool) -> u8
     ensures { result ≡ flag_number flag }
 {
-    if flag { 1 } else { 0 }
+    flag as u8
 }
 
 fn xdp_number(attach_type: XdpAttachType) -> u8
     ensures { result ≡ xdp_number attach_type }
 {
-    match attach_type {
-        XdpAttachType::Interface => 0,
-        XdpAttachType::CpuMap => 1,
-        XdpAttachType::DevMap => 2,
-    }
+    attach_type as u8
 }
 
 fn sk_skb_number(kind: SkSkbKind) -> u8
     ensures { result ≡ sk_skb_number kind }
 {
-    match kind {
-        SkSkbKind::StreamParser => 0,
-        SkSkbKind::StreamVerdict => 1,
-    }
+    kind as u8
 }
 
 fn reuseport_number(attach_type: SkReuseportAttachType) -> u8
     ensures { result ≡ reuseport_number attach_type }
 {
-    match attach_type {
-        SkReuseportAttachType::Select => 0,
-        SkReuseportAttachType::SelectOrMigrate => 1,
-    }
+    attach_type as u8
 }
 
 fn skb_number(attach_type: Option<CgroupSkbAttachType>) -> u8
@@ -65,48 +55,26 @@ fn skb_number(attach_type: Option<CgroupSkbAttachType>) -> u8
 {
     match attach_type {
         None => 0,
-        Some(CgroupSkbAttachType::Ingress) => 1,
-        Some(CgroupSkbAttachType::Egress) => 2,
+        Some(attach_type) => attach_type as u8 + 1,
     }
 }
 
 fn sockopt_number(attach_type: CgroupSockoptAttachType) -> u8
     ensures { result ≡ sockopt_number attach_type }
 {
-    match attach_type {
-        CgroupSockoptAttachType::Get => 0,
-        CgroupSockoptAttachType::Set => 1,
-    }
+    attach_type as u8
 }
 
 fn sock_number(attach_type: CgroupSockAttachType) -> u8
     ensures { result ≡ sock_number attach_type }
 {
-    match attach_type {
-        CgroupSockAttachType::PostBind4 => 0,
-        CgroupSockAttachType::PostBind6 => 1,
-        CgroupSockAttachType::SockCreate => 2,
-        CgroupSockAttachType::SockRelease => 3,
-    }
+    attach_type as u8
 }
 
 fn sock_addr_number(attach_type: CgroupSockAddrAttachType) -> u8
     ensures { result ≡ sock_addr_number attach_type }
 {
-    match attach_type {
-        CgroupSockAddrAttachType::Bind4 => 0,
-        CgroupSockAddrAttachType::Bind6 => 1,
-        CgroupSockAddrAttachType::Connect4 => 2,
-        CgroupSockAddrAttachType::Connect6 => 3,
-        CgroupSockAddrAttachType::GetPeerName4 => 4,
-        CgroupSockAddrAttachType::GetPeerName6 => 5,
-        CgroupSockAddrAttachType::GetSockName4 => 6,
-        CgroupSockAddrAttachType::GetSockName6 => 7,
-        CgroupSockAddrAttachType::UDPSendMsg4 => 8,
-        CgroupSockAddrAttachType::UDPSendMsg6 => 9,
-        CgroupSockAddrAttachType::UDPRecvMsg4 => 10,
-        CgroupSockAddrAttachType::UDPRecvMsg6 => 11,
-    }
+    attach_type as u8
 }
 
 /// The numbers of a kind of program: its place in the list of kinds, and those of its fields.

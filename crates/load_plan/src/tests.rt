@@ -1,18 +1,12 @@
 //! Plans of small objects, and writers that fail.
 
-ghost use Rattle.std.specs.Prelude.{◌+◌, ◌≤◌, length};
-
-use crate::{PrepareError, prepare};
+use crate::{PrepareError, Subject, prepare};
 use ebpf_items::{ParseError, ProgramSection, Watched};
-use sample_objects::ONE_PROGRAM;
+use sample_objects::{ONE_PROGRAM, ONE_PROGRAM_PLAN, with_bytes};
 use std::alloc::Global;
 use std::io;
 use std::io::{ErrorKind, Write};
 use std::test::Fail;
-
-/// The text of the plan of the object of one program.
-const TEXT: &[u8] =
-    b"bpf-plan 1\nlicense 47504c\nversion any\ntypes none\nprogram 666f6f 1 0 0\nslots b7000000000000009500000000000000\nend\n";
 
 /// Where fields of the object lie.
 const SLOTS: usize = 72;
@@ -50,105 +44,72 @@ impl Write for Short {
     }
 }
 
-/// Whether memory ran out.
-fn is_memory(error: &PrepareError) -> bool {
-    matches!(
-        error,
-        PrepareError::Parse(ParseError::OutOfMemory) | PrepareError::OutOfMemory
-    )
-}
-
-/// The object with some bytes at an offset.
-fn with_bytes(at: usize, bytes: &[u8]) -> [u8; 568]
-    requires { at + length bytes.now ≤ 568 }
-{
-    let mut file = ONE_PROGRAM;
-    file[at..at + bytes.len()].copy_from_slice(bytes);
-    file
-}
-
 #[test]
 fn one_program(rt: HostRuntime) -> Result<(), Fail> {
-    let plan = match prepare(rt.alloc(), &ONE_PROGRAM) {
-        Ok(plan) => plan,
-        Err(error) => {
-            assert!(rt; is_memory(&error));
-            return Ok(());
-        }
-    };
+    let plan = prepare(rt.alloc(), &ONE_PROGRAM).map_err(|_| "refused")?;
     assert_eq!(rt; plan.license(), b"GPL".as_slice());
     assert_eq!(rt; plan.version(), None);
-    assert_eq!(rt; plan.programs().len(), 1);
-    let program = &plan.programs()[0];
-    assert!(rt; program.name() == "foo");
-    assert!(rt; matches!(program.section(), ProgramSection::KProbe));
-    assert_eq!(rt; program.slots().len(), 2);
-    let mut out = Watched::new(Vec::new(rt.alloc()));
-    if plan.write(&mut out).is_err() {
-        assert!(rt; out.failed());
-        return Ok(());
+    for program in plan.programs() {
+        assert!(rt; program.name() == "foo");
+        assert!(rt; matches!(program.section(), ProgramSection::KProbe));
+        assert!(rt; program.slots().is_borrowed());
     }
-    assert_eq!(rt; out.into_inner().as_slice(), TEXT);
+    let mut out = Watched::new(Vec::new(rt.alloc()));
+    plan.write(&mut out)?;
+    assert_eq!(rt; out.into_inner().as_slice(), ONE_PROGRAM_PLAN);
     Ok(())
 }
 
 #[test]
 fn writers_that_fail(rt: HostRuntime) -> Result<(), Fail> {
-    let alloc = rt.alloc();
-    let Ok(plan) = prepare(alloc, &ONE_PROGRAM) else {
-        return Ok(());
-    };
-    for left in 0..TEXT.len() {
+    let plan = prepare(rt.alloc(), &ONE_PROGRAM).map_err(|_| "refused")?;
+    let text = ONE_PROGRAM_PLAN;
+    for left in 0..=text.len() {
         for is_failing in [false, true] {
-            let taken = Vec::with_capacity(alloc, TEXT.len())?;
             let mut out = Watched::new(Short {
-                taken,
+                taken: Vec::new(rt.alloc()),
                 left,
                 is_failing,
             });
-            assert!(rt; plan.write(&mut out).is_err());
-            assert!(rt; out.failed());
-            assert_eq!(rt; out.into_inner().taken.as_slice(), &TEXT[..left]);
+            let is_written = plan.write(&mut out).is_ok();
+            assert_eq!(rt; is_written, left == text.len());
+            assert_eq!(rt; out.failed(), !is_written);
+            assert_eq!(rt; out.into_inner().taken.as_slice(), &text[..left]);
         }
     }
-    let taken = Vec::with_capacity(alloc, TEXT.len())?;
-    let mut out = Watched::new(Short {
-        taken,
-        left: TEXT.len(),
-        is_failing: true,
-    });
-    assert!(rt; plan.write(&mut out).is_ok());
-    assert!(rt; !out.failed());
-    assert_eq!(rt; out.into_inner().taken.as_slice(), TEXT);
     Ok(())
 }
 
-/// Why an object gets no plan; none where it gets one.
-fn refusal(alloc: Global, file: &[u8]) -> Option<PrepareError> {
-    prepare(alloc, file).err()
+// Bytes of the names of sections, of the first slot and of the size of the license, and what is
+// refused then: what is asked for and the section, or nothing where the object is faulty.
+const CHANGES: [(&[u8], &[u8], u8, Option<(Subject, usize)>); 4] = [
+    (b".bss\0\0", &[0xb7], 4, Some((Subject::Data, 2))),
+    (b"kprobe", &CALL, 4, Some((Subject::Calls, 2))),
+    (b"kprobe", &CALL, 1, Some((Subject::Calls, 2))),
+    (b"kprobe", &[0xb7], 1, None),
+];
+
+const CALL: [u8; 8] = [0x85, 0x10, 0, 0, 0xff, 0xff, 0xff, 0xff];
+
+// What an object is refused for as not yet looked at, and in which section.
+fn not_yet(alloc: Global, object: &[u8]) -> Result<Option<(Subject, usize)>, Fail> {
+    match prepare(alloc, object) {
+        Err(PrepareError::NotYet(error)) => Ok(Some((error.subject, error.index))),
+        Err(PrepareError::Parse(ParseError::InvalidLicense { bytes: _ })) => Ok(None),
+        _ => Err(Fail::from("another answer")),
+    }
 }
 
 #[test]
-fn objects_that_are_not_served(rt: HostRuntime) {
-    let alloc = rt.alloc();
-    // The program section is a section of data instead.
-    let variables = with_bytes(SECTION_NAMES + 9, b".bss\0\0");
-    // The first slot calls another function.
-    let mut call = with_bytes(SLOTS, &[0x85, 0x10, 0, 0, 0xff, 0xff, 0xff, 0xff]);
-    for file in [variables, call] {
-        let error = refusal(alloc, &file).expect(&rt, "not yet");
-        assert!(rt; matches!(error, PrepareError::NotYet) || is_memory(&error));
+fn objects_that_are_not_served(rt: HostRuntime) -> Result<(), Fail> {
+    for (name, slot, license, wanted) in CHANGES {
+        let changes = [
+            (SECTION_NAMES + 9, name),
+            (SLOTS, slot),
+            (LICENSE_SIZE, &[license]),
+        ];
+        let object = with_bytes(&ONE_PROGRAM, &changes);
+        assert_eq!(rt; not_yet(rt.alloc(), &object)?, wanted);
     }
-    // So it is where the license is bad too.
-    call[LICENSE_SIZE] = 1;
-    let error = refusal(alloc, &call).expect(&rt, "not yet");
-    assert!(rt; matches!(error, PrepareError::NotYet) || is_memory(&error));
-    let license = with_bytes(LICENSE_SIZE, &[1]);
-    let error = refusal(alloc, &license).expect(&rt, "a bad license");
-    assert!(rt;
-        matches!(
-            &error,
-            PrepareError::Parse(ParseError::InvalidLicense { bytes: _ })
-        ) || is_memory(&error)
-    );
+    Ok(())
 }

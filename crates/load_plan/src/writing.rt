@@ -10,7 +10,7 @@ ghost use Rattle.load_plan.specs.PlanGrammar.{hex_word, slot_bytes, version_word
 
 use crate::plan::{Plan, PlanProgram};
 use crate::program_kind::{KindNumbers, kind_numbers};
-use ebpf_items::{Watched, bpf_insn};
+use ebpf_items::{Slots, Watched, bpf_insn};
 use std::io;
 use std::io::{ErrorKind, Write};
 
@@ -59,18 +59,18 @@ fn send_slot<W: Write>(out: &mut Watched<W>, slot: bpf_insn)
     out.send(&digits);
 }
 
-fn send_slot_digits<W: Write>(out: &mut Watched<W>, slots: &[bpf_insn])
+fn send_slot_digits<W: Write>(out: &mut Watched<W>, slots: &Slots<'_>)
     ensures { Sends W.contents out.old out.new (encode_lower (slot_bytes slots.now)) }
 {
-    for slot in slots {
-        send_slot(out, *slot);
+    for slot in slots.iter() {
+        send_slot(out, slot);
     }
 }
 
-fn send_slots<W: Write>(out: &mut Watched<W>, slots: &[bpf_insn])
+fn send_slots<W: Write>(out: &mut Watched<W>, slots: &Slots<'_>)
     ensures { Sends W.contents out.old out.new (hex_word (slot_bytes slots.now)) }
 {
-    if slots.is_empty() {
+    if slots.len() == 0 {
         out.send(b"-");
     } else {
         send_slot_digits(out, slots);
@@ -106,7 +106,7 @@ fn send_program_line<W: Write>(out: &mut Watched<W>, name: &str, numbers: KindNu
     out.send(b"\n");
 }
 
-fn send_program<W: Write>(out: &mut Watched<W>, program: &PlanProgram)
+fn send_program<W: Write>(out: &mut Watched<W>, program: &PlanProgram<'_>)
     ensures { Sends W.contents out.old out.new (text_of_lines (program_lines program.now)) }
 {
     send_program_line(out, program.name(), kind_numbers(program.section()));
@@ -115,7 +115,7 @@ fn send_program<W: Write>(out: &mut Watched<W>, program: &PlanProgram)
     out.send(b"\n");
 }
 
-fn send_programs<W: Write>(out: &mut Watched<W>, programs: &[PlanProgram])
+fn send_programs<W: Write>(out: &mut Watched<W>, programs: &[PlanProgram<'_>])
     ensures { Sends W.contents out.old out.new (text_of_lines (flat_map program_lines programs.now)) }
 {
     for program in programs {
@@ -123,7 +123,7 @@ fn send_programs<W: Write>(out: &mut Watched<W>, programs: &[PlanProgram])
     }
 }
 
-fn send_plan<W: Write>(out: &mut Watched<W>, plan: &Plan)
+fn send_plan<W: Write>(out: &mut Watched<W>, plan: &Plan<'_>)
     ensures { Sends W.contents out.old out.new (text_of plan.now) }
 {
     out.send(b"bpf-plan 1\nlicense ");
@@ -135,7 +135,7 @@ fn send_plan<W: Write>(out: &mut Watched<W>, plan: &Plan)
     out.send(b"end\n");
 }
 
-impl Plan {
+impl<'a> Plan<'a> {
     /// Writes the text of the plan, and takes no memory for it.
     ///
     /// # Errors

@@ -143,12 +143,15 @@ kind_by_first kinds first = lookup (bytes_eq first) kinds
 abbrev pub kind_by_second : List (Option (List ℕ) × ProgramSection) → Option (List ℕ) → Option ProgramSection
 kind_by_second kinds second = lookup (is_second second) kinds
 
+-- the kind that the first piece alone decides
+abbrev pub unparted_kind : List ℕ → Option ProgramSection
+unparted_kind first = option_or (option_or (kind_by_first plain_kinds first) (kind_by_first user_probe_kinds first)) (kind_by_first sleepable_kinds first)
+
 abbrev pub parted_kind : List ℕ → Option (List ℕ) → Option ProgramSection
 parted_kind first second = option_and_then (λ kinds. kind_by_second kinds second) (lookup (bytes_eq first) parted_kinds)
 
 abbrev pub kind_of_pieces : List ℕ → Option (List ℕ) → Option ProgramSection
-kind_of_pieces first second =
-    option_or (option_or (option_or (kind_by_first plain_kinds first) (kind_by_first user_probe_kinds first)) (kind_by_first sleepable_kinds first)) (parted_kind first second)
+kind_of_pieces first second = option_or (unparted_kind first) (parted_kind first second)
 
 -- the kind of a section's name
 abbrev pub kind_of_name : List ℕ → Option ProgramSection

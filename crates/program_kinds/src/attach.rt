@@ -53,17 +53,27 @@ pub enum CgroupSockoptAttachType {
 }
 
 /// Which event of a socket a program of a control group sees.
-#[derive(Clone, Copy, Debug, Default)]
+#[derive(Clone, Copy, Debug)]
 pub enum CgroupSockAttachType {
     /// After it is bound to an IPv4 address.
     PostBind4,
     /// After it is bound to an IPv6 address.
     PostBind6,
     /// When it is made.
-    #[default]
     SockCreate,
     /// When it is released.
     SockRelease,
+}
+
+/// When the socket is made.
+impl Default for CgroupSockAttachType {
+    ghost use Rattle.program_kinds.specs.declared.attach.CgroupSockAttachType.TheVariants.{SockCreate};
+
+    ghost is_default = { λ attach_type. attach_type ≡ SockCreate };
+
+    fn default() -> CgroupSockAttachType {
+        CgroupSockAttachType::SockCreate
+    }
 }
 
 /// Which call with a socket's address a program of a control group sees.

@@ -3,7 +3,7 @@
 ghost use Rattle.std.specs.Prelude.{◌≡◌, Some};
 ghost use Rattle.std.specs.Option.{option_copied};
 ghost use Rattle.std.specs.Result.{result_ok};
-ghost use Rattle.program_kinds.specs.ProgramSection.{first_piece, second_piece, kind_of_name, kind_by_first, kind_by_second, parted_kind, plain_kinds, user_probe_kinds, sleepable_kinds, xdp_kinds, sk_skb_kinds, sk_reuseport_kinds, cgroup_skb_kinds, cgroup_kinds};
+ghost use Rattle.program_kinds.specs.ProgramSection.{first_piece, second_piece, kind_of_name, kind_of_pieces, kind_by_first, unparted_kind, kind_by_second, parted_kind, plain_kinds, user_probe_kinds, sleepable_kinds, xdp_kinds, sk_skb_kinds, sk_reuseport_kinds, cgroup_skb_kinds, cgroup_kinds};
 ghost use Rattle.program_kinds.specs.declared.program_section.ProgramSection.TheVariants.{CgroupSock, CgroupSockAddr, CgroupSockopt};
 
 use crate::attach::{
@@ -130,11 +130,7 @@ impl FromStr for ProgramSection {
     /// Takes no memory.
     fn from_str(section: &str) -> Result<ProgramSection, InvalidSection> {
         let (first, second) = pieces(section);
-        plain_kind(first)
-            .or(user_probe_kind(first))
-            .or(sleepable_kind(first))
-            .or(parted_kind(first, second))
-            .ok_or(InvalidSection)
+        kind_of_pieces(first, second).ok_or(InvalidSection)
     }
 }
 
@@ -156,6 +152,24 @@ fn up_to_slash(text: &str) -> &str
         Some((front, _)) => front,
         None => text,
     }
+}
+
+fn kind_of_pieces(first: &str, second: Option<&str>) -> Option<ProgramSection>
+    ensures { result ≡ kind_of_pieces first.now (option_copied second.entry) }
+{
+    match unparted_kind(first) {
+        Some(kind) => Some(kind),
+        None => parted_kind(first, second),
+    }
+}
+
+/// The kind that the first piece alone decides.
+fn unparted_kind(first: &str) -> Option<ProgramSection>
+    ensures { result ≡ unparted_kind first.now }
+{
+    plain_kind(first)
+        .or_else(|| user_probe_kind(first))
+        .or_else(|| sleepable_kind(first))
 }
 
 fn plain_kind(first: &str) -> Option<ProgramSection>

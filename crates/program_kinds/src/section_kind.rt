@@ -60,7 +60,7 @@ impl EbpfSectionKind {
 fn decided(name: &str) -> Option<EbpfSectionKind>
     ensures { result ≡ kind_decided name.now }
 {
-    by_beginning(name).or(by_name(name))
+    by_beginning(name).or_else(|| by_name(name))
 }
 
 fn by_beginning(name: &str) -> Option<EbpfSectionKind>

@@ -5,7 +5,6 @@ ghost use Rattle.std.specs.Prelude.{◌≤◌, IfOk};
 use super::Watched;
 use std::io;
 use std::io::{ErrorKind, Read, Write};
-use std::test::Fail;
 
 // Reads and writes a byte a call, so many times; then it fails, or answers 0.
 #[derive(Drop)]
@@ -16,14 +15,6 @@ struct Scarce {
 }
 
 impl Scarce {
-    fn new(left: usize, fails: bool) -> Scarce {
-        Scarce {
-            left,
-            calls: 0,
-            fails,
-        }
-    }
-
     fn answer(&mut self, asked: usize) -> io::Result<usize>
         ensures { IfOk result (λ count. count ≤ asked) }
     {
@@ -55,77 +46,62 @@ impl Write for Scarce {
     }
 }
 
+// A watched reader or writer of so many bytes that passes on so many calls.
+fn watched(left: usize, fails: bool, calls_left: u64) -> Watched<Scarce> {
+    Watched {
+        inner: Scarce {
+            left,
+            calls: 0,
+            fails,
+        },
+        calls_left,
+        has_failed: false,
+    }
+}
+
+// Bytes, whether it fails after them, calls, and the counts that four reads answer (none for a
+// failure); then how many calls reached the reader.
+const READS: [(usize, bool, u64, [Option<usize>; 4], usize); 3] = [
+    (2, true, 9, [Some(1), Some(1), None, None], 3),
+    (2, false, 9, [Some(1), Some(1), Some(0), Some(0)], 4),
+    (9, true, 1, [Some(1), None, None, None], 1),
+];
+
 #[test]
 fn keeps_a_reader_s_failure(rt: HostRuntime) {
-    let mut reader = Watched::new(Scarce::new(2, true));
-    let mut buf = [0; 4];
-    assert!(rt; matches!(reader.read(&mut buf), Ok(1)));
-    assert!(rt; matches!(reader.read(&mut buf), Ok(1)));
-    assert!(rt; !reader.failed());
-    assert!(rt; reader.read(&mut buf).is_err());
-    assert!(rt; reader.failed());
-    assert!(rt; reader.read(&mut buf).is_err());
-    assert_eq!(rt; reader.into_inner().calls, 3);
-}
-
-// The end of what there is to read is no failure.
-#[test]
-fn reads_to_the_end(rt: HostRuntime) {
-    let mut reader = Watched::new(Scarce::new(0, false));
-    assert!(rt; matches!(reader.read(&mut [0; 4]), Ok(0)));
-    assert!(rt; !reader.failed());
-}
-
-#[test]
-fn writes_a_beginning(rt: HostRuntime) -> Result<(), Fail> {
-    for fails in [true, false] {
-        let mut whole = Watched::new(Scarce::new(5, fails));
-        assert!(rt; whole.write_all(b"plan\n").is_ok());
-        assert!(rt; !whole.failed());
-        whole.send(b"");
-        assert!(rt; !whole.failed());
-        let mut part = Watched::new(Scarce::new(4, fails));
-        part.send(b"plan\n");
-        assert!(rt; part.failed());
-        part.send(b"more");
-        let inner = part.into_inner();
-        assert_eq!(rt; (inner.left, inner.calls), (0, 5));
+    for (left, fails, calls_left, answers, calls) in READS.iter() {
+        let mut reader = watched(*left, *fails, *calls_left);
+        for answer in answers {
+            assert_eq!(rt; reader.read(&mut [0; 4]).ok(), *answer);
+            assert_eq!(rt; reader.failed(), answer.is_none());
+        }
+        assert_eq!(rt; reader.into_inner().calls, *calls);
     }
-    Ok(())
 }
 
-// Nothing that is asked for is no failure where nothing is taken.
+// Bytes, whether it fails after them, calls, and whether five bytes are written; then how many
+// calls reached the writer.
+const WRITES: [(usize, bool, u64, bool, usize); 4] = [
+    (5, true, 9, true, 5),
+    (4, true, 9, false, 5),
+    (4, false, 9, false, 5),
+    (9, false, 3, false, 3),
+];
+
 #[test]
-fn writes_nothing(rt: HostRuntime) {
-    let mut writer = Watched::new(Scarce::new(0, false));
+fn keeps_a_writer_s_failure(rt: HostRuntime) {
+    for (left, fails, calls_left, is_written, calls) in WRITES.iter() {
+        let mut writer = watched(*left, *fails, *calls_left);
+        writer.send(b"plan\n");
+        writer.send(b"");
+        assert_eq!(rt; writer.failed(), !*is_written);
+        if !*is_written {
+            writer.send(b"more");
+        }
+        assert_eq!(rt; writer.into_inner().calls, *calls);
+    }
+    // Nothing that is asked for is no failure where nothing is taken.
+    let mut writer = watched(0, false, 9);
     assert!(rt; matches!(writer.write(b""), Ok(0)));
-    assert!(rt; !writer.failed());
     assert!(rt; writer.write(b"x").is_err());
-    assert!(rt; writer.failed());
-}
-
-#[test]
-fn passes_on_no_more_calls_than_it_counts(rt: HostRuntime) {
-    let mut writer = Watched {
-        inner: Scarce::new(9, true),
-        calls_left: 1,
-        has_failed: false,
-    };
-    assert!(rt; matches!(writer.write(b"x"), Ok(1)));
-    assert!(rt; writer.write(b"x").is_err());
-    assert!(rt; writer.failed());
-    assert_eq!(rt; writer.into_inner().calls, 1);
-}
-
-#[test]
-fn reads_no_more_calls_than_it_counts(rt: HostRuntime) {
-    let mut reader = Watched {
-        inner: Scarce::new(9, true),
-        calls_left: 1,
-        has_failed: false,
-    };
-    assert!(rt; matches!(reader.read(&mut [0; 4]), Ok(1)));
-    assert!(rt; reader.read(&mut [0; 4]).is_err());
-    assert!(rt; reader.failed());
-    assert_eq!(rt; reader.into_inner().calls, 1);
 }

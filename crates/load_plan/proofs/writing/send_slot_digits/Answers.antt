@@ -1,13 +1,18 @@
-use Rattle.std.proofs.Common.{◌<◌, length, arith, pos}
-use Rattle.ebpf_items.specs.Watched.{Sends-none, Sends-then}
-use Rattle.load_plan.proofs.Texts.{encode_lower-nil, slot_digits-more}
+use Rattle.std.proofs.Common.{sym, subst}
+use Rattle.hex.specs.Hex.{encode_lower}
+use Rattle.ebpf_items.specs.Watched.{Sends, Sends-none, Sends-then}
+use Rattle.load_plan.specs.PlanGrammar.{slot_bytes}
+use Rattle.load_plan.proofs.Texts.{encode_lower-nil, slot_digits-first}
 use Rattle.load_plan.proofs.writing.send_slot_digits.Goals as goal
 
-pub loop-slot-init : goal.loop-slot-init
-loop-slot-init g c = rw encode_lower-nil (Sends-none _ _)
-
 pub loop-slot-preserved : goal.loop-slot-preserved
-loop-slot-preserved g c =
-    let within : c.loop-slot.slot-index < length c.args.slots.now = omega arith in
-    rw (slot_digits-more c.args.slots.now c.loop-slot.slot-index (record { code = 0; registers = 0; off = pos 0; imm = pos 0 }) within)
-    (Sends-then _ _ _ _ _ _ c.loop-slot.invariant c.send_slot.ensures)
+loop-slot-preserved g c = λ last sent.
+    c.loop-slot.invariant last
+    (subst (λ left. Sends g.W.Write.contents c.loop-slot.out last (encode_lower (slot_bytes left))) (sym c.in-Some.ensures.steps)
+    (rw (slot_digits-first c.in-Some.slot c.next.new.self) (Sends-then _ _ _ _ _ _ c.send_slot.ensures sent)))
+
+pub returns : goal.returns
+returns g c =
+    c.loop-slot.invariant c.loop-slot.out
+    (subst (λ left. Sends g.W.Write.contents c.loop-slot.out c.loop-slot.out (encode_lower (slot_bytes left))) (sym c.in-None.ensures.steps.0)
+    (rw encode_lower-nil (Sends-none _ _)))

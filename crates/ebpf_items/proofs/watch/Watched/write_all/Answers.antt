@@ -1,4 +1,4 @@
-use Rattle.std.proofs.Common.{rules}
+use Rattle.std.proofs.Common.{rules, arith}
 use Rattle.ebpf_items.specs.Watched.{AppendsAllBut-none, AppendsAllBut-more}
 use Rattle.ebpf_items.proofs.watch.Watched.write_all.Goals as goal
 
@@ -6,4 +6,4 @@ pub returns-then-self-clause-part : goal.returns-then-self-clause-part
 returns-then-self-clause-part g c = (_, AppendsAllBut-none _ _)
 
 pub loop-rest-preserved : goal.loop-rest-preserved
-loop-rest-preserved g c = (search rules, AppendsAllBut-more _ _ _ _ _ _ c.loop-rest.invariant.1 c.in_ok-count.ensures.bytes)
+loop-rest-preserved g c = (search rules, omega arith, AppendsAllBut-more _ _ _ _ _ _ c.loop-rest.invariant.2 c.in_ok-count.ensures.bytes)
