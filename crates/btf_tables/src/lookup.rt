@@ -14,7 +14,7 @@ ghost use Rattle.btf_records.specs.declared.error.BtfError.TheVariants.{InvalidS
 use crate::other_texts::is_name;
 use crate::table::{Btf, MAX_DEPTH};
 use btf_encoding::TypeRef;
-use btf_records::{BtfError, BtfKind, BtfType};
+use btf_records::{BtfError, BtfKind};
 use std::collections::BTreeMap;
 
 /// The size of a record that has one by itself.
