@@ -44,7 +44,6 @@ impl<'a> Model for Object<'a> {
 
     ghost use Rattle.ebpf_object.specs.License.{HasNoNul};
     ghost use Rattle.ebpf_object.specs.Programs.{key_cmp};
-    ghost use Rattle.ebpf_object.specs.SymbolTable.{is_unnamed};
     ghost use Rattle.ebpf_object.specs.Version.{IsKnownVersion};
 
     ghost invariant = { λ o. HasNoNul o.license.now × IsKnownVersion o.kernel_version };

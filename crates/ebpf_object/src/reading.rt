@@ -1,11 +1,10 @@
 //! The sections of an object that are read.
 
-ghost use Rattle.std.specs.Prelude.{◌≡◌, ◌≢◌, true, false, Some, None, IfOk, IfErr, OnOk};
+ghost use Rattle.std.specs.Prelude.{◌≡◌, ◌≢◌, false, IfOk, IfErr, OnOk};
 ghost use Rattle.std.specs.List.{list_any};
-ghost use Rattle.std.specs.Option.{option_copied};
 ghost use Rattle.elf64.specs.Sections.{section_names_of};
 ghost use Rattle.ebpf_items.specs.Section.{IsUnreadable};
-ghost use Rattle.ebpf_items.specs.declared.error.ParseError.TheVariants.{SectionError, OutOfMemory};
+ghost use Rattle.ebpf_items.specs.declared.error.ParseError.TheVariants.{OutOfMemory};
 ghost use Rattle.ebpf_object.specs.Reading.{is_found, is_read, is_unreadable, HasUnreadable, read_sections};
 
 use crate::names::{NamedSection, Names};

@@ -2,10 +2,16 @@
 
 use crate::{ElfError, ElfFile, RelocView, SymbolKind};
 use sample_objects::{ONE_PROGRAM, ONE_PROGRAM_BIG, with_bytes};
+use std::process::Abort;
 use std::test::Fail;
 
 /// Other bytes at some offsets of an object.
 type Changes = &'static [(usize, &'static [u8])];
+
+/// A file that is whole.
+fn opened<'a>(rt: &impl Abort, bytes: &'a [u8]) -> ElfFile<'a> {
+    ElfFile::parse(bytes).ok().expect(rt, "an ELF file")
+}
 
 /// Why a file is refused, where it is.
 fn refusal(file: &[u8]) -> Option<ElfError> {
@@ -13,7 +19,7 @@ fn refusal(file: &[u8]) -> Option<ElfError> {
 }
 
 #[test]
-fn sections_and_symbols_of_both_byte_orders(rt: HostRuntime) -> Result<(), ElfError> {
+fn sections_and_symbols_of_both_byte_orders(rt: HostRuntime) {
     let expected: [(&str, usize, usize, bool); 5] = [
         ("license", 64, 4, false),
         ("kprobe", 72, 16, true),
@@ -22,36 +28,35 @@ fn sections_and_symbols_of_both_byte_orders(rt: HostRuntime) -> Result<(), ElfEr
         (".shstrtab", 141, 42, false),
     ];
     for bytes in [&ONE_PROGRAM, &ONE_PROGRAM_BIG] {
-        let file = ElfFile::parse(bytes)?;
+        let file = opened(&rt, bytes);
         let mut left = expected.iter();
         for section in file.sections() {
             let (name, at, len, is_text) = *left.next().expect(&rt, "a section");
-            assert_eq!(rt; section.name()?, name);
-            assert_eq!(rt; Some(section.data()?), bytes.get(at..at.wrapping_add(len)));
+            assert_eq!(rt; section.name(), Ok(name));
+            assert_eq!(rt; section.data().ok(), bytes.get(at..at.wrapping_add(len)));
             assert_eq!(rt; section.is_text(), is_text);
             assert_eq!(rt; (section.address(), section.size()), (0, len as u64));
         }
         assert_eq!(rt; left.len(), 0);
         let symbol = file.symbols().next().expect(&rt, "a symbol");
-        assert_eq!(rt; symbol.name()?, "foo");
+        assert_eq!(rt; symbol.name(), Ok("foo"));
         assert_eq!(rt; (symbol.index(), symbol.section_index()), (1, Some(2)));
         assert_eq!(rt; (symbol.address(), symbol.size()), (0, 16));
         assert_eq!(rt; symbol.kind(), SymbolKind::Text);
         assert!(rt; symbol.is_definition() && symbol.is_global() && !symbol.is_weak());
         assert_eq!(rt; file.symbols().count(), 1);
     }
-    Ok(())
 }
 
 #[test]
-fn sections_by_name(rt: HostRuntime) -> Result<(), ElfError> {
+fn sections_by_name(rt: HostRuntime) {
     // The string table is called `kprobe` too, the program is `SHT_NOBITS`, and the symbol table's
     // name goes past the end of the names.
     let bytes = with_bytes(
         &ONE_PROGRAM,
         &[(316, &[8]), (336, &[0x30, 2]), (376, &[42]), (440, &[9])],
     );
-    let file = ElfFile::parse(&bytes)?;
+    let file = opened(&rt, &bytes);
     for (name, expected) in [
         ("license", Some((1, 4, false))),
         ("kprobe", Some((2, 0, false))),
@@ -60,20 +65,22 @@ fn sections_by_name(rt: HostRuntime) -> Result<(), ElfError> {
         ("", None),
     ] {
         let found = match file.section_by_name(name) {
-            Some(section) => Some((section.index(), section.data()?.len(), section.is_text())),
+            Some(section) => {
+                let len = section.data().map_or(usize::MAX, |data| data.len());
+                Some((section.index(), len, section.is_text()))
+            }
             None => None,
         };
         assert_eq!(rt; found, expected);
     }
     // The program's bytes lie past the end of the file, and its name isn't UTF-8.
     let bytes = with_bytes(&ONE_PROGRAM, &[(150, &[0xff]), (336, &[0x30, 2])]);
-    let file = ElfFile::parse(&bytes)?;
+    let file = opened(&rt, &bytes);
     for section in file.sections() {
         let is_program = section.index() == 2;
         assert_eq!(rt; section.name() == Err(ElfError::Name), is_program);
         assert_eq!(rt; section.data() == Err(ElfError::SectionData), is_program);
     }
-    Ok(())
 }
 
 /// What a relocation shows.
@@ -83,7 +90,7 @@ fn parts(relocation: Option<RelocView>) -> Option<(u64, Option<usize>, u8)> {
 }
 
 #[test]
-fn relocations_in_two_sections(rt: HostRuntime) -> Result<(), ElfError> {
+fn relocations_in_two_sections(rt: HostRuntime) {
     // Sections 1 (`SHT_REL`) and 2 (`SHT_RELA`) hold relocations of section 4: the first's bytes
     // are those of the program, the second's begin with `e_shoff`.
     let bytes = with_bytes(
@@ -100,7 +107,7 @@ fn relocations_in_two_sections(rt: HostRuntime) -> Result<(), ElfError> {
             (352, &[3, 0, 0, 0, 4]),
         ],
     );
-    let file = ElfFile::parse(&bytes)?;
+    let file = opened(&rt, &bytes);
     let first = Some((8, Some(1), 32));
     let second = Some((184, None, 0));
     let mut relocations = file.relocations(4);
@@ -117,7 +124,6 @@ fn relocations_in_two_sections(rt: HostRuntime) -> Result<(), ElfError> {
         assert_eq!(rt; parts(section.relocations().next()), expected);
     }
     assert!(rt; sections.next().is_none());
-    Ok(())
 }
 
 #[test]
