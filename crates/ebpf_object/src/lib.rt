@@ -6,6 +6,7 @@ mod file;
 mod function;
 mod license;
 mod object;
+mod places;
 mod program;
 mod reading;
 mod reading_programs;
