@@ -5,7 +5,7 @@ ghost use Rattle.bpf_prepare.specs.Run.{run_error_of};
 ghost use Rattle.bpf_prepare.specs.declared.error.ProgramError.TheVariants.{Run};
 ghost use Rattle.bpf_prepare.specs.Program.{status_of};
 
-use load_plan::{NotYet, ParseError, PrepareError};
+use load_plan::{NotYet, ParseError, Place, PrepareError};
 use std::io;
 use thiserror::Error;
 
@@ -15,6 +15,9 @@ pub enum RunError {
     /// The object can't be parsed.
     #[error("refused: {0}")]
     Parse(ParseError),
+    /// The object can't be parsed, and this is where the fault stands.
+    #[error("refused: {error}: {place}")]
+    ParseAt { error: ParseError, place: Place },
     /// The object has something that isn't looked at yet.
     #[error("refused: {0}")]
     NotYet(NotYet),
@@ -29,6 +32,7 @@ impl From<PrepareError> for RunError {
     fn from(error: PrepareError) -> RunError {
         match error {
             PrepareError::Parse(error) => RunError::Parse(error),
+            PrepareError::ParseAt { error, place } => RunError::ParseAt { error, place },
             PrepareError::NotYet(error) => RunError::NotYet(error),
             PrepareError::OutOfMemory => RunError::Parse(ParseError::OutOfMemory),
         }
@@ -66,7 +70,9 @@ impl ProgramError {
         ensures { result ≡ status_of self.now }
     {
         match self {
-            ProgramError::Run(RunError::Parse(_) | RunError::NotYet(_)) => 1,
+            ProgramError::Run(
+                RunError::Parse(_) | RunError::ParseAt { .. } | RunError::NotYet(_),
+            ) => 1,
             _ => 2,
         }
     }

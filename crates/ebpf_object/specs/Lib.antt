@@ -6,6 +6,7 @@ pub mod License
 pub mod Names
 pub mod ObjectFile
 pub mod ParsedObject
+pub mod Places
 pub mod Programs
 pub mod Reading
 pub mod Served

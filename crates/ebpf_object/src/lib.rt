@@ -7,6 +7,7 @@ mod function;
 mod license;
 mod names;
 mod object;
+mod places;
 mod program;
 mod reading;
 mod reading_programs;

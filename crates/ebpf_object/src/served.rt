@@ -140,7 +140,7 @@ impl<'a> ObjectFile<'a> {
     }
 
     /// The name of the section of an index, empty where it can't be read.
-    fn name_at(&self, index: usize) -> &'a str
+    pub fn name_at(&self, index: usize) -> &'a str
         ensures { result.now ≡ name_at self.now index }
     {
         for section in self.elf.sections() {

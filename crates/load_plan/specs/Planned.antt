@@ -1,19 +1,24 @@
 -- The plan of an object, and what is refused.
-use Rattle.std.specs.Prelude.{◌≡◌, ◌≢◌, ◌⊎◌, ℕ, List, [], map, true, false}
+use Rattle.std.specs.Prelude.{◌≡◌, ◌≢◌, ◌⊎◌, ℕ, List, [], map, Some, true, false}
 use Rattle.std.specs.BTreeMap.{is_at}
 use Rattle.std.specs.Map.{lookup}
 use Rattle.std.specs.Option.{option_map_or}
 use Rattle.std.specs.String.{string_bytes}
+use Rattle.btf_records.specs.declared.error.BtfError.TheVariants as btf
+use Rattle.ebpf_items.specs.declared.error.ParseError.{ParseError}
 use Rattle.ebpf_items.specs.declared.error.ParseError.TheVariants as error
 use Rattle.ebpf_items.specs.declared.instruction.bpf_insn.{bpf_insn}
 use Rattle.ebpf_object.specs.Content as object
 use Rattle.ebpf_object.specs.Faults.{HasFault, IsFaultless}
+use Rattle.ebpf_object.specs.Places.{place_without_code, unnamed_symbol}
 use Rattle.ebpf_object.specs.Programs.{key_cmp}
 use Rattle.ebpf_object.specs.Reading.{HasReadingFault, IsReadable}
 use Rattle.ebpf_object.specs.Served.{is_served, AsksFor, name_at}
 use Rattle.load_plan.specs.Content.{PlanContent, ProgramContent}
 use Rattle.load_plan.specs.declared.error.PrepareError.{PrepareError}
-use Rattle.load_plan.specs.declared.error.PrepareError.TheVariants.{Parse, NotYet, OutOfMemory}
+use Rattle.load_plan.specs.declared.error.PrepareError.TheVariants.{Parse, ParseAt, NotYet, OutOfMemory}
+use Rattle.load_plan.specs.declared.error.Place.{Place}
+use Rattle.load_plan.specs.declared.error.Place.TheVariants.{Function, Symbol}
 
 -- the slots of the function of a key
 abbrev pub slots_at : List ((ℕ × ℕ) × object.FunctionContent) → ℕ × ℕ → List bpf_insn
@@ -31,10 +36,26 @@ plan_program_of functions e = record {
 abbrev pub plan_of : object.ObjectContent → PlanContent
 plan_of o = record { license = o.license; version = o.kernel_version; programs = map (plan_program_of o.functions) o.programs }
 
+-- where a fault of a file stands
+abbrev pub IsPlace : List ℕ → ParseError → Place → Type 0
+IsPlace file error.InvalidProgramCode (Function index section name) =
+    (place_without_code file ≡ Some (index, string_bytes name)) × (string_bytes section ≡ name_at file index)
+IsPlace file (error.BtfError btf.InvalidSymbolName) (Symbol index) = unnamed_symbol file ≡ Some index
+IsPlace file _ _ = ⊥
+
+-- a fault of a file as it is told, memory apart: with its place or without
+abbrev pub IsLocated : List ℕ → ParseError → PrepareError → Type 0
+IsLocated file e (Parse told) = told ≡ e
+IsLocated file e (ParseAt told place) = (told ≡ e) × IsPlace file e place
+IsLocated file e OutOfMemory = Unit {0}
+IsLocated file e _ = ⊥
+
 -- What a refusal says of a file, memory apart: a fault of reading, or that an object whose sections can be read isn't
 -- served, of which a section that isn't is named, or another fault of one that is.
 abbrev pub IsRefusal : List ℕ → PrepareError → Type 0
 IsRefusal file (Parse e) = e ≢ error.OutOfMemory → HasReadingFault file e ⊎ (IsReadable file × (is_served file ≡ true) × HasFault file e)
+IsRefusal file (ParseAt e place) =
+    (e ≢ error.OutOfMemory → HasReadingFault file e ⊎ (IsReadable file × (is_served file ≡ true) × HasFault file e)) × IsPlace file e place
 IsRefusal file (NotYet n) =
     IsReadable file × (is_served file ≡ false) × AsksFor file n.subject n.index × (string_bytes n.name ≡ name_at file n.index)
 IsRefusal file OutOfMemory = Unit {0}

@@ -6,6 +6,7 @@ ghost use Rattle.load_plan.specs.declared.error.PrepareError.TheVariants.{Parse,
 use ebpf_items::ParseError;
 use ebpf_object::Subject;
 use std::alloc::{AllocError, AllocFailed};
+use std::fmt;
 use thiserror::Error;
 
 /// What a section of an object has that isn't looked at yet.
@@ -30,12 +31,43 @@ fn words(subject: Subject) -> &'static str {
     }
 }
 
+/// Where a fault stands whose error doesn't say it.
+#[derive(Debug, Drop)]
+pub enum Place {
+    /// In a function of the section of an index.
+    Function {
+        index: usize,
+        section: String,
+        name: String,
+    },
+    /// In the symbol of an index.
+    Symbol {
+        index: usize,
+    },
+}
+
+impl fmt::Display for Place {
+    fn fmt<W: fmt::Write>(&self, f: &mut fmt::Formatter<W>) -> fmt::Result {
+        match self {
+            Place::Function {
+                index,
+                section,
+                name,
+            } => write!(f, "function {name:?} of section {index} {section:?}"),
+            Place::Symbol { index } => write!(f, "symbol {index}"),
+        }
+    }
+}
+
 /// Why an object gets no plan.
 #[derive(Debug, Drop, Error)]
 pub enum PrepareError {
     /// The object can't be parsed.
     #[error("{0}")]
     Parse(ParseError),
+    /// The object can't be parsed, and this is where the fault stands.
+    #[error("{error}: {place}")]
+    ParseAt { error: ParseError, place: Place },
     /// The object has something that isn't looked at yet.
     #[error("{0}")]
     NotYet(NotYet),

@@ -8,7 +8,7 @@ mod program_kind;
 mod writing;
 
 pub use ebpf_object::{ParseError, ProgramSection, Slots, Subject, Watched, bpf_insn};
-pub use error::{NotYet, PrepareError};
+pub use error::{NotYet, Place, PrepareError};
 pub use plan::{Plan, PlanProgram};
 pub use planning::prepare;
 

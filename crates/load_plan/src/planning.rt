@@ -1,13 +1,14 @@
 //! From an object's bytes to its plan.
 
-ghost use Rattle.std.specs.Prelude.{◌≡◌, List, map, IfOk, IfErr, OnOk};
+ghost use Rattle.std.specs.Prelude.{◌≡◌, List, map, IfSome, IfOk, IfErr, OnOk};
 ghost use Rattle.ebpf_object.specs.ParsedObject.{object_of};
 ghost use Rattle.load_plan.specs.Content.{AreRising};
-ghost use Rattle.load_plan.specs.Planned.{slots_at, plan_program_of, plan_of, IsRefusal, IsPrepared};
+ghost use Rattle.load_plan.specs.Planned.{slots_at, plan_program_of, plan_of, IsPlace, IsLocated, IsRefusal, IsPrepared};
 
-use crate::error::{NotYet, PrepareError};
+use crate::error::{NotYet, Place, PrepareError};
 use crate::plan::{Plan, PlanProgram};
-use ebpf_items::Slots;
+use btf_records::BtfError;
+use ebpf_items::{ParseError, Slots};
 use ebpf_object::{Object, ObjectFile, Program};
 use std::alloc::{AllocError, Global};
 
@@ -66,11 +67,49 @@ fn plan_of<'a>(alloc: Global, object: &Object<'a>) -> Result<Plan<'a>, AllocErro
     })
 }
 
+/// Where a fault stands, if its error doesn't say it.
+fn place_of(
+    alloc: Global,
+    file: &ObjectFile<'_>,
+    error: &ParseError,
+) -> Result<Option<Place>, AllocError>
+    ensures { IfOk result (λ place. IfSome place (IsPlace file.now error.now)) }
+{
+    match error {
+        ParseError::InvalidProgramCode => {
+            let Some((index, name)) = file.function_without_code() else {
+                return Ok(None);
+            };
+            Ok(Some(Place::Function {
+                index,
+                section: String::from_str(alloc, file.name_at(index))?,
+                name: String::from_str(alloc, name)?,
+            }))
+        }
+        ParseError::BtfError(BtfError::InvalidSymbolName) => match file.unnamed_symbol() {
+            Some(index) => Ok(Some(Place::Symbol { index })),
+            None => Ok(None),
+        },
+        _ => Ok(None),
+    }
+}
+
+/// A fault of a file, with its place if the error doesn't say it.
+fn located(alloc: Global, file: &ObjectFile<'_>, error: ParseError) -> PrepareError
+    ensures { IsLocated file.now error result }
+{
+    match place_of(alloc, file, &error) {
+        Ok(Some(place)) => PrepareError::ParseAt { error, place },
+        Ok(None) => PrepareError::Parse(error),
+        Err(_) => PrepareError::OutOfMemory,
+    }
+}
+
 /// The plan of an object file, for an object that has programs alone.
 ///
 /// # Errors
 ///
-/// [`PrepareError::Parse`] where the file isn't an object that can be parsed, and
+/// [`PrepareError::Parse`] and [`PrepareError::ParseAt`] where the file isn't an object that can be parsed, and
 /// [`PrepareError::NotYet`] for an object with a section that isn't served yet, which it names.
 pub fn prepare<'a>(alloc: Global, object: &'a [u8]) -> Result<Plan<'a>, PrepareError>
     ensures value { IfOk result (λ p. p ≡ plan_of (object_of object.entry.now)) }
@@ -85,6 +124,8 @@ pub fn prepare<'a>(alloc: Global, object: &'a [u8]) -> Result<Plan<'a>, PrepareE
             name: String::from_str(alloc, section.name)?,
         }));
     }
-    let object = Object::from_file(alloc, &file)?;
-    Ok(plan_of(alloc, &object)?)
+    match Object::from_file(alloc, &file) {
+        Ok(object) => Ok(plan_of(alloc, &object)?),
+        Err(error) => Err(located(alloc, &file, error)),
+    }
 }
