@@ -1,3 +1,4 @@
+pub mod Unnamed
 pub mod ByBytes
 pub mod Faultless
 pub mod Repeats

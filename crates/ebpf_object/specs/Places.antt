@@ -3,10 +3,11 @@ use Rattle.std.specs.Prelude.{ℕ, List, [], find, Option, unwrap_or, option_and
 use Rattle.std.specs.Option.{option_map}
 use Rattle.elf64.specs.Sections.{Section}
 use Rattle.elf64.specs.Symbols.{Symbol, symbols_of}
-use Rattle.ebpf_object.specs.Faults.{is_unnamed, has_function_without_code}
+use Rattle.ebpf_object.specs.Faults.{has_function_without_code}
 use Rattle.ebpf_object.specs.Programs.{has_no_code}
 use Rattle.ebpf_object.specs.Reading.{read_sections}
 use Rattle.ebpf_object.specs.Symbols.{symbols_in}
+use Rattle.ebpf_object.specs.SymbolTable.{is_unnamed}
 
 -- the first program section with a function that has no code, and its first such function
 abbrev pub section_without_code : List ℕ → Option Section

@@ -1,7 +1,6 @@
 -- The symbols of an object, by section.
-use Rattle.std.specs.Prelude.{◌≡◌, ℕ, Bool, is_none, ◌==◌, List, [], ◌∷◌, ◌++◌, if◌then◌else◌}
-use Rattle.std.specs.List.{list_any}
-use Rattle.std.specs.Option.{option_map_or}
+use Rattle.std.specs.Prelude.{◌≡◌, ℕ, Bool, find, is_none, ◌==◌, List, [], ◌∷◌, ◌++◌, if◌then◌else◌}
+use Rattle.std.specs.Option.{option_map, option_map_or}
 use Rattle.std.specs.BTreeMap.{get}
 use Rattle.std.specs.Ordering.{nat_cmp}
 use Rattle.elf64.specs.Symbols.{Symbol}
@@ -16,12 +15,12 @@ symbols_at table index = option_map_or (λ v. v.items) (get nat_cmp table.by_sec
 abbrev pub is_unnamed : Symbol → Bool
 is_unnamed s = is_none s.name
 
--- a table has for each section the symbols that lie there, and knows whether one of all has no name
+-- a table has for each section the symbols that lie there, and knows the first of all that has no name
 pub record AreSymbolsOf (table : SymbolTable) (symbols : List Symbol) : Type 0 where
   pub at : (index : ℕ) → symbols_at table index ≡ symbols_in symbols index
-  pub unnamed : table.has_unnamed ≡ list_any is_unnamed symbols
+  pub unnamed : table.first_unnamed ≡ option_map (λ s. s.index) (find is_unnamed symbols)
 
 -- a symbol is added behind those of its section
 pub record AddsSymbol (old new : SymbolTable) (index : ℕ) (symbol : Symbol) : Type 0 where
   pub at : (i : ℕ) → symbols_at new i ≡ symbols_at old i ++ (if index == i then symbol ∷ [] else [])
-  pub unnamed : new.has_unnamed ≡ old.has_unnamed
+  pub unnamed : new.first_unnamed ≡ old.first_unnamed

@@ -80,7 +80,7 @@ fn check_symbols(file: &ObjectFile<'_>) -> Result<(), ParseError>
     ensures accepted { OnOk result (list_any is_unnamed (symbols_of file.now) ≡ false) }
     ensures refused { IfErr result (HasObjectFault file.now) }
 {
-    if file.symbols.has_unnamed() {
+    if file.unnamed_symbol().is_some() {
         return Err(ParseError::BtfError(BtfError::InvalidSymbolName));
     }
     Ok(())

@@ -1,37 +1,39 @@
 //! Where a fault stands whose error doesn't say it.
 
-ghost use Rattle.std.specs.Prelude.{◌≡◌, [], find};
+ghost use Rattle.std.specs.Prelude.{◌≡◌, find};
 ghost use Rattle.std.specs.List.{list_any};
 ghost use Rattle.std.specs.Option.{option_copied, option_map};
 ghost use Rattle.elf64.specs.Symbols.{symbols_of};
-ghost use Rattle.ebpf_object.specs.Faults.{is_unnamed, has_function_without_code};
+ghost use Rattle.ebpf_object.specs.Faults.{has_function_without_code};
 ghost use Rattle.ebpf_object.specs.Places.{section_without_code, function_without_code, place_without_code, unnamed_symbol};
-ghost use Rattle.ebpf_object.specs.Programs.{has_no_code, is_program};
+ghost use Rattle.ebpf_object.specs.Programs.{has_no_code};
 
 use crate::file::ObjectFile;
 use crate::function::{code_of, function_name, section_kind};
+use crate::names::{NamedSection, NamedSymbol};
 use ebpf_items::EbpfSectionKind;
-use elf64::{SectionView, SymbolView};
 
 /// Whether a symbol of a section is a function that has no code among the section's bytes.
-fn has_no_code(section: &SectionView<'_>, symbol: &SymbolView<'_>) -> bool
+fn has_no_code(section: &NamedSection<'_>, symbol: &NamedSymbol<'_>) -> bool
     ensures { result ≡ has_no_code section.now symbol.now }
 {
-    function_name(symbol).is_some() && section.data().is_ok() && code_of(section, symbol).is_none()
+    function_name(symbol).is_some()
+        && section.view.data().is_ok()
+        && code_of(&section.view, &symbol.view).is_none()
 }
 
 /// The first of some symbols that is a function without code.
 fn first_without_code<'b, 'a>(
-    section: &SectionView<'_>,
-    symbols: &'b [SymbolView<'a>],
-) -> Option<&'b SymbolView<'a>>
+    section: &NamedSection<'_>,
+    symbols: &'b [NamedSymbol<'a>],
+) -> Option<&'b NamedSymbol<'a>>
     ensures { option_copied result ≡ find (has_no_code section.now) symbols.entry.now }
 {
     symbols.iter().find(|symbol| has_no_code(section, symbol))
 }
 
 /// Whether one of some symbols is a function without code.
-fn any_without_code(section: &SectionView<'_>, symbols: &[SymbolView<'_>]) -> bool
+fn any_without_code(section: &NamedSection<'_>, symbols: &[NamedSymbol<'_>]) -> bool
     ensures { result ≡ list_any (has_no_code section.now) symbols.now }
 {
     symbols.iter().any(|symbol| has_no_code(section, symbol))
@@ -43,29 +45,24 @@ impl<'a> ObjectFile<'a> {
     pub fn unnamed_symbol(&self) -> Option<usize>
         ensures { result ≡ unnamed_symbol self.now }
     {
-        for symbol in self.elf.symbols() {
-            if symbol.name().is_err() {
-                return Some(symbol.index());
-            }
-        }
-        None
+        self.symbols.first_unnamed()
     }
 
     /// Whether a section is a program section with a function that has no code.
-    fn lacks_code(&self, section: &SectionView<'_>) -> bool
+    fn lacks_code(&self, section: &NamedSection<'_>) -> bool
         ensures { result ≡ has_function_without_code (symbols_of self.now) section.now }
     {
-        if section_kind(section) != EbpfSectionKind::Program || section.name().is_err() {
+        if section_kind(section) != EbpfSectionKind::Program || section.name.is_none() {
             return false;
         }
-        match self.symbols_in(section.index()) {
+        match self.symbols_in(section.view.index()) {
             Some(symbols) => any_without_code(section, symbols.as_slice()),
             None => false,
         }
     }
 
     /// The first section with a function that has no code.
-    fn section_without_code(&self) -> Option<&SectionView<'a>>
+    fn section_without_code(&self) -> Option<&NamedSection<'a>>
         ensures { option_copied result ≡ section_without_code self.now }
     {
         self.sections
@@ -74,10 +71,10 @@ impl<'a> ObjectFile<'a> {
     }
 
     /// The first function of a section that has no code.
-    fn first_without_code(&self, section: &SectionView<'a>) -> Option<&SymbolView<'a>>
+    fn first_without_code(&self, section: &NamedSection<'a>) -> Option<&NamedSymbol<'a>>
         ensures { option_copied result ≡ function_without_code self.now section.now }
     {
-        let symbols = self.symbols_in(section.index())?;
+        let symbols = self.symbols_in(section.view.index())?;
         first_without_code(section, symbols.as_slice())
     }
 
@@ -88,6 +85,6 @@ impl<'a> ObjectFile<'a> {
     {
         let section = self.section_without_code()?;
         let symbol = self.first_without_code(section)?;
-        Some((section.index(), symbol.name().unwrap_or("")))
+        Some((section.view.index(), symbol.name.unwrap_or("")))
     }
 }

@@ -10,12 +10,12 @@ use elf64::ElfFile;
 use std::alloc::{AllocError, Global};
 use std::collections::BTreeMap;
 
-/// The symbols that lie in a section, by the section's index, and whether some symbol's name can't
-/// be read.
+/// The symbols that lie in a section, by the section's index, and the index of the first symbol
+/// whose name can't be read.
 #[derive(Debug, Drop)]
 pub(crate) struct SymbolTable<'a> {
     by_section: BTreeMap<usize, Vec<NamedSymbol<'a>>>,
-    has_unnamed: bool,
+    first_unnamed: Option<usize>,
 }
 
 impl<'a> SymbolTable<'a> {
@@ -32,11 +32,13 @@ impl<'a> SymbolTable<'a> {
     {
         let mut table = SymbolTable {
             by_section: BTreeMap::new(alloc),
-            has_unnamed: false,
+            first_unnamed: None,
         };
         for view in elf.symbols() {
             let symbol = names.symbol(view);
-            table.has_unnamed |= symbol.name.is_none();
+            if symbol.name.is_none() {
+                table.first_unnamed = table.first_unnamed.or(Some(symbol.view.index()));
+            }
             if let Some(index) = symbol.view.section_index() {
                 table.add(index, symbol)?;
             }
@@ -58,10 +60,10 @@ impl<'a> SymbolTable<'a> {
         self.by_section.get(&index)
     }
 
-    /// Whether the name of some symbol can't be read.
-    pub(crate) fn has_unnamed(&self) -> bool
-        ensures { result ≡ self.now.has_unnamed }
+    /// The index of the first symbol whose name can't be read.
+    pub(crate) fn first_unnamed(&self) -> Option<usize>
+        ensures { result ≡ self.now.first_unnamed }
     {
-        self.has_unnamed
+        self.first_unnamed
     }
 }
