@@ -30,8 +30,8 @@ struct Stretch {
     end: usize,
 }
 
-/// Where the long texts of a string table stand, so that none of them is looked at again each time
-/// it, or a part at its end, is read. The strings themselves stay with the caller.
+/// Where the long texts of a string table stand, and where none begins, so that no long stretch is
+/// looked at again each time a text in it is read. The strings themselves stay with the caller.
 #[derive(Debug, Drop)]
 pub struct LongTexts {
     texts: Vec<LongText>,
@@ -249,8 +249,8 @@ impl LongTexts {
         }
     }
 
-    /// The text at an offset of the string table. Looks at 256 bytes at most, where the long texts
-    /// are entered.
+    /// The text at an offset of the string table, if one begins there. Looks at 256 bytes at most,
+    /// where the long texts are entered.
     #[tactic(auto, using(crate::proofs::Ends::text_past))]
     pub fn text_at<'a>(&self, strings: &'a [u8], offset: u32) -> Option<&'a str>
         requires { AreLongTextsOf strings.now self.now }
