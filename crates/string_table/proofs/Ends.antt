@@ -10,7 +10,7 @@ use Rattle.std.proofs.Math.Seq.{take-append_seam}
 use Rattle.std.proofs.lemmas.List.{drop-append-le, drop-drop}
 use Rattle.std.proofs.lemmas.List.Elements.{All-contains}
 use Rattle.string_table.specs.Ends.{IsEnd, IsLeft}
-use Rattle.string_table.specs.LongTexts.{AreLongTextsOf, IsTextIn}
+use Rattle.string_table.specs.LongTexts.{AreLongTextsOf, IsTextIn, KnownTexts}
 use Rattle.std.proofs.lemmas.List.{take-append-drop}
 use Rattle.string_table.specs.Texts.{before_nul, text_at, text_of}
 use Rattle.string_table.proofs.Texts.{begins, begun, right_false, text_from, text_here}
@@ -36,7 +36,7 @@ before_nul_stays bytes text n e =
     let is : bytes ≡ text ++ 0 ∷ (b.more ++ drop n bytes) = sym whole ∙ ap (λ (bs : List ℕ). bs ++ drop n bytes) b.is ∙ append_assoc text (0 ∷ b.more) (drop n bytes) in
     begins bytes text (record { more = b.more ++ drop n bytes; is = is; plain = b.plain })
 
-past : (offset : ℕ) (strings text more : List ℕ) → drop offset strings ≡ text ++ 0 ∷ more → offset ≤ length strings
+pub past : (offset : ℕ) (strings text more : List ℕ) → drop offset strings ≡ text ++ 0 ∷ more → offset ≤ length strings
 past offset strings text more is = omega (arith, length-drop offset strings, ap length is, length-append text (0 ∷ more))
 
 tested : (test : Bool) (text : List ℕ) → cond test (Some text) None ≡ Some text → test ≡ true
@@ -49,7 +49,7 @@ text_utf8 strings text offset e =
     let here : option_and_then text_of (before_nul (drop offset strings)) ≡ text_of text = ap (option_and_then text_of) (text_here strings text offset e) in
     tested (is_utf8 text) text (sym here ∙ e)
 
-plain_end : (k : ℕ) (text : List ℕ) → list_any (λ b. b == 0) text ≡ false → list_any (λ b. b == 0) (drop k text) ≡ false
+pub plain_end : (k : ℕ) (text : List ℕ) → list_any (λ b. b == 0) text ≡ false → list_any (λ b. b == 0) (drop k text) ≡ false
 plain_end zero text plain = plain
 plain_end (suc k) [] plain = plain
 plain_end (suc k) (b ∷ bs) plain = plain_end k bs (right_false (nat_eq b 0) (list_any (λ c. c == 0) bs) plain)
@@ -72,13 +72,8 @@ some_stays strings more offset len (Some text) e h = rw (text_still strings more
 one_stays : (strings more : List ℕ) (t : ℕ × ℕ) → IsTextIn strings t → IsTextIn (strings ++ more) t
 one_stays strings more t h = some_stays strings more t.0 t.1 (text_at strings t.0) refl h
 
-all_stay : (strings more : List ℕ) (texts : List (ℕ × ℕ)) → All (IsTextIn strings) texts → All (IsTextIn (strings ++ more)) texts
+pub all_stay : (strings more : List ℕ) (texts : List (ℕ × ℕ)) → All (IsTextIn strings) texts → All (IsTextIn (strings ++ more)) texts
 all_stay strings more texts all = λ k d lt. one_stays strings more (slice_index_or texts k d) (all k d lt)
-
-pub long_texts_stay : (strings : List ℕ) (from : ℕ) (texts : List (ℕ × ℕ)) → AreLongTextsOf (take from strings) texts → AreLongTextsOf strings texts
-long_texts_stay strings from texts a =
-    let P : List ℕ → Type 0 = λ s. AreLongTextsOf s texts in
-    subst P (take-append-drop from strings) (record { stand = all_stay (take from strings) (drop from strings) texts a.stand })
 
 -- what is left of a long text from an offset on
 pub record StandsLeft (rest : List ℕ) (left : ℕ) : Type 0 where
@@ -107,8 +102,8 @@ stands_at strings t offset left (Some text) e h l =
     let end : offset + left ≡ t.0 + length text = l.end ∙ ap (λ (n : ℕ). t.0 + n) (sym h) in
     stands_by strings text b.more offset left t.0 (text_utf8 strings text t.0 e) b.plain b.is l.behind end
 
-pub left_stands : (strings rest : List ℕ) (texts : List (ℕ × ℕ)) (t : ℕ × ℕ) (offset left : ℕ) → rest ≡ drop offset strings → AreLongTextsOf strings texts → Contains texts t → IsLeft t offset left → StandsLeft rest left
-left_stands strings rest texts t offset left is a c l = rw is (stands_at strings t offset left (text_at strings t.0) refl (All-contains (IsTextIn strings) texts t a.stand c) l)
+pub left_stands : (strings rest : List ℕ) (known : KnownTexts) (t : ℕ × ℕ) (offset left : ℕ) → rest ≡ drop offset strings → AreLongTextsOf strings known → Contains known.texts t → IsLeft t offset left → StandsLeft rest left
+left_stands strings rest known t offset left is a c l = rw is (stands_at strings t offset left (text_at strings t.0) refl (All-contains (IsTextIn strings) known.texts t a.stand c) l)
 
 -- the text at an offset, by what stands there
 pub text_found : (strings rest bytes : List ℕ) (offset : ℕ) (found : Option (List ℕ)) → rest ≡ drop offset strings → before_nul rest ≡ Some bytes → found ≡ text_of bytes → found ≡ text_at strings offset

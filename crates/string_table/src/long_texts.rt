@@ -1,10 +1,10 @@
 //! The long texts of a string table.
 
-ghost use Rattle.std.specs.Prelude.{◌≡◌, ◌<◌, ◌≤◌, ◌↔◌, [], Contains, IfOk, IfSome, IsTrue, Some, length, take};
+ghost use Rattle.std.specs.Prelude.{◌≡◌, ◌+◌, ◌<◌, ◌≤◌, ◌↔◌, [], Contains, IfOk, IfSome, IsTrue, None, Some, drop, length, take};
 ghost use Rattle.std.specs.Str.{IsCharBoundary};
 ghost use Rattle.std.specs.Option.{option_copied};
-ghost use Rattle.string_table.specs.Ends.{IsEnd, IsLeft};
-ghost use Rattle.string_table.specs.LongTexts.{AreLongTextsOf};
+ghost use Rattle.string_table.specs.Ends.{IsEnd, IsLeft, IsNoTextBefore};
+ghost use Rattle.string_table.specs.LongTexts.{AreLongTextsOf, IsLastNulBefore};
 ghost use Rattle.string_table.specs.Texts.{before_nul, text_at, text_of};
 
 use crate::text::{before_nul, from_offset, nul_position, text_at, text_of};
@@ -22,19 +22,35 @@ struct LongText {
     len: usize,
 }
 
-/// Where the long texts of a string table stand, so that none of them is looked at again each time
-/// it, or a part at its end, is read. The strings themselves stay with the caller.
+/// Offsets where no text begins, as the bytes up to the next NUL aren't UTF-8.
+#[derive(Clone, Copy, Debug)]
+struct Stretch {
+    start: usize,
+    /// The offset behind the last one.
+    end: usize,
+}
+
+/// Where the long texts of a string table stand, and where none begins, so that no long stretch is
+/// looked at again each time a text in it is read. The strings themselves stay with the caller.
 #[derive(Debug, Drop)]
 pub struct LongTexts {
     texts: Vec<LongText>,
+    unreadable: Vec<Stretch>,
+    /// The offset behind the last NUL.
+    end: usize,
 }
 
 impl Model for LongTexts {
-    ghost use Rattle.std.specs.Prelude.{List, ℕ, map};
+    ghost use Rattle.std.specs.Prelude.{map};
+    ghost use Rattle.string_table.specs.LongTexts.{KnownTexts};
 
-    ghost Value = { List (ℕ × ℕ) };
+    ghost Value = { KnownTexts };
 
-    ghost view = { λ t. map (λ text. (text.offset, text.len)) t.texts.items };
+    ghost view = { λ t. record {
+      texts = map (λ text. (text.offset, text.len)) t.texts.items;
+      unreadable = map (λ stretch. (stretch.start, stretch.end)) t.unreadable.items;
+      end = t.end;
+    } };
 }
 
 /// Whether no character goes on in the first byte.
@@ -62,11 +78,11 @@ fn end_of(bytes: &[u8]) -> Option<&str>
 
 /// How many bytes come before the longest text that ends the bytes.
 fn text_start(bytes: &[u8]) -> usize
-    ensures { result ≤ length bytes.now }
+    ensures { IsNoTextBefore bytes.now result }
 {
     let mut rest = bytes;
     while let Err(error) = str::from_utf8(rest) {
-        rest = rest.get(error.valid_up_to() + 1..).unwrap_or(&[]);
+        rest = &rest[error.valid_up_to() + 1..];
     }
     bytes.len() - rest.len()
 }
@@ -87,6 +103,18 @@ fn last_nul(bytes: &[u8]) -> Option<usize>
     first.iter().rposition(|byte| *byte == 0)
 }
 
+/// The offset behind the last NUL.
+fn last_end(strings: &[u8]) -> usize
+    ensures within { result ≤ length strings.now }
+    ensures last { IsLastNulBefore strings.now result }
+{
+    let mut end = strings.len();
+    while end > 0 && strings[end - 1] != 0 {
+        end -= 1;
+    }
+    end
+}
+
 /// How many bytes of a text are left from an offset on that lies in it.
 fn left(text: LongText, offset: u32) -> Option<usize>
     ensures { IfSome result (IsLeft (text.offset, text.len) offset) }
@@ -98,10 +126,12 @@ fn left(text: LongText, offset: u32) -> Option<usize>
 impl LongTexts {
     /// No texts.
     pub fn empty(alloc: Global) -> LongTexts
-        ensures { result ≡ [] }
+        ensures { AreLongTextsOf [] result }
     {
         LongTexts {
             texts: Vec::new(alloc),
+            unreadable: Vec::new(alloc),
+            end: 0,
         }
     }
 
@@ -120,6 +150,8 @@ impl LongTexts {
     {
         Ok(LongTexts {
             texts: self.texts.clone()?,
+            unreadable: self.unreadable.clone()?,
+            end: self.end,
         })
     }
 
@@ -141,31 +173,49 @@ impl LongTexts {
         Ok(())
     }
 
+    /// Enters the bytes at an offset up to the next NUL: the longest text that ends them, and that
+    /// none begins before it.
+    fn enter_bytes(&mut self, strings: &[u8], offset: usize, bytes: &[u8]) -> Result<(), AllocError>
+        requires within { offset + length bytes.now ≤ length strings.now }
+        requires before { before_nul (drop offset strings.now) ≡ Some bytes.now }
+        requires known { AreLongTextsOf strings.now self.old }
+        ensures { AreLongTextsOf strings.now self.new }
+    {
+        let end = offset + text_start(bytes);
+        self.enter(strings, end)?;
+        if offset < end {
+            self.unreadable.push(Stretch { start: offset, end })?;
+        }
+        Ok(())
+    }
+
     /// Enters the long texts behind an offset, where more was written behind the strings.
     pub fn extend(&mut self, strings: &[u8], from: usize) -> Result<(), AllocError>
         requires within { from ≤ length strings.now }
         requires before { AreLongTextsOf (take from strings.now) self.old }
         ensures { AreLongTextsOf strings.now self.new }
     {
-        let mut rest = &strings[from..];
-        while !rest.is_empty() {
+        // The bytes behind the last NUL of the first strings may begin a text now.
+        let mut offset = from.min(self.end);
+        self.end = last_end(strings);
+        while offset < strings.len() {
+            let rest = &strings[offset..];
             if let Some(last) = last_nul(rest) {
-                rest = &rest[last + 1..];
+                offset += last + 1;
                 continue;
             }
             let Some(len) = nul_position(rest) else {
                 break;
             };
-            let start = strings.len() - rest.len() + text_start(&rest[..len]);
-            self.enter(strings, start)?;
-            rest = &rest[len + 1..];
+            self.enter_bytes(strings, offset, &rest[..len])?;
+            offset += len + 1;
         }
         Ok(())
     }
 
     /// The last text that begins up to an offset.
     fn last_up_to(&self, offset: u32) -> Option<LongText>
-        ensures { IfSome result (λ text. Contains self.now (text.offset, text.len)) }
+        ensures { IfSome result (λ text. Contains self.now.texts (text.offset, text.len)) }
     {
         let index = self
             .texts
@@ -174,8 +224,33 @@ impl LongTexts {
         self.texts.get(index).copied()
     }
 
-    /// The text at an offset of the string table. Looks at 256 bytes at most, where the long texts
-    /// are entered.
+    /// The last stretch without a text that begins up to an offset.
+    fn unreadable_up_to(&self, offset: usize) -> Option<Stretch>
+        ensures { IfSome result (λ stretch. Contains self.now.unreadable (stretch.start, stretch.end)) }
+    {
+        let index = self
+            .unreadable
+            .partition_point(|stretch| stretch.start <= offset)
+            .checked_sub(1)?;
+        self.unreadable.get(index).copied()
+    }
+
+    /// Whether it was found that no text begins at an offset.
+    fn is_unreadable(&self, strings: &[u8], offset: usize) -> bool
+        requires { AreLongTextsOf strings.now self.now }
+        ensures { IsTrue result → None ≡ text_at strings.now offset }
+    {
+        if offset >= self.end {
+            return true;
+        }
+        match self.unreadable_up_to(offset) {
+            Some(stretch) => stretch.start <= offset && offset < stretch.end,
+            None => false,
+        }
+    }
+
+    /// The text at an offset of the string table, if one begins there. Looks at 256 bytes at most,
+    /// where the long texts are entered.
     #[tactic(auto, using(crate::proofs::Ends::text_past))]
     pub fn text_at<'a>(&self, strings: &'a [u8], offset: u32) -> Option<&'a str>
         requires { AreLongTextsOf strings.now self.now }
@@ -186,6 +261,9 @@ impl LongTexts {
         };
         if let Some(bytes) = short_bytes(rest) {
             return text_of(bytes);
+        }
+        if self.is_unreadable(strings, offset as usize) {
+            return None;
         }
         match self.last_up_to(offset) {
             Some(text) => match left(text, offset) {

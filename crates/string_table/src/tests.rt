@@ -38,26 +38,33 @@ fn a_text_ends_at_the_next_nul(rt: HostRuntime) {
     }
 }
 
+/// So many bytes `a`, which no NUL ends.
+fn push_bytes(strings: &mut Vec<u8>, len: usize) -> Result<(), AllocError> {
+    for _ in 0..len {
+        strings.push(b'a')?;
+    }
+    Ok(())
+}
+
 /// So many bytes `a`, `é`, again as many `a` and a NUL.
 fn push_long_text(strings: &mut Vec<u8>, half: usize) -> Result<(), AllocError> {
-    for _ in 0..half {
-        strings.push(b'a')?;
-    }
+    push_bytes(strings, half)?;
     strings.extend_from_slice("é".as_bytes())?;
-    for _ in 0..half {
-        strings.push(b'a')?;
-    }
+    push_bytes(strings, half)?;
     strings.push(0)?;
     Ok(())
 }
 
-/// A short text, a long one, a long one behind a byte that is no UTF-8, and a short one.
+/// A short text, a long one, a long one behind a byte that is no UTF-8, a short one behind many
+/// bytes and one that is no UTF-8, a short one, and many bytes that no NUL ends.
 fn long_strings(alloc: Global) -> Result<Vec<u8>, AllocError> {
     let mut strings = Vec::from_slice(alloc, b"ab\0")?;
     push_long_text(&mut strings, 200)?;
     strings.push(0xff)?;
     push_long_text(&mut strings, 300)?;
-    strings.extend_from_slice(b"cd\0e")?;
+    push_bytes(&mut strings, 300)?;
+    strings.extend_from_slice(b"\xffb\0cd\0")?;
+    push_bytes(&mut strings, 300)?;
     Ok(strings)
 }
 
@@ -71,7 +78,7 @@ fn long_texts_are_the_texts(rt: HostRuntime) -> Result<(), Fail> {
     let (first, _) = strings.split_at(500);
     let mut grown = LongTexts::new(rt.alloc(), first)?;
     grown.extend(strings, 500)?;
-    for offset in 0..1100 {
+    for offset in 0..1700 {
         let text = text_at(strings, offset);
         assert_eq!(rt; texts.text_at(strings, offset), text, "at {offset}");
         assert_eq!(rt; copy.text_at(strings, offset), text, "at {offset}");

@@ -1,9 +1,9 @@
-use Rattle.std.proofs.Common.{length, ◌≤◌}
+use Rattle.std.proofs.Common.{◌≤◌, ◌-◌, length}
 use Rattle.string_table.specs.LongTexts.{AreLongTextsOf}
 use Rattle.string_table.proofs.long_texts.LongTexts.extend.Given as goal
 
-abbrev pub invariant-loop-rest : goal.invariant-loop-rest
-invariant-loop-rest l = AreLongTextsOf l.strings l.self × (length l.rest ≤ length l.strings)
+abbrev pub invariant-loop-offset : goal.invariant-loop-offset
+invariant-loop-offset l = AreLongTextsOf l.strings l.self × (l.offset ≤ length l.strings)
 
-abbrev pub decreases-loop-rest : goal.decreases-loop-rest
-decreases-loop-rest l = length l.rest
+abbrev pub decreases-loop-offset : goal.decreases-loop-offset
+decreases-loop-offset l = length l.strings - l.offset
