@@ -3,11 +3,11 @@
 
 pub use btf_compatibility::{fields_are_compatible, types_are_compatible};
 pub use btf_encoding::TypeRef;
+pub use btf_index::{TypeIds, TypeIndex};
 pub use btf_records::{
     Array, BtfArray, BtfEnum, BtfEnum64, BtfError, BtfFeature, BtfKind, BtfMember, BtfParam,
     BtfType, Const, DataSec, DataSecEntry, DeclTag, Endianness, Enum, Enum64, Enum64Fallback,
     Float, Func, FuncLinkage, FuncProto, Fwd, InfoBits, Int, IntEncoding, Items, Ptr, Restrict,
     Struct, TypeTag, Typedef, Union, Var, VarLinkage, Volatile,
 };
-pub use btf_index::{TypeIds, TypeIndex};
 pub use btf_tables::{Btf, Types, essential_name};
