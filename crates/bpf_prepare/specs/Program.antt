@@ -1,12 +1,12 @@
 -- The status that the program ends with.
 use Rattle.std.specs.Prelude.{ℕ}
 use Rattle.bpf_prepare.specs.declared.error.ProgramError.{ProgramError}
-use Rattle.bpf_prepare.specs.declared.error.ProgramError.TheVariants.{Run}
-use Rattle.bpf_prepare.specs.declared.error.RunError.TheVariants.{Parse, ParseAt, NotYet}
+use Rattle.bpf_prepare.specs.declared.error.ProgramError.TheVariants.{Refused, Run}
+use Rattle.bpf_prepare.specs.declared.error.RunError.TheVariants.{Parse, NotYet}
 
 -- 1 where the object is refused, else 2
 abbrev pub status_of : ProgramError → ℕ
 status_of (Run (Parse e)) = 1
-status_of (Run (ParseAt e place)) = 1
+status_of (Refused e place) = 1
 status_of (Run (NotYet e)) = 1
 status_of _ = 2

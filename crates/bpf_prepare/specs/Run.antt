@@ -7,11 +7,10 @@ use Rattle.load_plan.specs.PlanGrammar as plan
 use Rattle.load_plan.specs.declared.error.PrepareError.{PrepareError}
 use Rattle.load_plan.specs.declared.error.PrepareError.TheVariants as prepare
 use Rattle.bpf_prepare.specs.declared.error.RunError.{RunError}
-use Rattle.bpf_prepare.specs.declared.error.RunError.TheVariants.{Parse, ParseAt, NotYet, Output}
+use Rattle.bpf_prepare.specs.declared.error.RunError.TheVariants.{Parse, NotYet, Output}
 
 abbrev pub run_error_of : PrepareError → RunError
 run_error_of (prepare.Parse e) = Parse e
-run_error_of (prepare.ParseAt e place) = ParseAt e place
 run_error_of (prepare.NotYet e) = NotYet e
 run_error_of prepare.OutOfMemory = Parse error.OutOfMemory
 
@@ -22,6 +21,5 @@ text_of file = plan.text_of (plan_of (object_of file))
 -- what an error says of the object's bytes
 abbrev pub IsRunRefusal : List ℕ → RunError → Type 0
 IsRunRefusal file (Parse e) = IsRefusal file (prepare.Parse e)
-IsRunRefusal file (ParseAt e place) = IsRefusal file (prepare.ParseAt e place)
 IsRunRefusal file (NotYet e) = IsRefusal file (prepare.NotYet e)
 IsRunRefusal file Output = Unit {0}

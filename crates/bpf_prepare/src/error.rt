@@ -15,9 +15,6 @@ pub enum RunError {
     /// The object can't be parsed.
     #[error("refused: {0}")]
     Parse(ParseError),
-    /// The object can't be parsed, and this is where the fault stands.
-    #[error("refused: {error}: {place}")]
-    ParseAt { error: ParseError, place: Place },
     /// The object has something that isn't looked at yet.
     #[error("refused: {0}")]
     NotYet(NotYet),
@@ -32,7 +29,6 @@ impl From<PrepareError> for RunError {
     fn from(error: PrepareError) -> RunError {
         match error {
             PrepareError::Parse(error) => RunError::Parse(error),
-            PrepareError::ParseAt { error, place } => RunError::ParseAt { error, place },
             PrepareError::NotYet(error) => RunError::NotYet(error),
             PrepareError::OutOfMemory => RunError::Parse(ParseError::OutOfMemory),
         }
@@ -54,6 +50,9 @@ pub enum ProgramError {
     /// There is no plan, or it can't be written.
     #[error("{0}")]
     Run(RunError),
+    /// The object can't be parsed, and this is where the fault stands.
+    #[error("refused: {error}: {place}")]
+    Refused { error: ParseError, place: Place },
 }
 
 impl From<RunError> for ProgramError {
@@ -70,9 +69,8 @@ impl ProgramError {
         ensures { result ≡ status_of self.now }
     {
         match self {
-            ProgramError::Run(
-                RunError::Parse(_) | RunError::ParseAt { .. } | RunError::NotYet(_),
-            ) => 1,
+            ProgramError::Run(RunError::Parse(_) | RunError::NotYet(_)) => 1,
+            ProgramError::Refused { .. } => 1,
             _ => 2,
         }
     }

@@ -7,8 +7,9 @@ mod running;
 mod tests;
 
 use error::{ProgramError, RunError};
-use load_plan::Watched;
+use load_plan::{Watched, place_of};
 use running::run;
+use std::alloc::Global;
 use std::io::{BufWriter, Write};
 use std::process::ExitCode;
 use std::{env, fs, io};
@@ -25,6 +26,18 @@ fn object_name(rt: &HostRuntime) -> Result<String, ProgramError> {
     }
 }
 
+/// The error of a run, with the place of the fault where the object isn't parsed and its error
+/// doesn't say it.
+fn located(alloc: Global, object: &[u8], error: RunError) -> ProgramError {
+    let RunError::Parse(error) = error else {
+        return ProgramError::Run(error);
+    };
+    match place_of(alloc, object, &error) {
+        Some(place) => ProgramError::Refused { error, place },
+        None => ProgramError::Run(RunError::Parse(error)),
+    }
+}
+
 /// Prints the plan of the object that the command line names.
 fn print_plan(rt: &HostRuntime) -> Result<(), ProgramError> {
     let name = object_name(rt)?;
@@ -36,7 +49,9 @@ fn print_plan(rt: &HostRuntime) -> Result<(), ProgramError> {
         return Err(ProgramError::OutOfMemory);
     };
     let mut out = Watched::new(writer);
-    run(rt.alloc(), object.as_slice(), &mut out)?;
+    if let Err(error) = run(rt.alloc(), object.as_slice(), &mut out) {
+        return Err(located(rt.alloc(), object.as_slice(), error));
+    }
     match out.into_inner().flush() {
         Ok(()) => Ok(()),
         Err(_) => Err(ProgramError::Run(RunError::Output)),

@@ -16,7 +16,7 @@ use Rattle.ebpf_object.specs.Reading.{HasReadingFault, IsReadable}
 use Rattle.ebpf_object.specs.Served.{is_served, AsksFor, name_at}
 use Rattle.load_plan.specs.Content.{PlanContent, ProgramContent}
 use Rattle.load_plan.specs.declared.error.PrepareError.{PrepareError}
-use Rattle.load_plan.specs.declared.error.PrepareError.TheVariants.{Parse, ParseAt, NotYet, OutOfMemory}
+use Rattle.load_plan.specs.declared.error.PrepareError.TheVariants.{Parse, NotYet, OutOfMemory}
 use Rattle.load_plan.specs.declared.error.Place.{Place}
 use Rattle.load_plan.specs.declared.error.Place.TheVariants.{Function, Symbol}
 
@@ -43,19 +43,10 @@ IsPlace file error.InvalidProgramCode (Function index section name) =
 IsPlace file (error.BtfError btf.InvalidSymbolName) (Symbol index) = unnamed_symbol file ≡ Some index
 IsPlace file _ _ = ⊥
 
--- a fault of a file as it is told, memory apart: with its place or without
-abbrev pub IsLocated : List ℕ → ParseError → PrepareError → Type 0
-IsLocated file e (Parse told) = told ≡ e
-IsLocated file e (ParseAt told place) = (told ≡ e) × IsPlace file e place
-IsLocated file e OutOfMemory = Unit {0}
-IsLocated file e _ = ⊥
-
 -- What a refusal says of a file, memory apart: a fault of reading, or that an object whose sections can be read isn't
 -- served, of which a section that isn't is named, or another fault of one that is.
 abbrev pub IsRefusal : List ℕ → PrepareError → Type 0
 IsRefusal file (Parse e) = e ≢ error.OutOfMemory → HasReadingFault file e ⊎ (IsReadable file × (is_served file ≡ true) × HasFault file e)
-IsRefusal file (ParseAt e place) =
-    (e ≢ error.OutOfMemory → HasReadingFault file e ⊎ (IsReadable file × (is_served file ≡ true) × HasFault file e)) × IsPlace file e place
 IsRefusal file (NotYet n) =
     IsReadable file × (is_served file ≡ false) × AsksFor file n.subject n.index × (string_bytes n.name ≡ name_at file n.index)
 IsRefusal file OutOfMemory = Unit {0}

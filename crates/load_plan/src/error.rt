@@ -65,9 +65,6 @@ pub enum PrepareError {
     /// The object can't be parsed.
     #[error("{0}")]
     Parse(ParseError),
-    /// The object can't be parsed, and this is where the fault stands.
-    #[error("{error}: {place}")]
-    ParseAt { error: ParseError, place: Place },
     /// The object has something that isn't looked at yet.
     #[error("{0}")]
     NotYet(NotYet),

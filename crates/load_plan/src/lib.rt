@@ -10,7 +10,7 @@ mod writing;
 pub use ebpf_object::{ParseError, ProgramSection, Slots, Subject, Watched, bpf_insn};
 pub use error::{NotYet, Place, PrepareError};
 pub use plan::{Plan, PlanProgram};
-pub use planning::prepare;
+pub use planning::{place_of, prepare};
 
 #[cfg(test)]
 mod tests;

@@ -3,7 +3,7 @@
 ghost use Rattle.std.specs.Prelude.{◌≡◌, List, map, IfSome, IfOk, IfErr, OnOk};
 ghost use Rattle.ebpf_object.specs.ParsedObject.{object_of};
 ghost use Rattle.load_plan.specs.Content.{AreRising};
-ghost use Rattle.load_plan.specs.Planned.{slots_at, plan_program_of, plan_of, IsPlace, IsLocated, IsRefusal, IsPrepared};
+ghost use Rattle.load_plan.specs.Planned.{slots_at, plan_program_of, plan_of, IsPlace, IsRefusal, IsPrepared};
 
 use crate::error::{NotYet, Place, PrepareError};
 use crate::plan::{Plan, PlanProgram};
@@ -67,8 +67,8 @@ fn plan_of<'a>(alloc: Global, object: &Object<'a>) -> Result<Plan<'a>, AllocErro
     })
 }
 
-/// Where a fault stands, if its error doesn't say it.
-fn place_of(
+/// Where a fault of an opened file stands, if its error doesn't say it.
+fn place_in(
     alloc: Global,
     file: &ObjectFile<'_>,
     error: &ParseError,
@@ -94,14 +94,17 @@ fn place_of(
     }
 }
 
-/// A fault of a file, with its place if the error doesn't say it.
-fn located(alloc: Global, file: &ObjectFile<'_>, error: ParseError) -> PrepareError
-    ensures { IsLocated file.now error result }
+/// Where a fault of an object file stands, for the errors that don't say it: a function without
+/// code, a symbol whose name can't be read. None for other errors, and where memory runs out.
+pub fn place_of(alloc: Global, object: &[u8], error: &ParseError) -> Option<Place>
+    ensures { IfSome result (IsPlace object.now error.now) }
 {
-    match place_of(alloc, file, &error) {
-        Ok(Some(place)) => PrepareError::ParseAt { error, place },
-        Ok(None) => PrepareError::Parse(error),
-        Err(_) => PrepareError::OutOfMemory,
+    let Ok(file) = ObjectFile::parse(alloc, object) else {
+        return None;
+    };
+    match place_in(alloc, &file, error) {
+        Ok(place) => place,
+        Err(_) => None,
     }
 }
 
@@ -109,7 +112,7 @@ fn located(alloc: Global, file: &ObjectFile<'_>, error: ParseError) -> PrepareEr
 ///
 /// # Errors
 ///
-/// [`PrepareError::Parse`] and [`PrepareError::ParseAt`] where the file isn't an object that can be parsed, and
+/// [`PrepareError::Parse`] where the file isn't an object that can be parsed, and
 /// [`PrepareError::NotYet`] for an object with a section that isn't served yet, which it names.
 pub fn prepare<'a>(alloc: Global, object: &'a [u8]) -> Result<Plan<'a>, PrepareError>
     ensures value { IfOk result (λ p. p ≡ plan_of (object_of object.entry.now)) }
@@ -124,8 +127,6 @@ pub fn prepare<'a>(alloc: Global, object: &'a [u8]) -> Result<Plan<'a>, PrepareE
             name: String::from_str(alloc, section.name)?,
         }));
     }
-    match Object::from_file(alloc, &file) {
-        Ok(object) => Ok(plan_of(alloc, &object)?),
-        Err(error) => Err(located(alloc, &file, error)),
-    }
+    let object = Object::from_file(alloc, &file)?;
+    Ok(plan_of(alloc, &object)?)
 }

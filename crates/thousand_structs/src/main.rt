@@ -1,7 +1,7 @@
-//! Parses a table of 1,000 structs, and prints how many types it has.
+//! Parses a table of 1,000 structs, adds a type, and prints how many types it has and how many bytes.
 #![tactic(auto)]
 
-use btf::{Btf, Endianness};
+use btf::{Btf, BtfError, BtfType, Endianness, Int, IntEncoding};
 use std::process::ExitCode;
 
 const HEADER: [u8; 24] = [
@@ -27,16 +27,29 @@ fn section_byte(at: usize) -> u8 {
     }
 }
 
+/// The bytes of a table with one more type.
+fn grown(table: &mut Btf<'_>) -> Result<usize, BtfError> {
+    let name = table.add_string("count")?;
+    table.add_type(BtfType::Int(Int::new(name, 4, IntEncoding::None, 0)))?;
+    Ok(table.to_bytes()?.len())
+}
+
+/// Prints what the calls give, as far as memory reaches.
+fn print(rt: &HostRuntime, section: &[u8]) -> Result<(), BtfError> {
+    let mut table = Btf::parse(rt.alloc(), section, Endianness::Little)?;
+    let _ = println!(rt; "{}", table.types().count());
+    let len = grown(&mut table)?;
+    let _ = println!(rt; "{len}");
+    Ok(())
+}
+
 fn main(rt: HostRuntime) -> ExitCode {
     let mut section = [0; LEN];
     for at in 0..LEN {
         section[at] = section_byte(at);
     }
-    match Btf::parse(rt.alloc(), &section, Endianness::Little) {
-        Ok(table) => {
-            let _ = println!(rt; "{}", table.types().count());
-            ExitCode::SUCCESS
-        }
+    match print(&rt, &section) {
+        Ok(()) => ExitCode::SUCCESS,
         Err(error) => {
             let _ = println!(rt; "{error}");
             ExitCode::FAILURE
