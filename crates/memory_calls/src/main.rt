@@ -46,12 +46,16 @@ fn types(alloc: Global, section: &[u8]) -> Result<usize, BtfError> {
     Ok(table.types().count())
 }
 
-/// How many types a table has for a kind and a name, and whether two of its pointers are alike.
-fn look_ups(alloc: Global, section: &[u8]) -> Result<(usize, bool), BtfError> {
+/// The first type of a table for a kind and a name, and whether a pointer of it is compatible with
+/// itself.
+fn look_ups(alloc: Global, section: &[u8]) -> Result<(u32, bool), BtfError> {
     let table = Btf::parse(alloc, section, Endianness::Little)?.try_clone()?;
     let index = TypeIndex::new(alloc, &table)?;
-    let count = index.candidates(BtfKind::Int, "int")?.count();
-    Ok((count, types_are_compatible(&table, 2, &table, 2)?))
+    let found = index.candidates(BtfKind::Int, "int")?.next();
+    Ok((
+        found.unwrap_or(0),
+        types_are_compatible(&table, 2, &table, 2)?,
+    ))
 }
 
 /// The immediate of a slot that was written into a copy of borrowed slots.
@@ -76,8 +80,8 @@ fn programs(alloc: Global) -> Result<usize, PrepareError> {
 fn print_types(rt: &HostRuntime) -> Result<(), BtfError> {
     let section = section(rt.alloc())?;
     let types = types(rt.alloc(), section.as_slice())?;
-    let (count, is_same) = look_ups(rt.alloc(), section.as_slice())?;
-    let _ = println!(rt; "{types} types, {count} found, alike: {is_same}");
+    let (found, is_same) = look_ups(rt.alloc(), section.as_slice())?;
+    let _ = println!(rt; "{types} types, type {found} found, alike: {is_same}");
     Ok(())
 }
 
