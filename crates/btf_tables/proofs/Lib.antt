@@ -1,17 +1,11 @@
 pub mod Flavours
 pub mod Added
 pub mod Chains
-pub mod Growth
 pub mod Headers
-pub mod Left
-pub mod Lengths
 pub mod Named
 pub mod NamedAlike
 pub mod OtherTexts
-pub mod Places
-pub mod Reading
 pub mod Rests
 pub mod Sections
 pub mod Texts
 pub mod Walks
-pub mod Writing

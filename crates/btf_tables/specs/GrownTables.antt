@@ -1,5 +1,6 @@
 -- What becomes of a table to which a string or a type is added.
-use Rattle.std.specs.Prelude.{◌≡◌, ℕ, ◌+◌, ◌≤◌, ◌^◌, List, [], ◌∷◌, ◌++◌, length, ◌⊎◌, Some}
+use Rattle.std.specs.Prelude.{◌≡◌, ℕ, ◌+◌, List, [], ◌∷◌, ◌++◌, length, ◌⊎◌, Some}
+use Rattle.btf_parts.specs.Growth.{TooMany}
 use Rattle.btf_tables.specs.Tables.{Table, type_by_id, type_bytes}
 use Rattle.string_table.specs.Texts.{text_at}
 use Rattle.btf_records.specs.declared.types.BtfType.{BtfType}
@@ -11,10 +12,6 @@ with_string table text = record table { strings = table.strings ++ text ++ 0 ∷
 -- the record, under the next id
 abbrev pub with_type : Table → BtfType → Table
 with_type table t = record table { types = table.types ++ t ∷ [] }
-
--- so many bytes, or types, are more than 32 bits can count
-abbrev pub TooMany : ℕ → Type 0
-TooMany n = 2 ^ 32 ≤ n
 
 -- why no type can be added: the type bytes, or the types, would be too many
 abbrev pub IsFull : Table → BtfType → Type 0

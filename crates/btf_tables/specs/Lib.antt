@@ -1,9 +1,7 @@
 pub mod Agreement
 pub mod EssentialNames
-pub mod ByteLists
 pub mod GrownTables
 pub mod Headers
-pub mod Layout
 pub mod OtherTexts
 pub mod ResolvedTypes
 pub mod Sections

@@ -2,17 +2,13 @@
 //! (Documentation/bpf/btf.rst, "BTF Type and String Encoding").
 #![tactic(auto)]
 
-mod byte_list;
 mod essential_names;
 mod growing;
 mod lookup;
 mod other_texts;
-mod records;
 mod section;
-mod strings;
 mod table;
-mod types;
 
+pub use btf_parts::Types;
 pub use essential_names::essential_name;
 pub use table::Btf;
-pub use types::Types;

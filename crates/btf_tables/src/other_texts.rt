@@ -5,7 +5,7 @@ ghost use Rattle.std.specs.Option.{option_copied};
 ghost use Rattle.btf_tables.specs.OtherTexts.{AreOthers, IsNoted, note_at};
 ghost use Rattle.string_table.specs.Texts.{text_at};
 
-use crate::strings::Strings;
+use btf_parts::Strings;
 use std::alloc::AllocError;
 use std::collections::BTreeMap;
 

@@ -7,9 +7,8 @@ ghost use Rattle.btf_tables.specs.Tables.{TableFault, table_bytes};
 ghost use Rattle.btf_records.specs.Words.{word_at};
 ghost use Rattle.btf_records.specs.declared.error.BtfError.TheVariants.{OutOfMemory};
 
-use crate::records::TypeRecords;
-use crate::strings::Strings;
 use crate::table::Btf;
+use btf_parts::{Strings, TypeRecords};
 use btf_records::{BtfError, Endianness, half_word, push_half_word, push_word, word};
 use std::alloc::{AllocError, Global};
 

@@ -6,10 +6,8 @@ ghost use Rattle.btf_records.specs.Fields.{name_offset_of};
 ghost use Rattle.btf_tables.specs.Tables.{type_by_id};
 ghost use Rattle.string_table.specs.Texts.{text_at};
 
-use crate::records::TypeRecords;
-use crate::strings::Strings;
-use crate::types::Types;
 use btf_encoding::TypeRef;
+use btf_parts::{Strings, TypeRecords, Types};
 use btf_records::{BtfError, BtfKind, BtfType};
 use std::alloc::Global;
 use std::marker::Model;

@@ -1,0 +1,3 @@
+pub mod ByteLists
+pub mod Growth
+pub mod Layout

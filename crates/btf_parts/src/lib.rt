@@ -1,0 +1,12 @@
+//! What a type table is made of: its records and its strings, over the bytes of the section that they were read from
+//! (Documentation/bpf/btf.rst, "BTF Type and String Encoding").
+#![tactic(auto)]
+
+mod byte_list;
+mod records;
+mod strings;
+mod types;
+
+pub use records::{MOST, TypeRecords};
+pub use strings::Strings;
+pub use types::Types;

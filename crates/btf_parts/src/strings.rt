@@ -1,0 +1,100 @@
+//! The strings of a table.
+
+ghost use Rattle.std.specs.Prelude.{◌≡◌, ◌≤◌, ◌∷◌, ◌++◌, [], IfOk, OnErr, OnOk, length, take};
+ghost use Rattle.std.specs.Option.{option_copied};
+ghost use Rattle.string_table.specs.LongTexts.{AreLongTextsOf};
+ghost use Rattle.string_table.specs.Texts.{text_at};
+
+use crate::byte_list::ByteList;
+use std::alloc::{AllocError, Global};
+use std::marker::Model;
+use string_table::LongTexts;
+
+/// The bytes of the strings, and where the long ones stand.
+#[derive(Debug, Drop)]
+pub struct Strings<'a> {
+    bytes: ByteList<'a>,
+    long_texts: LongTexts,
+}
+
+impl<'a> Model for Strings<'a> {
+    ghost use Rattle.std.specs.Prelude.{ℕ, List};
+    ghost use Rattle.string_table.specs.LongTexts.{AreLongTextsOf};
+
+    ghost Value = { List ℕ };
+
+    ghost view = { λ s. s.bytes };
+
+    ghost invariant = { λ s. AreLongTextsOf s.bytes s.long_texts };
+}
+
+/// Enters the long texts behind the first so many bytes. A text that isn't entered is looked at
+/// again each time it is read.
+fn enter_long_texts(long_texts: &mut LongTexts, bytes: &ByteList<'_>, len: usize)
+    requires within { len ≤ length bytes.now }
+    requires before { AreLongTextsOf (take len bytes.now) long_texts.old }
+    ensures { AreLongTextsOf bytes.now long_texts.new }
+{
+    let _ = long_texts.extend(bytes.as_slice(), len);
+}
+
+impl<'a> Strings<'a> {
+    fn of_bytes(alloc: Global, bytes: ByteList<'a>) -> Result<Strings<'a>, AllocError>
+        ensures { IfOk result (λ strings. strings ≡ bytes.entry) }
+    {
+        let long_texts = LongTexts::new(alloc, bytes.as_slice())?;
+        Ok(Strings { bytes, long_texts })
+    }
+
+    pub fn borrowed(alloc: Global, bytes: &'a [u8]) -> Result<Strings<'a>, AllocError>
+        ensures { IfOk result (λ strings. strings ≡ bytes.now) }
+    {
+        Strings::of_bytes(alloc, ByteList::borrowed(bytes))
+    }
+
+    pub fn owned(alloc: Global, bytes: Vec<u8>) -> Result<Strings<'a>, AllocError>
+        ensures { IfOk result (λ strings. strings ≡ bytes.items) }
+    {
+        Strings::of_bytes(alloc, ByteList::owned(bytes))
+    }
+
+    pub fn as_slice(&self) -> &[u8]
+        ensures { result.now ≡ self.now }
+    {
+        self.bytes.as_slice()
+    }
+
+    pub fn len(&self) -> usize
+        ensures { result ≡ length self.now }
+    {
+        self.bytes.len()
+    }
+
+    /// The text at an offset.
+    pub fn text_at(&self, offset: u32) -> Option<&str>
+        ensures { option_copied result ≡ text_at self.now offset }
+    {
+        self.long_texts.text_at(self.bytes.as_slice(), offset)
+    }
+
+    /// Writes a text and a NUL behind the others.
+    pub fn push(&mut self, alloc: Global, text: &str) -> Result<(), AllocError>
+        ensures ok { OnOk result (self.new ≡ self.old ++ text.now ++ 0 ∷ []) }
+        ensures err { OnErr result (self.new ≡ self.old) }
+    {
+        let len = self.bytes.len();
+        self.bytes.push_text(alloc, text)?;
+        enter_long_texts(&mut self.long_texts, &self.bytes, len);
+        Ok(())
+    }
+
+    /// The same strings.
+    pub fn try_clone(&self) -> Result<Strings<'a>, AllocError>
+        ensures { IfOk result (λ strings. strings ≡ self.now) }
+    {
+        Ok(Strings {
+            bytes: self.bytes.try_clone()?,
+            long_texts: self.long_texts.try_clone()?,
+        })
+    }
+}

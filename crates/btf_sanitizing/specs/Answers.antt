@@ -1,0 +1,62 @@
+-- Questions about features, each with its answer.
+use Rattle.std.specs.Prelude.{◌≡◌, ℕ, Bool, false, ◌+◌, ◌≤◌, ◌==◌, if◌then◌else◌, List, [], ◌∷◌, ◌++◌, map, Option, Some, None, unwrap_or}
+use Rattle.std.specs.List.{FoldsTo, list_any}
+use Rattle.std.specs.Fn.{Mut, Called}
+use Rattle.btf_records.specs.declared.feature.BtfFeature.{BtfFeature}
+use Rattle.btf_records.specs.declared.feature.BtfFeature.TheVariants.{Func, FuncGlobal, DataSec, DataSecZero, Float, DeclTag, TypeTag, Enum64}
+
+abbrev pub Answers : Type 0
+Answers = List (BtfFeature × Bool)
+
+-- the place of a feature in their list
+abbrev pub place_of : BtfFeature → ℕ
+place_of Func = 0
+place_of FuncGlobal = 1
+place_of DataSec = 2
+place_of DataSecZero = 3
+place_of Float = 4
+place_of DeclTag = 5
+place_of TypeTag = 6
+place_of Enum64 = 7
+
+abbrev pub is_same : BtfFeature → BtfFeature → Bool
+is_same f g = place_of f == place_of g
+
+-- the answer to a question, where it was asked
+abbrev pub answer_to : Answers → BtfFeature → Option Bool
+answer_to [] f = None
+answer_to (a ∷ others) f = if is_same a.0 f then Some a.1 else answer_to others f
+
+-- a feature that wasn't asked isn't granted
+abbrev pub granted : Answers → BtfFeature → Bool
+granted answers f = unwrap_or (answer_to answers f) false
+
+abbrev pub features : Answers → List BtfFeature
+features = map (λ a. a.0)
+
+-- the questions so far, and this one where it isn't among them
+abbrev pub noted : List BtfFeature → BtfFeature → List BtfFeature
+noted asked f = if list_any (λ x. is_same x f) asked then asked else asked ++ f ∷ []
+
+abbrev pub noted_all : List BtfFeature → List BtfFeature → List BtfFeature
+noted_all asked [] = asked
+noted_all asked (f ∷ fs) = noted_all (noted asked f) fs
+
+-- how often a feature stands in a list
+abbrev pub times : BtfFeature → List BtfFeature → ℕ
+times f [] = 0
+times f (x ∷ xs) = (if is_same x f then 1 else 0) + times f xs
+
+-- none stands twice
+pub record AreDistinct (fs : List BtfFeature) : Type 0 where
+  pub once : (f : BtfFeature) → times f fs ≤ 1
+
+-- behind the old answers stand those that calls of the predicate gave, in order, from one of its states to another
+pub record AreGiven {F : Type 0} (predicate : Mut F (BtfFeature × Unit {0}) Bool) (before : F) (old new : Answers) (after : F) : Type 0 where
+  pub more : Answers
+  pub appended : new ≡ old ++ more
+  pub called : FoldsTo (λ s a t. Called predicate s (a.0, tt) a.1 t) before more after
+
+-- whatever is asked later, the feature is answered so
+pub record Settles (answers : Answers) (f : BtfFeature) (b : Bool) : Type 0 where
+  pub always : (later : Answers) → granted (answers ++ later) f ≡ b

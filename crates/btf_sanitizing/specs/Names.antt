@@ -1,0 +1,41 @@
+-- Names that a rewriting changes or makes.
+use Rattle.std.specs.Prelude.{ℕ, ◌+◌, ◌==◌, ◌&&◌, ◌||◌, Bool, not, if◌then◌else◌, List, [], ◌∷◌, ◌++◌, codes, length, map, nat_eq}
+use Rattle.std.specs.Cmp.Lexicographic.{pointwise}
+use Rattle.std.specs.Fmt.{decimal}
+use Rattle.btf_records.specs.declared.item.BtfParam.{BtfParam}
+
+-- a byte in the place of another
+abbrev pub replaced : ℕ → ℕ → List ℕ → List ℕ
+replaced from to = map (λ b. if b == from then to else b)
+
+-- the functions that compilers call on their own: the kernel takes no global function of these names
+abbrev pub is_memory_function : List ℕ → Bool
+is_memory_function name = pointwise nat_eq name (codes "memset") || pointwise nat_eq name (codes "memcpy") || pointwise nat_eq name (codes "memmove") || pointwise nat_eq name (codes "memcmp")
+
+-- the name of a parameter that has none, by its place from 0 on
+abbrev pub param_name : ℕ → List ℕ
+param_name index = codes "param" ++ decimal index
+
+-- a parameter without a name, of a type
+abbrev pub is_nameless : BtfParam → Bool
+is_nameless p = (p.name_offset == 0) && not (p.btf_type == 0)
+
+-- parameters from an index on, those without a name named by texts that begin at this offset, one behind the other
+abbrev pub named_params : ℕ → ℕ → List BtfParam → List BtfParam
+named_params index offset [] = []
+named_params index offset (p ∷ ps) = if is_nameless p then record p { name_offset = offset } ∷ named_params (index + 1) (offset + length (param_name index) + 1) ps else p ∷ named_params (index + 1) offset ps
+
+-- those texts
+abbrev pub param_texts : ℕ → List BtfParam → List ℕ
+param_texts index [] = []
+param_texts index (p ∷ ps) = if is_nameless p then param_name index ++ 0 ∷ param_texts (index + 1) ps else param_texts (index + 1) ps
+
+-- the types that are appended are so named
+abbrev pub placeholder_name : List ℕ
+placeholder_name = codes "enum64_placeholder"
+
+abbrev pub filler_int_name : List ℕ
+filler_int_name = codes "datasec_filler_int"
+
+abbrev pub filler_name : List ℕ
+filler_name = codes "datasec_filler"

@@ -1,0 +1,87 @@
+//! What a rewriting appends to a table.
+
+ghost use Rattle.std.specs.Prelude.{◌≡◌, ◌≢◌, ◌+◌, ◌<◌, ◌^◌, IfErr, IfOk, OnOk, length};
+ghost use Rattle.btf_records.specs.declared.error.BtfError.TheVariants.{InvalidTypeInfo, OutOfMemory};
+ghost use Rattle.btf_sanitizing.specs.Additions.{next_id, next_offset, nothing_added, placeholder_id, filler_id, renamed_offset, small_int, static_var, with_filler, with_filler_int, with_filler_var, with_placeholder, with_renamed, with_text, with_type};
+ghost use Rattle.btf_sanitizing.specs.Faults.{IsTooMuch, TooMany};
+
+use crate::names::{has_byte, replaced};
+use btf_records::{BtfError, BtfType, Int, IntEncoding, Var, VarLinkage};
+use std::alloc::Global;
+use std::marker::Model;
+
+/// As many bytes, or types, as 32 bits can count.
+const MOST: usize = u32::MAX as usize;
+
+/// Texts and types that are appended behind a table's own.
+#[derive(Debug, Drop)]
+pub struct Additions {
+    string_len: usize,
+    type_count: usize,
+    texts: Vec<u8>,
+    types: Vec<BtfType>,
+    placeholder: Option<u32>,
+    filler: Option<u32>,
+}
+
+impl Model for Additions {
+    ghost use Rattle.std.specs.Prelude.{◌+◌, ◌<◌, ◌^◌, length};
+    ghost use Rattle.btf_sanitizing.specs.Additions.{Added};
+
+    ghost Value = { Added };
+
+    ghost view = { λ a. record { string_len = a.string_len; type_count = a.type_count; texts = a.texts.items; types = a.types.items; placeholder = a.placeholder; filler = a.filler } };
+
+    ghost invariant = { λ a. (a.string_len + length a.texts.items < 2 ^ 32) × (a.type_count + length a.types.items < 2 ^ 32) };
+}
+
+impl Additions {
+    /// Nothing, behind so many bytes of strings and so many types.
+    pub fn new(alloc: Global, string_len: usize, type_count: usize) -> Additions
+        requires strings { string_len < 2 ^ 32 }
+        requires types { type_count < 2 ^ 32 }
+        ensures { result ≡ nothing_added string_len type_count }
+    {
+        Additions {
+            string_len,
+            type_count,
+            texts: Vec::new(alloc),
+            types: Vec::new(alloc),
+            placeholder: None,
+            filler: None,
+        }
+    }
+
+    fn alloc(&self) -> Global {
+        *self.texts.allocator()
+    }
+
+    /// Appends a text and a NUL, and answers the text's offset.
+    pub(crate) fn add_text(&mut self, text: &[u8]) -> Result<u32, BtfError>
+        ensures offset { IfOk result (λ offset. offset ≡ next_offset self.old) }
+        ensures added { OnOk result (self.new ≡ with_text text.now self.old) }
+        ensures refused { IfErr result (λ e. e ≢ OutOfMemory → IsTooMuch (with_text text.now self.old) e) }
+    {
+        let offset = self.string_len + self.texts.len();
+        if text.len() >= MOST - offset {
+            return Err(BtfError::InvalidTypeInfo);
+        }
+        self.texts.extend_from_slice(text)?;
+        self.texts.push(0)?;
+        Ok(offset as u32)
+    }
+
+    /// Appends a type, and answers its id.
+    pub(crate) fn add_type(&mut self, t: BtfType) -> Result<u32, BtfError>
+        ensures id { IfOk result (λ id. id ≡ next_id self.old) }
+        ensures added { OnOk result (self.new ≡ with_type t self.old) }
+        ensures refused { IfErr result (λ e. e ≢ OutOfMemory → IsTooMuch (with_type t self.old) e) }
+    {
+        let id = self.type_count + self.types.len() + 1;
+        if id > MOST {
+            return Err(BtfError::InvalidTypeInfo);
+        }
+        self.types.push(t)?;
+        Ok(id as u32)
+    }
+}

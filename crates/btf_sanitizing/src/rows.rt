@@ -1,0 +1,1 @@
+//! What becomes of a record of each kind.
