@@ -27,9 +27,13 @@ next_offset a = a.string_len + length a.texts
 abbrev pub next_id : Added → ℕ
 next_id a = a.type_count + length a.types + 1
 
--- one text more, ended by a NUL; one type more
+-- some texts more, each ended by a NUL
+abbrev pub with_texts : List ℕ → Added → Added
+with_texts texts a = record a { texts = a.texts ++ texts }
+
+-- one text more; one type more
 abbrev pub with_text : List ℕ → Added → Added
-with_text text a = record a { texts = a.texts ++ text ++ 0 ∷ [] }
+with_text text a = with_texts (text ++ 0 ∷ []) a
 
 abbrev pub with_type : BtfType → Added → Added
 with_type t a = record a { types = a.types ++ t ∷ [] }

@@ -1,5 +1,5 @@
 -- Why a record can't be rewritten.
-use Rattle.std.specs.Prelude.{◌≡◌, ◌≢◌, ℕ, ◌*◌, ◌≤◌, ◌^◌, ◌⊎◌, Any, Bool, true, false, if◌then◌else◌, List, Option, None, Some, IfSome}
+use Rattle.std.specs.Prelude.{◌≡◌, ◌≢◌, ℕ, ◌*◌, ◌⊎◌, Any, Bool, true, false, if◌then◌else◌, List, Option, None, Some, IfSome}
 use Rattle.std.specs.Option.{IsSomeAnd}
 use Rattle.std.specs.String.{string_bytes}
 use Rattle.string_table.specs.Texts.{text_at}
@@ -10,12 +10,10 @@ use Rattle.btf_records.specs.declared.item.DataSecEntry.{DataSecEntry}
 use Rattle.btf_records.specs.declared.types.BtfType.{BtfType}
 use Rattle.btf_records.specs.declared.types.BtfType.TheVariants as types
 use Rattle.btf_records.specs.declared.variables.DataSec.{DataSec}
+use Rattle.btf_parts.specs.Growth.{TooMany}
 use Rattle.btf_sanitizing.specs.Additions.{Added, next_id, next_offset}
-use Rattle.btf_sanitizing.specs.Rewritten.{Known, after, is_static, type_at}
-
--- so many bytes, or types, are more than 32 bits can count
-abbrev pub TooMany : ℕ → Type 0
-TooMany n = 2 ^ 32 ≤ n
+use Rattle.btf_sanitizing.specs.Facts.{Facts, type_at}
+use Rattle.btf_sanitizing.specs.Rewritten.{is_static}
 
 -- the name of the variable that an entry names, where that isn't static
 abbrev pub symbol_name : BtfType → Option ℕ
@@ -28,7 +26,7 @@ is_var _ = false
 
 -- an entry of a section whose size is the object's to say: it names no variable, or one whose symbol isn't there or
 -- lies too far
-abbrev pub PlaceFault : Known → DataSecEntry → BtfError → Type 0
+abbrev pub PlaceFault : Facts → DataSecEntry → BtfError → Type 0
 PlaceFault known e (UnknownBtfType id) = (e.btf_type ≡ id) × (type_at known id ≡ None)
 PlaceFault known e (InvalidStringOffset offset) = IsSomeAnd (type_at known e.btf_type) (λ t. (symbol_name t ≡ Some offset) × (text_at known.strings offset ≡ None))
 PlaceFault known e (SymbolOffsetNotFound name) = IsSomeAnd (type_at known e.btf_type) (λ t. IsSomeAnd (symbol_name t) (λ offset. (text_at known.strings offset ≡ Some (string_bytes name)) × (known.offsets (string_bytes name) ≡ None)))
@@ -36,23 +34,23 @@ PlaceFault known e InvalidDatasec = IsSomeAnd (type_at known e.btf_type) (λ t. 
 PlaceFault known e _ = ⊥
 
 -- such a section: its own size isn't there, or is too great, or one of its entries is wrong
-abbrev pub SizeFault : Known → DataSec → BtfError → Type 0
+abbrev pub SizeFault : Facts → DataSec → BtfError → Type 0
 SizeFault known t (UnknownSectionSize name) = (text_at known.strings t.name_offset ≡ Some (string_bytes name)) × (known.sizes (string_bytes name) ≡ None)
 SizeFault known t InvalidDatasec = IsSomeAnd (text_at known.strings t.name_offset) (λ name. IsSomeAnd (known.sizes name) TooMany) ⊎ Any (λ e. PlaceFault known e InvalidDatasec) t.entries
 SizeFault known t e = Any (λ entry. PlaceFault known entry e) t.entries
 
 -- a member of the struct that is written for a section: it names no type, or lies too far
-abbrev pub MemberFault : Known → DataSecEntry → BtfError → Type 0
+abbrev pub MemberFault : Facts → DataSecEntry → BtfError → Type 0
 MemberFault known e (UnknownBtfType id) = (e.btf_type ≡ id) × (type_at known id ≡ None)
 MemberFault known e InvalidDatasec = TooMany (8 * e.offset)
 MemberFault known e _ = ⊥
 
 -- a name that must be read and can't
-abbrev pub NameFault : Known → ℕ → BtfError → Type 0
+abbrev pub NameFault : Facts → ℕ → BtfError → Type 0
 NameFault known name_offset (InvalidStringOffset offset) = (name_offset ≡ offset) × (text_at known.strings offset ≡ None)
 NameFault known name_offset _ = ⊥
 
-abbrev pub SectionFault : Known → DataSec → BtfError → Type 0
+abbrev pub SectionFault : Facts → DataSec → BtfError → Type 0
 SectionFault known t e = NameFault known t.name_offset e
     ⊎ ((known.grants feature.DataSec ≡ false) × Any (λ entry. MemberFault known entry e) t.entries)
     ⊎ ((known.grants feature.DataSec ≡ true) × (t.size ≡ 0) × SizeFault known t e)
@@ -62,7 +60,7 @@ abbrev pub IsTooMuch : Added → BtfError → Type 0
 IsTooMuch a InvalidTypeInfo = TooMany (next_offset a) ⊎ TooMany (next_id a)
 IsTooMuch a _ = ⊥
 
-abbrev pub KindFault : Known → BtfType → BtfError → Type 0
+abbrev pub KindFault : Facts → BtfType → BtfError → Type 0
 KindFault known (types.DataSec t) e = SectionFault known t e
 KindFault known (types.Func t) e = (known.grants feature.Func ≡ true) × (t.vlen ≡ 1) × NameFault known t.name_offset e
 KindFault known _ e = ⊥

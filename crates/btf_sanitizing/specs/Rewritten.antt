@@ -1,6 +1,6 @@
 -- What becomes of each record, by its kind: as libbpf's bpf_object__sanitize_btf has it where a feature is missing
 -- (tools/lib/bpf/libbpf.c), and as the kernel's checks want names and linkages where it is there (kernel/bpf/btf.c).
-use Rattle.std.specs.Prelude.{ℕ, ◌*◌, ◌-◌, ◌==◌, ◌&&◌, Bool, false, true, not, if◌then◌else◌, List, [], ◌∷◌, ◌++◌, length, map, Option, Some, None, option_and_then, unwrap_or, slice_get, max}
+use Rattle.std.specs.Prelude.{ℕ, ◌*◌, ◌==◌, ◌&&◌, Bool, false, true, not, if◌then◌else◌, List, [], ◌∷◌, ◌++◌, length, map, Option, Some, None, option_and_then, unwrap_or, max}
 use Rattle.std.specs.Option.{option_map_or}
 use Rattle.string_table.specs.Texts.{text_at}
 use Rattle.btf_records.specs.Info.{flagged}
@@ -21,28 +21,14 @@ use Rattle.btf_records.specs.declared.scalars.Enum64.{Enum64}
 use Rattle.btf_records.specs.declared.types.BtfType.{BtfType}
 use Rattle.btf_records.specs.declared.types.BtfType.TheVariants as types
 use Rattle.btf_records.specs.declared.variables.DataSec.{DataSec}
-use Rattle.btf_sanitizing.specs.Additions.{Added, filler_id, next_offset, placeholder_id, renamed_offset, small_int, with_filler, with_placeholder, with_renamed}
+use Rattle.btf_sanitizing.specs.Additions.{Added, filler_id, next_offset, placeholder_id, renamed_offset, small_int, with_filler, with_placeholder, with_renamed, with_texts}
+use Rattle.btf_sanitizing.specs.Facts.{Facts, name_at, type_at}
 use Rattle.btf_sanitizing.specs.Names.{named_params, param_texts}
 use Rattle.btf_sanitizing.specs.Needs.{stays_global}
 
--- what is granted, the table's strings and types as they were, and by name the sizes of the object's sections and
--- the offsets of its symbols
-pub record Known : Type 0 where
-  pub grants : BtfFeature → Bool
-  pub strings : List ℕ
-  pub types : List BtfType
-  pub sizes : List ℕ → Option ℕ
-  pub offsets : List ℕ → Option ℕ
-
-abbrev pub type_at : Known → ℕ → Option BtfType
-type_at known id = if id == 0 then Some types.Unknown else slice_get known.types (id - 1)
-
-abbrev pub name_at : Known → ℕ → List ℕ
-name_at known name_offset = unwrap_or (text_at known.strings name_offset) []
-
 -- FUNC: without the feature the TYPEDEF of its name and type; else of global linkage where that is granted and the
 -- name isn't a memory function's, and so static where it was global (the kernel takes neither otherwise)
-abbrev pub rewritten_func : Known → Func → BtfType
+abbrev pub rewritten_func : Facts → Func → BtfType
 rewritten_func known t =
     if not (known.grants feature.Func) then types.Typedef (record { name_offset = t.name_offset; vlen = 0; info = flagged false; btf_type = t.btf_type })
     else if (t.vlen == 1) && not (stays_global (text_at known.strings t.name_offset) t.vlen && known.grants feature.FuncGlobal) then types.Func (record t { vlen = 0 })
@@ -52,28 +38,28 @@ rewritten_func known t =
 abbrev pub variant_of_param : BtfParam → BtfEnum
 variant_of_param p = record { name_offset = p.name_offset; value = p.btf_type }
 
-abbrev pub rewritten_signature : Known → Added → FuncProto → BtfType
+abbrev pub rewritten_signature : Facts → Added → FuncProto → BtfType
 rewritten_signature known a t =
     if not (known.grants feature.Func) then types.Enum (record { name_offset = t.name_offset; info = flagged false; size = 4; variants = map variant_of_param t.params })
     else types.FuncProto (record t { params = named_params 0 (next_offset a) t.params })
 
-abbrev pub after_signature : Known → Added → FuncProto → Added
-after_signature known a t = if known.grants feature.Func then record a { texts = a.texts ++ param_texts 0 t.params } else a
+abbrev pub after_signature : Facts → Added → FuncProto → Added
+after_signature known a t = if known.grants feature.Func then with_texts (param_texts 0 t.params) a else a
 
 -- ENUM64: without the feature a UNION of its size with a member of one byte for each variant, which keeps the enum aside
 abbrev pub member_of_variant : ℕ → BtfEnum64 → BtfMember
 member_of_variant placeholder v = record { name_offset = v.name_offset; btf_type = placeholder; offset = 0 }
 
-abbrev pub rewritten_enum64 : Known → Added → Enum64 → BtfType
+abbrev pub rewritten_enum64 : Facts → Added → Enum64 → BtfType
 rewritten_enum64 known a t =
     if known.grants feature.Enum64 then types.Enum64 t
     else types.Union (record { name_offset = t.name_offset; info = flagged false; size = t.size; members = map (member_of_variant (placeholder_id a)) t.variants; fallback = Some (record { signed = t.info.flag; variants = t.variants }) })
 
 -- DATASEC without the feature: a STRUCT with a member for each entry, whose name has `_` where a `.` stood (46, 95)
-abbrev pub member_of_entry : Known → DataSecEntry → BtfMember
+abbrev pub member_of_entry : Facts → DataSecEntry → BtfMember
 member_of_entry known e = record { name_offset = option_map_or name_offset_of (type_at known e.btf_type) 0; btf_type = e.btf_type; offset = 8 * e.offset }
 
-abbrev pub section_struct : Known → Added → DataSec → BtfType
+abbrev pub section_struct : Facts → Added → DataSec → BtfType
 section_struct known a t = types.Struct (record { name_offset = renamed_offset 46 (name_at known t.name_offset) t.name_offset a; info = flagged false; size = length t.entries; members = map (member_of_entry known) t.entries })
 
 -- DATASEC with the feature: its name has `.` where a `/` stood (47, 46). Where its size isn't given, it is that of the
@@ -83,42 +69,42 @@ abbrev pub is_static : VarLinkage → Bool
 is_static linkages.Static = true
 is_static _ = false
 
-abbrev pub placed_as : Known → DataSecEntry → BtfType → DataSecEntry
+abbrev pub placed_as : Facts → DataSecEntry → BtfType → DataSecEntry
 placed_as known e (types.Var v) = if is_static v.linkage then e else record e { offset = unwrap_or (option_and_then known.offsets (text_at known.strings v.name_offset)) 0 }
 placed_as known e _ = e
 
-abbrev pub placed : Known → DataSecEntry → DataSecEntry
+abbrev pub placed : Facts → DataSecEntry → DataSecEntry
 placed known e = option_map_or (placed_as known e) (type_at known e.btf_type) e
 
-abbrev pub section_size : Known → DataSec → ℕ
+abbrev pub section_size : Facts → DataSec → ℕ
 section_size known t = unwrap_or (known.sizes (name_at known t.name_offset)) 0
 
 -- a section of no size and no variables gets one where the kernel takes none such
-abbrev pub is_filled : Known → DataSec → Bool
+abbrev pub is_filled : Facts → DataSec → Bool
 is_filled known t = (t.size == 0) && (length t.entries == 0) && not (known.grants feature.DataSecZero)
 
-abbrev pub with_new_name : Known → Added → DataSec → Added
+abbrev pub with_new_name : Facts → Added → DataSec → Added
 with_new_name known a t = with_renamed 47 46 (name_at known t.name_offset) a
 
-abbrev pub entries_in : Known → Added → DataSec → List DataSecEntry
+abbrev pub entries_in : Facts → Added → DataSec → List DataSecEntry
 entries_in known a t =
     if is_filled known t then record { btf_type = filler_id (with_new_name known a t); offset = 0; size = 1 } ∷ []
     else if t.size == 0 then map (placed known) t.entries
     else t.entries
 
-abbrev pub size_in : Known → DataSec → ℕ
+abbrev pub size_in : Facts → DataSec → ℕ
 size_in known t =
     if is_filled known t then max 1 (section_size known t)
     else if t.size == 0 then section_size known t
     else t.size
 
-abbrev pub renamed_section : Known → Added → DataSec → BtfType
+abbrev pub renamed_section : Facts → Added → DataSec → BtfType
 renamed_section known a t = types.DataSec (record t { name_offset = renamed_offset 47 (name_at known t.name_offset) t.name_offset a; entries = entries_in known a t; size = size_in known t })
 
-abbrev pub rewritten_section : Known → Added → DataSec → BtfType
+abbrev pub rewritten_section : Facts → Added → DataSec → BtfType
 rewritten_section known a t = if known.grants feature.DataSec then renamed_section known a t else section_struct known a t
 
-abbrev pub after_section : Known → Added → DataSec → Added
+abbrev pub after_section : Facts → Added → DataSec → Added
 after_section known a t =
     if not (known.grants feature.DataSec) then with_renamed 46 95 (name_at known t.name_offset) a
     else if is_filled known t then with_filler (with_new_name known a t)
@@ -126,7 +112,7 @@ after_section known a t =
 
 -- a record as it becomes, behind what is added before it. PTR loses its name, which the kernel refuses; VAR and
 -- DECL_TAG become an integer of their name, FLOAT a struct of its size, TYPE_TAG a CONST, a signed ENUM an unsigned one
-abbrev pub rewritten : Known → Added → BtfType → BtfType
+abbrev pub rewritten : Facts → Added → BtfType → BtfType
 rewritten known a (types.Ptr t) = types.Ptr (record t { name_offset = 0 })
 rewritten known a (types.Var t) = if known.grants feature.DataSec then types.Var t else small_int t.name_offset
 rewritten known a (types.DataSec t) = rewritten_section known a t
@@ -140,17 +126,17 @@ rewritten known a (types.Enum64 t) = rewritten_enum64 known a t
 rewritten known a t = t
 
 -- what is added behind it
-abbrev pub after : Known → Added → BtfType → Added
+abbrev pub after : Facts → Added → BtfType → Added
 after known a (types.DataSec t) = after_section known a t
 after known a (types.FuncProto t) = after_signature known a t
 after known a (types.Enum64 t) = if known.grants feature.Enum64 then a else with_placeholder a
 after known a _ = a
 
 -- records one behind the other, by rising ids, and all that is added
-abbrev pub all_rewritten : Known → Added → List BtfType → List BtfType
+abbrev pub all_rewritten : Facts → Added → List BtfType → List BtfType
 all_rewritten known a [] = []
 all_rewritten known a (t ∷ ts) = rewritten known a t ∷ all_rewritten known (after known a t) ts
 
-abbrev pub after_all : Known → Added → List BtfType → Added
+abbrev pub after_all : Facts → Added → List BtfType → Added
 after_all known a [] = a
 after_all known a (t ∷ ts) = after_all known (after known a t) ts

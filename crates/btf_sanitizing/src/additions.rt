@@ -3,15 +3,13 @@
 ghost use Rattle.std.specs.Prelude.{◌≡◌, ◌≢◌, ◌+◌, ◌<◌, ◌^◌, IfErr, IfOk, OnOk, length};
 ghost use Rattle.btf_records.specs.declared.error.BtfError.TheVariants.{InvalidTypeInfo, OutOfMemory};
 ghost use Rattle.btf_sanitizing.specs.Additions.{next_id, next_offset, nothing_added, placeholder_id, filler_id, renamed_offset, small_int, static_var, with_filler, with_filler_int, with_filler_var, with_placeholder, with_renamed, with_text, with_type};
-ghost use Rattle.btf_sanitizing.specs.Faults.{IsTooMuch, TooMany};
+ghost use Rattle.btf_sanitizing.specs.Faults.{IsTooMuch};
 
 use crate::names::{has_byte, replaced};
+use btf_parts::MOST;
 use btf_records::{BtfError, BtfType, Int, IntEncoding, Var, VarLinkage};
 use std::alloc::Global;
 use std::marker::Model;
-
-/// As many bytes, or types, as 32 bits can count.
-const MOST: usize = u32::MAX as usize;
 
 /// Texts and types that are appended behind a table's own.
 #[derive(Debug, Drop)]
@@ -52,7 +50,7 @@ impl Additions {
         }
     }
 
-    fn alloc(&self) -> Global {
+    pub(crate) fn alloc(&self) -> Global {
         *self.texts.allocator()
     }
 
@@ -84,4 +82,67 @@ impl Additions {
         self.types.push(t)?;
         Ok(id as u32)
     }
+
+    /// Appends a name with one byte in the place of another, and answers its offset; the name's own
+    /// where it doesn't have that byte.
+    pub(crate) fn rename(
+        &mut self,
+        name: &str,
+        name_offset: u32,
+        from: u8,
+        to: u8,
+    ) -> Result<u32, BtfError>
+        ensures offset { IfOk result (λ offset. offset ≡ renamed_offset from name.now name_offset self.old) }
+        ensures added { OnOk result (self.new ≡ with_renamed from to name.now self.old) }
+        ensures refused { IfErr result (λ e. e ≢ OutOfMemory → IsTooMuch (with_renamed from to name.now self.old) e) }
+    {
+        let name = name.as_bytes();
+        if !has_byte(name, from) {
+            return Ok(name_offset);
+        }
+        let text = replaced(self.alloc(), name, from, to)?;
+        self.add_text(text.as_slice())
+    }
+
+    /// The id of the integer of one byte that the members of a rewritten 64-bit enum are of, which
+    /// is appended where it isn't there yet.
+    pub(crate) fn placeholder(&mut self) -> Result<u32, BtfError>
+        ensures id { IfOk result (λ id. id ≡ placeholder_id self.old) }
+        ensures added { OnOk result (self.new ≡ with_placeholder self.old) }
+        ensures refused { IfErr result (λ e. e ≢ OutOfMemory → IsTooMuch (with_placeholder self.old) e) }
+    {
+        if let Some(id) = self.placeholder {
+            return Ok(id);
+        }
+        let name_offset = self.add_text(b"enum64_placeholder")?;
+        let id = self.add_type(small_int(name_offset))?;
+        self.placeholder = Some(id);
+        Ok(id)
+    }
+
+    /// The id of the variable that stands in a section without variables, which is appended with
+    /// its integer where it isn't there yet.
+    pub(crate) fn filler(&mut self) -> Result<u32, BtfError>
+        ensures id { IfOk result (λ id. id ≡ filler_id self.old) }
+        ensures added { OnOk result (self.new ≡ with_filler self.old) }
+        ensures refused { IfErr result (λ e. e ≢ OutOfMemory → IsTooMuch (with_filler self.old) e) }
+    {
+        if let Some(id) = self.filler {
+            return Ok(id);
+        }
+        let name_offset = self.add_text(b"datasec_filler_int")?;
+        let int = self.add_type(small_int(name_offset))?;
+        let name_offset = self.add_text(b"datasec_filler")?;
+        let var = Var::new(name_offset, int, VarLinkage::Static);
+        let id = self.add_type(BtfType::Var(var))?;
+        self.filler = Some(id);
+        Ok(id)
+    }
+}
+
+/// An integer of one byte.
+pub(crate) fn small_int(name_offset: u32) -> BtfType
+    ensures { result ≡ small_int name_offset }
+{
+    BtfType::Int(Int::new(name_offset, 1, IntEncoding::None, 0))
 }

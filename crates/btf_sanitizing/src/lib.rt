@@ -4,9 +4,13 @@
 
 mod additions;
 mod answers;
+mod items;
+mod known;
 mod names;
 mod rows;
+mod signature;
 
 pub use additions::Additions;
 pub use answers::{Answers, ask_for, is_granted};
+pub use known::Known;
 pub use names::is_memory_function;
