@@ -1,7 +1,8 @@
 -- Why a record can't be rewritten.
-use Rattle.std.specs.Prelude.{◌≡◌, ◌≢◌, ℕ, ◌*◌, ◌⊎◌, Any, Bool, true, false, if◌then◌else◌, List, Option, None, Some, IfSome}
+use Rattle.std.specs.Prelude.{◌≡◌, ℕ, ◌*◌, ◌⊎◌, Any, Bool, true, false, if◌then◌else◌, List, Option, None, Some, option_and_then}
 use Rattle.std.specs.Option.{IsSomeAnd}
 use Rattle.std.specs.String.{string_bytes}
+use Rattle.btf_records.specs.Fields.{var_of}
 use Rattle.string_table.specs.Texts.{text_at}
 use Rattle.btf_records.specs.declared.error.BtfError.{BtfError}
 use Rattle.btf_records.specs.declared.error.BtfError.TheVariants.{InvalidDatasec, InvalidStringOffset, InvalidTypeInfo, SymbolOffsetNotFound, UnknownBtfType, UnknownSectionSize}
@@ -15,14 +16,13 @@ use Rattle.btf_sanitizing.specs.Additions.{Added, next_id, next_offset}
 use Rattle.btf_sanitizing.specs.Facts.{Facts, type_at}
 use Rattle.btf_sanitizing.specs.Rewritten.{is_static}
 
--- the name of the variable that an entry names, where that isn't static
-abbrev pub symbol_name : BtfType → Option ℕ
-symbol_name (types.Var v) = if is_static v.linkage then None else Some v.name_offset
-symbol_name _ = None
+-- none of these faults stands
+pub record IsFaultless (fault : BtfError → Type 0) : Type 0 where
+  pub none : (e : BtfError) → fault e → ⊥
 
-abbrev pub is_var : BtfType → Bool
-is_var (types.Var v) = true
-is_var _ = false
+-- the name of the symbol of a variable that isn't static
+abbrev pub symbol_name : BtfType → Option ℕ
+symbol_name t = option_and_then (λ v. if is_static v.linkage then None else Some v.name_offset) (var_of t)
 
 -- an entry of a section whose size is the object's to say: it names no variable, or one whose symbol isn't there or
 -- lies too far
@@ -30,14 +30,17 @@ abbrev pub PlaceFault : Facts → DataSecEntry → BtfError → Type 0
 PlaceFault known e (UnknownBtfType id) = (e.btf_type ≡ id) × (type_at known id ≡ None)
 PlaceFault known e (InvalidStringOffset offset) = IsSomeAnd (type_at known e.btf_type) (λ t. (symbol_name t ≡ Some offset) × (text_at known.strings offset ≡ None))
 PlaceFault known e (SymbolOffsetNotFound name) = IsSomeAnd (type_at known e.btf_type) (λ t. IsSomeAnd (symbol_name t) (λ offset. (text_at known.strings offset ≡ Some (string_bytes name)) × (known.offsets (string_bytes name) ≡ None)))
-PlaceFault known e InvalidDatasec = IsSomeAnd (type_at known e.btf_type) (λ t. (is_var t ≡ false) ⊎ IsSomeAnd (symbol_name t) (λ offset. IsSomeAnd (text_at known.strings offset) (λ name. IsSomeAnd (known.offsets name) TooMany)))
+PlaceFault known e InvalidDatasec = IsSomeAnd (type_at known e.btf_type) (λ t. (var_of t ≡ None) ⊎ IsSomeAnd (symbol_name t) (λ offset. IsSomeAnd (text_at known.strings offset) (λ name. IsSomeAnd (known.offsets name) TooMany)))
 PlaceFault known e _ = ⊥
 
--- such a section: its own size isn't there, or is too great, or one of its entries is wrong
-abbrev pub SizeFault : Facts → DataSec → BtfError → Type 0
-SizeFault known t (UnknownSectionSize name) = (text_at known.strings t.name_offset ≡ Some (string_bytes name)) × (known.sizes (string_bytes name) ≡ None)
-SizeFault known t InvalidDatasec = IsSomeAnd (text_at known.strings t.name_offset) (λ name. IsSomeAnd (known.sizes name) TooMany) ⊎ Any (λ e. PlaceFault known e InvalidDatasec) t.entries
-SizeFault known t e = Any (λ entry. PlaceFault known entry e) t.entries
+-- the size of such a section isn't there, or is too great
+abbrev pub SizeFault : Facts → List ℕ → BtfError → Type 0
+SizeFault known name (UnknownSectionSize section) = (string_bytes section ≡ name) × (known.sizes name ≡ None)
+SizeFault known name InvalidDatasec = IsSomeAnd (known.sizes name) TooMany
+SizeFault known name _ = ⊥
+
+abbrev pub UnsizedFault : Facts → DataSec → BtfError → Type 0
+UnsizedFault known t e = IsSomeAnd (text_at known.strings t.name_offset) (λ name. SizeFault known name e) ⊎ Any (λ entry. PlaceFault known entry e) t.entries
 
 -- a member of the struct that is written for a section: it names no type, or lies too far
 abbrev pub MemberFault : Facts → DataSecEntry → BtfError → Type 0
@@ -53,7 +56,7 @@ NameFault known name_offset _ = ⊥
 abbrev pub SectionFault : Facts → DataSec → BtfError → Type 0
 SectionFault known t e = NameFault known t.name_offset e
     ⊎ ((known.grants feature.DataSec ≡ false) × Any (λ entry. MemberFault known entry e) t.entries)
-    ⊎ ((known.grants feature.DataSec ≡ true) × (t.size ≡ 0) × SizeFault known t e)
+    ⊎ ((known.grants feature.DataSec ≡ true) × (t.size ≡ 0) × UnsizedFault known t e)
 
 -- what is added is too much
 abbrev pub IsTooMuch : Added → BtfError → Type 0

@@ -4,8 +4,9 @@ use Rattle.std.specs.Prelude.{ℕ, ◌*◌, ◌==◌, ◌&&◌, Bool, false, tru
 use Rattle.std.specs.Option.{option_map_or}
 use Rattle.string_table.specs.Texts.{text_at}
 use Rattle.btf_records.specs.Info.{flagged}
-use Rattle.btf_records.specs.Fields.{name_offset_of}
+use Rattle.btf_records.specs.Fields.{name_offset_of, var_of}
 use Rattle.btf_records.specs.declared.compound.Enum64Fallback.{Enum64Fallback}
+use Rattle.btf_records.specs.declared.compound.Struct.{Struct}
 use Rattle.btf_records.specs.declared.encoding.VarLinkage.{VarLinkage}
 use Rattle.btf_records.specs.declared.encoding.VarLinkage.TheVariants as linkages
 use Rattle.btf_records.specs.declared.feature.BtfFeature.{BtfFeature}
@@ -21,6 +22,7 @@ use Rattle.btf_records.specs.declared.scalars.Enum64.{Enum64}
 use Rattle.btf_records.specs.declared.types.BtfType.{BtfType}
 use Rattle.btf_records.specs.declared.types.BtfType.TheVariants as types
 use Rattle.btf_records.specs.declared.variables.DataSec.{DataSec}
+use Rattle.btf_records.specs.declared.variables.Var.{Var}
 use Rattle.btf_sanitizing.specs.Additions.{Added, filler_id, next_offset, placeholder_id, renamed_offset, small_int, with_filler, with_placeholder, with_renamed, with_texts}
 use Rattle.btf_sanitizing.specs.Facts.{Facts, name_at, type_at}
 use Rattle.btf_sanitizing.specs.Names.{named_params, param_texts}
@@ -59,8 +61,8 @@ rewritten_enum64 known a t =
 abbrev pub member_of_entry : Facts → DataSecEntry → BtfMember
 member_of_entry known e = record { name_offset = option_map_or name_offset_of (type_at known e.btf_type) 0; btf_type = e.btf_type; offset = 8 * e.offset }
 
-abbrev pub section_struct : Facts → Added → DataSec → BtfType
-section_struct known a t = types.Struct (record { name_offset = renamed_offset 46 (name_at known t.name_offset) t.name_offset a; info = flagged false; size = length t.entries; members = map (member_of_entry known) t.entries })
+abbrev pub section_struct : Facts → Added → DataSec → Struct
+section_struct known a t = record { name_offset = renamed_offset 46 (name_at known t.name_offset) t.name_offset a; info = flagged false; size = length t.entries; members = map (member_of_entry known) t.entries }
 
 -- DATASEC with the feature: its name has `.` where a `/` stood (47, 46). Where its size isn't given, it is that of the
 -- section of the name that it had, and each variable that isn't static stands at its symbol's offset, as
@@ -69,15 +71,17 @@ abbrev pub is_static : VarLinkage → Bool
 is_static linkages.Static = true
 is_static _ = false
 
-abbrev pub placed_as : Facts → DataSecEntry → BtfType → DataSecEntry
-placed_as known e (types.Var v) = if is_static v.linkage then e else record e { offset = unwrap_or (option_and_then known.offsets (text_at known.strings v.name_offset)) 0 }
-placed_as known e _ = e
+abbrev pub placed_var : Facts → DataSecEntry → Var → DataSecEntry
+placed_var known e v = if is_static v.linkage then e else record e { offset = unwrap_or (option_and_then known.offsets (text_at known.strings v.name_offset)) 0 }
 
 abbrev pub placed : Facts → DataSecEntry → DataSecEntry
-placed known e = option_map_or (placed_as known e) (type_at known e.btf_type) e
+placed known e = option_map_or (placed_var known e) (option_and_then var_of (type_at known e.btf_type)) e
 
-abbrev pub section_size : Facts → DataSec → ℕ
-section_size known t = unwrap_or (known.sizes (name_at known t.name_offset)) 0
+abbrev pub section_size : Facts → List ℕ → ℕ
+section_size known name = unwrap_or (known.sizes name) 0
+
+abbrev pub sized : Facts → DataSec → DataSec
+sized known t = if t.size == 0 then record t { size = section_size known (name_at known t.name_offset); entries = map (placed known) t.entries } else t
 
 -- a section of no size and no variables gets one where the kernel takes none such
 abbrev pub is_filled : Facts → DataSec → Bool
@@ -86,23 +90,17 @@ is_filled known t = (t.size == 0) && (length t.entries == 0) && not (known.grant
 abbrev pub with_new_name : Facts → Added → DataSec → Added
 with_new_name known a t = with_renamed 47 46 (name_at known t.name_offset) a
 
-abbrev pub entries_in : Facts → Added → DataSec → List DataSecEntry
-entries_in known a t =
-    if is_filled known t then record { btf_type = filler_id (with_new_name known a t); offset = 0; size = 1 } ∷ []
-    else if t.size == 0 then map (placed known) t.entries
-    else t.entries
+abbrev pub filler_entry : ℕ → DataSecEntry
+filler_entry filler = record { btf_type = filler; offset = 0; size = 1 }
 
-abbrev pub size_in : Facts → DataSec → ℕ
-size_in known t =
-    if is_filled known t then max 1 (section_size known t)
-    else if t.size == 0 then section_size known t
-    else t.size
-
-abbrev pub renamed_section : Facts → Added → DataSec → BtfType
-renamed_section known a t = types.DataSec (record t { name_offset = renamed_offset 47 (name_at known t.name_offset) t.name_offset a; entries = entries_in known a t; size = size_in known t })
+abbrev pub granted_section : Facts → Added → DataSec → DataSec
+granted_section known a t =
+    let name_offset = renamed_offset 47 (name_at known t.name_offset) t.name_offset a in
+    if is_filled known t then record t { name_offset = name_offset; size = max 1 (sized known t).size; entries = filler_entry (filler_id (with_new_name known a t)) ∷ [] }
+    else record (sized known t) { name_offset = name_offset }
 
 abbrev pub rewritten_section : Facts → Added → DataSec → BtfType
-rewritten_section known a t = if known.grants feature.DataSec then renamed_section known a t else section_struct known a t
+rewritten_section known a t = if known.grants feature.DataSec then types.DataSec (granted_section known a t) else types.Struct (section_struct known a t)
 
 abbrev pub after_section : Facts → Added → DataSec → Added
 after_section known a t =

@@ -8,6 +8,7 @@ mod items;
 mod known;
 mod names;
 mod rows;
+mod section;
 mod signature;
 
 pub use additions::Additions;
