@@ -52,6 +52,9 @@ after_signature known a t = if known.grants feature.Func then with_texts (param_
 abbrev pub member_of_variant : ℕ → BtfEnum64 → BtfMember
 member_of_variant placeholder v = record { name_offset = v.name_offset; btf_type = placeholder; offset = 0 }
 
+abbrev pub after_enum64 : Facts → Added → Added
+after_enum64 known a = if known.grants feature.Enum64 then a else with_placeholder a
+
 abbrev pub rewritten_enum64 : Facts → Added → Enum64 → BtfType
 rewritten_enum64 known a t =
     if known.grants feature.Enum64 then types.Enum64 t
@@ -96,17 +99,17 @@ filler_entry filler = record { btf_type = filler; offset = 0; size = 1 }
 abbrev pub granted_section : Facts → Added → DataSec → DataSec
 granted_section known a t =
     let name_offset = renamed_offset 47 (name_at known t.name_offset) t.name_offset a in
-    if is_filled known t then record t { name_offset = name_offset; size = max 1 (sized known t).size; entries = filler_entry (filler_id (with_new_name known a t)) ∷ [] }
+    if is_filled known t then record t { name_offset = name_offset; size = max (sized known t).size 1; entries = filler_entry (filler_id (with_new_name known a t)) ∷ [] }
     else record (sized known t) { name_offset = name_offset }
 
 abbrev pub rewritten_section : Facts → Added → DataSec → BtfType
 rewritten_section known a t = if known.grants feature.DataSec then types.DataSec (granted_section known a t) else types.Struct (section_struct known a t)
 
+abbrev pub after_granted : Facts → Added → DataSec → Added
+after_granted known a t = if is_filled known t then with_filler (with_new_name known a t) else with_new_name known a t
+
 abbrev pub after_section : Facts → Added → DataSec → Added
-after_section known a t =
-    if not (known.grants feature.DataSec) then with_renamed 46 95 (name_at known t.name_offset) a
-    else if is_filled known t then with_filler (with_new_name known a t)
-    else with_new_name known a t
+after_section known a t = if known.grants feature.DataSec then after_granted known a t else with_renamed 46 95 (name_at known t.name_offset) a
 
 -- a record as it becomes, behind what is added before it. PTR loses its name, which the kernel refuses; VAR and
 -- DECL_TAG become an integer of their name, FLOAT a struct of its size, TYPE_TAG a CONST, a signed ENUM an unsigned one
@@ -127,8 +130,16 @@ rewritten known a t = t
 abbrev pub after : Facts → Added → BtfType → Added
 after known a (types.DataSec t) = after_section known a t
 after known a (types.FuncProto t) = after_signature known a t
-after known a (types.Enum64 t) = if known.grants feature.Enum64 then a else with_placeholder a
+after known a (types.Enum64 t) = after_enum64 known a
 after known a _ = a
+
+-- a record that becomes what it becomes whatever stands beside it
+abbrev pub is_alone : BtfType → Bool
+is_alone (types.DataSec t) = false
+is_alone (types.Func t) = false
+is_alone (types.FuncProto t) = false
+is_alone (types.Enum64 t) = false
+is_alone _ = true
 
 -- records one behind the other, by rising ids, and all that is added
 abbrev pub all_rewritten : Facts → Added → List BtfType → List BtfType

@@ -1,8 +1,9 @@
 //! What a rewriting knows.
 
-ghost use Rattle.std.specs.Prelude.{◌≡◌};
+ghost use Rattle.std.specs.Prelude.{◌≡◌, IfErr, IfOk, OnOk, Some};
 ghost use Rattle.std.specs.Option.{option_copied};
 ghost use Rattle.btf_sanitizing.specs.Facts.{number_named, type_at};
+ghost use Rattle.btf_sanitizing.specs.Faults.{IsFaultless, NameFault};
 ghost use Rattle.btf_sanitizing.specs.Knowledge.{facts_of};
 ghost use Rattle.string_table.specs.Texts.{text_at};
 
@@ -63,5 +64,19 @@ impl<'t> Known<'t> {
         ensures { result ≡ (facts_of self.now).offsets symbol.now }
     {
         number_named(self.offsets, symbol)
+    }
+
+    /// The name at an offset of the strings, where it must be read.
+    pub(crate) fn name_at(&self, offset: u32) -> Result<&'t str, BtfError>
+        ensures value { IfOk result (λ name. text_at (facts_of self.now).strings offset ≡ Some name.now) }
+        ensures refused { IfErr result (NameFault (facts_of self.now) offset) }
+        ensures accepted { OnOk result (IsFaultless (NameFault (facts_of self.now) offset)) }
+    {
+        match self.text_at(offset) {
+            Some(name) => Ok(name),
+            None => Err(BtfError::InvalidStringOffset {
+                offset: offset as usize,
+            }),
+        }
     }
 }

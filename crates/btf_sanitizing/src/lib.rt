@@ -15,3 +15,4 @@ pub use additions::Additions;
 pub use answers::{Answers, ask_for, is_granted};
 pub use known::Known;
 pub use names::is_memory_function;
+pub use rows::rewritten;

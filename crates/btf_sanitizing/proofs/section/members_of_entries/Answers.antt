@@ -1,5 +1,6 @@
 use Rattle.std.proofs.Common.{rules, arith}
 use Rattle.btf_sanitizing.proofs.Elements.{all_hold, all_made, one_more}
+use Rattle.btf_sanitizing.proofs.Faultless.{none_of_any}
 use Rattle.btf_sanitizing.proofs.section.members_of_entries.Goals as goal
 
 pub loop-entry-preserved : goal.loop-entry-preserved
@@ -9,4 +10,4 @@ pub returns-clause-value : goal.returns-clause-value
 returns-clause-value c = all_made _ _ _ _ _ c.loop-entry.invariant (omega (arith, c.loop-entry-test.false, c.loop-entry.auto.entry-index-end))
 
 pub returns-clause-accepted : goal.returns-clause-accepted
-returns-clause-accepted c = all_hold _ _ _ _ _ c.loop-entry.invariant (omega (arith, c.loop-entry-test.false, c.loop-entry.auto.entry-index-end))
+returns-clause-accepted c = none_of_any _ _ (all_hold _ _ _ _ _ c.loop-entry.invariant (omega (arith, c.loop-entry-test.false, c.loop-entry.auto.entry-index-end)))
