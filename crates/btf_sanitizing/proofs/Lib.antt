@@ -1,3 +1,4 @@
 pub mod Asked
 pub mod Elements
 pub mod Faultless
+pub mod Passes

@@ -56,8 +56,11 @@ abbrev pub with_renamed : ℕ → ℕ → List ℕ → Added → Added
 with_renamed from to name a = if has_byte from name then with_text (replaced from to name) a else a
 
 -- the integer that a member of a rewritten 64-bit enum is of
+abbrev pub with_new_placeholder : Added → Added
+with_new_placeholder a = record (with_type (small_int (next_offset a)) (with_text placeholder_name a)) { placeholder = Some (next_id a) }
+
 abbrev pub with_placeholder : Added → Added
-with_placeholder a = if is_some a.placeholder then a else record (with_type (small_int (next_offset a)) (with_text placeholder_name a)) { placeholder = Some (next_id a) }
+with_placeholder a = if is_some a.placeholder then a else with_new_placeholder a
 
 abbrev pub placeholder_id : Added → ℕ
 placeholder_id a = unwrap_or (with_placeholder a).placeholder 0

@@ -1,5 +1,5 @@
 -- Why a record can't be rewritten.
-use Rattle.std.specs.Prelude.{◌≡◌, ℕ, ◌*◌, ◌⊎◌, Any, Bool, true, false, if◌then◌else◌, List, Option, None, Some, option_and_then}
+use Rattle.std.specs.Prelude.{◌≡◌, ℕ, ◌+◌, ◌*◌, ◌⊎◌, Any, Bool, true, false, if◌then◌else◌, length, List, Option, None, Some, option_and_then}
 use Rattle.std.specs.Option.{IsSomeAnd}
 use Rattle.std.specs.String.{string_bytes}
 use Rattle.btf_records.specs.Fields.{var_of}
@@ -12,7 +12,7 @@ use Rattle.btf_records.specs.declared.types.BtfType.{BtfType}
 use Rattle.btf_records.specs.declared.types.BtfType.TheVariants as types
 use Rattle.btf_records.specs.declared.variables.DataSec.{DataSec}
 use Rattle.btf_parts.specs.Growth.{TooMany}
-use Rattle.btf_sanitizing.specs.Additions.{Added, next_id, next_offset}
+use Rattle.btf_sanitizing.specs.Additions.{Added, next_offset}
 use Rattle.btf_sanitizing.specs.Facts.{Facts, type_at}
 use Rattle.btf_sanitizing.specs.Rewritten.{is_static}
 
@@ -58,9 +58,9 @@ SectionFault known t e = NameFault known t.name_offset e
     ⊎ ((known.grants feature.DataSec ≡ false) × Any (λ entry. MemberFault known entry e) t.entries)
     ⊎ ((known.grants feature.DataSec ≡ true) × (t.size ≡ 0) × UnsizedFault known t e)
 
--- what is added is too much
+-- what is added is too much, with what it is added to
 abbrev pub IsTooMuch : Added → BtfError → Type 0
-IsTooMuch a InvalidTypeInfo = TooMany (next_offset a) ⊎ TooMany (next_id a)
+IsTooMuch a InvalidTypeInfo = TooMany (next_offset a) ⊎ TooMany (a.type_count + length a.types)
 IsTooMuch a _ = ⊥
 
 abbrev pub KindFault : Facts → BtfType → BtfError → Type 0

@@ -6,3 +6,4 @@ pub mod Knowledge
 pub mod Names
 pub mod Needs
 pub mod Rewritten
+pub mod Sanitized

@@ -50,6 +50,17 @@ impl Additions {
         }
     }
 
+    /// The texts, one behind the other, and the types.
+    pub(crate) fn into_parts(self) -> (Vec<u8>, Vec<BtfType>)
+        ensures texts { result.0.items ≡ self.texts }
+        ensures types { result.1.items ≡ self.types }
+        ensures few_bytes { self.string_len + length self.texts < 2 ^ 32 }
+        ensures few_types { self.type_count + length self.types < 2 ^ 32 }
+    {
+        let Additions { texts, types, .. } = self;
+        (texts, types)
+    }
+
     pub(crate) fn alloc(&self) -> Global {
         *self.texts.allocator()
     }

@@ -10,9 +10,11 @@ mod names;
 mod rows;
 mod section;
 mod signature;
+mod table;
 
 pub use additions::Additions;
 pub use answers::{Answers, ask_for, is_granted};
 pub use known::Known;
 pub use names::is_memory_function;
 pub use rows::rewritten;
+pub use table::{SanitizedTable, sanitize};

@@ -1,0 +1,53 @@
+-- A table of which only granted features are left: its types and strings.
+use Rattle.std.specs.Prelude.{ℕ, ◌+◌, ◌<◌, ◌^◌, ◌⊎◌, ◌≡◌, ◌∷◌, [], Any, List, ◌++◌, length}
+use Rattle.std.specs.List.{flat_map}
+use Rattle.btf_encoding.specs.Records.{record_bytes}
+use Rattle.btf_parts.specs.Growth.{TooMany}
+use Rattle.btf_parts.specs.Layout.{RecordList}
+use Rattle.btf_records.specs.declared.error.BtfError.{BtfError}
+use Rattle.btf_records.specs.declared.error.BtfError.TheVariants.{InvalidTypeInfo}
+use Rattle.btf_records.specs.declared.types.BtfType.{BtfType}
+use Rattle.btf_records.specs.declared.words.Endianness.{Endianness}
+use Rattle.btf_sanitizing.specs.Additions.{Added, nothing_added}
+use Rattle.btf_sanitizing.specs.Facts.{Facts}
+use Rattle.btf_sanitizing.specs.Faults.{IsTooMuch, KindFault}
+use Rattle.btf_sanitizing.specs.Rewritten.{after, after_all, all_rewritten, rewritten}
+
+-- nothing, behind the table's strings and types
+abbrev pub at_first : Facts → Added
+at_first known = nothing_added (length known.strings) (length known.types)
+
+abbrev pub all_added : Facts → Added
+all_added known = after_all known (at_first known) known.types
+
+-- each record keeps its id; behind them stand the types that are added
+abbrev pub sanitized_types : Facts → List BtfType
+sanitized_types known = all_rewritten known (at_first known) known.types ++ (all_added known).types
+
+abbrev pub sanitized_strings : Facts → List ℕ
+sanitized_strings known = known.strings ++ (all_added known).texts
+
+-- so many types, or so many bytes of them
+abbrev pub AreTooMany : Endianness → List BtfType → Type 0
+AreTooMany order types = TooMany (length (flat_map (record_bytes order) types)) ⊎ TooMany (length types)
+
+pub record AreFew (order : Endianness) (types : List BtfType) : Type 0 where
+  pub bytes : length (flat_map (record_bytes order) types) < 2 ^ 32
+  pub count : length types < 2 ^ 32
+
+-- the table would be greater than 32 bits can count
+abbrev pub IsOverfull : Endianness → Facts → BtfError → Type 0
+IsOverfull order known InvalidTypeInfo = TooMany (length (sanitized_strings known)) ⊎ AreTooMany order (sanitized_types known)
+IsOverfull order known _ = ⊥
+
+-- why a table can't be sanitized
+abbrev pub SanitizingFault : Endianness → Facts → BtfError → Type 0
+SanitizingFault order known e = Any (λ t. KindFault known t e) known.types ⊎ IsOverfull order known e
+
+-- why the record that comes next can't be rewritten, behind others
+abbrev pub NextFault : Facts → RecordList → Added → BtfType → BtfError → Type 0
+NextFault known done a t e = KindFault known t e ⊎ IsTooMuch (after known a t) e ⊎ ((e ≡ InvalidTypeInfo) × AreTooMany done.order (done.types ++ rewritten known a t ∷ []))
+
+-- why one of the records can't
+abbrev pub AnyFault : Facts → Endianness → Added → BtfError → Type 0
+AnyFault known order a e = Any (λ t. KindFault known t e) known.types ⊎ IsTooMuch (after_all known a known.types) e ⊎ ((e ≡ InvalidTypeInfo) × AreTooMany order (all_rewritten known a known.types))

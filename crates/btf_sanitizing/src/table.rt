@@ -1,0 +1,103 @@
+//! The records of a table, one after the other.
+
+ghost use Rattle.std.specs.Prelude.{◌≡◌, ◌≢◌, ◌<◌, ◌++◌, ◌^◌, ◌∷◌, [], Any, IfErr, IfOk, OnOk, length};
+ghost use Rattle.btf_records.specs.declared.error.BtfError.TheVariants.{InvalidTypeInfo, OutOfMemory};
+ghost use Rattle.btf_sanitizing.specs.Faults.{IsFaultless, KindFault};
+ghost use Rattle.btf_sanitizing.specs.Knowledge.{facts_of};
+ghost use Rattle.btf_sanitizing.specs.Rewritten.{after, after_all, all_rewritten, rewritten};
+ghost use Rattle.btf_sanitizing.specs.Sanitized.{AnyFault, AreFew, AreTooMany, NextFault, SanitizingFault, sanitized_strings, sanitized_types};
+
+use crate::additions::Additions;
+use crate::known::Known;
+use crate::rows::rewritten;
+use btf_encoding::TypeRef;
+use btf_parts::TypeRecords;
+use btf_records::{BtfError, BtfType};
+use std::alloc::Global;
+
+/// Writes what becomes of a record behind what becomes of those before it.
+fn rewrite_next(
+    alloc: Global,
+    known: &Known<'_>,
+    additions: &mut Additions,
+    records: &mut TypeRecords<'_>,
+    t: &TypeRef<'_>,
+) -> Result<(), BtfError>
+    ensures types { OnOk result (records.new.types ≡ records.old.types ++ rewritten (facts_of known.now) additions.old t.now ∷ []) }
+    ensures order { OnOk result (records.new.order ≡ records.old.order) }
+    ensures added { OnOk result (additions.new ≡ after (facts_of known.now) additions.old t.now) }
+    ensures few { OnOk result (AreFew records.new.order records.new.types) }
+    ensures refused { IfErr result (λ e. e ≢ OutOfMemory → NextFault (facts_of known.now) records.old additions.old t.now e) }
+    ensures accepted { OnOk result (IsFaultless (KindFault (facts_of known.now) t.now)) }
+{
+    let t = t.to_type(alloc)?;
+    let t = rewritten(alloc, known, additions, t)?;
+    records.push(t)
+}
+
+/// Writes what becomes of each record.
+#[tactic(auto, using(crate::proofs::Passes::refused_here))]
+fn rewrite_all(
+    alloc: Global,
+    known: &Known<'_>,
+    additions: &mut Additions,
+    records: &mut TypeRecords<'_>,
+) -> Result<(), BtfError>
+    requires { records.old.types ≡ [] }
+    ensures types { OnOk result (records.new.types ≡ all_rewritten (facts_of known.now) additions.old (facts_of known.now).types) }
+    ensures order { OnOk result (records.new.order ≡ records.old.order) }
+    ensures added { OnOk result (additions.new ≡ after_all (facts_of known.now) additions.old (facts_of known.now).types) }
+    ensures few { OnOk result (AreFew records.new.order records.new.types) }
+    ensures refused { IfErr result (λ e. e ≢ OutOfMemory → AnyFault (facts_of known.now) records.old.order additions.old e) }
+    ensures accepted { OnOk result (IsFaultless (λ e. Any (λ t. KindFault (facts_of known.now) t e) (facts_of known.now).types)) }
+{
+    let mut index = 0;
+    while let Some(t) = known.types.get(index) {
+        rewrite_next(alloc, known, additions, records, &t)?;
+        index += 1;
+    }
+    Ok(())
+}
+
+/// Adds types behind the others.
+#[tactic(auto, using(crate::proofs::Passes::too_many_next))]
+fn push_all(records: &mut TypeRecords<'_>, types: Vec<BtfType>) -> Result<(), BtfError>
+    requires { AreFew records.old.order records.old.types }
+    ensures types { OnOk result (records.new.types ≡ records.old.types ++ types.items) }
+    ensures order { OnOk result (records.new.order ≡ records.old.order) }
+    ensures few { OnOk result (AreFew records.new.order records.new.types) }
+    ensures refused { IfErr result (λ e. e ≢ OutOfMemory → (e ≡ InvalidTypeInfo) × AreTooMany records.old.order (records.old.types ++ types.items)) }
+{
+    for t in types {
+        records.push(t)?;
+    }
+    Ok(())
+}
+
+/// What a table's records become, and the texts behind its strings.
+#[derive(Debug, Drop)]
+pub struct SanitizedTable<'a> {
+    pub records: TypeRecords<'a>,
+    pub texts: Vec<u8>,
+}
+
+/// The records of a table of which only granted features are left, each under its id, and behind
+/// them the types that are added; the texts that are added behind its strings.
+///
+/// The errors of `rewritten`, and `InvalidTypeInfo` where the strings, the types, or their bytes
+/// are more than 32 bits can count.
+pub fn sanitize<'a>(alloc: Global, known: &Known<'_>) -> Result<SanitizedTable<'a>, BtfError>
+    requires { length (facts_of known.now).strings < 2 ^ 32 }
+    ensures types { IfOk result (λ s. s.records.types ≡ sanitized_types (facts_of known.now)) }
+    ensures order { IfOk result (λ s. s.records.order ≡ known.now.types.now.order) }
+    ensures strings { IfOk result (λ s. (facts_of known.now).strings ++ s.texts.items ≡ sanitized_strings (facts_of known.now)) }
+    ensures refused { IfErr result (λ e. e ≢ OutOfMemory → SanitizingFault known.now.types.now.order (facts_of known.now) e) }
+    ensures accepted { OnOk result (IsFaultless (SanitizingFault known.now.types.now.order (facts_of known.now))) }
+{
+    let mut additions = Additions::new(alloc, known.strings.len(), known.types.len());
+    let mut records = TypeRecords::new(alloc, known.types.order());
+    rewrite_all(alloc, known, &mut additions, &mut records)?;
+    let (texts, types) = additions.into_parts();
+    push_all(&mut records, types)?;
+    Ok(SanitizedTable { records, texts })
+}
