@@ -23,6 +23,7 @@ use Rattle.btf_sanitizing.specs.Faults.{IsFaultless, IsTooMuch, KindFault}
 use Rattle.btf_sanitizing.specs.Names.{filler_int_name, filler_name, param_texts, placeholder_name, replaced}
 use Rattle.btf_sanitizing.specs.Rewritten.{after, after_all, after_enum64, after_granted, after_section, after_signature, all_rewritten, is_filled, rewritten, with_new_name}
 use Rattle.btf_sanitizing.specs.Sanitized.{AnyFault, AreFew, AreTooMany, IsOverfull, NextFault, SanitizingFault, all_added, at_first, sanitized_strings, sanitized_types}
+use Rattle.btf_sanitizing.proofs.Elements.{next_left, none_left, past_length}
 use Rattle.btf_sanitizing.proofs.Faultless.{none_of_any, none_of_either}
 
 -- ---- what is added only grows
@@ -160,19 +161,6 @@ none_passed known order start done empty = rw empty (record {
   few = record { bytes = omega arith; count = omega arith };
 })
 
-next_left : {X : Type 0} (xs : List X) (i : ℕ) (x : X) → slice_get xs i ≡ Some x → drop i xs ≡ x ∷ drop (i + 1) xs
-next_left [] i x h = absurd cc
-next_left (y ∷ ys) zero x h = cc
-next_left (y ∷ ys) (suc i) x h =
-    let same : suc i + 1 ≡ suc (i + 1) = omega arith in
-    rw same (next_left ys i x h)
-
-none_left : {X : Type 0} (xs : List X) (i : ℕ) → slice_get xs i ≡ None → drop i xs ≡ []
-none_left [] zero h = refl
-none_left [] (suc i) h = refl
-none_left (y ∷ ys) zero h = absurd cc
-none_left (y ∷ ys) (suc i) h = none_left ys i h
-
 pub one_more_passed : (known : Facts) (order : Endianness) (start a : Added) (i : ℕ) (done : List BtfType) (t r : BtfType) (b : Added) → HavePassed known order start i a done → slice_get known.types i ≡ Some t → r ≡ rewritten known a t → b ≡ after known a t → IsFaultless (KindFault known t) → AreFew order (done ++ r ∷ []) → HavePassed known order start (i + 1) b (done ++ r ∷ [])
 one_more_passed known order start a i done t r b before here is behind faultless few =
     let left = next_left known.types i t here in
@@ -213,11 +201,6 @@ all_are_made known order start a i done passed past = sym (append-nil done) ∙ 
 
 pub all_are_added : (known : Facts) (order : Endianness) (start a : Added) (i : ℕ) (done : List BtfType) → HavePassed known order start i a done → slice_get known.types i ≡ None → a ≡ after_all known start known.types
 all_are_added known order start a i done passed past = ap (after_all known a) (sym (none_left known.types i past)) ∙ passed.added
-
-past_length : {X : Type 0} (xs : List X) (i : ℕ) → slice_get xs i ≡ None → length xs ≤ i
-past_length [] i h = omega arith
-past_length (x ∷ xs) zero h = absurd cc
-past_length (x ∷ xs) (suc i) h = omega (arith, past_length xs i h)
 
 pub all_are_faultless : (known : Facts) (order : Endianness) (start a : Added) (i : ℕ) (done : List BtfType) → HavePassed known order start i a done → slice_get known.types i ≡ None → IsFaultless (λ e. Any (λ t. KindFault known t e) known.types)
 all_are_faultless known order start a i done passed past = none_of_any (KindFault known) known.types (subst (All (λ t. IsFaultless (KindFault known t))) (take_all i known.types (past_length known.types i past)) passed.each)

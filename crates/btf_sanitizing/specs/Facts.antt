@@ -20,8 +20,11 @@ pub record Facts : Type 0 where
   pub offsets : List ℕ → Option ℕ
 
 -- the record of an id; that of id 0 is void
+abbrev pub record_of_id : List BtfType → ℕ → Option BtfType
+record_of_id types id = if id == 0 then Some Unknown else slice_get types (id - 1)
+
 abbrev pub type_at : Facts → ℕ → Option BtfType
-type_at known id = if id == 0 then Some Unknown else slice_get known.types (id - 1)
+type_at known id = record_of_id known.types id
 
 -- the bytes of a name, none where it can't be read
 abbrev pub name_at : Facts → ℕ → List ℕ

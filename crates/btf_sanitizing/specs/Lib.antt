@@ -3,6 +3,7 @@ pub mod Answers
 pub mod Facts
 pub mod Faults
 pub mod Knowledge
+pub mod Ksyms
 pub mod Names
 pub mod Needs
 pub mod Rewritten

@@ -1,0 +1,145 @@
+//! The section `.ksyms`, whose entries a kernel resolves by name.
+
+ghost use Rattle.std.specs.Prelude.{◌≡◌, ◌≢◌, ◌≤◌, ◌<◌, ◌∷◌, [], Any, IfErr, IfOk, OnOk, length, set, true};
+ghost use Rattle.std.specs.List.{list_any};
+ghost use Rattle.btf_records.specs.declared.error.BtfError.TheVariants.{InvalidTypeInfo, OutOfMemory};
+ghost use Rattle.btf_records.specs.declared.kind.BtfKind.TheVariants as kinds;
+ghost use Rattle.btf_sanitizing.specs.Faults.{IsFaultless};
+ghost use Rattle.btf_sanitizing.specs.Knowledge.{AreMarks, ksyms_of};
+ghost use Rattle.btf_sanitizing.specs.Ksyms.{EntryFault, KsymsFault, int4_from, int_id, is_int4, names_a, placed_entry, placed_from, section_entries, signed_int, stepped, stepped_from, stepped_texts, stepped_types};
+ghost use Rattle.btf_sanitizing.specs.Sanitized.{AreFew, AreTooMany};
+
+use crate::table::SanitizedTable;
+use btf_encoding::TypeRef;
+use btf_parts::{Strings, TypeRecords};
+use btf_records::{
+    BtfError, BtfKind, BtfType, DataSec, DataSecEntry, Func, FuncLinkage, Int, IntEncoding, Items,
+    Var, VarLinkage,
+};
+use std::alloc::{AllocError, Global};
+
+/// A section of a table, by id, and the id of the variable that stands in it for each function.
+#[derive(Debug, Drop)]
+pub struct KsymsSection<'t> {
+    pub types: &'t TypeRecords<'t>,
+    pub strings: &'t Strings<'t>,
+    pub section: u32,
+    pub placeholder: Option<u32>,
+}
+
+/// An entry at its place in the section, with the placeholder where it names a function.
+fn placed_entry(
+    k: &KsymsSection<'_>,
+    index: usize,
+    entry: DataSecEntry,
+) -> Result<DataSecEntry, BtfError>
+    requires { index < 65536 }
+    ensures value { IfOk result (λ e. e ≡ placed_entry (ksyms_of k.now) index entry) }
+    ensures refused { IfErr result (EntryFault (ksyms_of k.now) entry) }
+    ensures accepted { OnOk result (IsFaultless (EntryFault (ksyms_of k.now) entry)) }
+{
+    let type_id = entry.btf_type;
+    let Some(t) = k.types.by_id(type_id as usize) else {
+        return Err(BtfError::UnknownBtfType { type_id });
+    };
+    let btf_type = match t.kind() {
+        BtfKind::Func => k.placeholder.ok_or(BtfError::InvalidDatasec)?,
+        BtfKind::Var => type_id,
+        _ => return Err(BtfError::InvalidDatasec),
+    };
+    Ok(DataSecEntry {
+        btf_type,
+        offset: 4 * index as u32,
+        size: 4,
+    })
+}
+
+/// The entries of the section, each at its place.
+fn placed_entries(
+    alloc: Global,
+    k: &KsymsSection<'_>,
+    entries: &[DataSecEntry],
+) -> Result<Vec<DataSecEntry>, BtfError>
+    requires { length entries.now < 65536 }
+    ensures value { IfOk result (λ p. p.items ≡ placed_from (ksyms_of k.now) 0 entries.now) }
+    ensures len { IfOk result (λ p. length p.items ≡ length entries.now) }
+    ensures refused { IfErr result (λ e. e ≢ OutOfMemory → Any (λ entry. EntryFault (ksyms_of k.now) entry e) entries.now) }
+    ensures accepted { OnOk result (IsFaultless (λ e. Any (λ entry. EntryFault (ksyms_of k.now) entry e) entries.now)) }
+{
+    let mut placed = Vec::with_capacity(alloc, entries.len())?;
+    for (index, entry) in entries.iter().enumerate() {
+        placed.push(placed_entry(k, index, *entry)?)?;
+    }
+    Ok(placed)
+}
+
+/// Whether an entry names a variable.
+fn names_var(k: &KsymsSection<'_>, entry: &DataSecEntry) -> bool
+    ensures { result ≡ names_a kinds.Var (ksyms_of k.now) entry.now }
+{
+    match k.types.by_id(entry.btf_type as usize) {
+        Some(t) => t.kind() == BtfKind::Var,
+        None => false,
+    }
+}
+
+/// Whether one of the entries names a variable.
+fn any_names_var(k: &KsymsSection<'_>, entries: &[DataSecEntry]) -> bool
+    ensures { result ≡ list_any (names_a kinds.Var (ksyms_of k.now)) entries.now }
+{
+    for entry in entries {
+        if names_var(k, entry) {
+            return true;
+        }
+    }
+    false
+}
+
+/// Whether a record is an integer of 4 bytes.
+fn is_int4(t: &TypeRef<'_>) -> bool
+    ensures { result ≡ is_int4 t.now }
+{
+    match t.int() {
+        Some(int) => int.size == 4,
+        None => false,
+    }
+}
+
+/// The least id of an integer of 4 bytes.
+#[tactic(auto, using(crate::proofs::Elements::within, crate::proofs::Ints::int_here, crate::proofs::Ints::no_int_here, crate::proofs::Ints::no_ints_left))]
+fn int4_id(types: &TypeRecords<'_>) -> Option<u32>
+    ensures { result ≡ int4_from 1 types.now.types }
+{
+    let mut index = 0;
+    while let Some(t) = types.get(index) {
+        index += 1;
+        if is_int4(&t) {
+            return Some(index as u32);
+        }
+    }
+    None
+}
+
+/// Marks an id, where the marks reach so far.
+fn mark(marks: &mut Vec<bool>, id: usize)
+    ensures len { length marks.new.items ≡ length marks.old.items }
+    ensures within { id < length marks.old.items → marks.new.items ≡ set marks.old.items id true }
+    ensures past { length marks.old.items ≤ id → marks.new.items ≡ marks.old.items }
+{
+    if id < marks.len() {
+        marks[id] = true;
+    }
+}
+
+/// For each id below so many whether an entry names it.
+#[tactic(auto, using(crate::proofs::Marks::no_marks, crate::proofs::Marks::marked_within, crate::proofs::Marks::marked_past, crate::proofs::Marks::all_marks))]
+fn marks(alloc: Global, count: usize, entries: &[DataSecEntry]) -> Result<Vec<bool>, AllocError>
+    ensures marks { IfOk result (λ m. AreMarks m.items entries.now) }
+    ensures len { IfOk result (λ m. length m.items ≡ count) }
+{
+    let mut marks = vec![in alloc; false; count]?;
+    for entry in entries {
+        mark(&mut marks, entry.btf_type as usize);
+    }
+    Ok(marks)
+}
