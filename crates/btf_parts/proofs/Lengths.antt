@@ -7,6 +7,7 @@ use Rattle.btf_records.specs.Words.{word_bytes, words_bytes}
 use Rattle.btf_records.specs.declared.kind.BtfKind.{BtfKind}
 use Rattle.btf_records.specs.declared.kind.BtfKind.TheVariants as kinds
 use Rattle.btf_records.specs.declared.types.BtfType.{BtfType}
+use Rattle.btf_records.specs.declared.types.BtfType.TheVariants as types
 use Rattle.btf_records.specs.declared.words.Endianness.{Endianness}
 use Rattle.btf_records.specs.declared.words.Endianness.TheVariants.{Little, Big}
 
@@ -74,3 +75,35 @@ spelled_few order (t ∷ ts) bytes s =
 pub begins_more : (order : Endianness) (front : List BtfType) (rest bytes : List ℕ) → Begins order front rest bytes → HasRecord order rest → Begins order (front ++ type_in order rest ∷ []) (drop (record_len order rest) rest) bytes
 begins_more order [] rest bytes b has = subst (λ (r : List ℕ). Begins order (type_in order r ∷ []) (drop (record_len order r) r) bytes) b (subst (λ (r : List ℕ). HasRecord order r) (sym b) has, refl, refl)
 begins_more order (t ∷ ts) rest bytes b has = (b.0, b.1, begins_more order ts rest (drop (record_len order bytes) bytes) b.2 has)
+
+-- a record has three words and more
+three_words : (t : BtfType) → 3 ≤ length (words_of t)
+three_words types.Unknown = omega arith
+three_words (types.Fwd t) = omega arith
+three_words (types.Const t) = omega arith
+three_words (types.Volatile t) = omega arith
+three_words (types.Restrict t) = omega arith
+three_words (types.Ptr t) = omega arith
+three_words (types.Typedef t) = omega arith
+three_words (types.Func t) = omega arith
+three_words (types.Int t) = omega arith
+three_words (types.Float t) = omega arith
+three_words (types.Enum t) = omega arith
+three_words (types.Array t) = omega arith
+three_words (types.Struct t) = omega arith
+three_words (types.Union t) = omega arith
+three_words (types.FuncProto t) = omega arith
+three_words (types.Var t) = omega arith
+three_words (types.DataSec t) = omega arith
+three_words (types.DeclTag t) = omega arith
+three_words (types.TypeTag t) = omega arith
+three_words (types.Enum64 t) = omega arith
+
+least_bytes : (order : Endianness) (t : BtfType) → 12 ≤ length (record_bytes order t)
+unfolding record_bytes
+least_bytes order t = omega (arith, length_words order (words_of t), three_words t)
+
+-- and so 12 bytes and more
+pub least_of_all : (order : Endianness) (ts : List BtfType) → 12 * length ts ≤ length (flat_map (record_bytes order) ts)
+least_of_all order [] = omega arith
+least_of_all order (t ∷ ts) = omega (arith, least_bytes order t, least_of_all order ts, length-append (record_bytes order t) (flat_map (record_bytes order) ts))

@@ -5,9 +5,10 @@ use Rattle.std.proofs.lemmas.List.{drop-drop}
 use Rattle.std.proofs.lemmas.List.Elements.{All-append, All-cons, All-nil}
 use Rattle.btf_parts.specs.Layout.{IsLaidOut, types_at}
 use Rattle.btf_parts.proofs.Growth.{types_behind}
-use Rattle.btf_parts.proofs.Lengths.{begins_more, spelled_few, spelled_tight}
+use Rattle.btf_parts.proofs.Lengths.{begins_more, least_of_all, spelled_few, spelled_tight}
 use Rattle.btf_parts.proofs.Places.{length_types_at}
 use Rattle.btf_encoding.specs.Records.{Begins, HasRecord, ReadsSame, RecordFault, Spells, TypesFault, record_len, type_in}
+use Rattle.btf_records.specs.declared.compound.Enum64Fallback.{Enum64Fallback}
 use Rattle.btf_records.specs.declared.error.BtfError.{BtfError}
 use Rattle.btf_records.specs.declared.types.BtfType.{BtfType}
 use Rattle.btf_records.specs.declared.words.Endianness.{Endianness}
@@ -65,3 +66,7 @@ laid_out order bytes places spelled stand few = record {
   few_bytes = few;
   few_types = omega (arith, spelled_few order (types_at order bytes [] 1 places) bytes spelled, length_types_at order bytes [] 1 places);
 }
+
+-- the records are few enough for one more
+pub has_room : (order : Endianness) (bytes places : List ℕ) (fallbacks : List (ℕ × Enum64Fallback)) → IsLaidOut order bytes fallbacks places → length places + 1 < 2 ^ 32
+has_room order bytes places fallbacks laid = omega (arith, laid.tight, laid.few_bytes, least_of_all order (types_at order bytes fallbacks 1 places), length_types_at order bytes fallbacks 1 places)

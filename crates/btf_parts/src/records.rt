@@ -206,10 +206,11 @@ impl<'a> TypeRecords<'a> {
     }
 
     /// How many records there are.
-    #[tactic(auto, using(crate::proofs::Places::length_types_at))]
+    #[tactic(auto, using(crate::proofs::Places::length_types_at, crate::proofs::Reading::has_room))]
     pub fn len(&self) -> usize
         ensures value { result ≡ length self.now.types }
         ensures bounded { result < 2 ^ 32 }
+        ensures room { result + 1 < 2 ^ 32 }
     {
         self.places.len()
     }

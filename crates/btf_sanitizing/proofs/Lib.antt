@@ -5,3 +5,4 @@ pub mod Ints
 pub mod Marks
 pub mod Passes
 pub mod Placed
+pub mod Stepping

@@ -179,7 +179,7 @@ too_much_here : (known : Facts) (order : Endianness) (start a : Added) (i : ℕ)
 too_much_here known order start a i done t e before here much =
     too_much_stays (after known a t) (after_all known start known.types) e (subst (IsAtLeast (after known a t)) (sym (ap (after_all known a) (next_left known.types i t here)) ∙ before.added) (least_all known (after known a t) (drop (i + 1) known.types))) much
 
-too_many_more : (order : Endianness) (front rest : List BtfType) → AreTooMany order front → AreTooMany order (front ++ rest)
+pub too_many_more : (order : Endianness) (front rest : List BtfType) → AreTooMany order front → AreTooMany order (front ++ rest)
 too_many_more order front rest (inl bytes) = inl (omega (arith, bytes, ap length (flat_map-append (record_bytes order) front rest), length-append (flat_map (record_bytes order) front) (flat_map (record_bytes order) rest)))
 too_many_more order front rest (inr count) = inr (omega (arith, count, length-append front rest))
 

@@ -5,8 +5,9 @@ use Rattle.std.proofs.Math.ListN.{get_or}
 use Rattle.btf_records.specs.declared.item.DataSecEntry.{DataSecEntry}
 use Rattle.btf_sanitizing.specs.Answers.{granted}
 use Rattle.btf_sanitizing.specs.Facts.{Facts, number_named}
-use Rattle.btf_sanitizing.specs.Ksyms.{Ksyms}
+use Rattle.btf_sanitizing.specs.Ksyms.{Ksyms, int_id, placed_from, section_entries}
 use Rattle.btf_sanitizing.specs.declared.known.Known.{Known}
+use Rattle.btf_sanitizing.specs.declared.ksyms_step.KsymsStep.{KsymsStep}
 use Rattle.btf_sanitizing.specs.declared.ksyms.KsymsSection.{KsymsSection}
 
 abbrev pub facts_of : Known → Facts
@@ -18,3 +19,10 @@ ksyms_of k = record { types = k.types.now.types; strings = k.strings.now; sectio
 -- for each id below the length whether an entry names it
 pub record AreMarks (marks : List Bool) (entries : List DataSecEntry) : Type 0 where
   pub each : (id : ℕ) → id < length marks → get_or marks id false ≡ list_any (λ e. e.btf_type == id) entries
+
+-- a step is that of the section: its entries are placed, its marks tell which ids it names
+pub record IsStep (k : Ksyms) (step : KsymsStep) : Type 0 where
+  pub entries : step.entries ≡ placed_from k 0 (section_entries k)
+  pub len : length step.entries ≡ length (section_entries k)
+  pub marks : AreMarks step.marks.items (section_entries k)
+  pub int : step.int ≡ int_id k

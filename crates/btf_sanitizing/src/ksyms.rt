@@ -9,13 +9,9 @@ ghost use Rattle.btf_sanitizing.specs.Knowledge.{AreMarks, ksyms_of};
 ghost use Rattle.btf_sanitizing.specs.Ksyms.{EntryFault, KsymsFault, int4_from, int_id, is_int4, names_a, placed_entry, placed_from, section_entries, signed_int, stepped, stepped_from, stepped_texts, stepped_types};
 ghost use Rattle.btf_sanitizing.specs.Sanitized.{AreFew, AreTooMany};
 
-use crate::table::SanitizedTable;
 use btf_encoding::TypeRef;
 use btf_parts::{Strings, TypeRecords};
-use btf_records::{
-    BtfError, BtfKind, BtfType, DataSec, DataSecEntry, Func, FuncLinkage, Int, IntEncoding, Items,
-    Var, VarLinkage,
-};
+use btf_records::{BtfError, BtfKind, DataSecEntry};
 use std::alloc::{AllocError, Global};
 
 /// A section of a table, by id, and the id of the variable that stands in it for each function.
@@ -55,7 +51,7 @@ fn placed_entry(
 }
 
 /// The entries of the section, each at its place.
-fn placed_entries(
+pub(crate) fn placed_entries(
     alloc: Global,
     k: &KsymsSection<'_>,
     entries: &[DataSecEntry],
@@ -84,7 +80,7 @@ fn names_var(k: &KsymsSection<'_>, entry: &DataSecEntry) -> bool
 }
 
 /// Whether one of the entries names a variable.
-fn any_names_var(k: &KsymsSection<'_>, entries: &[DataSecEntry]) -> bool
+pub(crate) fn any_names_var(k: &KsymsSection<'_>, entries: &[DataSecEntry]) -> bool
     ensures { result ≡ list_any (names_a kinds.Var (ksyms_of k.now)) entries.now }
 {
     for entry in entries {
@@ -107,7 +103,7 @@ fn is_int4(t: &TypeRef<'_>) -> bool
 
 /// The least id of an integer of 4 bytes.
 #[tactic(auto, using(crate::proofs::Elements::within, crate::proofs::Ints::int_here, crate::proofs::Ints::no_int_here, crate::proofs::Ints::no_ints_left))]
-fn int4_id(types: &TypeRecords<'_>) -> Option<u32>
+pub(crate) fn int4_id(types: &TypeRecords<'_>) -> Option<u32>
     ensures { result ≡ int4_from 1 types.now.types }
 {
     let mut index = 0;
@@ -133,7 +129,11 @@ fn mark(marks: &mut Vec<bool>, id: usize)
 
 /// For each id below so many whether an entry names it.
 #[tactic(auto, using(crate::proofs::Marks::no_marks, crate::proofs::Marks::marked_within, crate::proofs::Marks::marked_past, crate::proofs::Marks::all_marks))]
-fn marks(alloc: Global, count: usize, entries: &[DataSecEntry]) -> Result<Vec<bool>, AllocError>
+pub(crate) fn marks(
+    alloc: Global,
+    count: usize,
+    entries: &[DataSecEntry],
+) -> Result<Vec<bool>, AllocError>
     ensures marks { IfOk result (λ m. AreMarks m.items entries.now) }
     ensures len { IfOk result (λ m. length m.items ≡ count) }
 {
