@@ -1,3 +1,4 @@
+pub mod Compared
 pub mod Indexes
 pub mod Links
 pub mod Lookups

@@ -1,4 +1,5 @@
 pub mod Candidates
+pub mod Compared
 pub mod HashChains
 pub mod NameHashes
 pub mod TypeIndexes

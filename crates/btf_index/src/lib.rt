@@ -2,6 +2,7 @@
 #![tactic(auto)]
 
 mod hash_chains;
+mod known_names;
 mod name_hash;
 mod type_index;
 

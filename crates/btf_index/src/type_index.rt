@@ -5,7 +5,8 @@ ghost use Rattle.std.specs.Option.{IsSomeAnd};
 ghost use Rattle.std.specs.Prelude.{◌≡◌, ◌+◌, ◌-◌, ◌<◌, ◌≤◌, ◌^◌, ◌∷◌, ◌&&◌, [], ℕ, not, true, MatchOption, IfOk, IfSome, MatchResult, None, Some, length, slice_index_or};
 ghost use Rattle.btf_records.specs.Kinds.{number_of};
 ghost use Rattle.btf_records.specs.declared.error.BtfError.TheVariants.{InvalidStringOffset};
-ghost use Rattle.btf_index.specs.Candidates.{candidates, is_candidate, is_named, unreadable_name};
+ghost use Rattle.btf_index.specs.Candidates.{candidates, is_candidate, unreadable_name};
+ghost use Rattle.btf_index.specs.Compared.{AreCompared};
 ghost use Rattle.btf_tables.specs.EssentialNames.{essential_name};
 ghost use Rattle.btf_index.specs.HashChains.{HasHash, least};
 ghost use Rattle.btf_index.specs.NameHashes.{hash_of};
@@ -13,15 +14,19 @@ ghost use Rattle.btf_tables.specs.Tables.{type_by_id};
 ghost use Rattle.btf_index.specs.TypeIndexes.{AreFirst, AreHashed, CanGoOn, ids_left, type_hash};
 
 use crate::hash_chains::HashChains;
+use crate::known_names::is_name_at;
 use crate::name_hash::name_hash;
 use btf_encoding::TypeRef;
 use btf_records::{BtfError, BtfKind};
 use btf_tables::{Btf, essential_name};
 use std::alloc::{AllocError, Global};
+use std::collections::BTreeMap;
 use std::marker::Model;
 
-/// The types of a table by kind and name without flavour: made in one walk over the table, with a
-/// look-up in constant time.
+/// The types of a table by kind and name without flavour, made in one walk over the table.
+///
+/// A look-up goes through the types whose kinds and names, as far as 64 bytes, have one hash, and
+/// compares each name with the wanted one; a long one that several types share is compared once.
 #[derive(Debug, Drop)]
 pub struct TypeIndex<'t> {
     table: &'t Btf<'t>,
@@ -120,19 +125,17 @@ fn read_names(table: &Btf<'_>, count: usize, hashes: &mut [u32], unreadable: &mu
     }
 }
 
-/// Whether a type has this name without its flavour.
-fn is_named(table: &Btf<'_>, name: &str, t: &TypeRef<'_>) -> bool
-    ensures { result ≡ is_named table.now.strings name.now t.now }
-{
-    match table.string_at(t.name_offset()) {
-        Ok(text) => essential_name(text) == name,
-        Err(_) => false,
-    }
-}
-
 /// Whether the type of an id is of the kind and has this name without its flavour.
-fn is_candidate(table: &Btf<'_>, kind: BtfKind, name: &str, id: u32) -> bool
-    ensures { result ≡ is_candidate table.now kind name.now id }
+fn is_candidate(
+    table: &Btf<'_>,
+    kind: BtfKind,
+    name: &str,
+    compared: &mut BTreeMap<u32, bool>,
+    id: u32,
+) -> bool
+    requires { AreCompared table.now.strings name.now compared.old.entries }
+    ensures value { result ≡ is_candidate table.now kind name.now id }
+    ensures compared { AreCompared table.now.strings name.now compared.new.entries }
 {
     let Ok(t) = table.type_by_id(id) else {
         return false;
@@ -140,7 +143,7 @@ fn is_candidate(table: &Btf<'_>, kind: BtfKind, name: &str, id: u32) -> bool
     if t.kind() != kind {
         return false;
     }
-    is_named(table, name, &t)
+    is_name_at(table, name, compared, t.name_offset())
 }
 
 /// The least id behind another of the types of a kind and a name without flavour, 0 where there is
@@ -150,6 +153,7 @@ fn next_candidate(
     chains: &HashChains,
     kind: BtfKind,
     name: &str,
+    compared: &mut BTreeMap<u32, bool>,
     hash: u32,
     last: u32,
 ) -> u32
@@ -158,13 +162,15 @@ fn next_candidate(
     requires hash { hash ≡ hash_of 64 (number_of kind) name.now }
     requires known { HasHash chains.now hash last }
     requires within { last ≤ length chains.now }
+    requires compared { AreCompared table.now.strings name.now compared.old.entries }
     ensures value { result ≡ least (is_candidate table.now kind name.now) (last + 1) (length chains.now - last) }
     ensures found { HasHash chains.now hash result }
     ensures within { result ≤ length chains.now }
+    ensures compared { AreCompared table.now.strings name.now compared.new.entries }
 {
     let mut id = chains.next_with(hash, last);
     while id != 0 {
-        if is_candidate(table, kind, name, id) {
+        if is_candidate(table, kind, name, compared, id) {
             break;
         }
         id = chains.next_with(hash, id);
@@ -173,10 +179,18 @@ fn next_candidate(
 }
 
 /// Whether void is left, and is so named.
-fn is_void_next(table: &Btf<'_>, kind: BtfKind, name: &str, is_begun: bool) -> bool
-    ensures { result ≡ (not is_begun && is_candidate table.now kind name.now 0) }
+fn is_void_next(
+    table: &Btf<'_>,
+    kind: BtfKind,
+    name: &str,
+    compared: &mut BTreeMap<u32, bool>,
+    is_begun: bool,
+) -> bool
+    requires { AreCompared table.now.strings name.now compared.old.entries }
+    ensures value { result ≡ (not is_begun && is_candidate table.now kind name.now 0) }
+    ensures compared { AreCompared table.now.strings name.now compared.new.entries }
 {
-    !is_begun && is_candidate(table, kind, name, 0)
+    !is_begun && is_candidate(table, kind, name, compared, 0)
 }
 
 /// The first id of those that are left.
@@ -186,18 +200,21 @@ fn first_left(
     chains: &HashChains,
     kind: BtfKind,
     name: &str,
+    compared: &mut BTreeMap<u32, bool>,
     hash: u32,
     last: u32,
     is_begun: bool,
 ) -> Option<u32>
-    requires { CanGoOn table.now chains.now kind name.now hash last is_begun }
+    requires on { CanGoOn table.now chains.now kind name.now hash last is_begun }
+    requires compared { AreCompared table.now.strings name.now compared.old.entries }
     ensures left { MatchOption result (ids_left table.now kind name.now last is_begun ≡ []) (λ id. ids_left table.now kind name.now last is_begun ≡ id ∷ ids_left table.now kind name.now id true) }
     ensures on { IfSome result (λ id. CanGoOn table.now chains.now kind name.now hash id true) }
+    ensures compared { AreCompared table.now.strings name.now compared.new.entries }
 {
-    if is_void_next(table, kind, name, is_begun) {
+    if is_void_next(table, kind, name, compared, is_begun) {
         return Some(0);
     }
-    let id = next_candidate(table, chains, kind, name, hash, last);
+    let id = next_candidate(table, chains, kind, name, compared, hash, last);
     if id == 0 { None } else { Some(id) }
 }
 
@@ -234,6 +251,7 @@ impl<'t> TypeIndex<'t> {
             chains: &self.chains,
             kind,
             name: essential_name(name),
+            compared: BTreeMap::new(self.table.allocator()),
             hash: name_hash(kind, name),
             last: 0,
             is_begun: false,
@@ -248,6 +266,8 @@ pub struct TypeIds<'i> {
     chains: &'i HashChains,
     kind: BtfKind,
     name: &'i str,
+    /// Whether the long names are the wanted one that were compared with it, by offset.
+    compared: BTreeMap<u32, bool>,
     hash: u32,
     last: u32,
     /// Whether void was looked at.
@@ -256,13 +276,14 @@ pub struct TypeIds<'i> {
 
 impl<'i> Model for TypeIds<'i> {
     ghost use Rattle.std.specs.Prelude.{List, ℕ};
+    ghost use Rattle.btf_index.specs.Compared.{AreCompared};
     ghost use Rattle.btf_index.specs.TypeIndexes.{CanGoOn, ids_left};
 
     ghost Value = { List ℕ };
 
     ghost view = { λ s. ids_left s.table.now s.kind s.name.now s.last s.is_begun };
 
-    ghost invariant = { λ s. CanGoOn s.table.now s.chains.now s.kind s.name.now s.hash s.last s.is_begun };
+    ghost invariant = { λ s. (CanGoOn s.table.now s.chains.now s.kind s.name.now s.hash s.last s.is_begun) × (AreCompared s.table.now.strings s.name.now s.compared.entries) };
 }
 
 impl<'i> Iterator for TypeIds<'i> {
@@ -278,6 +299,7 @@ impl<'i> Iterator for TypeIds<'i> {
             self.chains,
             self.kind,
             self.name,
+            &mut self.compared,
             self.hash,
             self.last,
             self.is_begun,
