@@ -3,6 +3,7 @@
 
 mod hash_chains;
 mod known_names;
+mod long_names;
 mod name_hash;
 mod type_index;
 
