@@ -2,19 +2,21 @@
 
 ghost use Rattle.std.specs.Iterator.{YieldsFirst, item_count};
 ghost use Rattle.std.specs.Option.{IsSomeAnd};
-ghost use Rattle.std.specs.Prelude.{◌≡◌, ◌+◌, ◌-◌, ◌<◌, ◌≤◌, ◌^◌, ◌∷◌, ◌&&◌, [], ℕ, not, true, MatchOption, IfOk, IfSome, MatchResult, None, Some, length, slice_index_or};
+ghost use Rattle.std.specs.Prelude.{◌≡◌, ◌+◌, ◌-◌, ◌<◌, ◌≤◌, ◌^◌, ◌∷◌, ◌&&◌, [], ℕ, not, true, MatchOption, IfOk, IfSome, MatchResult, OnOk, None, Some, length, slice_index_or};
 ghost use Rattle.btf_records.specs.Kinds.{number_of};
 ghost use Rattle.btf_records.specs.declared.error.BtfError.TheVariants.{InvalidStringOffset};
 ghost use Rattle.btf_index.specs.Candidates.{candidates, is_candidate, unreadable_name};
 ghost use Rattle.btf_index.specs.Compared.{AreCompared};
 ghost use Rattle.btf_tables.specs.EssentialNames.{essential_name};
 ghost use Rattle.btf_index.specs.HashChains.{HasHash, least};
-ghost use Rattle.btf_index.specs.NameHashes.{hash_of};
+ghost use Rattle.btf_index.specs.LongNames.{AreLongNames};
+ghost use Rattle.btf_index.specs.NameHashes.{essential_hash};
 ghost use Rattle.btf_tables.specs.Tables.{type_by_id};
 ghost use Rattle.btf_index.specs.TypeIndexes.{AreFirst, AreHashed, CanGoOn, ids_left, type_hash};
 
 use crate::hash_chains::HashChains;
 use crate::known_names::is_name_at;
+use crate::long_names::{LongName, name_at_offset};
 use crate::name_hash::name_hash;
 use btf_encoding::TypeRef;
 use btf_records::{BtfError, BtfKind};
@@ -47,12 +49,18 @@ impl<'t> Model for TypeIndex<'t> {
 }
 
 /// The hash of a type, where its name can be read.
-fn hash_of(table: &Btf<'_>, t: &TypeRef<'_>) -> Option<u32>
-    ensures { result ≡ type_hash table.now.strings t.now }
+fn hash_of(
+    table: &Btf<'_>,
+    names: &mut Vec<LongName>,
+    t: &TypeRef<'_>,
+) -> Result<Option<u32>, AllocError>
+    requires { AreLongNames table.now.strings names.old.items }
+    ensures value { IfOk result (λ hash. hash ≡ type_hash table.now.strings t.now) }
+    ensures names { OnOk result (AreLongNames table.now.strings names.new.items) }
 {
-    match table.string_at(t.name_offset()) {
-        Ok(name) => Some(name_hash(t.kind(), name)),
-        Err(_) => None,
+    match name_at_offset(table, names, t.name_offset())? {
+        Some(name) => Ok(Some(name_hash(t.kind(), name.text, name.essential_len))),
+        None => Ok(None),
     }
 }
 
@@ -90,39 +98,55 @@ fn enter_unreadable(table: &Btf<'_>, id: u32, t: &TypeRef<'_>, unreadable: &mut 
 
 /// Enters the type of an id, before which the types behind it were entered.
 #[tactic(auto, using(crate::proofs::Indexes::firsts_kept, crate::proofs::Indexes::hashed_kept, crate::proofs::Indexes::known_id))]
-fn enter(table: &Btf<'_>, id: u32, hashes: &mut [u32], unreadable: &mut [Option<u32>])
+fn enter(
+    table: &Btf<'_>,
+    id: u32,
+    names: &mut Vec<LongName>,
+    hashes: &mut [u32],
+    unreadable: &mut [Option<u32>],
+) -> Result<(), AllocError>
+    requires names { AreLongNames table.now.strings names.old.items }
     requires within { id ≤ length table.now.types }
     requires same_len { length hashes.old ≡ length table.now.types }
     requires hashed { AreHashed table.now hashes.old (id + 1) }
     requires firsts { AreFirst table.now unreadable.old (id + 1) }
-    ensures hashed { AreHashed table.now hashes.new id }
-    ensures firsts { AreFirst table.now unreadable.new id }
+    ensures hashed { OnOk result (AreHashed table.now hashes.new id) }
+    ensures firsts { OnOk result (AreFirst table.now unreadable.new id) }
+    ensures names { OnOk result (AreLongNames table.now.strings names.new.items) }
 {
     let Ok(t) = table.type_by_id(id) else {
-        return;
+        return Ok(());
     };
-    match hash_of(table, &t) {
+    match hash_of(table, names, &t)? {
         Some(hash) => enter_hash(table, id, hash, hashes),
         None => enter_unreadable(table, id, &t, unreadable),
     }
+    Ok(())
 }
 
 /// Enters all types, the last first.
-#[tactic(auto, using(crate::proofs::Indexes::hashed_none, crate::proofs::Indexes::firsts_none))]
-fn read_names(table: &Btf<'_>, count: usize, hashes: &mut [u32], unreadable: &mut [Option<u32>])
+#[tactic(auto, using(crate::proofs::EssentialLengths::no_names, crate::proofs::Indexes::hashed_none, crate::proofs::Indexes::firsts_none))]
+fn read_names(
+    table: &Btf<'_>,
+    count: usize,
+    hashes: &mut [u32],
+    unreadable: &mut [Option<u32>],
+) -> Result<(), AllocError>
     requires count { count ≡ length table.now.types }
     requires few { count < 2 ^ 32 }
     requires same_len { length hashes.old ≡ length table.now.types }
     requires sized { length unreadable.old ≡ 20 }
     requires none { (place : ℕ) → slice_index_or unreadable.old place None ≡ None }
-    ensures hashed { AreHashed table.now hashes.new 0 }
-    ensures firsts { AreFirst table.now unreadable.new 0 }
+    ensures hashed { OnOk result (AreHashed table.now hashes.new 0) }
+    ensures firsts { OnOk result (AreFirst table.now unreadable.new 0) }
 {
+    let mut names = Vec::new(table.allocator());
     let mut left = count + 1;
     while left > 0 {
         left -= 1;
-        enter(table, left as u32, hashes, unreadable);
+        enter(table, left as u32, &mut names, hashes, unreadable)?;
     }
+    Ok(())
 }
 
 /// Whether the type of an id is of the kind and has this name without its flavour.
@@ -159,7 +183,7 @@ fn next_candidate(
 ) -> u32
     requires same_len { length chains.now ≡ length table.now.types }
     requires hashed { AreHashed table.now chains.now 0 }
-    requires hash { hash ≡ hash_of 64 (number_of kind) name.now }
+    requires hash { hash ≡ essential_hash (number_of kind) name.now }
     requires known { HasHash chains.now hash last }
     requires within { last ≤ length chains.now }
     requires compared { AreCompared table.now.strings name.now compared.old.entries }
@@ -226,7 +250,7 @@ impl<'t> TypeIndex<'t> {
         let count = table.len();
         let mut hashes = vec![in alloc; 0; count]?;
         let mut unreadable = [None; 20];
-        read_names(table, count, hashes.as_mut_slice(), &mut unreadable);
+        read_names(table, count, hashes.as_mut_slice(), &mut unreadable)?;
         Ok(TypeIndex {
             table,
             chains: HashChains::new(alloc, hashes)?,
@@ -246,13 +270,14 @@ impl<'t> TypeIndex<'t> {
                 offset: offset as usize,
             });
         }
+        let essential = essential_name(name);
         Ok(TypeIds {
             table: self.table,
             chains: &self.chains,
             kind,
-            name: essential_name(name),
+            name: essential,
             compared: BTreeMap::new(self.table.allocator()),
-            hash: name_hash(kind, name),
+            hash: name_hash(kind, name, essential.len()),
             last: 0,
             is_begun: false,
         })
