@@ -1,6 +1,7 @@
 -- How long names are without their flavours.
 use Rattle.std.proofs.Common.{◌≡◌, ℕ, zero, suc, ◌+◌, ◌-◌, ◌<◌, ◌≤◌, Bool, true, false, cond, List, [], ◌∷◌, ◌++◌, length, take, drop, None, Some, Option, not, nat_eq, nat_lt, refl, sym, ap, subst, ◌∙◌, arith, inl, inr}
 use Rattle.std.specs.Prelude.{◌⊎◌, codes, ◌==◌, insert, option_and_then, slice_set, All, IfSome}
+use Rattle.std.specs.Cmp.Lexicographic.{pointwise, same_text}
 use Rattle.std.specs.List.{position_or_len, starts_with}
 use Rattle.std.specs.Option.{IsSomeAnd, option_map}
 use Rattle.std.specs.Str.{is_utf8}
@@ -161,3 +162,26 @@ one_more_name strings old new index name text are (inr (inr inserted)) here is =
 
 pub no_names : (strings : List ℕ) → AreLongNames strings []
 no_names strings = record { each = All-nil (IsLongName strings) }
+
+-- a name without flavour is what the name begins with
+front_by : (b : ℕ) (bs : List ℕ) (test : Bool) → starts_with nat_eq (b ∷ bs) (codes "___") ≡ test → take (essential_len bs) bs ≡ essential_name bs → take (essential_len (b ∷ bs)) (b ∷ bs) ≡ essential_name (b ∷ bs)
+front_by b bs true e front = rw e refl
+front_by b bs false e front = rw e (ap (λ (cs : List ℕ). b ∷ cs) front)
+
+front : (text : List ℕ) → take (essential_len text) text ≡ essential_name text
+front [] = refl
+front (b ∷ bs) = front_by b bs (starts_with nat_eq (b ∷ bs) (codes "___")) refl (front bs)
+
+itself : (name : List ℕ) → pointwise nat_eq name name ≡ true
+itself [] = refl
+itself (b ∷ bs) = let same : nat_eq b b ≡ true = grind (arith, nat_tests) in rw (same, itself bs) refl
+
+other_by : (text name : List ℕ) (test : Bool) → pointwise nat_eq (essential_name text) name ≡ test → pointwise nat_eq name (take (length name) text) ≡ false → test ≡ false
+other_by text name true is other =
+    let same : essential_name text ≡ name = same_text (essential_name text) name (sym is) in
+    let begins : take (length name) text ≡ name = ap (λ (n : List ℕ). take (length n) text) (sym same) ∙ front text ∙ same in
+    sym (ap (pointwise nat_eq name) begins ∙ itself name) ∙ other
+other_by text name false is other = refl
+
+pub other_beginning : (text name : List ℕ) → starts_with nat_eq text name ≡ false → pointwise nat_eq (essential_name text) name ≡ false
+other_beginning text name other = other_by text name (pointwise nat_eq (essential_name text) name) refl other
