@@ -1,5 +1,5 @@
 -- How long names are without their flavours.
-use Rattle.std.proofs.Common.{◌≡◌, ℕ, zero, suc, ◌+◌, ◌-◌, ◌<◌, ◌≤◌, Bool, true, false, cond, List, [], ◌∷◌, ◌++◌, length, take, drop, None, Some, Option, not, nat_eq, nat_lt, refl, sym, ap, subst, ◌∙◌, arith, inl, inr}
+use Rattle.std.proofs.Common.{◌≡◌, ◌≢◌, get_or, ℕ, zero, suc, ◌+◌, ◌-◌, ◌<◌, ◌≤◌, Bool, true, false, cond, List, [], ◌∷◌, ◌++◌, length, take, drop, None, Some, Option, not, nat_eq, nat_lt, refl, sym, ap, subst, ◌∙◌, arith, inl, inr}
 use Rattle.std.specs.Prelude.{◌⊎◌, codes, ◌==◌, insert, option_and_then, slice_set, All, IfSome}
 use Rattle.std.specs.Cmp.Lexicographic.{pointwise, same_text}
 use Rattle.std.specs.List.{position_or_len, starts_with}
@@ -21,6 +21,11 @@ left_at (b ∷ bs) (suc at) lt =
     let same : suc at + 1 ≡ suc (at + 1) = omega arith in
     let l = left_at bs at (omega (arith, lt)) in
     (l.0, rw same l.1)
+
+pub no_flavour : (text : List ℕ) (at : ℕ) → get_or text at 0 ≢ 95 → at < length text → starts_with nat_eq (drop at text) (codes "___") ≡ false
+no_flavour [] at other lt = absurd (omega (arith, lt))
+no_flavour (b ∷ bs) zero other lt = let differs : nat_eq 95 b ≡ false = grind (arith, nat_tests) in rw differs refl
+no_flavour (b ∷ bs) (suc at) other lt = no_flavour bs at other (omega (arith, lt))
 
 len_cut : (bytes : List ℕ) → starts_with nat_eq bytes (codes "___") ≡ true → essential_len bytes ≡ 0
 len_cut [] e = refl
@@ -168,7 +173,7 @@ front_by : (b : ℕ) (bs : List ℕ) (test : Bool) → starts_with nat_eq (b ∷
 front_by b bs true e front = rw e refl
 front_by b bs false e front = rw e (ap (λ (cs : List ℕ). b ∷ cs) front)
 
-front : (text : List ℕ) → take (essential_len text) text ≡ essential_name text
+pub front : (text : List ℕ) → take (essential_len text) text ≡ essential_name text
 front [] = refl
 front (b ∷ bs) = front_by b bs (starts_with nat_eq (b ∷ bs) (codes "___")) refl (front bs)
 

@@ -1,6 +1,7 @@
 //! How long names are without their flavours.
 
-ghost use Rattle.std.specs.Prelude.{◌≡◌, ◌+◌, ◌<◌, ◌≤◌, ◌⊎◌, Contains, IfOk, IfSome, IsTrue, MatchOption, None, OnOk, Some, drop, insert, length, slice_set};
+ghost use Rattle.std.specs.Prelude.{◌≡◌, ◌+◌, ◌<◌, ◌≤◌, ◌⊎◌, Contains, IfOk, IfSome, IsTrue, MatchOption, None, OnOk, Some, codes, drop, insert, length, nat_eq, slice_set};
+ghost use Rattle.std.specs.List.{starts_with};
 ghost use Rattle.btf_index.specs.LongNames.{AreLongNames, IsInside, IsLeft, IsRestOf, essential_len};
 ghost use Rattle.string_table.specs.Texts.{text_at};
 
@@ -26,6 +27,19 @@ pub(crate) struct Name<'t> {
     pub(crate) essential_len: usize,
 }
 
+/// Whether a flavour begins at a place.
+#[tactic(auto, using(crate::proofs::EssentialLengths::no_flavour))]
+fn begins_flavour(text: &[u8], at: usize) -> bool
+    requires { at < length text.now }
+    ensures { result ≡ starts_with nat_eq (drop at text.now) (codes "___") }
+{
+    if text[at] != b'_' {
+        return false;
+    }
+    let (_front, rest) = text.split_at(at);
+    rest.starts_with(b"___")
+}
+
 /// The first place before an end where a flavour begins.
 #[tactic(auto, using(crate::proofs::EssentialLengths::len_here, crate::proofs::EssentialLengths::len_more, crate::proofs::EssentialLengths::len_start))]
 fn flavour_before(text: &[u8], end: usize) -> Option<usize>
@@ -34,8 +48,7 @@ fn flavour_before(text: &[u8], end: usize) -> Option<usize>
 {
     let mut at = 0;
     while at < end {
-        let (_front, rest) = text.split_at(at);
-        if rest.starts_with(b"___") {
+        if begins_flavour(text, at) {
             return Some(at);
         }
         at += 1;
