@@ -4,7 +4,7 @@ use Rattle.std.proofs.Math.Seq.{drop-length}
 use Rattle.std.proofs.lemmas.List.{drop-append-le, take-append-drop}
 use Rattle.btf_records.specs.Info.{kind_number_in}
 use Rattle.btf_records.specs.Words.{word_at}
-use Rattle.btf_encoding.specs.Records.{Begins, HasRecord, Spells, kind_number_at, record_len, type_in}
+use Rattle.btf_encoding.specs.Records.{Begins, HasRecord, Spells, record_len, type_in}
 use Rattle.btf_encoding.specs.Rewriting.{AreRecords}
 use Rattle.btf_records.specs.declared.types.BtfType.{BtfType}
 use Rattle.btf_encoding.proofs.WhateverFollows.{reads_same, word_same}

@@ -4,7 +4,7 @@ use Rattle.std.specs.List.{flat_map}
 use Rattle.std.proofs.Math.Seq.{take-add}
 use Rattle.std.proofs.lemmas.Grind.{flat_map-append}
 use Rattle.std.proofs.lemmas.List.{drop-drop}
-use Rattle.btf_encoding.specs.Records.{Begins, HasRecord, ReadsBack, Spells, kind_at, record_bytes, record_len, type_as, type_in, without_fallback}
+use Rattle.btf_encoding.specs.Records.{HasRecord, ReadsBack, Spells, kind_at, record_bytes, record_len, type_as, type_in, without_fallback}
 use Rattle.btf_encoding.specs.Rewriting.{AreRecords, AreWrittenUpTo, IsWrittenAgain}
 use Rattle.btf_encoding.proofs.ManyTypes.{alone, are_left, begins_append, spells_append, unique}
 use Rattle.btf_records.specs.declared.kind.BtfKind.{BtfKind}

@@ -8,7 +8,7 @@ ghost use Rattle.string_table.specs.Texts.{text_at};
 use btf_tables::Btf;
 use std::alloc::AllocError;
 
-/// The bytes of names of so many are measured once.
+/// Names of so many bytes are noted.
 const LONG: usize = 256;
 
 /// A long name of a table.

@@ -27,8 +27,9 @@ use std::marker::Model;
 
 /// The types of a table by kind and name without flavour, made in one walk over the table.
 ///
-/// A look-up goes through the types whose kinds and names, as far as 64 bytes, have one hash, and
-/// compares each name with the wanted one; a long one that several types share is compared once.
+/// A look-up goes through the types with the hash of the kind, of the name's first 64 bytes and of
+/// how long it is without its flavour, and compares each name with the wanted one; a long one that
+/// several types share is compared once.
 #[derive(Debug, Drop)]
 pub struct TypeIndex<'t> {
     table: &'t Btf<'t>,

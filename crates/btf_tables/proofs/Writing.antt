@@ -1,12 +1,12 @@
 -- The records of a table, written one behind the other.
-use Rattle.std.proofs.Common.{◌≡◌, ℕ, suc, List, [], ◌∷◌, ◌++◌, drop, map, Option, None, Some, refl, sym, ap, subst, ◌∙◌}
+use Rattle.std.proofs.Common.{◌≡◌, ℕ, suc, List, [], ◌∷◌, ◌++◌, drop, map, Option, None, Some, refl, sym, ap, ◌∙◌}
 use Rattle.std.specs.Prelude.{Result, Ok, Err, OnOk}
 use Rattle.std.specs.List.{flat_map}
 use Rattle.std.specs.Option.{option_map_or}
 use Rattle.btf_encoding.specs.Records.{Spells, kind_at, record_bytes, type_as, type_in, with_fallback, without_fallback, words_of}
 use Rattle.btf_encoding.specs.Rewriting.{AreRecords, IsWrittenAgain}
 use Rattle.btf_records.specs.Words.{words_bytes}
-use Rattle.btf_tables.specs.Layout.{IsLaidOut, fallback_at, type_at, types_at}
+use Rattle.btf_tables.specs.Layout.{IsLaidOut, fallback_at, types_at}
 use Rattle.btf_records.specs.declared.kind.BtfKind.{BtfKind}
 use Rattle.btf_records.specs.declared.kind.BtfKind.TheVariants as kinds
 use Rattle.btf_records.specs.declared.types.BtfType.{BtfType}

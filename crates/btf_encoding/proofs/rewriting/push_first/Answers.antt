@@ -1,4 +1,4 @@
-use Rattle.std.proofs.Common.{arith, rules}
+use Rattle.std.proofs.Common.{rules}
 use Rattle.btf_encoding.proofs.ManyTypes.{first_record}
 use Rattle.btf_encoding.proofs.rewriting.push_first.Goals as goal
 

@@ -1,4 +1,3 @@
-use Rattle.std.proofs.Common.{arith}
 use Rattle.btf_encoding.proofs.Rewritten.{and_then, records_left, same_front}
 use Rattle.btf_encoding.proofs.rewriting.push_records.Goals as goal
 

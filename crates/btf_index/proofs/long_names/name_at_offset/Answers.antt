@@ -1,6 +1,5 @@
-use Rattle.std.proofs.Common.{◌≡◌, Some, sym, ◌∙◌, rules, ap, List, ℕ, length}
-use Rattle.btf_index.specs.LongNames.{IsLeft}
-use Rattle.btf_index.proofs.EssentialLengths.{len_left, one_more_name, rest_of}
+use Rattle.std.proofs.Common.{◌≡◌, Some, rules}
+use Rattle.btf_index.proofs.EssentialLengths.{len_left, rest_of}
 use Rattle.string_table.specs.Texts.{text_at}
 use Rattle.btf_index.proofs.long_names.name_at_offset.Goals as goal
 

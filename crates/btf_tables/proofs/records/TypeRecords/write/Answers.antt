@@ -1,5 +1,4 @@
-use Rattle.std.proofs.Common.{ap}
-use Rattle.btf_tables.proofs.Writing.{all_spelled, all_written, are_records}
+use Rattle.btf_tables.proofs.Writing.{are_records}
 use Rattle.btf_tables.proofs.records.TypeRecords.write.Goals as goal
 
 pub push_types-requires : goal.push_types-requires
