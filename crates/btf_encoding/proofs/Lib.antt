@@ -1,5 +1,7 @@
 pub mod InBytes
+pub mod Kept
 pub mod ManyTypes
+pub mod Rewritten
 pub mod RoundTrip
 pub mod WhateverFollows
 pub mod Written

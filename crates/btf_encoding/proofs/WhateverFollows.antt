@@ -17,7 +17,7 @@ four_same bytes x offset h =
     let within : 4 ≤ length (drop offset bytes) = omega (arith, length-drop offset bytes) in
     ap (take 4) (drop-append-le offset bytes x (omega arith)) ∙ take-append-le 4 (drop offset bytes) x within
 
-word_same : (order : Endianness) (bytes x : List ℕ) (offset : ℕ) → offset + 4 ≤ length bytes → word_at order (bytes ++ x) offset ≡ word_at order bytes offset
+pub word_same : (order : Endianness) (bytes x : List ℕ) (offset : ℕ) → offset + 4 ≤ length bytes → word_at order (bytes ++ x) offset ≡ word_at order bytes offset
 unfolding word_at
 word_same Little bytes x offset h = ap (from_le_bytes w32) (four_same bytes x offset h)
 word_same Big bytes x offset h = ap (from_be_bytes w32) (four_same bytes x offset h)

@@ -216,11 +216,3 @@ pub record TypesFault (order : Endianness) (bytes : List ℕ) (e : BtfError) : T
   pub begins : Begins order front rest bytes
   pub more : 0 < length rest
   pub wrong : RecordFault order rest e
-
--- the bytes are records throughout: so many, no others, and no fault stands
-pub record AreTypes (order : Endianness) (bytes : List ℕ) (count : ℕ) : Type 0 where
-  pub types : List BtfType
-  pub spelled : Spells order types bytes
-  pub counted : length types ≡ count
-  pub unique : (others : List BtfType) → Spells order others bytes → others ≡ types
-  pub faultless : (e : BtfError) → TypesFault order bytes e → ⊥

@@ -6,11 +6,13 @@ mod item;
 #[cfg(test)]
 mod plain;
 mod reading;
+mod rewriting;
 #[cfg(test)]
 mod tests;
 mod view;
 mod writing;
 
-pub use reading::{behind, count_types, record_len};
+pub use reading::{behind, record_len};
+pub use rewriting::push_types;
 pub use view::TypeRef;
 pub use writing::push_type;

@@ -2,7 +2,7 @@
 
 ghost use Rattle.std.specs.Prelude.{◌≡◌, ◌+◌, ◌*◌, ◌<◌, ◌≤◌, ◌^◌, IfOk, IfErr, OnOk, IfSome, Option, Some, None, drop, length, slice_get};
 ghost use Rattle.btf_encoding.specs.Items.{items_in};
-ghost use Rattle.btf_encoding.specs.Records.{AreTypes, HasRecord, ReadsSame, RecordFault, TypesFault, count_at, kind_at, len_behind, record_len, type_in};
+ghost use Rattle.btf_encoding.specs.Records.{HasRecord, ReadsSame, RecordFault, count_at, kind_at, len_behind, record_len, type_in};
 
 use crate::item::Item;
 use btf_records::{
@@ -31,7 +31,7 @@ const ITEM_LEN: [usize; 20] = [
 ];
 
 /// The bytes of a record of a kind behind its first three words.
-fn bytes_behind(kind: BtfKind, count: usize) -> usize
+pub(crate) fn bytes_behind(kind: BtfKind, count: usize) -> usize
     requires { count < 65536 }
     ensures value { result ≡ len_behind kind count }
     ensures few { result < 2 ^ 20 }
@@ -59,23 +59,6 @@ pub fn record_len(order: Endianness, bytes: &[u8]) -> Result<usize, BtfError>
         return Err(BtfError::InvalidTypeInfo);
     }
     Ok(len)
-}
-
-/// How many records the bytes are, one behind the other.
-///
-/// `InvalidTypeInfo` where one of them is cut off, `InvalidTypeKind` where none has the kind.
-pub fn count_types(order: Endianness, bytes: &[u8]) -> Result<usize, BtfError>
-    ensures counted { IfOk result (AreTypes order bytes.now) }
-    ensures refused { IfErr result (TypesFault order bytes.now) }
-{
-    let mut count = 0;
-    let mut rest = bytes;
-    while !rest.is_empty() {
-        let len = record_len(order, rest)?;
-        rest = behind(rest, len);
-        count += 1;
-    }
-    Ok(count)
 }
 
 /// The item at a place in the list behind a record's first three words.

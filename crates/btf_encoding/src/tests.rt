@@ -2,7 +2,7 @@
 
 ghost use Rattle.std.specs.Prelude.{◌<◌, IfOk, vec_len};
 
-use crate::{TypeRef, count_types, plain, push_type, record_len};
+use crate::{TypeRef, plain, push_type, record_len};
 use btf_records::{
     Array, BtfEnum, BtfEnum64, BtfError, BtfKind, BtfMember, BtfParam, BtfType, Const, DataSec,
     DataSecEntry, DeclTag, Endianness, Enum, Enum64, Float, Func, FuncLinkage, FuncProto, Fwd, Int,
@@ -97,7 +97,6 @@ fn records_are_read_and_written(rt: HostRuntime) -> Result<(), AllocError> {
                 "row {row}"
             );
             assert_eq!(rt; plain::len(order, bytes), Some(bytes.len()), "row {row}");
-            assert_eq!(rt; count_types(order, bytes).ok(), Some(1), "row {row}");
         }
         for [read, written] in &OTHERS {
             let bytes = spelled(rt.alloc(), order, read)?;

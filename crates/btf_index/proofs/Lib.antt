@@ -1,3 +1,5 @@
+pub mod Compared
+pub mod EssentialLengths
 pub mod Indexes
 pub mod Links
 pub mod Lookups

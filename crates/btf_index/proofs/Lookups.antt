@@ -12,7 +12,7 @@ use Rattle.btf_records.specs.declared.types.BtfType.{BtfType}
 use Rattle.btf_index.specs.Candidates.{is_candidate, is_named, is_of_kind}
 use Rattle.btf_tables.specs.EssentialNames.{essential_name}
 use Rattle.btf_index.specs.HashChains.{HasHash, has_hash, hash_at, least, next_with}
-use Rattle.btf_index.specs.NameHashes.{hash_of, name_hash}
+use Rattle.btf_index.specs.NameHashes.{essential_hash, name_hash}
 use Rattle.btf_tables.specs.Tables.{Table, type_by_id}
 use Rattle.btf_index.specs.TypeIndexes.{AreHashed, CanGoOn, LeadsOn, ids_left, type_hash}
 use Rattle.btf_index.proofs.Links.{Reaches, equal, least_later, least_now, reached}
@@ -22,23 +22,23 @@ both : (a b : Bool) → (a && b) ≡ true → (a ≡ true) × (b ≡ true)
 both true b e = (refl, e)
 both false b e = absurd cc
 
-named_hash : (strings : List ℕ) (t : BtfType) (kind : BtfKind) (name : List ℕ) (text : Option (List ℕ)) → text_at strings (name_offset_of t) ≡ text → number_of (kind_of_type t) ≡ number_of kind → option_map_or (λ x. pointwise nat_eq (essential_name x) name) text false ≡ true → type_hash strings t ≡ Some (hash_of 64 (number_of kind) name)
+named_hash : (strings : List ℕ) (t : BtfType) (kind : BtfKind) (name : List ℕ) (text : Option (List ℕ)) → text_at strings (name_offset_of t) ≡ text → number_of (kind_of_type t) ≡ number_of kind → option_map_or (λ x. pointwise nat_eq (essential_name x) name) text false ≡ true → type_hash strings t ≡ Some (essential_hash (number_of kind) name)
 named_hash strings t kind name None is same e = absurd cc
 named_hash strings t kind name (Some text) is same e =
     let cut : essential_name text ≡ name = same_text (essential_name text) name (sym e) in
-    ap (option_map (name_hash (number_of (kind_of_type t)))) is ∙ ap (λ (n : ℕ). Some (name_hash n text)) same ∙ ap (λ (x : List ℕ). Some (hash_of 64 (number_of kind) x)) cut
+    ap (option_map (name_hash (number_of (kind_of_type t)))) is ∙ ap (λ (n : ℕ). Some (name_hash n text)) same ∙ ap (λ (x : List ℕ). Some (essential_hash (number_of kind) x)) cut
 
-candidate_by : (table : Table) (hashes : List ℕ) (kind : BtfKind) (name : List ℕ) (id : ℕ) (found : Option BtfType) → AreHashed table hashes 0 → 0 < id → type_by_id table id ≡ found → option_map_or (λ t. is_of_kind kind t && is_named table.strings name t) found false ≡ true → hash_at hashes id ≡ hash_of 64 (number_of kind) name
+candidate_by : (table : Table) (hashes : List ℕ) (kind : BtfKind) (name : List ℕ) (id : ℕ) (found : Option BtfType) → AreHashed table hashes 0 → 0 < id → type_by_id table id ≡ found → option_map_or (λ t. is_of_kind kind t && is_named table.strings name t) found false ≡ true → hash_at hashes id ≡ essential_hash (number_of kind) name
 candidate_by table hashes kind name id None a more here e = absurd cc
 candidate_by table hashes kind name id (Some t) a more here e =
     let parts = both (is_of_kind kind t) (is_named table.strings name t) e in
-    a.hashed id (omega arith) more t (hash_of 64 (number_of kind) name) here (named_hash table.strings t kind name (text_at table.strings (name_offset_of t)) refl (equal (number_of (kind_of_type t)) (number_of kind) parts.0) parts.1)
+    a.hashed id (omega arith) more t (essential_hash (number_of kind) name) here (named_hash table.strings t kind name (text_at table.strings (name_offset_of t)) refl (equal (number_of (kind_of_type t)) (number_of kind) parts.0) parts.1)
 
 has_by : (a b : ℕ) → a ≡ b → nat_eq a b ≡ true
 has_by a b e = grind (arith, nat_tests)
 
 -- a candidate has the hash of its kind and name
-candidate_hash : (table : Table) (hashes : List ℕ) (kind : BtfKind) (name : List ℕ) (hash : ℕ) → AreHashed table hashes 0 → hash ≡ hash_of 64 (number_of kind) name → (id : ℕ) → 0 < id → is_candidate table kind name id ≡ true → has_hash hashes hash id ≡ true
+candidate_hash : (table : Table) (hashes : List ℕ) (kind : BtfKind) (name : List ℕ) (hash : ℕ) → AreHashed table hashes 0 → hash ≡ essential_hash (number_of kind) name → (id : ℕ) → 0 < id → is_candidate table kind name id ≡ true → has_hash hashes hash id ≡ true
 candidate_hash table hashes kind name hash a is id more e = has_by (hash_at hashes id) hash (candidate_by table hashes kind name id (type_by_id table id) a more refl e ∙ sym is)
 
 leads_by : (p t : ℕ → Bool) (wanted from n next : ℕ) → 0 < from → Reaches p t wanted from (n + 1) next → LeadsOn p n wanted from next
@@ -46,7 +46,7 @@ leads_by p t wanted from n next more (inl none) = inl none
 leads_by p t wanted from n next more (inr some) = inr (some.0, omega (arith, some.0), omega (arith, some.1), some.3)
 
 -- where the ids of a hash lead
-pub leads_on : (table : Table) (hashes : List ℕ) (kind : BtfKind) (name : List ℕ) (hash last : ℕ) → AreHashed table hashes 0 → hash ≡ hash_of 64 (number_of kind) name → last ≤ length hashes → LeadsOn (is_candidate table kind name) (length hashes) (least (is_candidate table kind name) (last + 1) (length hashes - last)) (last + 1) (next_with hashes hash last)
+pub leads_on : (table : Table) (hashes : List ℕ) (kind : BtfKind) (name : List ℕ) (hash last : ℕ) → AreHashed table hashes 0 → hash ≡ essential_hash (number_of kind) name → last ≤ length hashes → LeadsOn (is_candidate table kind name) (length hashes) (least (is_candidate table kind name) (last + 1) (length hashes - last)) (last + 1) (next_with hashes hash last)
 leads_on table hashes kind name hash last a is le =
     let r = reached (is_candidate table kind name) (has_hash hashes hash) (candidate_hash table hashes kind name hash a is) (last + 1) (length hashes - last) (omega arith) in
     let end : last + 1 + (length hashes - last) ≡ length hashes + 1 = omega (arith, le) in

@@ -1,30 +1,23 @@
 -- Hashes of names.
-use Rattle.std.proofs.Common.{◌≡◌, ℕ, zero, suc, true, false, List, [], ◌∷◌, refl, nat_eq, ◌-◌, ◌<◌, ◌≤◌, arith}
-use Rattle.std.specs.Prelude.{codes}
-use Rattle.std.specs.List.{starts_with}
+use Rattle.std.proofs.Common.{◌≡◌, ℕ, ◌<◌, ◌≤◌, List, take, sym, ap, ◌∙◌, arith}
+use Rattle.std.specs.Prelude.{fold}
+use Rattle.std.proofs.lemmas.List.{take-take, take_all}
 use Rattle.btf_tables.specs.EssentialNames.{essential_name}
+use Rattle.btf_index.specs.LongNames.{essential_len}
 use Rattle.btf_index.specs.NameHashes.{hash_of, next_hash}
+use Rattle.btf_index.proofs.EssentialLengths.{front}
 
-pub hash_end : (left hash : ℕ) (name : List ℕ) → left ≤ 0 → hash_of left hash name ≡ hash
+-- of a name that is hashed as a whole
+pub hash_whole : (hash len : ℕ) (name : List ℕ) → len ≡ essential_len name → len < 64 → fold next_hash hash (take len name) ≡ hash_of 64 hash (essential_name name)
 unfolding hash_of
-hash_end zero hash name le = refl
-hash_end (suc left) hash name le = absurd (omega (arith, le))
+hash_whole hash len name is lt =
+    let cut : take len name ≡ essential_name name = ap (λ (n : ℕ). take n name) is ∙ front name in
+    let all : take 64 (essential_name name) ≡ essential_name name = take_all 64 (essential_name name) (omega (arith, is, lt)) in
+    ap (fold next_hash hash) (cut ∙ sym all)
 
-pub hash_none : (count hash : ℕ) → hash_of count hash (essential_name []) ≡ hash
+-- and of a longer one
+pub hash_beginning : (hash len : ℕ) (name : List ℕ) → len ≡ essential_len name → 64 ≤ len → fold next_hash hash (take 64 name) ≡ hash_of 64 hash (essential_name name)
 unfolding hash_of
-hash_none zero hash = refl
-hash_none (suc count) hash = refl
-
-pub hash_cut : (count hash : ℕ) (bytes : List ℕ) → starts_with nat_eq bytes (codes "___") ≡ true → hash_of count hash (essential_name bytes) ≡ hash
-hash_cut count hash [] e = hash_none count hash
-hash_cut count hash (b ∷ bs) e = rw e (hash_none count hash)
-
-hash_next : (count hash b : ℕ) (bs : List ℕ) → starts_with nat_eq (b ∷ bs) (codes "___") ≡ false → hash_of (suc count) hash (essential_name (b ∷ bs)) ≡ hash_of count (next_hash hash b) (essential_name bs)
-unfolding hash_of
-hash_next count hash b bs e = rw e refl
-
-pub hash_more : (left hash b : ℕ) (rest bs : List ℕ) → 0 < left → rest ≡ b ∷ bs → starts_with nat_eq rest (codes "___") ≡ false → hash_of left hash (essential_name rest) ≡ hash_of (left - 1) (next_hash hash b) (essential_name bs)
-hash_more zero hash b rest bs more is e = absurd (omega (arith, more))
-hash_more (suc left) hash b rest bs more is e =
-    let less : suc left - 1 ≡ left = omega arith in
-    rw (is, less) (hash_next left hash b bs (rw is at e))
+hash_beginning hash len name is le =
+    let cut : take 64 (essential_name name) ≡ take 64 name = ap (take 64) (sym (front name)) ∙ take-take 64 (essential_len name) name (omega (arith, is, le)) in
+    ap (fold next_hash hash) (sym cut)

@@ -15,9 +15,12 @@ use Rattle.string_table.specs.Texts.{text_at}
 abbrev pub is_of_kind : BtfKind → BtfType → Bool
 is_of_kind kind t = number_of (kind_of_type t) == number_of kind
 
--- the record's name can be read, and is this one without its flavour
+-- the name at this offset can be read, and is this one without its flavour
+abbrev pub is_name_at : List ℕ → List ℕ → ℕ → Bool
+is_name_at strings name offset = option_map_or (λ text. pointwise nat_eq (essential_name text) name) (text_at strings offset) false
+
 abbrev pub is_named : List ℕ → List ℕ → BtfType → Bool
-is_named strings name t = option_map_or (λ text. pointwise nat_eq (essential_name text) name) (text_at strings (name_offset_of t)) false
+is_named strings name t = is_name_at strings name (name_offset_of t)
 
 -- the record of this id is of the kind, and so named
 abbrev pub is_candidate : Table → BtfKind → List ℕ → ℕ → Bool

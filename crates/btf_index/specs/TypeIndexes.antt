@@ -9,7 +9,7 @@ use Rattle.btf_records.specs.declared.types.BtfType.{BtfType}
 use Rattle.btf_records.specs.declared.types.BtfType.TheVariants.{Unknown}
 use Rattle.btf_index.specs.Candidates.{candidates, is_candidate, is_unreadable}
 use Rattle.btf_index.specs.HashChains.{HasHash, hash_at, least}
-use Rattle.btf_index.specs.NameHashes.{hash_of, name_hash}
+use Rattle.btf_index.specs.NameHashes.{essential_hash, name_hash}
 use Rattle.btf_tables.specs.Tables.{Table, type_by_id}
 use Rattle.string_table.specs.Texts.{text_at}
 
@@ -44,7 +44,7 @@ ids_left table kind name last false = candidates table kind name
 pub record CanGoOn (table : Table) (hashes : List ℕ) (kind : BtfKind) (name : List ℕ) (hash last : ℕ) (is_begun : Bool) : Type 0 where
   pub same_len : length hashes ≡ length table.types
   pub hashed : AreHashed table hashes 0
-  pub same_hash : hash ≡ hash_of 64 (number_of kind) name
+  pub same_hash : hash ≡ essential_hash (number_of kind) name
   pub known : HasHash hashes hash last
   pub within : last ≤ length hashes
   pub fresh : is_begun ≡ false → last ≡ 0

@@ -2,6 +2,8 @@
 #![tactic(auto)]
 
 mod hash_chains;
+mod known_names;
+mod long_names;
 mod name_hash;
 mod type_index;
 

@@ -2,26 +2,34 @@
 
 ghost use Rattle.std.specs.Iterator.{YieldsFirst, item_count};
 ghost use Rattle.std.specs.Option.{IsSomeAnd};
-ghost use Rattle.std.specs.Prelude.{◌≡◌, ◌+◌, ◌-◌, ◌<◌, ◌≤◌, ◌^◌, ◌∷◌, ◌&&◌, [], ℕ, not, true, MatchOption, IfOk, IfSome, MatchResult, None, Some, length, slice_index_or};
+ghost use Rattle.std.specs.Prelude.{◌≡◌, ◌+◌, ◌-◌, ◌<◌, ◌≤◌, ◌^◌, ◌∷◌, ◌&&◌, [], ℕ, not, true, MatchOption, IfOk, IfSome, MatchResult, OnOk, None, Some, length, slice_index_or};
 ghost use Rattle.btf_records.specs.Kinds.{number_of};
 ghost use Rattle.btf_records.specs.declared.error.BtfError.TheVariants.{InvalidStringOffset};
-ghost use Rattle.btf_index.specs.Candidates.{candidates, is_candidate, is_named, unreadable_name};
+ghost use Rattle.btf_index.specs.Candidates.{candidates, is_candidate, unreadable_name};
+ghost use Rattle.btf_index.specs.Compared.{AreCompared};
 ghost use Rattle.btf_tables.specs.EssentialNames.{essential_name};
 ghost use Rattle.btf_index.specs.HashChains.{HasHash, least};
-ghost use Rattle.btf_index.specs.NameHashes.{hash_of};
+ghost use Rattle.btf_index.specs.LongNames.{AreLongNames};
+ghost use Rattle.btf_index.specs.NameHashes.{essential_hash};
 ghost use Rattle.btf_tables.specs.Tables.{type_by_id};
 ghost use Rattle.btf_index.specs.TypeIndexes.{AreFirst, AreHashed, CanGoOn, ids_left, type_hash};
 
 use crate::hash_chains::HashChains;
+use crate::known_names::is_name_at;
+use crate::long_names::{LongName, name_at_offset};
 use crate::name_hash::name_hash;
 use btf_encoding::TypeRef;
 use btf_records::{BtfError, BtfKind};
 use btf_tables::{Btf, essential_name};
 use std::alloc::{AllocError, Global};
+use std::collections::BTreeMap;
 use std::marker::Model;
 
-/// The types of a table by kind and name without flavour: made in one walk over the table, with a
-/// look-up in constant time.
+/// The types of a table by kind and name without flavour, made in one walk over the table.
+///
+/// A look-up goes through the types with the hash of the kind, of the name's first 64 bytes and of
+/// how long it is without its flavour, and compares each name with the wanted one; a long one that
+/// several types share is compared once.
 #[derive(Debug, Drop)]
 pub struct TypeIndex<'t> {
     table: &'t Btf<'t>,
@@ -42,12 +50,18 @@ impl<'t> Model for TypeIndex<'t> {
 }
 
 /// The hash of a type, where its name can be read.
-fn hash_of(table: &Btf<'_>, t: &TypeRef<'_>) -> Option<u32>
-    ensures { result ≡ type_hash table.now.strings t.now }
+fn hash_of(
+    table: &Btf<'_>,
+    names: &mut Vec<LongName>,
+    t: &TypeRef<'_>,
+) -> Result<Option<u32>, AllocError>
+    requires { AreLongNames table.now.strings names.old.items }
+    ensures value { IfOk result (λ hash. hash ≡ type_hash table.now.strings t.now) }
+    ensures names { OnOk result (AreLongNames table.now.strings names.new.items) }
 {
-    match table.string_at(t.name_offset()) {
-        Ok(name) => Some(name_hash(t.kind(), name)),
-        Err(_) => None,
+    match name_at_offset(table, names, t.name_offset())? {
+        Some(name) => Ok(Some(name_hash(t.kind(), name.text, name.essential_len))),
+        None => Ok(None),
     }
 }
 
@@ -85,54 +99,68 @@ fn enter_unreadable(table: &Btf<'_>, id: u32, t: &TypeRef<'_>, unreadable: &mut 
 
 /// Enters the type of an id, before which the types behind it were entered.
 #[tactic(auto, using(crate::proofs::Indexes::firsts_kept, crate::proofs::Indexes::hashed_kept, crate::proofs::Indexes::known_id))]
-fn enter(table: &Btf<'_>, id: u32, hashes: &mut [u32], unreadable: &mut [Option<u32>])
+fn enter(
+    table: &Btf<'_>,
+    id: u32,
+    names: &mut Vec<LongName>,
+    hashes: &mut [u32],
+    unreadable: &mut [Option<u32>],
+) -> Result<(), AllocError>
+    requires names { AreLongNames table.now.strings names.old.items }
     requires within { id ≤ length table.now.types }
     requires same_len { length hashes.old ≡ length table.now.types }
     requires hashed { AreHashed table.now hashes.old (id + 1) }
     requires firsts { AreFirst table.now unreadable.old (id + 1) }
-    ensures hashed { AreHashed table.now hashes.new id }
-    ensures firsts { AreFirst table.now unreadable.new id }
+    ensures hashed { OnOk result (AreHashed table.now hashes.new id) }
+    ensures firsts { OnOk result (AreFirst table.now unreadable.new id) }
+    ensures names { OnOk result (AreLongNames table.now.strings names.new.items) }
 {
     let Ok(t) = table.type_by_id(id) else {
-        return;
+        return Ok(());
     };
-    match hash_of(table, &t) {
+    match hash_of(table, names, &t)? {
         Some(hash) => enter_hash(table, id, hash, hashes),
         None => enter_unreadable(table, id, &t, unreadable),
     }
+    Ok(())
 }
 
 /// Enters all types, the last first.
-#[tactic(auto, using(crate::proofs::Indexes::hashed_none, crate::proofs::Indexes::firsts_none))]
-fn read_names(table: &Btf<'_>, count: usize, hashes: &mut [u32], unreadable: &mut [Option<u32>])
+#[tactic(auto, using(crate::proofs::EssentialLengths::no_names, crate::proofs::Indexes::hashed_none, crate::proofs::Indexes::firsts_none))]
+fn read_names(
+    table: &Btf<'_>,
+    count: usize,
+    hashes: &mut [u32],
+    unreadable: &mut [Option<u32>],
+) -> Result<(), AllocError>
     requires count { count ≡ length table.now.types }
     requires few { count < 2 ^ 32 }
     requires same_len { length hashes.old ≡ length table.now.types }
     requires sized { length unreadable.old ≡ 20 }
     requires none { (place : ℕ) → slice_index_or unreadable.old place None ≡ None }
-    ensures hashed { AreHashed table.now hashes.new 0 }
-    ensures firsts { AreFirst table.now unreadable.new 0 }
+    ensures hashed { OnOk result (AreHashed table.now hashes.new 0) }
+    ensures firsts { OnOk result (AreFirst table.now unreadable.new 0) }
 {
+    let mut names = Vec::new(table.allocator());
     let mut left = count + 1;
     while left > 0 {
         left -= 1;
-        enter(table, left as u32, hashes, unreadable);
+        enter(table, left as u32, &mut names, hashes, unreadable)?;
     }
-}
-
-/// Whether a type has this name without its flavour.
-fn is_named(table: &Btf<'_>, name: &str, t: &TypeRef<'_>) -> bool
-    ensures { result ≡ is_named table.now.strings name.now t.now }
-{
-    match table.string_at(t.name_offset()) {
-        Ok(text) => essential_name(text) == name,
-        Err(_) => false,
-    }
+    Ok(())
 }
 
 /// Whether the type of an id is of the kind and has this name without its flavour.
-fn is_candidate(table: &Btf<'_>, kind: BtfKind, name: &str, id: u32) -> bool
-    ensures { result ≡ is_candidate table.now kind name.now id }
+fn is_candidate(
+    table: &Btf<'_>,
+    kind: BtfKind,
+    name: &str,
+    compared: &mut BTreeMap<u32, bool>,
+    id: u32,
+) -> bool
+    requires { AreCompared table.now.strings name.now compared.old.entries }
+    ensures value { result ≡ is_candidate table.now kind name.now id }
+    ensures compared { AreCompared table.now.strings name.now compared.new.entries }
 {
     let Ok(t) = table.type_by_id(id) else {
         return false;
@@ -140,7 +168,7 @@ fn is_candidate(table: &Btf<'_>, kind: BtfKind, name: &str, id: u32) -> bool
     if t.kind() != kind {
         return false;
     }
-    is_named(table, name, &t)
+    is_name_at(table, name, compared, t.name_offset())
 }
 
 /// The least id behind another of the types of a kind and a name without flavour, 0 where there is
@@ -150,21 +178,24 @@ fn next_candidate(
     chains: &HashChains,
     kind: BtfKind,
     name: &str,
+    compared: &mut BTreeMap<u32, bool>,
     hash: u32,
     last: u32,
 ) -> u32
     requires same_len { length chains.now ≡ length table.now.types }
     requires hashed { AreHashed table.now chains.now 0 }
-    requires hash { hash ≡ hash_of 64 (number_of kind) name.now }
+    requires hash { hash ≡ essential_hash (number_of kind) name.now }
     requires known { HasHash chains.now hash last }
     requires within { last ≤ length chains.now }
+    requires compared { AreCompared table.now.strings name.now compared.old.entries }
     ensures value { result ≡ least (is_candidate table.now kind name.now) (last + 1) (length chains.now - last) }
     ensures found { HasHash chains.now hash result }
     ensures within { result ≤ length chains.now }
+    ensures compared { AreCompared table.now.strings name.now compared.new.entries }
 {
     let mut id = chains.next_with(hash, last);
     while id != 0 {
-        if is_candidate(table, kind, name, id) {
+        if is_candidate(table, kind, name, compared, id) {
             break;
         }
         id = chains.next_with(hash, id);
@@ -173,10 +204,18 @@ fn next_candidate(
 }
 
 /// Whether void is left, and is so named.
-fn is_void_next(table: &Btf<'_>, kind: BtfKind, name: &str, is_begun: bool) -> bool
-    ensures { result ≡ (not is_begun && is_candidate table.now kind name.now 0) }
+fn is_void_next(
+    table: &Btf<'_>,
+    kind: BtfKind,
+    name: &str,
+    compared: &mut BTreeMap<u32, bool>,
+    is_begun: bool,
+) -> bool
+    requires { AreCompared table.now.strings name.now compared.old.entries }
+    ensures value { result ≡ (not is_begun && is_candidate table.now kind name.now 0) }
+    ensures compared { AreCompared table.now.strings name.now compared.new.entries }
 {
-    !is_begun && is_candidate(table, kind, name, 0)
+    !is_begun && is_candidate(table, kind, name, compared, 0)
 }
 
 /// The first id of those that are left.
@@ -186,18 +225,21 @@ fn first_left(
     chains: &HashChains,
     kind: BtfKind,
     name: &str,
+    compared: &mut BTreeMap<u32, bool>,
     hash: u32,
     last: u32,
     is_begun: bool,
 ) -> Option<u32>
-    requires { CanGoOn table.now chains.now kind name.now hash last is_begun }
+    requires on { CanGoOn table.now chains.now kind name.now hash last is_begun }
+    requires compared { AreCompared table.now.strings name.now compared.old.entries }
     ensures left { MatchOption result (ids_left table.now kind name.now last is_begun ≡ []) (λ id. ids_left table.now kind name.now last is_begun ≡ id ∷ ids_left table.now kind name.now id true) }
     ensures on { IfSome result (λ id. CanGoOn table.now chains.now kind name.now hash id true) }
+    ensures compared { AreCompared table.now.strings name.now compared.new.entries }
 {
-    if is_void_next(table, kind, name, is_begun) {
+    if is_void_next(table, kind, name, compared, is_begun) {
         return Some(0);
     }
-    let id = next_candidate(table, chains, kind, name, hash, last);
+    let id = next_candidate(table, chains, kind, name, compared, hash, last);
     if id == 0 { None } else { Some(id) }
 }
 
@@ -209,7 +251,7 @@ impl<'t> TypeIndex<'t> {
         let count = table.len();
         let mut hashes = vec![in alloc; 0; count]?;
         let mut unreadable = [None; 20];
-        read_names(table, count, hashes.as_mut_slice(), &mut unreadable);
+        read_names(table, count, hashes.as_mut_slice(), &mut unreadable)?;
         Ok(TypeIndex {
             table,
             chains: HashChains::new(alloc, hashes)?,
@@ -229,12 +271,14 @@ impl<'t> TypeIndex<'t> {
                 offset: offset as usize,
             });
         }
+        let essential = essential_name(name);
         Ok(TypeIds {
             table: self.table,
             chains: &self.chains,
             kind,
-            name: essential_name(name),
-            hash: name_hash(kind, name),
+            name: essential,
+            compared: BTreeMap::new(self.table.allocator()),
+            hash: name_hash(kind, name, essential.len()),
             last: 0,
             is_begun: false,
         })
@@ -248,6 +292,8 @@ pub struct TypeIds<'i> {
     chains: &'i HashChains,
     kind: BtfKind,
     name: &'i str,
+    /// Whether the long names are the wanted one that were compared with it, by offset.
+    compared: BTreeMap<u32, bool>,
     hash: u32,
     last: u32,
     /// Whether void was looked at.
@@ -256,13 +302,14 @@ pub struct TypeIds<'i> {
 
 impl<'i> Model for TypeIds<'i> {
     ghost use Rattle.std.specs.Prelude.{List, ℕ};
+    ghost use Rattle.btf_index.specs.Compared.{AreCompared};
     ghost use Rattle.btf_index.specs.TypeIndexes.{CanGoOn, ids_left};
 
     ghost Value = { List ℕ };
 
     ghost view = { λ s. ids_left s.table.now s.kind s.name.now s.last s.is_begun };
 
-    ghost invariant = { λ s. CanGoOn s.table.now s.chains.now s.kind s.name.now s.hash s.last s.is_begun };
+    ghost invariant = { λ s. (CanGoOn s.table.now s.chains.now s.kind s.name.now s.hash s.last s.is_begun) × (AreCompared s.table.now.strings s.name.now s.compared.entries) };
 }
 
 impl<'i> Iterator for TypeIds<'i> {
@@ -278,6 +325,7 @@ impl<'i> Iterator for TypeIds<'i> {
             self.chains,
             self.kind,
             self.name,
+            &mut self.compared,
             self.hash,
             self.last,
             self.is_begun,

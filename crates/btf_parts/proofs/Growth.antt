@@ -11,7 +11,7 @@ use Rattle.btf_parts.specs.Growth.{TooMany}
 use Rattle.btf_parts.specs.Layout.{Entered, IsLaidOut, fallback_at, type_at, types_at}
 use Rattle.btf_parts.proofs.Places.{has_record, length_types_at, within_bytes}
 use Rattle.btf_records.specs.Fields.{fallback_of}
-use Rattle.btf_encoding.specs.Records.{ReadsBack, ReadsSame, record_bytes, type_in, with_fallback, without_fallback}
+use Rattle.btf_encoding.specs.Records.{ReadsBack, ReadsSame, Spells, record_bytes, type_in, with_fallback, without_fallback}
 use Rattle.btf_records.specs.declared.compound.Union.{Union}
 use Rattle.btf_records.specs.declared.compound.Enum64Fallback.{Enum64Fallback}
 use Rattle.btf_records.specs.declared.types.BtfType.{BtfType}
@@ -105,6 +105,16 @@ grown order bytes places old new t laid reads entered =
     in
     types_behind order (bytes ++ x) new 1 places (length bytes) ∙ rw (others, last) refl
 
+spelled_more : (order : Endianness) (bytes places : List ℕ) (t : BtfType) → All (λ p. ReadsSame order (drop p bytes)) places → ReadsBack order t → Spells order (types_at order bytes [] 1 places) bytes → Spells order (types_at order (bytes ++ record_bytes order t) [] 1 (places ++ length bytes ∷ [])) (bytes ++ record_bytes order t)
+spelled_more order bytes places t stand reads spelled =
+    let x = record_bytes order t in
+    let last : type_in order (drop (length bytes) (bytes ++ x)) ≡ without_fallback t = ap (type_in order) (drop-append_seam bytes x ∙ sym (append-nil x)) ∙ reads.same [] in
+    let others : types_at order (bytes ++ x) [] 1 places ≡ types_at order bytes [] 1 places = types_stay order bytes x [] [] 1 places stand (record { same = λ other lt. refl }) in
+    let all : types_at order (bytes ++ x) [] 1 (places ++ length bytes ∷ []) ≡ types_at order bytes [] 1 places ++ without_fallback t ∷ [] =
+    types_behind order (bytes ++ x) [] 1 places (length bytes) ∙ rw (others, last) refl
+    in
+    rw all (reads.follows (types_at order bytes [] 1 places) bytes spelled)
+
 pub grown_tight : (order : Endianness) (bytes places : List ℕ) (old new : List (ℕ × Enum64Fallback)) (t : BtfType) → IsLaidOut order bytes old places → ReadsBack order t → Entered old new (length places + 1) (fallback_of t) → length (bytes ++ record_bytes order t) < 2 ^ 32 → length (places ++ length bytes ∷ []) < 2 ^ 32 → IsLaidOut order (bytes ++ record_bytes order t) new (places ++ length bytes ∷ [])
 grown_tight order bytes places old new t laid reads entered few_bytes few_types =
     let x = record_bytes order t in
@@ -113,6 +123,7 @@ grown_tight order bytes places old new t laid reads entered few_bytes few_types 
     flat_map-append (record_bytes order) (types_at order bytes old 1 places) (t ∷ []) ∙ ap (λ (b : List ℕ). flat_map (record_bytes order) (types_at order bytes old 1 places) ++ b) (append-nil x)
     in
     record {
+      spelled = spelled_more order bytes places t laid.stand reads laid.spelled;
       stand = All-append (λ p. ReadsSame order (drop p (bytes ++ x))) places (length bytes ∷ []) (all_stay order bytes x places laid.stand) (All-cons (λ p. ReadsSame order (drop p (bytes ++ x))) (length bytes) [] last (All-nil (λ p. ReadsSame order (drop p (bytes ++ x)))));
       in_use = λ id past.
           entered.others id (λ e. omega (arith, past, length-append places (length bytes ∷ []))) ∙ laid.in_use id (omega (arith, past, length-append places (length bytes ∷ [])));

@@ -62,6 +62,7 @@ pub laid_out : (order : Endianness) (bytes places : List ℕ) → Spells order (
 laid_out order bytes places spelled stand few = record {
   stand = stand;
   in_use = λ id past. refl;
+  spelled = spelled;
   tight = spelled_tight order (types_at order bytes [] 1 places) bytes spelled;
   few_bytes = few;
   few_types = omega (arith, spelled_few order (types_at order bytes [] 1 places) bytes spelled, length_types_at order bytes [] 1 places);

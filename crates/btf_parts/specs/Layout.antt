@@ -6,7 +6,7 @@ use Rattle.std.specs.Map.{lookup}
 use Rattle.std.specs.BTreeMap.{is_at}
 use Rattle.std.specs.Option.{option_map_or}
 use Rattle.std.specs.Ordering.{nat_cmp}
-use Rattle.btf_encoding.specs.Records.{ReadsSame, record_bytes, type_in, with_fallback}
+use Rattle.btf_encoding.specs.Records.{ReadsSame, Spells, record_bytes, type_in, with_fallback}
 use Rattle.btf_records.specs.declared.compound.Enum64Fallback.{Enum64Fallback}
 use Rattle.btf_records.specs.declared.types.BtfType.{BtfType}
 use Rattle.btf_records.specs.declared.words.Endianness.{Endianness}
@@ -29,11 +29,12 @@ unfoldable pub types_at : Endianness → List ℕ → List (ℕ × Enum64Fallbac
 types_at order bytes fallbacks id [] = []
 types_at order bytes fallbacks id (place ∷ places) = type_at order bytes fallbacks id place ∷ types_at order bytes fallbacks (suc id) places
 
--- a record stands at each place, no id past the last stands for an enum, and the bytes are no more than
--- those of the records
+-- a record stands at each place, no id past the last stands for an enum, and the bytes are those records,
+-- one behind the other, and as many as they are written with
 pub record IsLaidOut (order : Endianness) (bytes : List ℕ) (fallbacks : List (ℕ × Enum64Fallback)) (places : List ℕ) : Type 0 where
   pub stand : All (λ place. ReadsSame order (drop place bytes)) places
   pub in_use : (id : ℕ) → length places < id → fallback_at fallbacks id ≡ None
+  pub spelled : Spells order (types_at order bytes [] 1 places) bytes
   pub tight : length bytes ≡ length (flat_map (record_bytes order) (types_at order bytes fallbacks 1 places))
   pub few_bytes : length bytes < 2 ^ 32
   pub few_types : length places < 2 ^ 32

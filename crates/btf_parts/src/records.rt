@@ -10,7 +10,7 @@ ghost use Rattle.btf_parts.specs.Growth.{TooMany};
 ghost use Rattle.btf_parts.specs.Layout.{Entered, fallback_at, types_at};
 
 use crate::byte_list::ByteList;
-use btf_encoding::{TypeRef, push_type, record_len};
+use btf_encoding::{TypeRef, behind, push_types, record_len};
 use btf_records::{BtfError, BtfType, Endianness, Enum64Fallback, Union};
 use std::alloc::{AllocError, Global};
 use std::collections::BTreeMap;
@@ -110,15 +110,6 @@ fn place_at(places: &[u32], index: usize) -> Option<u32>
     places.get(index).copied()
 }
 
-/// The bytes behind the first so many.
-fn behind(bytes: &[u8], len: usize) -> &[u8]
-    requires { len ≤ length bytes.now }
-    ensures value { result.now ≡ drop len bytes.now }
-    ensures length { length result.now + len ≡ length bytes.now }
-{
-    bytes.split_at(len).1
-}
-
 /// The record that begins at a place.
 #[tactic(auto, using(crate::proofs::Places::within_bytes))]
 fn record_at(order: Endianness, bytes: &[u8], place: u32) -> TypeRef<'_>
@@ -157,15 +148,6 @@ fn places(alloc: Global, order: Endianness, bytes: &[u8]) -> Result<Vec<u32>, Bt
         rest = behind(rest, len);
     }
     Ok(places)
-}
-
-/// Writes the bytes of a record behind what is there.
-fn write_record(out: &mut Vec<u8>, order: Endianness, t: &TypeRef<'_>) -> Result<(), AllocError>
-    ensures written { OnOk result (out.new.items ≡ out.old.items ++ record_bytes order t.now) }
-    ensures read_back { OnOk result (ReadsBack order t.now) }
-{
-    let t = t.to_type(*out.allocator())?;
-    push_type(out, order, &t)
 }
 
 impl<'a> TypeRecords<'a> {
@@ -290,17 +272,12 @@ impl<'a> TypeRecords<'a> {
     }
 
     /// Writes the bytes of the records behind what is there.
-    #[tactic(auto, using(crate::proofs::Writing::none_written, crate::proofs::Writing::one_more_written, crate::proofs::Writing::all_written, crate::proofs::Writing::all_spelled))]
+    #[tactic(auto, using(crate::proofs::Writing::are_records, crate::proofs::Writing::all_written, crate::proofs::Writing::all_spelled))]
     pub fn write(&self, out: &mut Vec<u8>) -> Result<(), AllocError>
         ensures written { OnOk result (out.new.items ≡ out.old.items ++ flat_map (record_bytes self.now.order) self.now.types) }
         ensures spelled { OnOk result (Spells self.now.order (map without_fallback self.now.types) (flat_map (record_bytes self.now.order) self.now.types)) }
     {
-        let mut index = 0;
-        while let Some(t) = self.get(index) {
-            write_record(out, self.order(), &t)?;
-            index += 1;
-        }
-        Ok(())
+        push_types(out, self.order, self.bytes.as_slice())
     }
 
     /// The same records.

@@ -1,10 +1,12 @@
 -- A look-up by kind and name, record by record.
-use Rattle.std.proofs.Common.{◌≡◌, ◌≢◌, ℕ, zero, suc, ◌+◌, ◌-◌, ◌<◌, ◌≤◌, false, List, [], ◌∷◌, length, drop, None, Some, refl, ◌∙◌, arith, slice_get, below_more, nat_eq, inl, inr}
+use Rattle.std.proofs.Common.{◌≡◌, ◌≢◌, ℕ, zero, suc, ◌+◌, ◌-◌, ◌<◌, ◌≤◌, false, List, [], ◌∷◌, length, drop, None, Some, refl, sym, subst, ◌∙◌, arith, slice_get, below_more, nat_eq, inl, inr}
 use Rattle.std.specs.Option.{IsSomeAnd}
 use Rattle.std.specs.Prelude.{◌⊎◌}
 use Rattle.std.proofs.lemmas.Option.{slice_get_past}
 use Rattle.std.proofs.lemmas.Bool.Decides.{nat_tests}
-use Rattle.btf_tables.specs.TypesByName.{IsNotNamed}
+use Rattle.btf_tables.specs.TypesByName.{IsNotNamed, NameFault}
+use Rattle.btf_records.specs.declared.error.BtfError.{BtfError}
+use Rattle.btf_records.specs.declared.error.BtfError.TheVariants.{InvalidStringOffset}
 use Rattle.btf_records.specs.Fields.{kind_of_type, name_offset_of}
 use Rattle.btf_tables.specs.Tables.{Table, type_by_id}
 use Rattle.string_table.specs.Texts.{text_at}
@@ -70,3 +72,8 @@ none_left table name kind id before end other =
           let none : type_by_id table other ≡ None = by_place table other ∙ slice_get_past (all_types table) other (let h = past_end (all_types table) id end in omega arith) in
           rw none tt
     ]
+
+-- the name of this record can't be read, and the wanted one doesn't come before
+pub fault_here : (table : Table) (name : List ℕ) (kind : BtfKind) (id : ℕ) (t : BtfType) (rest : List BtfType) (e : BtfError) → NoneBefore table name kind id → drop id (all_types table) ≡ t ∷ rest → (kind_of_type t ≡ kind) × (e ≡ InvalidStringOffset (name_offset_of t)) × (text_at table.strings (name_offset_of t) ≡ None) → NameFault table name kind e
+fault_here table name kind id t rest e before here is =
+    subst (λ (x : BtfError). NameFault table name kind x) (sym is.1) (record { id = id; unreadable = rw (known_here table id t rest here) (is.0, refl, is.2); first = before.none })

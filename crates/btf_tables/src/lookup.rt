@@ -15,7 +15,7 @@ use crate::other_texts::is_name;
 use crate::table::{Btf, MAX_DEPTH};
 use btf_encoding::TypeRef;
 use btf_records::{BtfError, BtfKind};
-use std::collections::BTreeMap;
+use std::collections::BTreeSet;
 
 /// The size of a record that has one by itself.
 fn own_size(t: &TypeRef<'_>) -> Option<u32>
@@ -133,20 +133,21 @@ impl<'a> Btf<'a> {
         t: &TypeRef<'_>,
         name: &str,
         kind: BtfKind,
-        others: &mut BTreeMap<u32, ()>,
+        others: &mut BTreeSet<u32>,
     ) -> Result<bool, BtfError>
-        requires others { AreOthers self.now.strings name.now others.old.entries }
+        requires others { AreOthers self.now.strings name.now others.old.keys }
         ensures named { IfOk result (λ found. found ≡ true → (kind_of_type t.now ≡ kind) × (text_at self.now.strings (name_offset_of t.now) ≡ Some name.now)) }
         ensures other { IfOk result (λ found. found ≡ false → kind_of_type t.now ≡ kind → IsSomeAnd (text_at self.now.strings (name_offset_of t.now)) (λ text. text ≢ name.now)) }
         ensures refused { IfErr result (λ e. e ≢ OutOfMemory → (kind_of_type t.now ≡ kind) × (e ≡ InvalidStringOffset (name_offset_of t.now)) × (text_at self.now.strings (name_offset_of t.now) ≡ None)) }
-        ensures others { AreOthers self.now.strings name.now others.new.entries }
+        ensures others { AreOthers self.now.strings name.now others.new.keys }
     {
         if t.kind() != kind {
             return Ok(false);
         }
         let offset = t.name_offset();
-        let text = self.string_at(offset)?;
-        Ok(is_name(&self.strings, name, others, offset, text)?)
+        is_name(&self.strings, name, others, offset)?.ok_or(BtfError::InvalidStringOffset {
+            offset: offset as usize,
+        })
     }
 
     /// The least id of the types of this kind and name.
@@ -169,12 +170,12 @@ impl<'a> Btf<'a> {
     }
 
     /// The least id of the types of this kind and name, where there is one.
-    #[tactic(auto, using(crate::proofs::Named::known_here, crate::proofs::Named::rest_here, crate::proofs::Named::none_more, crate::proofs::Named::none_left, crate::proofs::OtherTexts::no_others))]
+    #[tactic(auto, using(crate::proofs::Named::fault_here, crate::proofs::Named::known_here, crate::proofs::Named::rest_here, crate::proofs::Named::none_more, crate::proofs::Named::none_left, crate::proofs::OtherTexts::no_others))]
     fn first_named(&self, name: &str, kind: BtfKind) -> Result<Option<u32>, BtfError>
         ensures found { IfOk result (λ found. MatchOption found ((id : ℕ) → IsNotNamed self.now name.now kind id) (λ id. IsFirstNamed self.now name.now kind id)) }
         ensures refused { IfErr result (λ e. e ≢ OutOfMemory → NameFault self.now name.now kind e) }
     {
-        let mut others = BTreeMap::new(self.allocator());
+        let mut others = BTreeSet::new(self.allocator());
         let mut id: usize = 0;
         for t in self.types() {
             if self.is_named(&t, name, kind, &mut others)? {

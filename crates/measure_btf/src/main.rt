@@ -1,10 +1,10 @@
-//! Measures how long it takes to parse a file of type information, to write the table again, and to
-//! find structs in it by name.
+//! Measures how long it takes to parse a file of type information, to write the table again, to make
+//! an index over it, and to find structs in it by name.
 #![tactic(auto)]
 
 mod error;
 
-use btf::{Btf, BtfKind, Endianness};
+use btf::{Btf, BtfKind, Endianness, TypeIndex};
 use error::MeasureError;
 use std::env::Args;
 use std::process::ExitCode;
@@ -59,6 +59,17 @@ fn measure_writing(rt: &HostRuntime, table: &Btf<'_>) -> Result<(), MeasureError
     print_times(rt, "written", times)
 }
 
+fn measure_indexing<'t>(rt: &HostRuntime, table: &'t Btf<'t>) -> Result<(), MeasureError> {
+    let mut times = Vec::with_capacity(rt.alloc(), ROUNDS as usize)?;
+    for _ in 0..ROUNDS {
+        let start = Instant::now(rt)?;
+        let index = TypeIndex::new(rt.alloc(), table)?;
+        times.push(micros(rt, start)?)?;
+        drop(index);
+    }
+    print_times(rt, "indexed", times)
+}
+
 /// The first 40 characters of a name.
 fn beginning(name: &str) -> &str {
     match name.char_indices().nth(40) {
@@ -67,7 +78,37 @@ fn beginning(name: &str) -> &str {
     }
 }
 
-/// Finds a struct by name.
+/// The last struct of a name by index.
+fn last_candidate(index: &TypeIndex<'_>, name: &str) -> Option<u32> {
+    let ids = index.candidates(BtfKind::Struct, name).ok()?;
+    let mut last = None;
+    for id in ids {
+        last = Some(id);
+    }
+    last
+}
+
+/// Finds the structs of a name by index.
+fn measure_candidates(
+    rt: &HostRuntime,
+    index: &TypeIndex<'_>,
+    name: &str,
+) -> Result<(), MeasureError> {
+    match last_candidate(index, name) {
+        Some(id) => println!(rt; "by index, the last of them: id {id}")?,
+        None => println!(rt; "by index: not found")?,
+    }
+    let mut times = Vec::with_capacity(rt.alloc(), ROUNDS as usize)?;
+    for _ in 0..ROUNDS {
+        let start = Instant::now(rt)?;
+        let last = last_candidate(index, name);
+        times.push(micros(rt, start)?)?;
+        drop(last);
+    }
+    print_times(rt, "looked up by index", times)
+}
+
+/// Finds the first struct of a name by scan.
 fn measure_name(rt: &HostRuntime, table: &Btf<'_>, name: &str) -> Result<(), MeasureError> {
     match table.id_by_type_name_kind(name, BtfKind::Struct) {
         Ok(id) => println!(rt; "{}: id {id}", beginning(name))?,
@@ -92,8 +133,11 @@ fn measure(rt: &HostRuntime, words: &mut Args) -> Result<(), MeasureError> {
     measure_parsing(rt, section.as_slice())?;
     let table = Btf::parse(rt.alloc(), section.as_slice(), Endianness::Little)?;
     measure_writing(rt, &table)?;
+    measure_indexing(rt, &table)?;
+    let index = TypeIndex::new(rt.alloc(), &table)?;
     for name in words {
         measure_name(rt, &table, name.as_str())?;
+        measure_candidates(rt, &index, name.as_str())?;
     }
     Ok(())
 }

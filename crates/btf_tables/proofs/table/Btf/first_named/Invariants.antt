@@ -7,5 +7,5 @@ abbrev pub invariant-loop-t : goal.invariant-loop-t
 invariant-loop-t l = record {
   left : l.t-iterator ≡ drop l.id (all_types l.self);
   before : NoneBefore l.self l.name l.kind l.id;
-  others : AreOthers l.self.strings l.name l.others.entries;
+  others : AreOthers l.self.strings l.name l.others.keys;
 }

@@ -1,0 +1,111 @@
+//! Records written as they were read.
+
+ghost use Rattle.std.specs.Prelude.{◌≡◌, ◌<◌, ◌≤◌, ◌⊎◌, [], IfOk, OnErr, OnOk, length, take};
+ghost use Rattle.btf_encoding.specs.Records.{HasRecord, kind_at, record_len};
+ghost use Rattle.btf_encoding.specs.Rewriting.{AreRecords, AreWrittenUpTo, IsWrittenAgain, is_kept};
+
+use crate::reading::{behind, bytes_behind, kind_of, read_type};
+use crate::writing::push_type;
+use btf_records::{BtfKind, Endianness, word};
+use std::alloc::AllocError;
+
+/// The number of bytes of the record that the bytes begin with.
+fn len_of(order: Endianness, bytes: &[u8]) -> usize
+    requires { HasRecord order bytes.now }
+    ensures { result ≡ record_len order bytes.now }
+{
+    let count = word(order, bytes, 4) % 0x1_0000;
+    12 + bytes_behind(kind_of(order, bytes), count as usize)
+}
+
+/// Whether the first three words are zeros.
+fn is_zero(order: Endianness, bytes: &[u8]) -> bool
+    requires { 12 ≤ length bytes.now }
+    ensures { result ≡ is_kept BtfKind.Unknown order bytes.now }
+{
+    word(order, bytes, 0) == 0 && word(order, bytes, 4) == 0 && word(order, bytes, 8) == 0
+}
+
+/// Whether the record that the bytes begin with is written as the bytes that it is read from.
+fn is_kept(order: Endianness, bytes: &[u8]) -> bool
+    requires { HasRecord order bytes.now }
+    ensures { result ≡ is_kept (kind_at order bytes.now) order bytes.now }
+{
+    match kind_of(order, bytes) {
+        BtfKind::Unknown => is_zero(order, bytes),
+        BtfKind::Array | BtfKind::Fwd => word(order, bytes, 8) == 0,
+        BtfKind::Var => word(order, bytes, 12) < 4,
+        _ => true,
+    }
+}
+
+/// The bytes of the first records as far as these are written as they are read, and the rest.
+#[tactic(auto, using(crate::proofs::ManyTypes::first_record, crate::proofs::Rewritten::records_left))]
+fn split_kept(order: Endianness, bytes: &[u8]) -> (&[u8], &[u8])
+    requires { AreRecords order bytes.now }
+    ensures written { AreWrittenUpTo order bytes.now result.1.now [] result.0.now }
+    ensures within { length result.1.now ≤ length bytes.now }
+{
+    let mut rest = bytes;
+    while !rest.is_empty() {
+        if !is_kept(order, rest) {
+            break;
+        }
+        rest = behind(rest, len_of(order, rest));
+    }
+    bytes.split_at(bytes.len() - rest.len())
+}
+
+/// Writes the first record, where there is one, by its fields, and answers the bytes behind it.
+#[tactic(auto, using(crate::proofs::ManyTypes::first_record, crate::proofs::Rewritten::none_yet, crate::proofs::Rewritten::pushed))]
+fn push_first<'a>(
+    out: &mut Vec<u8>,
+    order: Endianness,
+    bytes: &'a [u8],
+) -> Result<&'a [u8], AllocError>
+    requires { AreRecords order bytes.now }
+    ensures written { IfOk result (λ rest. AreWrittenUpTo order bytes.now rest.now out.old.items out.new.items) }
+    ensures shorter { IfOk result (λ rest. (length rest.now ≡ 0) ⊎ (length rest.now < length bytes.now)) }
+    ensures err { OnErr result (out.new.items ≡ out.old.items) }
+{
+    if bytes.is_empty() {
+        return Ok(bytes);
+    }
+    let t = read_type(*out.allocator(), order, bytes)?;
+    push_type(out, order, &t)?;
+    Ok(behind(bytes, len_of(order, bytes)))
+}
+
+/// Writes records behind what is there, as far as memory reaches.
+#[tactic(auto, using(crate::proofs::Rewritten::none_yet))]
+fn push_records(out: &mut Vec<u8>, order: Endianness, bytes: &[u8]) -> Result<(), AllocError>
+    requires { AreRecords order bytes.now }
+    ensures written { OnOk result (AreWrittenUpTo order bytes.now [] out.old.items out.new.items) }
+    ensures err { OnErr result (take (length out.old.items) out.new.items ≡ out.old.items) }
+{
+    let mut rest = bytes;
+    while !rest.is_empty() {
+        let (kept, others) = split_kept(order, rest);
+        out.extend_from_slice(kept)?;
+        rest = push_first(out, order, others)?;
+    }
+    Ok(())
+}
+
+/// Writes the records that the bytes are behind what is there, each as `push_type` writes it. Those
+/// that are written as they are read are copied, as many at once as stand side by side.
+#[tactic(auto, using(crate::proofs::Rewritten::all_again))]
+pub fn push_types(out: &mut Vec<u8>, order: Endianness, bytes: &[u8]) -> Result<(), AllocError>
+    requires { AreRecords order bytes.now }
+    ensures written { OnOk result (IsWrittenAgain order bytes.now out.old.items out.new.items) }
+    ensures err { OnErr result (out.new.items ≡ out.old.items) }
+{
+    let len = out.len();
+    match push_records(out, order, bytes) {
+        Ok(()) => Ok(()),
+        Err(error) => {
+            out.truncate(len);
+            Err(error)
+        }
+    }
+}
