@@ -14,5 +14,6 @@ mod table;
 mod types;
 
 pub use essential_names::essential_name;
+pub use strings::Strings;
 pub use table::Btf;
 pub use types::Types;

@@ -10,9 +10,10 @@ use std::alloc::{AllocError, Global};
 use std::marker::Model;
 use string_table::LongTexts;
 
-/// The bytes of the strings, and where the long ones stand.
+/// The strings of a table: its texts by offset, each ended by a NUL. The bytes are borrowed from the
+/// section until some are added, and a text is found without a look at more than 256 bytes.
 #[derive(Debug, Drop)]
-pub(crate) struct Strings<'a> {
+pub struct Strings<'a> {
     bytes: ByteList<'a>,
     long_texts: LongTexts,
 }
@@ -70,8 +71,9 @@ impl<'a> Strings<'a> {
         self.bytes.len()
     }
 
-    /// The text at an offset.
-    pub(crate) fn text_at(&self, offset: u32) -> Option<&str>
+    /// The text at an offset; none where that lies past the end, no NUL ends the text, or it isn't
+    /// UTF-8.
+    pub fn text_at(&self, offset: u32) -> Option<&str>
         ensures { option_copied result ≡ text_at self.now offset }
     {
         self.long_texts.text_at(self.bytes.as_slice(), offset)
@@ -88,8 +90,8 @@ impl<'a> Strings<'a> {
         Ok(())
     }
 
-    /// The same strings.
-    pub(crate) fn try_clone(&self) -> Result<Strings<'a>, AllocError>
+    /// The same strings; bytes that are borrowed stay so.
+    pub fn try_clone(&self) -> Result<Strings<'a>, AllocError>
         ensures { IfOk result (λ strings. strings ≡ self.now) }
     {
         Ok(Strings {
