@@ -1,4 +1,6 @@
 pub mod Faults
 pub mod Groups
 pub mod Items
+pub mod Named
+pub mod Sections
 pub mod Written

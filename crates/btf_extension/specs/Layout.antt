@@ -1,23 +1,59 @@
 -- How the groups of a region lie in memory: where each begins.
-use Rattle.std.specs.Prelude.{◌≡◌, ℕ, ◌⊎◌, ◌*◌, ◌<◌, ◌≤◌, ◌^◌, List, All, drop, length, map}
+use Rattle.std.specs.Prelude.{◌≡◌, ℕ, ◌⊎◌, ◌*◌, ◌<◌, ◌≤◌, ◌^◌, Bool, List, All, drop, length, map}
 use Rattle.btf_records.specs.Words.{word_at}
 use Rattle.btf_records.specs.declared.error.BtfError.{BtfError}
 use Rattle.btf_records.specs.declared.words.Endianness.{Endianness}
+use Rattle.btf_extension.specs.Extensions.{Extension}
 use Rattle.btf_extension.specs.Faults.{GroupFault, HasSize, kind_count}
 use Rattle.btf_extension.specs.Groups.{Group, IsGroup, Reach, count_in, group_in}
+use Rattle.btf_extension.specs.Names.{is_text}
+use Rattle.btf_extension.specs.Records.{func_in, line_in, relocation_in}
 use Rattle.btf_extension.specs.Regions.{groups_bytes, size_in}
 use Rattle.btf_extension.specs.declared.group_list.GroupList.{GroupList}
+use Rattle.btf_extension.specs.declared.sec_info.GroupRecords.{GroupRecords}
 use Rattle.btf_extension.specs.declared.region.RegionKind.{RegionKind}
 
 -- the groups at the places
 abbrev pub groups_at : {R : Type 0} → (Endianness → List ℕ → R) → GroupList → List (Group R)
 groups_at read g = map (λ place. group_in g.order read g.size (drop place g.bytes.now)) g.places.items
 
--- a whole group with records of at least so many bytes begins at each place
+-- a whole group begins at each place
+pub record AreWhole (g : GroupList) : Type 0 where
+  pub stand : All (λ place. IsGroup g.order g.size (drop place g.bytes.now)) g.places.items
+
+-- their records have at least so many bytes
 pub record AreLaidOut (least : ℕ) (g : GroupList) : Type 0 where
-  pub stand : All (λ place. IsGroup g.order g.size (drop place g.bytes.now) × (least ≤ g.size)) g.places.items
-  pub few : length g.bytes.now < 2 ^ 32
-  pub few_bytes : g.size < 2 ^ 32
+  pub whole : AreWhole g
+  pub sized : All (λ place. least ≤ g.size) g.places.items
+
+-- the group at a place has this name
+abbrev pub is_named : List ℕ → List ℕ → GroupList → ℕ → Bool
+is_named strings name g place = is_text strings name (word_at g.order (drop place g.bytes.now) 0)
+
+-- the records of the group at a place
+pub record AreRecordsOf (g : GroupList) (place : ℕ) (records : GroupRecords) : Type 0 where
+  pub order : records.order ≡ g.order
+  pub size : records.size ≡ g.size
+  pub count : records.count ≡ count_in g.order (drop place g.bytes.now)
+  pub bytes : records.bytes.now ≡ drop 8 (drop place g.bytes.now)
+
+pub record AreSameGroups (g other : GroupList) : Type 0 where
+  pub order : other.order ≡ g.order
+  pub size : other.size ≡ g.size
+  pub bytes : other.bytes.now ≡ g.bytes.now
+  pub places : other.places.items ≡ g.places.items
+
+-- what an extension says, whose regions lie so
+abbrev pub extension_of : List ℕ → GroupList → GroupList → GroupList → Extension
+extension_of strings functions lines relocations = record {
+  order = functions.order;
+  strings = strings;
+  func_size = functions.size;
+  line_size = lines.size;
+  functions = groups_at func_in functions;
+  lines = groups_at line_in lines;
+  relocations = groups_at relocation_in relocations;
+}
 
 -- each relocation of a group is of a kind that is known
 pub record AreKindsKnown (order : Endianness) (size : ℕ) (bytes : List ℕ) : Type 0 where

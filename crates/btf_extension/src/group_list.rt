@@ -1,19 +1,20 @@
 //! The groups of a region, and where they begin.
 
-ghost use Rattle.std.specs.Prelude.{◌≡◌, ◌≢◌, ◌≤◌, ◌<◌, ◌+◌, ◌*◌, ◌^◌, ◌⊎◌, All, length, drop, IfErr, IfOk, IsSome, OnOk, MatchOption};
+ghost use Rattle.std.specs.Prelude.{◌≡◌, ◌≢◌, ◌≤◌, ◌<◌, ◌+◌, ◌*◌, ◌^◌, ◌⊎◌, All, length, drop, find, reverse, IfErr, IfOk, IfSome, IsSome, OnOk, MatchOption, slice_get};
 ghost use Rattle.btf_records.specs.Words.{word_at};
 ghost use Rattle.btf_records.specs.declared.error.BtfError.TheVariants.{OutOfMemory};
 ghost use Rattle.string_table.specs.Texts.{text_at};
 ghost use Rattle.btf_extension.specs.Faults.{FaultHere, GroupFault, KindFault, NameFault, RecordsFault};
 ghost use Rattle.btf_extension.specs.Groups.{IsGroup, StandsBehind, count_in, group_len};
-ghost use Rattle.btf_extension.specs.Layout.{AreKindsKnown, AreLaidOut, ArePlaces, IsFaultless, IsRead};
+ghost use Rattle.btf_extension.specs.Layout.{AreKindsKnown, AreLaidOut, AreRecordsOf, AreSameGroups, AreWhole, is_named, ArePlaces, IsFaultless, IsRead};
 ghost use Rattle.btf_extension.specs.Regions.{least_size};
 
 use crate::header::Region;
-use crate::region::{Place, RegionKind};
+use crate::region::RegionKind;
+use crate::sec_info::GroupRecords;
 use btf_encoding::behind;
 use btf_records::{BtfError, Endianness, word};
-use btf_tables::Btf;
+use btf_tables::{Btf, Strings};
 use std::alloc::{AllocError, Global};
 
 /// The groups of a region.
@@ -153,7 +154,84 @@ fn places(
     Ok(places)
 }
 
+/// Whether the group at a place has this name.
+#[tactic(auto, using(crate::proofs::Groups::place_within))]
+fn is_named(strings: &Strings<'_>, groups: &GroupList<'_>, place: u32, name: &str) -> bool
+    requires { IsGroup groups.now.order groups.now.size (drop place groups.now.bytes.now) }
+    ensures { result ≡ is_named strings.now name.now groups.now place }
+{
+    let group = behind(groups.bytes, place as usize);
+    match strings.text_at(word(groups.order, group, 0)) {
+        Some(text) => text == name,
+        None => false,
+    }
+}
+
 impl<'a> GroupList<'a> {
+    /// Where the group at an index begins.
+    pub(crate) fn place(&self, index: usize) -> Option<u32>
+        requires { AreWhole self.now }
+        ensures value { result ≡ slice_get self.now.places.items index }
+        ensures within { IfSome result (λ _. index < length self.now.places.items) }
+        ensures stands { IfSome result (λ place. IsGroup self.now.order self.now.size (drop place self.now.bytes.now)) }
+    {
+        self.places.get(index).copied()
+    }
+
+    /// The name offset of the group at a place.
+    #[tactic(auto, using(crate::proofs::Groups::place_within))]
+    pub(crate) fn name_offset(&self, place: u32) -> u32
+        requires { IsGroup self.now.order self.now.size (drop place self.now.bytes.now) }
+        ensures { result ≡ word_at self.now.order (drop place self.now.bytes.now) 0 }
+    {
+        word(self.order, behind(self.bytes, place as usize), 0)
+    }
+
+    /// The records of the group at a place.
+    #[tactic(auto, using(crate::proofs::Groups::place_within, crate::proofs::Groups::records_there))]
+    pub(crate) fn records(&self, place: u32) -> GroupRecords<'a>
+        requires { IsGroup self.now.order self.now.size (drop place self.now.bytes.now) }
+        ensures value { AreRecordsOf self.now place result }
+        ensures whole { result.size * result.count ≤ length result.bytes.now }
+    {
+        let group = behind(self.bytes, place as usize);
+        GroupRecords {
+            order: self.order,
+            size: self.size,
+            count: word(self.order, group, 4),
+            bytes: behind(group, 8),
+        }
+    }
+
+    /// The place of the last group of a name.
+    pub(crate) fn last_named(&self, strings: &Strings<'_>, name: &str) -> Option<u32>
+        requires { AreWhole self.now }
+        ensures value { result ≡ find (is_named strings.now name.now self.now) (reverse self.now.places.items) }
+        ensures stands { IfSome result (λ place. IsGroup self.now.order self.now.size (drop place self.now.bytes.now)) }
+    {
+        let mut index = self.places.len();
+        while index > 0 {
+            index -= 1;
+            let place = self.places[index];
+            if is_named(strings, self, place, name) {
+                return Some(place);
+            }
+        }
+        None
+    }
+
+    /// The same groups.
+    pub(crate) fn try_clone(&self) -> Result<GroupList<'a>, AllocError>
+        ensures { IfOk result (AreSameGroups self.now) }
+    {
+        Ok(GroupList {
+            order: self.order,
+            size: self.size,
+            bytes: self.bytes,
+            places: self.places.clone()?,
+        })
+    }
+
     /// The groups of a region.
     ///
     /// `InvalidInfo`, `InvalidLineInfo` or `InvalidRelocationInfo`, by the region's kind, where its

@@ -3,8 +3,15 @@
 //! (Documentation/bpf/btf.rst, "BTF.ext section").
 #![tactic(auto)]
 
+mod extension;
 mod group_list;
 mod header;
 mod record;
 mod region;
+mod relocations;
 mod sec_info;
+
+pub use extension::{BtfExt, FuncInfo};
+pub use record::{bpf_core_relo, bpf_func_info, bpf_line_info};
+pub use relocations::{SecInfo, SecInfoIter};
+pub use sec_info::{FuncSecInfo, LineSecInfo};

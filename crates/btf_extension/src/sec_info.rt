@@ -30,10 +30,7 @@ pub(crate) fn record_at<R: Record>(group: &GroupRecords<'_>, index: usize) -> Op
     ensures few { group.now.count < 2 ^ 32 }
 {
     if index < group.count as usize {
-        Some(R::read(
-            group.order,
-            behind(group.bytes, group.size * index),
-        ))
+        Some(R::read(group.order, behind(group.bytes, group.size * index)))
     } else {
         None
     }
