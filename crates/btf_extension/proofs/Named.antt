@@ -6,23 +6,23 @@ use Rattle.std.proofs.lemmas.List.{map-append, reverse-append, take_more}
 use Rattle.btf_records.specs.declared.words.Endianness.{Endianness}
 use Rattle.btf_encoding.specs.Items.{items_in}
 use Rattle.btf_extension.specs.Groups.{Group, group_in}
-use Rattle.btf_extension.specs.Layout.{AreRecordsOf, AreSameGroups, extension_of, groups_at, is_named}
+use Rattle.btf_extension.specs.Layout.{AreLaidOut, AreRecordsOf, AreSameGroups, extension_of, groups_at, is_named}
 use Rattle.btf_extension.specs.Names.{is_text, records_of}
 use Rattle.btf_extension.specs.SecInfos.{records_in}
 use Rattle.btf_extension.specs.declared.group_list.GroupList.{GroupList}
 use Rattle.btf_extension.specs.declared.sec_info.GroupRecords.{GroupRecords}
 
-reverse_more : (xs : List ℕ) (i : ℕ) → i < length xs → reverse (take (i + 1) xs) ≡ get_or xs i 0 ∷ reverse (take i xs)
+pub reverse_more : (xs : List ℕ) (i : ℕ) → i < length xs → reverse (take (i + 1) xs) ≡ get_or xs i 0 ∷ reverse (take i xs)
 reverse_more xs i lt = ap reverse (take_more xs i 0 lt) ∙ reverse-append (take i xs) (get_or xs i 0 ∷ [])
 
 -- of the first so many the last wanted one is the last of all
 pub record IsLastIn (p : ℕ → Bool) (xs : List ℕ) (i : ℕ) : Type 0 where
   pub same : find p (reverse xs) ≡ find p (reverse (take i xs))
 
-find_past : (p : ℕ → Bool) (x : ℕ) (xs : List ℕ) → p x ≡ false → find p (x ∷ xs) ≡ find p xs
+pub find_past : (p : ℕ → Bool) (x : ℕ) (xs : List ℕ) → p x ≡ false → find p (x ∷ xs) ≡ find p xs
 find_past p x xs isnt = rw isnt refl
 
-find_here : (p : ℕ → Bool) (x : ℕ) (xs : List ℕ) → p x ≡ true → find p (x ∷ xs) ≡ Some x
+pub find_here : (p : ℕ → Bool) (x : ℕ) (xs : List ℕ) → p x ≡ true → find p (x ∷ xs) ≡ Some x
 find_here p x xs is = rw is refl
 
 pub not_last : (p : ℕ → Bool) (xs : List ℕ) (i : ℕ) → i < length xs → IsLastIn p xs (i + 1) → p (get_or xs i 0) ≡ false → IsLastIn p xs i
@@ -61,3 +61,9 @@ same_records read g place records are = rw (are.order, are.size, are.count, are.
 -- groups that are the same say the same
 pub same_extension : (strings other : List ℕ) (f l r f' l' r' : GroupList) → other ≡ strings → AreSameGroups f f' → AreSameGroups l l' → AreSameGroups r r' → extension_of other f' l' r' ≡ extension_of strings f l r
 same_extension strings other f l r f' l' r' same sf sl sr = rw (same, sf.order, sf.size, sf.bytes, sf.places, sl.order, sl.size, sl.bytes, sl.places, sr.order, sr.size, sr.bytes, sr.places) refl
+
+pub same_laid_out : (least : ℕ) (g h : GroupList) → AreSameGroups g h → AreLaidOut least g → AreLaidOut least h
+same_laid_out least g h same are = record {
+  whole = record { stand = rw (same.order, same.size, same.bytes, same.places) are.whole.stand };
+  sized = rw (same.size, same.places) are.sized;
+}

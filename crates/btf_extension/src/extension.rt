@@ -8,6 +8,7 @@ ghost use Rattle.btf_extension.specs.Names.{records_of};
 
 use crate::group_list::GroupList;
 use crate::header::{header, region_of};
+use crate::names::GroupNames;
 use crate::region::RegionKind;
 use crate::relocations::SecInfoIter;
 use crate::sec_info::{FuncSecInfo, LineSecInfo};
@@ -23,19 +24,22 @@ pub struct BtfExt<'a> {
     /// The table's strings, which name the groups.
     strings: Strings<'a>,
     functions: GroupList<'a>,
+    function_names: GroupNames,
     lines: GroupList<'a>,
+    line_names: GroupNames,
     relocations: GroupList<'a>,
 }
 
 impl<'a> Model for BtfExt<'a> {
     ghost use Rattle.btf_extension.specs.Extensions.{Extension};
     ghost use Rattle.btf_extension.specs.Layout.{AreLaidOut, extension_of};
+    ghost use Rattle.btf_extension.specs.NameHashes.{AreNames};
 
     ghost Value = { Extension };
 
     ghost view = { λ x. extension_of x.strings x.functions x.lines x.relocations };
 
-    ghost invariant = { λ x. AreLaidOut 8 x.functions × AreLaidOut 16 x.lines × AreLaidOut 16 x.relocations };
+    ghost invariant = { λ x. AreLaidOut 8 x.functions × AreLaidOut 16 x.lines × AreLaidOut 16 x.relocations × AreNames x.strings x.functions x.function_names.last.entries × AreNames x.strings x.lines x.line_names.last.entries };
 }
 
 impl<'a> BtfExt<'a> {
@@ -58,14 +62,19 @@ impl<'a> BtfExt<'a> {
         ensures refused { IfErr result (λ e. e ≢ OutOfMemory → ExtensionFault order table.now.strings section.now e) }
     {
         let header = header(order, section)?;
-        let functions = region_of(RegionKind::Functions, order, section, header)?;
-        let lines = region_of(RegionKind::Lines, order, section, header)?;
-        let relocations = region_of(RegionKind::Relocations, order, section, header)?;
+        let function_region = region_of(RegionKind::Functions, order, section, header)?;
+        let line_region = region_of(RegionKind::Lines, order, section, header)?;
+        let relocation_region = region_of(RegionKind::Relocations, order, section, header)?;
+        let functions = GroupList::read(alloc, order, table, function_region)?;
+        let lines = GroupList::read(alloc, order, table, line_region)?;
+        let relocations = GroupList::read(alloc, order, table, relocation_region)?;
         Ok(BtfExt {
-            functions: GroupList::read(alloc, order, table, functions)?,
-            lines: GroupList::read(alloc, order, table, lines)?,
-            relocations: GroupList::read(alloc, order, table, relocations)?,
+            function_names: GroupNames::new(alloc, table.strings(), &functions)?,
+            line_names: GroupNames::new(alloc, table.strings(), &lines)?,
             strings: table.strings().try_clone()?,
+            functions,
+            lines,
+            relocations,
         })
     }
 
@@ -94,7 +103,10 @@ impl<'a> BtfExt<'a> {
     fn functions_of(&self, name: &str) -> Option<FuncSecInfo<'_>>
         ensures { result ≡ records_of self.now.strings name.now self.now.functions }
     {
-        match self.functions.last_named(&self.strings, name) {
+        let place = self
+            .function_names
+            .last_named(&self.strings, &self.functions, name);
+        match place {
             Some(place) => Some(FuncSecInfo::of_group(self.functions.records(place))),
             None => None,
         }
@@ -105,7 +117,8 @@ impl<'a> BtfExt<'a> {
     pub fn line_info(&self, name: &str) -> Option<LineSecInfo<'_>>
         ensures { result ≡ records_of self.now.strings name.now self.now.lines }
     {
-        match self.lines.last_named(&self.strings, name) {
+        let place = self.line_names.last_named(&self.strings, &self.lines, name);
+        match place {
             Some(place) => Some(LineSecInfo::of_group(self.lines.records(place))),
             None => None,
         }
@@ -125,7 +138,9 @@ impl<'a> BtfExt<'a> {
         Ok(BtfExt {
             strings: self.strings.try_clone()?,
             functions: self.functions.try_clone()?,
+            function_names: self.function_names.try_clone()?,
             lines: self.lines.try_clone()?,
+            line_names: self.line_names.try_clone()?,
             relocations: self.relocations.try_clone()?,
         })
     }

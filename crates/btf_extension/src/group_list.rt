@@ -154,19 +154,6 @@ fn places(
     Ok(places)
 }
 
-/// Whether the group at a place has this name.
-#[tactic(auto, using(crate::proofs::Groups::place_within))]
-fn is_named(strings: &Strings<'_>, groups: &GroupList<'_>, place: u32, name: &str) -> bool
-    requires { IsGroup groups.now.order groups.now.size (drop place groups.now.bytes.now) }
-    ensures { result ≡ is_named strings.now name.now groups.now place }
-{
-    let group = behind(groups.bytes, place as usize);
-    match strings.text_at(word(groups.order, group, 0)) {
-        Some(text) => text == name,
-        None => false,
-    }
-}
-
 impl<'a> GroupList<'a> {
     /// Where the group at an index begins.
     pub(crate) fn place(&self, index: usize) -> Option<u32>
@@ -187,6 +174,17 @@ impl<'a> GroupList<'a> {
         word(self.order, behind(self.bytes, place as usize), 0)
     }
 
+    /// Whether the group at a place has this name.
+    pub(crate) fn is_named(&self, strings: &Strings<'_>, place: u32, name: &str) -> bool
+        requires { IsGroup self.now.order self.now.size (drop place self.now.bytes.now) }
+        ensures { result ≡ is_named strings.now name.now self.now place }
+    {
+        match strings.text_at(self.name_offset(place)) {
+            Some(text) => text == name,
+            None => false,
+        }
+    }
+
     /// The records of the group at a place.
     #[tactic(auto, using(crate::proofs::Groups::place_within, crate::proofs::Groups::records_there))]
     pub(crate) fn records(&self, place: u32) -> GroupRecords<'a>
@@ -203,7 +201,7 @@ impl<'a> GroupList<'a> {
         }
     }
 
-    /// The place of the last group of a name.
+    /// The place of the last group of a name, by a look at each.
     pub(crate) fn last_named(&self, strings: &Strings<'_>, name: &str) -> Option<u32>
         requires { AreWhole self.now }
         ensures value { result ≡ find (is_named strings.now name.now self.now) (reverse self.now.places.items) }
@@ -213,7 +211,7 @@ impl<'a> GroupList<'a> {
         while index > 0 {
             index -= 1;
             let place = self.places[index];
-            if is_named(strings, self, place, name) {
+            if self.is_named(strings, place, name) {
                 return Some(place);
             }
         }

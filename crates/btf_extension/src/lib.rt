@@ -6,6 +6,7 @@
 mod extension;
 mod group_list;
 mod header;
+mod names;
 mod record;
 mod region;
 mod relocations;
