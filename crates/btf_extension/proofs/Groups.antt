@@ -1,5 +1,5 @@
 -- Whole groups, one behind the other.
-use Rattle.std.proofs.Common.{◌≡◌, ℕ, zero, suc, ◌+◌, ◌*◌, ◌<◌, ◌≤◌, ◌^◌, List, [], ◌∷◌, ◌++◌, length, drop, refl, sym, arith, length-drop}
+use Rattle.std.proofs.Common.{ℕ, ◌+◌, ◌*◌, ◌<◌, ◌≤◌, ◌^◌, List, [], ◌∷◌, ◌++◌, length, drop, refl, sym, arith, length-drop}
 use Rattle.std.proofs.Math.Nat.{mul-le-mul_left}
 use Rattle.btf_records.specs.declared.words.Endianness.{Endianness}
 use Rattle.btf_extension.specs.Groups.{IsGroup, Reach, count_in, group_len}

@@ -1,5 +1,5 @@
 -- Places of groups by a hash of their names.
-use Rattle.std.proofs.Common.{◌≡◌, ◌≢◌, ℕ, zero, suc, ◌+◌, ◌-◌, ◌<◌, ◌≤◌, Bool, true, false, List, [], ◌∷◌, length, take, drop, get_or, nat_eq, reverse, cond, Option, None, Some, refl, sym, ap, subst, ◌∙◌, arith, slice_get}
+use Rattle.std.proofs.Common.{◌≡◌, ◌≢◌, ℕ, zero, suc, ◌+◌, ◌-◌, ◌<◌, ◌≤◌, Bool, true, false, List, [], ◌∷◌, length, take, drop, nat_eq, reverse, cond, Option, None, Some, refl, sym, ap, subst, ◌∙◌, arith, slice_get}
 use Rattle.std.specs.Prelude.{◌==◌, All, find}
 use Rattle.std.specs.Cmp.Lexicographic.{pointwise, same_text}
 use Rattle.std.specs.Option.{option_map_or}

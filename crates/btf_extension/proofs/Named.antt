@@ -1,10 +1,9 @@
 -- Groups looked up by name from the last on.
-use Rattle.std.proofs.Common.{◌≡◌, ℕ, ◌+◌, ◌<◌, Bool, true, false, List, [], ◌∷◌, ◌++◌, length, map, take, drop, get_or, reverse, cond, Option, None, Some, refl, sym, ap, ◌∙◌, arith}
+use Rattle.std.proofs.Common.{◌≡◌, ℕ, ◌+◌, ◌<◌, Bool, true, false, List, [], ◌∷◌, ◌++◌, length, map, take, drop, get_or, reverse, cond, Option, None, Some, refl, sym, ap, ◌∙◌}
 use Rattle.std.specs.Prelude.{find}
 use Rattle.std.specs.Option.{option_map}
 use Rattle.std.proofs.lemmas.List.{map-append, reverse-append, take_more}
 use Rattle.btf_records.specs.declared.words.Endianness.{Endianness}
-use Rattle.btf_encoding.specs.Items.{items_in}
 use Rattle.btf_extension.specs.Groups.{Group, group_in}
 use Rattle.btf_extension.specs.Layout.{AreLaidOut, AreRecordsOf, AreSameGroups, extension_of, groups_at, is_named}
 use Rattle.btf_extension.specs.Names.{is_text, records_of}

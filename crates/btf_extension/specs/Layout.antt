@@ -1,5 +1,5 @@
 -- How the groups of a region lie in memory: where each begins.
-use Rattle.std.specs.Prelude.{◌≡◌, ℕ, ◌⊎◌, ◌*◌, ◌<◌, ◌≤◌, ◌^◌, Bool, List, All, drop, length, map}
+use Rattle.std.specs.Prelude.{◌≡◌, ℕ, ◌⊎◌, ◌*◌, ◌<◌, ◌≤◌, Bool, List, All, drop, length, map}
 use Rattle.btf_records.specs.Words.{word_at}
 use Rattle.btf_records.specs.declared.error.BtfError.{BtfError}
 use Rattle.btf_records.specs.declared.words.Endianness.{Endianness}

@@ -1,5 +1,5 @@
 -- Places of groups by a hash of their names.
-use Rattle.std.specs.Prelude.{◌≡◌, ℕ, ⊤, ◌+◌, ◌*◌, ◌%◌, ◌^◌, ◌==◌, ◌≢◌, Bool, List, Option, Some, find, fold, length, drop, reverse, take}
+use Rattle.std.specs.Prelude.{◌≡◌, ℕ, ◌+◌, ◌*◌, ◌%◌, ◌^◌, ◌==◌, ◌≢◌, Bool, List, Option, Some, find, fold, length, drop, reverse, take}
 use Rattle.std.specs.BTreeMap.{is_at}
 use Rattle.std.specs.Map.{lookup}
 use Rattle.std.specs.Option.{option_map_or}

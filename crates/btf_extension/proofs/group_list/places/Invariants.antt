@@ -1,4 +1,4 @@
-use Rattle.std.proofs.Common.{◌≡◌, ◌≤◌, ◌-◌, length, drop}
+use Rattle.std.proofs.Common.{◌≤◌, ◌-◌, length, drop}
 use Rattle.std.specs.Prelude.{All}
 use Rattle.btf_extension.specs.Groups.{IsGroup, Reach}
 use Rattle.btf_extension.specs.Layout.{IsFaultless}

@@ -1,4 +1,4 @@
-use Rattle.std.proofs.Common.{◌*◌, drop, sym}
+use Rattle.std.proofs.Common.{sym}
 use Rattle.btf_extension.proofs.Items.{item_at, no_item_at}
 use Rattle.btf_extension.proofs.sec_info.record_at.Goals as goal
 

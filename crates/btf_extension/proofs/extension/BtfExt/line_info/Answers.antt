@@ -1,4 +1,4 @@
-use Rattle.std.proofs.Common.{◌≡◌, List, None, Some, sym, ap, ◌∙◌}
+use Rattle.std.proofs.Common.{List, None, Some, sym, ap, ◌∙◌}
 use Rattle.btf_extension.specs.Extensions.{Extension}
 use Rattle.btf_extension.specs.Names.{records_of}
 use Rattle.btf_extension.specs.Records.{line_in}
