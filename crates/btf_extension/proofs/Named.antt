@@ -5,7 +5,7 @@ use Rattle.std.specs.Option.{option_map}
 use Rattle.std.proofs.lemmas.List.{map-append, reverse-append, take_more}
 use Rattle.btf_records.specs.declared.words.Endianness.{Endianness}
 use Rattle.btf_extension.specs.Groups.{Group, group_in}
-use Rattle.btf_extension.specs.Layout.{AreLaidOut, AreRecordsOf, AreSameGroups, extension_of, groups_at, is_named}
+use Rattle.btf_extension.specs.Layout.{AreAllKindsKnown, AreLaidOut, AreRecordsOf, AreSameGroups, extension_of, groups_at, is_named}
 use Rattle.btf_extension.specs.Names.{is_text, records_of}
 use Rattle.btf_extension.specs.SecInfos.{records_in}
 use Rattle.btf_extension.specs.declared.group_list.GroupList.{GroupList}
@@ -66,3 +66,6 @@ same_laid_out least g h same are = record {
   whole = record { stand = rw (same.order, same.size, same.bytes, same.places) are.whole.stand };
   sized = rw (same.size, same.places) are.sized;
 }
+
+pub same_kinds : (g h : GroupList) → AreSameGroups g h → AreAllKindsKnown g → AreAllKindsKnown h
+same_kinds g h same are = record { each = rw (same.order, same.size, same.bytes, same.places) are.each }

@@ -59,6 +59,10 @@ extension_of strings functions lines relocations = record {
 pub record AreKindsKnown (order : Endianness) (size : ℕ) (bytes : List ℕ) : Type 0 where
   pub known : (index : ℕ) → index < count_in order bytes → word_at order (drop (size * index) (drop 8 bytes)) 12 < kind_count
 
+-- so are those of all groups
+pub record AreAllKindsKnown (g : GroupList) : Type 0 where
+  pub each : All (λ place. AreKindsKnown g.order g.size (drop place g.bytes.now)) g.places.items
+
 -- no fault stands in a group
 pub record IsFaultless (kind : RegionKind) (order : Endianness) (size : ℕ) (strings bytes : List ℕ) : Type 0 where
   pub none : (e : BtfError) → GroupFault kind order size strings bytes e → ⊥

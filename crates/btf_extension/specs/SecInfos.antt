@@ -1,8 +1,9 @@
 -- Records of a group where they lie, or in a list.
-use Rattle.std.specs.Prelude.{ℕ, ◌*◌, ◌<◌, ◌≤◌, ◌^◌, List, length}
+use Rattle.std.specs.Prelude.{ℕ, ◌*◌, ◌<◌, ◌≤◌, ◌^◌, List, drop, length}
 use Rattle.btf_encoding.specs.Items.{items_in}
 use Rattle.btf_records.specs.declared.words.Endianness.{Endianness}
-use Rattle.btf_extension.specs.Records.{func_in, line_in}
+use Rattle.btf_extension.specs.Faults.{kind_count}
+use Rattle.btf_extension.specs.Records.{func_in, line_in, relocation_in}
 use Rattle.btf_extension.specs.declared.record.bpf_func_info.{bpf_func_info}
 use Rattle.btf_extension.specs.declared.record.bpf_line_info.{bpf_line_info}
 use Rattle.btf_extension.specs.declared.sec_info.FuncRecords.{FuncRecords}
@@ -19,6 +20,10 @@ records_in read g = items_in (read g.order) g.size g.count g.bytes.now
 pub record AreThere (least : ℕ) (g : GroupRecords) : Type 0 where
   pub whole : g.size * g.count ≤ length g.bytes.now
   pub sized : least ≤ g.size
+
+-- relocations of known kinds
+pub record AreOfKnownKinds (g : GroupRecords) : Type 0 where
+  pub known : (index : ℕ) → index < g.count → (relocation_in g.order (drop (g.size * index) g.bytes.now)).kind < kind_count
 
 abbrev pub funcs_of : FuncRecords → List bpf_func_info
 funcs_of (funcs.Group g) = records_in func_in g

@@ -32,14 +32,14 @@ pub struct BtfExt<'a> {
 
 impl<'a> Model for BtfExt<'a> {
     ghost use Rattle.btf_extension.specs.Extensions.{Extension};
-    ghost use Rattle.btf_extension.specs.Layout.{AreLaidOut, extension_of};
+    ghost use Rattle.btf_extension.specs.Layout.{AreAllKindsKnown, AreLaidOut, extension_of};
     ghost use Rattle.btf_extension.specs.NameHashes.{AreNames};
 
     ghost Value = { Extension };
 
     ghost view = { λ x. extension_of x.strings x.functions x.lines x.relocations };
 
-    ghost invariant = { λ x. AreLaidOut 8 x.functions × AreLaidOut 16 x.lines × AreLaidOut 16 x.relocations × AreNames x.strings x.functions x.function_names.last.entries × AreNames x.strings x.lines x.line_names.last.entries };
+    ghost invariant = { λ x. AreLaidOut 8 x.functions × AreLaidOut 16 x.lines × AreLaidOut 16 x.relocations × AreAllKindsKnown x.relocations × AreNames x.strings x.functions x.function_names.last.entries × AreNames x.strings x.lines x.line_names.last.entries };
 }
 
 impl<'a> BtfExt<'a> {

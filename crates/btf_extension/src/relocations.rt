@@ -1,8 +1,9 @@
 //! The type relocations of a section, group by group.
 
-ghost use Rattle.std.specs.Prelude.{◌≡◌, ◌*◌, ◌≤◌, ◌<◌, ◌^◌, length, slice_get};
+ghost use Rattle.std.specs.Prelude.{◌≡◌, ◌*◌, ◌≤◌, ◌<◌, ◌^◌, length, slice_get, IfSome};
 ghost use Rattle.std.specs.Iterator.{YieldsFirst, item_count};
-ghost use Rattle.btf_extension.specs.Layout.{AreLaidOut, groups_at};
+ghost use Rattle.btf_extension.specs.Faults.{kind_count};
+ghost use Rattle.btf_extension.specs.Layout.{AreAllKindsKnown, AreLaidOut, groups_at};
 ghost use Rattle.btf_extension.specs.Records.{relocation_in};
 
 use crate::group_list::GroupList;
@@ -20,14 +21,14 @@ pub struct SecInfo<'e> {
 impl<'e> Model for SecInfo<'e> {
     ghost use Rattle.btf_extension.specs.Groups.{Group};
     ghost use Rattle.btf_extension.specs.Records.{relocation_in};
-    ghost use Rattle.btf_extension.specs.SecInfos.{AreThere, records_in};
+    ghost use Rattle.btf_extension.specs.SecInfos.{AreOfKnownKinds, AreThere, records_in};
     ghost use Rattle.btf_extension.specs.declared.record.bpf_core_relo.{bpf_core_relo};
 
     ghost Value = { Group bpf_core_relo };
 
     ghost view = { λ s. record { name_offset = s.name_offset; records = records_in relocation_in s.records } };
 
-    ghost invariant = { λ s. AreThere 16 s.records };
+    ghost invariant = { λ s. AreThere 16 s.records × AreOfKnownKinds s.records };
 }
 
 impl<'e> SecInfo<'e> {
@@ -48,7 +49,8 @@ impl<'e> SecInfo<'e> {
 
     /// The relocation at an index.
     pub fn get(&self, index: usize) -> Option<bpf_core_relo>
-        ensures { result ≡ slice_get self.now.records index }
+        ensures value { result ≡ slice_get self.now.records index }
+        ensures known { IfSome result (λ r. r.kind < kind_count) }
     {
         record_at(&self.records, index)
     }
@@ -65,7 +67,7 @@ pub struct SecInfoIter<'e> {
 impl<'e> Model for SecInfoIter<'e> {
     ghost use Rattle.std.specs.Prelude.{List, ◌≤◌, drop, length};
     ghost use Rattle.btf_extension.specs.Groups.{Group};
-    ghost use Rattle.btf_extension.specs.Layout.{AreLaidOut, groups_at};
+    ghost use Rattle.btf_extension.specs.Layout.{AreAllKindsKnown, AreLaidOut, groups_at};
     ghost use Rattle.btf_extension.specs.Records.{relocation_in};
     ghost use Rattle.btf_extension.specs.declared.record.bpf_core_relo.{bpf_core_relo};
 
@@ -73,12 +75,13 @@ impl<'e> Model for SecInfoIter<'e> {
 
     ghost view = { λ s. drop s.next (groups_at relocation_in s.groups.now) };
 
-    ghost invariant = { λ s. AreLaidOut 16 s.groups.now × (s.next ≤ length s.groups.now.places.items) };
+    ghost invariant = { λ s. AreLaidOut 16 s.groups.now × AreAllKindsKnown s.groups.now × (s.next ≤ length s.groups.now.places.items) };
 }
 
 /// The group of relocations at an index.
 fn group_at<'e>(groups: &'e GroupList<'e>, index: usize) -> Option<SecInfo<'e>>
-    requires { AreLaidOut 16 groups.now }
+    requires laid_out { AreLaidOut 16 groups.now }
+    requires known { AreAllKindsKnown groups.now }
     ensures { result ≡ slice_get (groups_at relocation_in groups.now) index }
 {
     match groups.place(index) {
@@ -111,7 +114,8 @@ impl<'e> Iterator for SecInfoIter<'e> {
 
 impl<'e> SecInfoIter<'e> {
     pub(crate) fn new(groups: &'e GroupList<'e>) -> SecInfoIter<'e>
-        requires { AreLaidOut 16 groups.now }
+        requires laid_out { AreLaidOut 16 groups.now }
+        requires known { AreAllKindsKnown groups.now }
         ensures { result ≡ groups_at relocation_in groups.now }
     {
         SecInfoIter { groups, next: 0 }

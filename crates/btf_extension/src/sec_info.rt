@@ -113,6 +113,19 @@ impl<'a> FuncSecInfo<'a> {
         }
     }
 
+    /// The same records; those of a group stay where they lie.
+    pub fn try_clone(&self) -> Result<FuncSecInfo<'a>, AllocError>
+        ensures { IfOk result (λ records. records ≡ self.now) }
+    {
+        match &self.records {
+            FuncRecords::Group(group) => Ok(FuncSecInfo::of_group(*group)),
+            FuncRecords::List(records) => {
+                let copy = Vec::from_slice(*records.allocator(), records.as_slice())?;
+                Ok(FuncSecInfo::from_records(copy))
+            }
+        }
+    }
+
     /// The records as the kernel takes them: two words each, the low byte of each word first.
     pub fn func_info_bytes(&self, alloc: Global) -> Result<Vec<u8>, AllocError>
         ensures { IfOk result (λ bytes. bytes.items ≡ func_bytes self.now) }
@@ -201,6 +214,19 @@ impl<'a> LineSecInfo<'a> {
         match &self.records {
             LineRecords::Group(group) => record_at(group, index),
             LineRecords::List(records) => records.get(index).copied(),
+        }
+    }
+
+    /// The same records; those of a group stay where they lie.
+    pub fn try_clone(&self) -> Result<LineSecInfo<'a>, AllocError>
+        ensures { IfOk result (λ records. records ≡ self.now) }
+    {
+        match &self.records {
+            LineRecords::Group(group) => Ok(LineSecInfo::of_group(*group)),
+            LineRecords::List(records) => {
+                let copy = Vec::from_slice(*records.allocator(), records.as_slice())?;
+                Ok(LineSecInfo::from_records(copy))
+            }
         }
     }
 

@@ -413,12 +413,12 @@ fn sections_are_refused(rt: HostRuntime) {
 
 /// The bytes of a group of functions, where there is one.
 fn func_bytes(alloc: Global, group: Option<FuncSecInfo<'_>>) -> Option<Vec<u8>> {
-    group?.func_info_bytes(alloc).ok()
+    group?.try_clone().ok()?.func_info_bytes(alloc).ok()
 }
 
 /// The bytes of a group of lines, where there is one.
 fn line_bytes(alloc: Global, group: Option<LineSecInfo<'_>>) -> Option<Vec<u8>> {
-    group?.line_info_bytes(alloc).ok()
+    group?.try_clone().ok()?.line_info_bytes(alloc).ok()
 }
 
 #[test]
@@ -451,6 +451,7 @@ fn records_of_a_list(rt: HostRuntime) {
     let funcs = FuncSecInfo::from_records(records);
     assert_eq!(rt; (funcs.num_info(), funcs.len()), (1, 8));
     assert_eq!(rt; (funcs.get(0), funcs.get(1)), (Some(func), None));
+    let funcs = funcs.try_clone().expect(&rt, "a copy");
     let written = funcs.func_info_bytes(rt.alloc()).expect(&rt, "bytes");
     assert_eq!(rt; written.as_slice(), [4, 3, 2, 1, 5, 0, 0, 0].as_slice());
     let line = bpf_line_info {
@@ -463,6 +464,7 @@ fn records_of_a_list(rt: HostRuntime) {
     let lines = LineSecInfo::from_records(records);
     assert_eq!(rt; (lines.num_info(), lines.len()), (2, 32));
     assert_eq!(rt; (lines.get(1), lines.get(2)), (Some(line), None));
+    let lines = lines.try_clone().expect(&rt, "a copy");
     let written = lines.line_info_bytes(rt.alloc()).expect(&rt, "bytes");
     let wanted = [1, 0, 0, 0, 2, 0, 0, 0, 3, 0, 0, 0, 0, 0, 0, 4];
     assert_eq!(rt; written.as_slice().get(..16), Some(wanted.as_slice()));
