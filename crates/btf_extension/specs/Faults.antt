@@ -12,10 +12,11 @@ use Rattle.btf_extension.specs.declared.region.Place.{Place}
 use Rattle.btf_extension.specs.declared.region.RegionKind.{RegionKind}
 use Rattle.btf_extension.specs.declared.region.RegionKind.TheVariants.{Functions, Lines, Relocations}
 
--- the errors that name a region: it has no place in the section, or its records are cut off or too short
+-- the error of a region that has no room
 abbrev pub misplaced : Place → BtfError
 misplaced place = InvalidInfo place.offset place.len place.section_len
 
+-- that of records that are too short or cut off
 abbrev pub bad_records : RegionKind → Place → BtfError
 bad_records Functions place = InvalidInfo place.offset place.len place.section_len
 bad_records Lines place = InvalidLineInfo place.offset place.len place.section_len
@@ -26,10 +27,11 @@ abbrev pub NameFault : Endianness → List ℕ → List ℕ → BtfError → Typ
 NameFault order strings bytes (InvalidStringOffset offset) = (offset ≡ word_at order bytes 0) × (text_at strings offset ≡ None)
 NameFault order strings bytes _ = ⊥
 
--- the group has a relocation of a kind past the last
+-- the kinds of relocations are the numbers below this
 abbrev pub kind_count : ℕ
 kind_count = 12
 
+-- the group has a relocation of another kind
 pub record HasUnknownKind (order : Endianness) (size : ℕ) (bytes : List ℕ) (kind : ℕ) : Type 0 where
   pub index : ℕ
   pub within : index < count_in order bytes
@@ -67,10 +69,11 @@ RecordsFault kind order strings place region e =
     ((e ≡ bad_records kind place) × HasBadSize kind order region)
     ⊎ (HasSize kind order region × StandsBehind order (size_in order region) (groups_bytes region) (FaultHere kind order (size_in order region) strings place e))
 
--- what is wrong with a region
+-- the section has no room for a region, or the region none for the size of its records
 abbrev pub PlaceFault : Place → BtfError → Type 0
 PlaceFault place e = (e ≡ misplaced place) × (IsPastEnd place ⊎ HasNoSize place)
 
+-- what is wrong with a region
 abbrev pub RegionFault : RegionKind → Endianness → List ℕ → List ℕ → BtfError → Type 0
 RegionFault kind order strings bytes e =
     PlaceFault (place_of kind order bytes) e

@@ -44,7 +44,7 @@ impl<'a> Model for BtfExt<'a> {
 
 impl<'a> BtfExt<'a> {
     /// What a section says, in this byte order, whose groups this table names. Neither magic nor
-    /// version is checked; words of the header past its length are 0.
+    /// version is checked; bytes of the header past its length count as 0.
     ///
     /// `InvalidHeader` where the header is shorter than 8 bytes, or cut off; `InvalidInfo` where a
     /// region goes past the end or has no room for the size of its records; `InvalidInfo`,
