@@ -3,6 +3,10 @@
 
 pub use btf_compatibility::{fields_are_compatible, types_are_compatible};
 pub use btf_encoding::TypeRef;
+pub use btf_extension::{
+    BtfExt, FuncInfo, FuncSecInfo, LineSecInfo, SecInfo, SecInfoIter, bpf_core_relo, bpf_func_info,
+    bpf_line_info,
+};
 pub use btf_index::{TypeIds, TypeIndex};
 pub use btf_records::{
     Array, BtfArray, BtfEnum, BtfEnum64, BtfError, BtfFeature, BtfKind, BtfMember, BtfParam,

@@ -10,7 +10,8 @@ use std::alloc::{AllocError, Global};
 use std::marker::Model;
 use string_table::LongTexts;
 
-/// The bytes of the strings, and where the long ones stand.
+/// The strings of a table: its texts by offset, each ended by a NUL. The bytes are borrowed from the
+/// section until some are added, and a text is found without a look at more than 256 bytes.
 #[derive(Debug, Drop)]
 pub struct Strings<'a> {
     bytes: ByteList<'a>,
@@ -70,7 +71,8 @@ impl<'a> Strings<'a> {
         self.bytes.len()
     }
 
-    /// The text at an offset.
+    /// The text at an offset; none where that lies past the end, no NUL ends the text, or it isn't
+    /// UTF-8.
     pub fn text_at(&self, offset: u32) -> Option<&str>
         ensures { option_copied result ≡ text_at self.now offset }
     {
@@ -88,7 +90,7 @@ impl<'a> Strings<'a> {
         Ok(())
     }
 
-    /// The same strings.
+    /// The same strings; bytes that are borrowed stay so.
     pub fn try_clone(&self) -> Result<Strings<'a>, AllocError>
         ensures { IfOk result (λ strings. strings ≡ self.now) }
     {

@@ -72,6 +72,13 @@ impl<'a> Btf<'a> {
         self.records.allocator()
     }
 
+    /// The strings that name its types.
+    pub fn strings(&self) -> &Strings<'a>
+        ensures { result.now ≡ self.now.strings }
+    {
+        &self.strings
+    }
+
     /// The text at an offset of the strings.
     ///
     /// `InvalidStringOffset` where that lies past their end, no NUL ends the text, or it isn't UTF-8.

@@ -3,7 +3,7 @@
 #![tactic(auto)]
 
 use btf::{
-    Btf, BtfError, BtfKind, BtfType, Endianness, Int, IntEncoding, Ptr, TypeIndex,
+    Btf, BtfError, BtfExt, BtfKind, BtfType, Endianness, Int, IntEncoding, Ptr, TypeIndex,
     types_are_compatible,
 };
 use ebpf_items::{Slots, bpf_insn};
@@ -58,6 +58,28 @@ fn look_ups(alloc: Global, section: &[u8]) -> Result<(u32, bool), BtfError> {
     ))
 }
 
+/// A `.BTF.ext` section of a function and a line, of a section without a name.
+const EXTENSION: [u8; 80] = [
+    0x9f, 0xeb, 1, 0, 32, 0, 0, 0, 0, 0, 0, 0, 20, 0, 0, 0, 20, 0, 0, 0, 28, 0, 0, 0, 0, 0, 0, 0,
+    0, 0, 0, 0, 8, 0, 0, 0, 0, 0, 0, 0, 1, 0, 0, 0, 16, 0, 0, 0, 42, 0, 0, 0, 16, 0, 0, 0, 0, 0, 0,
+    0, 1, 0, 0, 0, 16, 0, 0, 0, 0, 0, 0, 0, 0, 0, 0, 0, 1, 4, 0, 0,
+];
+
+/// How many bytes the records of functions and of lines are, in copies.
+fn records(alloc: Global) -> Result<(usize, usize), BtfError> {
+    let table = Btf::new(alloc)?;
+    let extension = BtfExt::parse(alloc, &EXTENSION, Endianness::Little, &table)?.try_clone()?;
+    let functions = match extension.func_info().get("") {
+        Some(group) => group.try_clone()?.func_info_bytes(alloc)?.len(),
+        None => 0,
+    };
+    let lines = match extension.line_info("") {
+        Some(group) => group.try_clone()?.line_info_bytes(alloc)?.len(),
+        None => 0,
+    };
+    Ok((functions, lines))
+}
+
 /// The immediate of a slot that was written into a copy of borrowed slots.
 fn written(alloc: Global) -> Result<i32, AllocError> {
     let slots = Slots::borrowed(alloc, &[0; 16]);
@@ -82,6 +104,8 @@ fn print_types(rt: &HostRuntime) -> Result<(), BtfError> {
     let types = types(rt.alloc(), section.as_slice())?;
     let (found, is_same) = look_ups(rt.alloc(), section.as_slice())?;
     let _ = println!(rt; "{types} types, type {found} found, alike: {is_same}");
+    let (functions, lines) = records(rt.alloc())?;
+    let _ = println!(rt; "{functions} bytes of functions, {lines} of lines");
     Ok(())
 }
 

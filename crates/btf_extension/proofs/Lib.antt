@@ -1,0 +1,7 @@
+pub mod Faults
+pub mod Groups
+pub mod Items
+pub mod NameHashes
+pub mod Named
+pub mod Sections
+pub mod Written

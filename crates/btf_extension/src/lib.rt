@@ -1,0 +1,20 @@
+//! What a `.BTF.ext` section says of the instructions of an object beside its table of types: the
+//! functions and the lines that they come from, and the type relocations in them
+//! (Documentation/bpf/btf.rst, "BTF.ext section").
+#![tactic(auto)]
+
+mod extension;
+mod group_list;
+mod header;
+mod names;
+mod record;
+mod region;
+mod relocations;
+mod sec_info;
+#[cfg(test)]
+mod tests;
+
+pub use extension::{BtfExt, FuncInfo};
+pub use record::{bpf_core_relo, bpf_func_info, bpf_line_info};
+pub use relocations::{SecInfo, SecInfoIter};
+pub use sec_info::{FuncSecInfo, LineSecInfo};

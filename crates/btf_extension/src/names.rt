@@ -1,0 +1,117 @@
+//! Groups by name.
+
+ghost use Rattle.std.specs.Prelude.{◌≡◌, ◌<◌, ◌+◌, find, length, drop, reverse, IfOk, IfSome, OnOk};
+ghost use Rattle.std.specs.Option.{option_copied};
+ghost use Rattle.btf_extension.specs.Groups.{IsGroup};
+ghost use Rattle.btf_extension.specs.Layout.{AreWhole, is_named};
+ghost use Rattle.btf_extension.specs.NameHashes.{AreLastOf, AreNames, IsKept, name_hash, next_hash, place_by, place_hash};
+
+use crate::group_list::GroupList;
+use btf_tables::Strings;
+use std::alloc::{AllocError, Global};
+use std::collections::BTreeMap;
+
+/// So many bytes of a name are hashed: the names of many groups may share their ends.
+const HASHED: usize = 64;
+
+/// Where the last group of each hash of a name begins.
+#[derive(Debug, Drop)]
+pub(crate) struct GroupNames {
+    pub(crate) last: BTreeMap<u32, u32>,
+}
+
+/// The hash with one more byte.
+fn next_hash(hash: u32, byte: u8) -> u32
+    ensures { result ≡ next_hash hash byte }
+{
+    hash.wrapping_mul(31).wrapping_add(u32::from(byte))
+}
+
+/// The hash of a name, by its length and its beginning.
+#[tactic(auto, unfolding(crate::specs::NameHashes::name_hash))]
+fn name_hash(name: &str) -> u32
+    ensures { result ≡ name_hash name.now }
+{
+    let len = (name.len() % 0x1_0000_0000) as u32;
+    name.as_bytes()
+        .iter()
+        .take(HASHED)
+        .fold(len, |hash, byte| next_hash(hash, *byte))
+}
+
+/// The hash of the name of the group at a place.
+fn place_hash(strings: &Strings<'_>, groups: &GroupList<'_>, place: u32) -> u32
+    requires { IsGroup groups.now.order groups.now.size (drop place groups.now.bytes.now) }
+    ensures { result ≡ place_hash strings.now groups.now place }
+{
+    match strings.text_at(groups.name_offset(place)) {
+        Some(name) => name_hash(name),
+        None => 0,
+    }
+}
+
+/// Keeps a place for a hash.
+fn keep(last: &mut BTreeMap<u32, u32>, hash: u32, place: u32) -> Result<(), AllocError>
+    ensures { OnOk result (IsKept last.old.entries last.new.entries hash place) }
+{
+    last.insert(hash, place)?;
+    Ok(())
+}
+
+/// The place that is kept for a hash.
+fn place_by(last: &BTreeMap<u32, u32>, hash: u32) -> Option<u32>
+    ensures { result ≡ place_by last.now.entries hash }
+{
+    last.get(&hash).copied()
+}
+
+impl GroupNames {
+    /// The names of these groups.
+    #[tactic(auto, using(crate::proofs::NameHashes::none_kept, crate::proofs::NameHashes::one_more_kept, crate::proofs::NameHashes::all_kept))]
+    pub(crate) fn new(
+        alloc: Global,
+        strings: &Strings<'_>,
+        groups: &GroupList<'_>,
+    ) -> Result<GroupNames, AllocError>
+        requires { AreWhole groups.now }
+        ensures { IfOk result (λ names. AreNames strings.now groups.now names.last.entries) }
+    {
+        let mut last = BTreeMap::new(alloc);
+        let mut index = 0;
+        while let Some(place) = groups.place(index) {
+            keep(&mut last, place_hash(strings, groups, place), place)?;
+            index += 1;
+        }
+        Ok(GroupNames { last })
+    }
+
+    /// The place of the last group of a name. Looks at one group, unless a later one has another
+    /// name of the same hash.
+    #[tactic(auto, using(crate::proofs::NameHashes::last_of_hash, crate::proofs::NameHashes::none_of_hash))]
+    pub(crate) fn last_named(
+        &self,
+        strings: &Strings<'_>,
+        groups: &GroupList<'_>,
+        name: &str,
+    ) -> Option<u32>
+        requires whole { AreWhole groups.now }
+        requires names { AreNames strings.now groups.now self.now.last.entries }
+        ensures value { result ≡ find (is_named strings.now name.now groups.now) (reverse groups.now.places.items) }
+        ensures stands { IfSome result (λ place. IsGroup groups.now.order groups.now.size (drop place groups.now.bytes.now)) }
+    {
+        let place = place_by(&self.last, name_hash(name))?;
+        if groups.is_named(strings, place, name) {
+            return Some(place);
+        }
+        groups.last_named(strings, name)
+    }
+
+    /// The same names.
+    pub(crate) fn try_clone(&self) -> Result<GroupNames, AllocError>
+        ensures { IfOk result (λ names. names.last.entries ≡ self.now.last.entries) }
+    {
+        Ok(GroupNames {
+            last: self.last.clone()?,
+        })
+    }
+}
