@@ -90,6 +90,23 @@ impl<'a> Strings<'a> {
         Ok(())
     }
 
+    /// These strings with more behind them; without any, bytes that are borrowed stay so.
+    pub fn with_texts(&self, alloc: Global, texts: &[u8]) -> Result<Strings<'a>, AllocError>
+        ensures { IfOk result (λ strings. strings ≡ self.now ++ texts.now) }
+    {
+        if texts.is_empty() {
+            return self.try_clone();
+        }
+        let len = self.bytes.len();
+        let mut bytes = Vec::with_capacity(alloc, len.saturating_add(texts.len()))?;
+        bytes.extend_from_slice(self.bytes.as_slice())?;
+        bytes.extend_from_slice(texts)?;
+        let bytes = ByteList::owned(bytes);
+        let mut long_texts = self.long_texts.try_clone()?;
+        enter_long_texts(&mut long_texts, &bytes, len);
+        Ok(Strings { bytes, long_texts })
+    }
+
     /// The same strings; bytes that are borrowed stay so.
     pub fn try_clone(&self) -> Result<Strings<'a>, AllocError>
         ensures { IfOk result (λ strings. strings ≡ self.now) }

@@ -6,3 +6,4 @@ pub mod Marks
 pub mod Passes
 pub mod Placed
 pub mod Stepping
+pub mod Questions

@@ -2,13 +2,13 @@
 
 ghost use Rattle.std.specs.Prelude.{◌≡◌, ◌∷◌, [], if◌then◌else◌};
 ghost use Rattle.btf_sanitizing.specs.Answers.{answer_to, features, granted, noted, noted_all, place_of, AreDistinct, AreGiven, Settles};
-ghost use Rattle.btf_sanitizing.specs.Needs.{AsksBoth, AsksFor, is_empty_section, stays_global};
+ghost use Rattle.btf_sanitizing.specs.Needs.{AreQuestions, AsksBoth, AsksFor, is_empty_section, stays_global};
 ghost use Rattle.string_table.specs.Texts.{text_at};
 
 use crate::names::is_memory_function;
 use arrayvec::ArrayVec;
 use btf_encoding::TypeRef;
-use btf_parts::Strings;
+use btf_parts::{Strings, TypeRecords};
 use btf_records::{BtfFeature, BtfKind};
 
 /// The questions that were asked, each with its answer.
@@ -135,7 +135,7 @@ fn is_empty_section(t: &TypeRef<'_>) -> bool
 }
 
 /// Asks about the features that a record needs and that weren't asked about before.
-pub fn ask_for<F: FnMut(BtfFeature) -> bool>(
+fn ask_for<F: FnMut(BtfFeature) -> bool>(
     answers: &mut Answers,
     predicate: &mut F,
     strings: &Strings<'_>,
@@ -178,4 +178,24 @@ pub fn ask_for<F: FnMut(BtfFeature) -> bool>(
         BtfKind::Enum64 => ask_one(answers, predicate, BtfFeature::Enum64, true),
         _ => {}
     }
+}
+
+/// Asks about the features that the records of a table need, each once, in the order of need.
+pub fn ask_all<F: FnMut(BtfFeature) -> bool>(
+    predicate: &mut F,
+    strings: &Strings<'_>,
+    types: &TypeRecords<'_>,
+) -> Answers
+    requires { F.IsAlwaysCallable predicate.old }
+    ensures questions { AreQuestions strings.now types.now.types result.items }
+    ensures distinct { AreDistinct (features result.items) }
+    ensures given { AreGiven F.FnMut predicate.old [] result.items predicate.new }
+{
+    let mut answers = ArrayVec::new();
+    let mut index = 0;
+    while let Some(t) = types.get(index) {
+        ask_for(&mut answers, predicate, strings, &t);
+        index += 1;
+    }
+    answers
 }

@@ -15,7 +15,7 @@ mod signature;
 mod table;
 
 pub use additions::Additions;
-pub use answers::{Answers, ask_for, is_granted};
+pub use answers::{Answers, ask_all, is_granted};
 pub use known::Known;
 pub use ksyms::KsymsSection;
 pub use ksyms_step::fixup_ksyms;
