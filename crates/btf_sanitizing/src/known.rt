@@ -16,24 +16,24 @@ use std::collections::BTreeMap;
 /// What is granted, the table's strings and types, and what an object says of its sections and
 /// symbols.
 #[derive(Debug, Drop)]
-pub struct Known<'t> {
+pub struct Known<'t, 'm> {
     pub answers: &'t Answers,
     pub strings: &'t Strings<'t>,
     pub types: &'t TypeRecords<'t>,
     /// The sizes of the object's sections in bytes, by name.
-    pub sizes: &'t BTreeMap<&'t str, u64>,
+    pub sizes: &'m BTreeMap<&'m str, u64>,
     /// The offsets of its symbols in their sections, by name.
-    pub offsets: &'t BTreeMap<&'t str, u64>,
+    pub offsets: &'m BTreeMap<&'m str, u64>,
 }
 
 /// The number under a name.
-fn number_named<'t>(numbers: &'t BTreeMap<&'t str, u64>, name: &'t str) -> Option<u64>
+fn number_named(numbers: &BTreeMap<&str, u64>, name: &str) -> Option<u64>
     ensures { result ≡ number_named numbers.now.entries name.now }
 {
-    numbers.get(&name).copied()
+    numbers.get(name).copied()
 }
 
-impl<'t> Known<'t> {
+impl<'t, 'm> Known<'t, 'm> {
     pub(crate) fn grants(&self, feature: BtfFeature) -> bool
         ensures { result ≡ (facts_of self.now).grants feature }
     {
@@ -54,13 +54,13 @@ impl<'t> Known<'t> {
         self.types.by_id(id as usize)
     }
 
-    pub(crate) fn size_of(&self, section: &'t str) -> Option<u64>
+    pub(crate) fn size_of(&self, section: &str) -> Option<u64>
         ensures { result ≡ (facts_of self.now).sizes section.now }
     {
         number_named(self.sizes, section)
     }
 
-    pub(crate) fn offset_of(&self, symbol: &'t str) -> Option<u64>
+    pub(crate) fn offset_of(&self, symbol: &str) -> Option<u64>
         ensures { result ≡ (facts_of self.now).offsets symbol.now }
     {
         number_named(self.offsets, symbol)

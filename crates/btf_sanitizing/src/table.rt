@@ -18,7 +18,7 @@ use std::alloc::Global;
 /// Writes what becomes of a record behind what becomes of those before it.
 fn rewrite_next(
     alloc: Global,
-    known: &Known<'_>,
+    known: &Known<'_, '_>,
     additions: &mut Additions,
     records: &mut TypeRecords<'_>,
     t: &TypeRef<'_>,
@@ -39,7 +39,7 @@ fn rewrite_next(
 #[tactic(auto, using(crate::proofs::Passes::refused_here))]
 fn rewrite_all(
     alloc: Global,
-    known: &Known<'_>,
+    known: &Known<'_, '_>,
     additions: &mut Additions,
     records: &mut TypeRecords<'_>,
 ) -> Result<(), BtfError>
@@ -86,7 +86,7 @@ pub struct SanitizedTable<'a> {
 ///
 /// The errors of `rewritten`, and `InvalidTypeInfo` where the strings, the types, or their bytes
 /// are more than 32 bits can count.
-pub fn sanitize<'a>(alloc: Global, known: &Known<'_>) -> Result<SanitizedTable<'a>, BtfError>
+pub fn sanitize<'a>(alloc: Global, known: &Known<'_, '_>) -> Result<SanitizedTable<'a>, BtfError>
     requires { length (facts_of known.now).strings < 2 ^ 32 }
     ensures types { IfOk result (λ s. s.records.types ≡ sanitized_types (facts_of known.now)) }
     ensures order { IfOk result (λ s. s.records.order ≡ known.now.types.now.order) }

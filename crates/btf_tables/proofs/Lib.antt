@@ -6,6 +6,7 @@ pub mod Named
 pub mod NamedAlike
 pub mod OtherTexts
 pub mod Rests
+pub mod Sanitized
 pub mod Sections
 pub mod Texts
 pub mod Walks

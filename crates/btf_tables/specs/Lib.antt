@@ -4,6 +4,7 @@ pub mod GrownTables
 pub mod Headers
 pub mod OtherTexts
 pub mod ResolvedTypes
+pub mod Sanitizing
 pub mod Sections
 pub mod Tables
 pub mod TypeSizes

@@ -6,6 +6,7 @@ mod essential_names;
 mod growing;
 mod lookup;
 mod other_texts;
+mod sanitizing;
 mod section;
 mod table;
 

@@ -1,0 +1,17 @@
+-- A rewritten table is small enough for its invariant.
+use Rattle.std.proofs.Common.{◌≡◌, ℕ, ◌<◌, ◌≤◌, ◌^◌, ◌++◌, ◌⊎◌, List, inl, inr, length, arith, subst}
+use Rattle.btf_records.specs.declared.error.BtfError.TheVariants.{InvalidTypeInfo}
+use Rattle.btf_records.specs.declared.words.Endianness.{Endianness}
+use Rattle.btf_sanitizing.specs.Facts.{Facts}
+use Rattle.btf_sanitizing.specs.Faults.{IsFaultless}
+use Rattle.btf_sanitizing.specs.Ksyms.{Ksyms, KsymsFault, stepped_texts}
+use Rattle.btf_sanitizing.specs.Sanitized.{SanitizingFault, sanitized_strings}
+
+not_many : (n : ℕ) → (2 ^ 32 ≤ n → ⊥) → n < 2 ^ 32
+not_many n few = grind (arith, few)
+
+pub short_step : (order : Endianness) (k : Ksyms) → IsFaultless (KsymsFault order k) → length (k.strings ++ stepped_texts k) < 2 ^ 32
+short_step order k faultless = not_many (length (k.strings ++ stepped_texts k)) (λ many. faultless.none InvalidTypeInfo (inr (inr (inl many))))
+
+pub short_table : (order : Endianness) (known : Facts) → IsFaultless (SanitizingFault order known) → length (sanitized_strings known) < 2 ^ 32
+short_table order known faultless = not_many (length (sanitized_strings known)) (λ many. faultless.none InvalidTypeInfo (inr (inl many)))
