@@ -1,4 +1,4 @@
-use Rattle.std.proofs.Common.{◌≡◌, Any, rules, ap, ◌∙◌, subst}
+use Rattle.std.proofs.Common.{◌≡◌, Any, ap, ◌∙◌, subst}
 use Rattle.btf_parts.specs.Layout.{RecordList}
 use Rattle.btf_records.specs.declared.error.BtfError.{BtfError}
 use Rattle.btf_sanitizing.specs.Faults.{IsFaultless}
