@@ -6,6 +6,7 @@ use Rattle.btf_records.specs.declared.feature.BtfFeature.{BtfFeature}
 use Rattle.btf_sanitizing.specs.Answers.{Answers, AreDistinct, AreGiven, features, granted}
 use Rattle.btf_sanitizing.specs.Facts.{Facts}
 use Rattle.btf_sanitizing.specs.Faults.{IsFaultless}
+use Rattle.btf_sanitizing.specs.Kept.{StepKeeps}
 use Rattle.btf_sanitizing.specs.Ksyms.{Ksyms, KsymsFault, stepped_texts, stepped_types}
 use Rattle.btf_sanitizing.specs.Needs.{AreQuestions}
 use Rattle.btf_sanitizing.specs.Sanitized.{SanitizingFault, sanitized_strings, sanitized_types}
@@ -50,3 +51,8 @@ pub record IsRefused {F : Type 0} (predicate : Mut F (BtfFeature × Unit {0}) Bo
 -- under these none stands
 pub record IsAccepted (answers : Answers) (sizes offsets : List ℕ → Option ℕ) (table : Table) : Type 0 where
   pub none : IsFaultless (SanitizingFault table.order (facts_in answers sizes offsets table))
+
+-- each record of the stepped table is what its rule says of the record that the id had
+abbrev pub StepStays : Option (ℕ × Option ℕ) → Table → Type 0
+StepStays None table = Unit {0}
+StepStays (Some ids) table = StepKeeps (ksyms_in table ids.0 ids.1) (stepped (Some ids) table).types

@@ -4,8 +4,10 @@ ghost use Rattle.std.specs.Prelude.{◌≡◌, ◌≢◌, ◌⊎◌, IfErr, IfOk
 ghost use Rattle.btf_records.specs.declared.error.BtfError.TheVariants.{OutOfMemory};
 ghost use Rattle.btf_sanitizing.specs.Facts.{number_named};
 ghost use Rattle.btf_sanitizing.specs.Faults.{IsFaultless};
+ghost use Rattle.btf_sanitizing.specs.Kept.{Keeps, StepKeeps};
 ghost use Rattle.btf_sanitizing.specs.Ksyms.{KsymsFault};
-ghost use Rattle.btf_tables.specs.Sanitizing.{AreAnswersFor, IsAccepted, IsRefused, StepFault, ksyms_in, sanitized, stepped, with_ksyms};
+ghost use Rattle.btf_tables.specs.GrownTables.{TextsStay};
+ghost use Rattle.btf_tables.specs.Sanitizing.{AreAnswersFor, IsAccepted, IsRefused, StepFault, StepStays, facts_in, ksyms_in, sanitized, stepped, with_ksyms};
 
 use crate::table::Btf;
 use btf_records::{BtfError, BtfFeature};
@@ -29,6 +31,8 @@ impl<'a> Btf<'a> {
         ensures value { IfOk result (λ table. table ≡ with_ksyms section placeholder self.now) }
         ensures refused { IfErr result (λ e. e ≢ OutOfMemory → KsymsFault self.now.order (ksyms_in self.now section placeholder) e) }
         ensures accepted { OnOk result (IsFaultless (KsymsFault self.now.order (ksyms_in self.now section placeholder))) }
+        ensures keeps { IfOk result (λ table. StepKeeps (ksyms_in self.now section placeholder) table.types) }
+        ensures texts { IfOk result (λ table. TextsStay self.now table) }
     {
         let alloc = self.allocator();
         let ksyms = KsymsSection {
@@ -64,6 +68,8 @@ impl<'a> Btf<'a> {
         ensures table { OnOk result (self.new ≡ with_ksyms section placeholder self.old) }
         ensures refused { IfErr result (λ e. e ≢ OutOfMemory → KsymsFault self.old.order (ksyms_in self.old section placeholder) e) }
         ensures accepted { OnOk result (IsFaultless (KsymsFault self.old.order (ksyms_in self.old section placeholder))) }
+        ensures keeps { OnOk result (StepKeeps (ksyms_in self.old section placeholder) self.new.types) }
+        ensures texts { OnOk result (TextsStay self.old self.new) }
         ensures err { OnErr result (self.new ≡ self.old) }
     {
         let stepped = self.with_ksyms(section, placeholder)?;
@@ -83,6 +89,8 @@ impl<'a> Btf<'a> {
         ensures answers { IfOk result (λ r. AreAnswersFor F.FnMut predicate self.now r.answers.items) }
         ensures refused { IfErr result (λ e. e ≢ OutOfMemory → IsRefused F.FnMut predicate (number_named sizes.now.entries) (number_named offsets.now.entries) self.now e) }
         ensures accepted { IfOk result (λ r. IsAccepted r.answers.items (number_named sizes.now.entries) (number_named offsets.now.entries) self.now) }
+        ensures keeps { IfOk result (λ r. Keeps (facts_in r.answers.items (number_named sizes.now.entries) (number_named offsets.now.entries) self.now) r.table.types) }
+        ensures texts { IfOk result (λ r. TextsStay self.now r.table) }
     {
         let mut predicate = predicate;
         let alloc = self.allocator();
@@ -106,6 +114,7 @@ impl<'a> Btf<'a> {
     }
 
     /// The same behind the step on the section of these ids.
+    #[tactic(auto, using(crate::proofs::Sanitized::texts_then))]
     fn rewritten_behind<'m, F: FnMut(BtfFeature) -> bool>(
         &self,
         ksyms: Option<KsymsIds>,
@@ -119,13 +128,16 @@ impl<'a> Btf<'a> {
         ensures refused { IfErr result (λ e. e ≢ OutOfMemory → StepFault ksyms self.now e ⊎ (IsFaultless (StepFault ksyms self.now) × IsRefused F.FnMut predicate (number_named sizes.now.entries) (number_named offsets.now.entries) (stepped ksyms self.now) e)) }
         ensures stepped { OnOk result (IsFaultless (StepFault ksyms self.now)) }
         ensures accepted { IfOk result (λ r. IsAccepted r.answers.items (number_named sizes.now.entries) (number_named offsets.now.entries) (stepped ksyms self.now)) }
+        ensures step { OnOk result (StepStays ksyms self.now) }
+        ensures keeps { IfOk result (λ r. Keeps (facts_in r.answers.items (number_named sizes.now.entries) (number_named offsets.now.entries) (stepped ksyms self.now)) r.table.types) }
+        ensures texts { IfOk result (λ r. TextsStay self.now r.table) }
     {
-        match ksyms {
-            Some((section, placeholder)) => self
-                .with_ksyms(section, placeholder)?
-                .rewritten(sizes, offsets, predicate),
-            None => self.rewritten(sizes, offsets, predicate),
-        }
+        let Some((section, placeholder)) = ksyms else {
+            return self.rewritten(sizes, offsets, predicate);
+        };
+        let stepped = self.with_ksyms(section, placeholder)?;
+        let rewritten = stepped.rewritten(sizes, offsets, predicate)?;
+        Ok(rewritten)
     }
 
     /// Rewrites the table to the features that a kernel grants, as the predicate tells: first the
@@ -151,6 +163,9 @@ impl<'a> Btf<'a> {
         ensures refused { IfErr result (λ e. e ≢ OutOfMemory → StepFault ksyms self.old e ⊎ (IsFaultless (StepFault ksyms self.old) × IsRefused F.FnMut predicate (number_named sizes.now.entries) (number_named offsets.now.entries) (stepped ksyms self.old) e)) }
         ensures stepped { OnOk result (IsFaultless (StepFault ksyms self.old)) }
         ensures accepted { IfOk result (λ answers. IsAccepted answers.items (number_named sizes.now.entries) (number_named offsets.now.entries) (stepped ksyms self.old)) }
+        ensures step { OnOk result (StepStays ksyms self.old) }
+        ensures keeps { IfOk result (λ answers. Keeps (facts_in answers.items (number_named sizes.now.entries) (number_named offsets.now.entries) (stepped ksyms self.old)) self.new.types) }
+        ensures texts { OnOk result (TextsStay self.old self.new) }
         ensures err { OnErr result (self.new ≡ self.old) }
     {
         let rewritten = self.rewritten_behind(ksyms, sizes, offsets, predicate)?;
