@@ -1,3 +1,4 @@
+pub mod CopiedBack
 pub mod InBytes
 pub mod Kept
 pub mod ManyTypes

@@ -1,10 +1,11 @@
 //! Records written as they were read.
 
-ghost use Rattle.std.specs.Prelude.{◌≡◌, ◌<◌, ◌≤◌, ◌⊎◌, [], IfOk, OnErr, OnOk, length, take};
-ghost use Rattle.btf_encoding.specs.Records.{HasRecord, kind_at, record_len};
+ghost use Rattle.std.specs.Prelude.{◌≡◌, ◌<◌, ◌≤◌, ◌⊎◌, ◌++◌, [], IfOk, OnErr, OnOk, length, take};
+ghost use Rattle.btf_encoding.specs.Records.{HasRecord, ReadsBack, kind_at, record_bytes, record_len, type_in};
 ghost use Rattle.btf_encoding.specs.Rewriting.{AreRecords, AreWrittenUpTo, IsWrittenAgain, is_kept};
 
 use crate::reading::{behind, bytes_behind, kind_of, read_type};
+use crate::view::TypeRef;
 use crate::writing::push_type;
 use btf_records::{BtfKind, Endianness, word};
 use std::alloc::AllocError;
@@ -107,5 +108,39 @@ pub fn push_types(out: &mut Vec<u8>, order: Endianness, bytes: &[u8]) -> Result<
             out.truncate(len);
             Err(error)
         }
+    }
+}
+
+/// Writes the record that the bytes begin with behind what is there, as `push_type` writes it.
+fn push_read(out: &mut Vec<u8>, order: Endianness, bytes: &[u8]) -> Result<(), AllocError>
+    requires { HasRecord order bytes.now }
+    ensures ok { OnOk result (out.new.items ≡ out.old.items ++ record_bytes order (type_in order bytes.now)) }
+    ensures read_back { OnOk result (ReadsBack order (type_in order bytes.now)) }
+    ensures err { OnErr result (out.new.items ≡ out.old.items) }
+{
+    if is_kept(order, bytes) {
+        let (record, _) = bytes.split_at(len_of(order, bytes));
+        out.extend_from_slice(record)?;
+        return Ok(());
+    }
+    let t = read_type(*out.allocator(), order, bytes)?;
+    push_type(out, order, &t)
+}
+
+impl<'a> TypeRef<'a> {
+    /// Writes the record's bytes behind what is there, in an order, as `push_type` writes the
+    /// record. One that is written as it was read is copied.
+    #[tactic(auto, using(crate::proofs::CopiedBack::bytes_with))]
+    pub fn push_to(&self, out: &mut Vec<u8>, order: Endianness) -> Result<(), AllocError>
+        ensures ok { OnOk result (out.new.items ≡ out.old.items ++ record_bytes order self.now) }
+        ensures read_back { OnOk result (ReadsBack order self.now) }
+        ensures err { OnErr result (out.new.items ≡ out.old.items) }
+    {
+        if order == self.order {
+            push_read(out, order, self.bytes)?;
+            return Ok(());
+        }
+        let t = self.to_type(*out.allocator())?;
+        push_type(out, order, &t)
     }
 }

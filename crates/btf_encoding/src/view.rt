@@ -17,8 +17,8 @@ use std::marker::Model;
 /// A type record, read where it lies.
 #[derive(Debug, Drop)]
 pub struct TypeRef<'a> {
-    order: Endianness,
-    bytes: &'a [u8],
+    pub(crate) order: Endianness,
+    pub(crate) bytes: &'a [u8],
     fallback: Option<&'a Enum64Fallback>,
 }
 
