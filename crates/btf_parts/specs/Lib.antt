@@ -1,3 +1,4 @@
 pub mod ByteLists
 pub mod Growth
 pub mod Layout
+pub mod NewRecords

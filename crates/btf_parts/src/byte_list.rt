@@ -2,9 +2,10 @@
 
 ghost use Rattle.std.specs.Prelude.{◌≡◌, ◌∷◌, ◌++◌, [], IfOk, OnErr, OnOk, length, take};
 ghost use Rattle.btf_encoding.specs.Records.{ReadsBack, record_bytes};
+ghost use Rattle.btf_parts.specs.NewRecords.{record_of};
 
-use btf_encoding::push_type;
-use btf_records::{BtfType, Endianness};
+use crate::new_record::NewRecord;
+use btf_records::Endianness;
 use std::alloc::{AllocError, Global};
 use std::marker::Model;
 
@@ -92,24 +93,24 @@ impl<'a> ByteList<'a> {
     }
 
     /// Writes a record's bytes behind what is there.
-    pub fn push_type(
+    pub fn push_record(
         &mut self,
         alloc: Global,
         order: Endianness,
-        t: &BtfType,
+        t: &NewRecord<'_>,
     ) -> Result<(), AllocError>
-        ensures ok { OnOk result (self.new ≡ self.old ++ record_bytes order t.now) }
-        ensures read_back { OnOk result (ReadsBack order t.now) }
+        ensures ok { OnOk result (self.new ≡ self.old ++ record_bytes order (record_of t.now)) }
+        ensures read_back { OnOk result (ReadsBack order (record_of t.now)) }
         ensures err { OnErr result (self.new ≡ self.old) }
     {
         match &mut self.body {
             Body::Borrowed(bytes) => {
                 let mut own = Vec::from_slice(alloc, bytes)?;
-                push_type(&mut own, order, t)?;
+                t.push_to(&mut own, order)?;
                 self.body = Body::Own(own);
                 Ok(())
             }
-            Body::Own(bytes) => push_type(bytes, order, t),
+            Body::Own(bytes) => t.push_to(bytes, order),
         }
     }
 

@@ -3,6 +3,7 @@
 #![tactic(auto)]
 
 mod byte_list;
+mod new_record;
 mod records;
 mod strings;
 mod types;

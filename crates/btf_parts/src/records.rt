@@ -7,11 +7,13 @@ ghost use Rattle.btf_records.specs.Fields.{fallback_of};
 ghost use Rattle.btf_encoding.specs.Records.{HasRecord, ReadsBack, ReadsSame, Spells, TypesFault, record_bytes, type_in, with_fallback, without_fallback};
 ghost use Rattle.btf_records.specs.declared.error.BtfError.TheVariants.{InvalidTypeInfo, OutOfMemory};
 ghost use Rattle.btf_parts.specs.Growth.{TooMany};
+ghost use Rattle.btf_parts.specs.NewRecords.{record_of};
 ghost use Rattle.btf_parts.specs.Layout.{Entered, fallback_at, types_at};
 
 use crate::byte_list::ByteList;
+use crate::new_record::NewRecord;
 use btf_encoding::{TypeRef, behind, push_types, record_len};
-use btf_records::{BtfError, BtfType, Endianness, Enum64Fallback, Union};
+use btf_records::{BtfError, BtfType, Endianness, Enum64Fallback};
 use std::alloc::{AllocError, Global};
 use std::collections::BTreeMap;
 use std::marker::Model;
@@ -51,17 +53,13 @@ pub const MOST: usize = u32::MAX as usize;
 fn enter_fallback(
     fallbacks: &mut BTreeMap<u32, Enum64Fallback>,
     id: u32,
-    t: BtfType,
+    t: NewRecord<'_>,
 ) -> Result<(), AllocError>
     requires { fallback_at fallbacks.old.entries id ≡ None }
-    ensures ok { OnOk result (Entered fallbacks.old.entries fallbacks.new.entries id (fallback_of t)) }
+    ensures ok { OnOk result (Entered fallbacks.old.entries fallbacks.new.entries id (fallback_of (record_of t.entry))) }
     ensures err { OnErr result (fallbacks.new.entries ≡ fallbacks.old.entries) }
 {
-    let BtfType::Union(union) = t else {
-        return Ok(());
-    };
-    let Union { fallback, .. } = union;
-    let Some(fallback) = fallback else {
+    let Some(fallback) = t.into_fallback()? else {
         return Ok(());
     };
     fallbacks.insert(id, fallback)?;
@@ -74,17 +72,17 @@ fn append(
     places: &mut Vec<u32>,
     fallbacks: &mut BTreeMap<u32, Enum64Fallback>,
     order: Endianness,
-    t: BtfType,
+    t: NewRecord<'_>,
 ) -> Result<(), BtfError>
     requires few { length bytes.old < 2 ^ 32 }
     requires free { fallback_at fallbacks.old.entries (length places.old.items + 1) ≡ None }
-    ensures bytes { OnOk result (bytes.new ≡ bytes.old ++ record_bytes order t) }
+    ensures bytes { OnOk result (bytes.new ≡ bytes.old ++ record_bytes order (record_of t.entry)) }
     ensures places { OnOk result (places.new.items ≡ places.old.items ++ length bytes.old ∷ []) }
-    ensures fallbacks { OnOk result (Entered fallbacks.old.entries fallbacks.new.entries (length places.old.items + 1) (fallback_of t)) }
-    ensures read_back { OnOk result (ReadsBack order t) }
+    ensures fallbacks { OnOk result (Entered fallbacks.old.entries fallbacks.new.entries (length places.old.items + 1) (fallback_of (record_of t.entry))) }
+    ensures read_back { OnOk result (ReadsBack order (record_of t.entry)) }
     ensures few_bytes { OnOk result (length bytes.new < 2 ^ 32) }
     ensures few_types { OnOk result (length places.new.items < 2 ^ 32) }
-    ensures refused { IfErr result (λ e. e ≢ OutOfMemory → (e ≡ InvalidTypeInfo) × (TooMany (length bytes.old + length (record_bytes order t)) ⊎ TooMany (length places.old.items + 1))) }
+    ensures refused { IfErr result (λ e. e ≢ OutOfMemory → (e ≡ InvalidTypeInfo) × (TooMany (length bytes.old + length (record_bytes order (record_of t.entry))) ⊎ TooMany (length places.old.items + 1))) }
     ensures old_bytes { OnErr result (take (length bytes.old) bytes.new ≡ bytes.old) }
     ensures old_places { OnErr result (take (length places.old.items) places.new.items ≡ places.old.items) }
     ensures old_fallbacks { OnErr result (fallbacks.new.entries ≡ fallbacks.old.entries) }
@@ -93,7 +91,7 @@ fn append(
         return Err(BtfError::InvalidTypeInfo);
     }
     let place = bytes.len() as u32;
-    bytes.push_type(*places.allocator(), order, &t)?;
+    bytes.push_record(*places.allocator(), order, &t)?;
     if bytes.len() > MOST {
         return Err(BtfError::InvalidTypeInfo);
     }
@@ -245,10 +243,10 @@ impl<'a> TypeRecords<'a> {
     }
 
     /// Adds a record behind the others.
-    pub fn push(&mut self, t: BtfType) -> Result<(), BtfError>
+    fn push_record(&mut self, t: NewRecord<'_>) -> Result<(), BtfError>
         ensures order { OnOk result (self.new.order ≡ self.old.order) }
-        ensures types { OnOk result (self.new.types ≡ self.old.types ++ t ∷ []) }
-        ensures refused { IfErr result (λ e. e ≢ OutOfMemory → (e ≡ InvalidTypeInfo) × (TooMany (length (flat_map (record_bytes self.old.order) (self.old.types ++ t ∷ []))) ⊎ TooMany (length self.old.types + 1))) }
+        ensures types { OnOk result (self.new.types ≡ self.old.types ++ record_of t.entry ∷ []) }
+        ensures refused { IfErr result (λ e. e ≢ OutOfMemory → (e ≡ InvalidTypeInfo) × (TooMany (length (flat_map (record_bytes self.old.order) (self.old.types ++ record_of t.entry ∷ []))) ⊎ TooMany (length self.old.types + 1))) }
         ensures few_bytes { OnOk result (length (flat_map (record_bytes self.new.order) self.new.types) < 2 ^ 32) }
         ensures few_types { OnOk result (length self.new.types < 2 ^ 32) }
         ensures err { OnErr result (self.new ≡ self.old) }
@@ -269,6 +267,35 @@ impl<'a> TypeRecords<'a> {
                 Err(error)
             }
         }
+    }
+
+    /// Adds a record behind the others.
+    ///
+    /// `InvalidTypeInfo` where they would be more than 2^32 - 1, or more than 2^32 - 1 bytes.
+    pub fn push(&mut self, t: BtfType) -> Result<(), BtfError>
+        ensures order { OnOk result (self.new.order ≡ self.old.order) }
+        ensures types { OnOk result (self.new.types ≡ self.old.types ++ t ∷ []) }
+        ensures refused { IfErr result (λ e. e ≢ OutOfMemory → (e ≡ InvalidTypeInfo) × (TooMany (length (flat_map (record_bytes self.old.order) (self.old.types ++ t ∷ []))) ⊎ TooMany (length self.old.types + 1))) }
+        ensures few_bytes { OnOk result (length (flat_map (record_bytes self.new.order) self.new.types) < 2 ^ 32) }
+        ensures few_types { OnOk result (length self.new.types < 2 ^ 32) }
+        ensures err { OnErr result (self.new ≡ self.old) }
+    {
+        self.push_record(NewRecord::Own(t))
+    }
+
+    /// Adds the copy of a record behind the others. Where it would be written as it lies there its
+    /// bytes are copied.
+    ///
+    /// `InvalidTypeInfo` as for `push`.
+    pub fn push_copy(&mut self, t: &TypeRef<'_>) -> Result<(), BtfError>
+        ensures order { OnOk result (self.new.order ≡ self.old.order) }
+        ensures types { OnOk result (self.new.types ≡ self.old.types ++ t.now ∷ []) }
+        ensures refused { IfErr result (λ e. e ≢ OutOfMemory → (e ≡ InvalidTypeInfo) × (TooMany (length (flat_map (record_bytes self.old.order) (self.old.types ++ t.now ∷ []))) ⊎ TooMany (length self.old.types + 1))) }
+        ensures few_bytes { OnOk result (length (flat_map (record_bytes self.new.order) self.new.types) < 2 ^ 32) }
+        ensures few_types { OnOk result (length self.new.types < 2 ^ 32) }
+        ensures err { OnErr result (self.new ≡ self.old) }
+    {
+        self.push_record(NewRecord::Copied(t))
     }
 
     /// Writes the bytes of the records behind what is there.
