@@ -8,3 +8,4 @@ pub mod Placed
 pub mod Stepping
 pub mod Questions
 pub mod Kept
+pub mod Stays

@@ -9,3 +9,4 @@ pub mod Names
 pub mod Needs
 pub mod Rewritten
 pub mod Sanitized
+pub mod Stays

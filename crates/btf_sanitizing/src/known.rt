@@ -16,14 +16,14 @@ use std::collections::BTreeMap;
 /// What is granted, the table's strings and types, and what an object says of its sections and
 /// symbols.
 #[derive(Debug, Drop)]
-pub struct Known<'t, 'm> {
+pub struct Known<'t, 'm, 'n> {
     pub answers: &'t Answers,
     pub strings: &'t Strings<'t>,
     pub types: &'t TypeRecords<'t>,
     /// The sizes of the object's sections in bytes, by name.
-    pub sizes: &'m BTreeMap<&'m str, u64>,
+    pub sizes: &'m BTreeMap<&'n str, u64>,
     /// The offsets of its symbols in their sections, by name.
-    pub offsets: &'m BTreeMap<&'m str, u64>,
+    pub offsets: &'m BTreeMap<&'n str, u64>,
 }
 
 /// The number under a name.
@@ -33,7 +33,7 @@ fn number_named(numbers: &BTreeMap<&str, u64>, name: &str) -> Option<u64>
     numbers.get(name).copied()
 }
 
-impl<'t, 'm> Known<'t, 'm> {
+impl<'t, 'm, 'n> Known<'t, 'm, 'n> {
     pub(crate) fn grants(&self, feature: BtfFeature) -> bool
         ensures { result ≡ (facts_of self.now).grants feature }
     {

@@ -12,6 +12,7 @@ mod names;
 mod rows;
 mod section;
 mod signature;
+mod staying;
 mod table;
 
 pub use answers::{Answers, ask_all};

@@ -24,7 +24,7 @@ use std::alloc::{AllocError, Global};
 const GLOBAL: u16 = 1;
 
 /// What becomes of a `BTF_KIND_FUNC`.
-pub(crate) fn rewritten_func(known: &Known<'_, '_>, t: Func) -> Result<BtfType, BtfError>
+pub(crate) fn rewritten_func(known: &Known<'_, '_, '_>, t: Func) -> Result<BtfType, BtfError>
     ensures value { IfOk result (λ r. r ≡ rewritten_func (facts_of known.now) t) }
     ensures refused { IfErr result (KindFault (facts_of known.now) (types.Func t)) }
     ensures accepted { OnOk result (IsFaultless (KindFault (facts_of known.now) (types.Func t))) }
@@ -72,7 +72,7 @@ pub(crate) fn union_of_enum64(
 /// What becomes of a `BTF_KIND_FUNC_PROTO`.
 fn rewritten_signature(
     alloc: Global,
-    known: &Known<'_, '_>,
+    known: &Known<'_, '_, '_>,
     additions: &mut Additions,
     t: FuncProto,
 ) -> Result<BtfType, BtfError>
@@ -93,7 +93,7 @@ fn rewritten_signature(
 /// What becomes of a `BTF_KIND_ENUM64`.
 fn rewritten_enum64(
     alloc: Global,
-    known: &Known<'_, '_>,
+    known: &Known<'_, '_, '_>,
     additions: &mut Additions,
     t: Enum64,
 ) -> Result<BtfType, BtfError>
@@ -109,7 +109,7 @@ fn rewritten_enum64(
 }
 
 /// What becomes of a record of a kind that needs neither its name nor other records.
-fn rewritten_alone(known: &Known<'_, '_>, additions: &Additions, t: BtfType) -> BtfType
+fn rewritten_alone(known: &Known<'_, '_, '_>, additions: &Additions, t: BtfType) -> BtfType
     requires { is_alone t ≡ true }
     ensures value { result ≡ rewritten (facts_of known.now) additions.now t }
     ensures added { after (facts_of known.now) additions.now t ≡ additions.now }
@@ -147,7 +147,7 @@ fn rewritten_alone(known: &Known<'_, '_>, additions: &Additions, t: BtfType) -> 
 /// `InvalidTypeInfo` where more is added than 32 bits can count.
 pub fn rewritten(
     alloc: Global,
-    known: &Known<'_, '_>,
+    known: &Known<'_, '_, '_>,
     additions: &mut Additions,
     t: BtfType,
 ) -> Result<BtfType, BtfError>

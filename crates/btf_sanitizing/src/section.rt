@@ -16,7 +16,7 @@ use btf_records::{
 use std::alloc::{AllocError, Global};
 
 /// The member that stands for an entry: its type's name, its type, and its offset in bits.
-fn member_of_entry(known: &Known<'_, '_>, entry: DataSecEntry) -> Result<BtfMember, BtfError>
+fn member_of_entry(known: &Known<'_, '_, '_>, entry: DataSecEntry) -> Result<BtfMember, BtfError>
     ensures value { IfOk result (λ m. m ≡ member_of_entry (facts_of known.now) entry) }
     ensures refused { IfErr result (MemberFault (facts_of known.now) entry) }
     ensures accepted { OnOk result (IsFaultless (MemberFault (facts_of known.now) entry)) }
@@ -38,7 +38,7 @@ fn member_of_entry(known: &Known<'_, '_>, entry: DataSecEntry) -> Result<BtfMemb
 /// A member for each entry of a section.
 pub(crate) fn members_of_entries(
     alloc: Global,
-    known: &Known<'_, '_>,
+    known: &Known<'_, '_, '_>,
     entries: &[DataSecEntry],
 ) -> Result<Vec<BtfMember>, BtfError>
     ensures value { IfOk result (λ members. members.items ≡ map (member_of_entry (facts_of known.now)) entries.now) }
@@ -56,7 +56,7 @@ pub(crate) fn members_of_entries(
 /// An entry at its symbol's offset, where its variable isn't static.
 fn placed(
     alloc: Global,
-    known: &Known<'_, '_>,
+    known: &Known<'_, '_, '_>,
     entry: DataSecEntry,
 ) -> Result<DataSecEntry, BtfError>
     ensures value { IfOk result (λ e. e ≡ placed (facts_of known.now) entry) }
@@ -92,7 +92,7 @@ fn placed(
 /// The entries of a section, each at its symbol's offset.
 pub(crate) fn placed_entries(
     alloc: Global,
-    known: &Known<'_, '_>,
+    known: &Known<'_, '_, '_>,
     entries: &[DataSecEntry],
 ) -> Result<Vec<DataSecEntry>, BtfError>
     ensures value { IfOk result (λ p. p.items ≡ map (placed (facts_of known.now)) entries.now) }
@@ -110,7 +110,7 @@ pub(crate) fn placed_entries(
 /// The size of a section of the object, in bytes.
 pub(crate) fn section_size(
     alloc: Global,
-    known: &Known<'_, '_>,
+    known: &Known<'_, '_, '_>,
     name: &str,
 ) -> Result<u32, BtfError>
     ensures value { IfOk result (λ size. size ≡ section_size (facts_of known.now) name.now) }
@@ -128,7 +128,7 @@ pub(crate) fn section_size(
 /// The struct that stands for a section where the kernel has none.
 fn struct_of_section(
     alloc: Global,
-    known: &Known<'_, '_>,
+    known: &Known<'_, '_, '_>,
     additions: &mut Additions,
     name: &str,
     t: &DataSec,
@@ -145,7 +145,12 @@ fn struct_of_section(
 }
 
 /// A section with its size and the places of its variables, where the record doesn't give them.
-fn sized(alloc: Global, known: &Known<'_, '_>, name: &str, t: DataSec) -> Result<DataSec, BtfError>
+fn sized(
+    alloc: Global,
+    known: &Known<'_, '_, '_>,
+    name: &str,
+    t: DataSec,
+) -> Result<DataSec, BtfError>
     requires { text_at (facts_of known.now).strings t.name_offset ≡ Some name.now }
     ensures value { IfOk result (λ r. r ≡ sized (facts_of known.now) t) }
     ensures refused { IfErr result (λ e. e ≢ OutOfMemory → (t.size ≡ 0) × UnsizedFault (facts_of known.now) t e) }
@@ -179,7 +184,7 @@ fn filler_entries(alloc: Global, filler: u32) -> Result<Items<DataSecEntry>, All
 /// A section as it stands where the kernel has sections.
 fn granted_section(
     alloc: Global,
-    known: &Known<'_, '_>,
+    known: &Known<'_, '_, '_>,
     additions: &mut Additions,
     name: &str,
     t: DataSec,
@@ -211,7 +216,7 @@ fn granted_section(
 /// What becomes of a `BTF_KIND_DATASEC`.
 pub(crate) fn rewritten_section(
     alloc: Global,
-    known: &Known<'_, '_>,
+    known: &Known<'_, '_, '_>,
     additions: &mut Additions,
     t: DataSec,
 ) -> Result<BtfType, BtfError>

@@ -1,25 +1,47 @@
 //! The records of a table, one after the other.
 
-ghost use Rattle.std.specs.Prelude.{◌≡◌, ◌≢◌, ◌<◌, ◌++◌, ◌^◌, ◌∷◌, [], Any, IfErr, IfOk, OnOk, length};
+ghost use Rattle.std.specs.Prelude.{◌≡◌, ◌≢◌, ◌<◌, ◌++◌, ◌^◌, ◌∷◌, [], Any, IfErr, IfOk, OnOk, length, true};
 ghost use Rattle.btf_records.specs.declared.error.BtfError.TheVariants.{InvalidTypeInfo, OutOfMemory};
 ghost use Rattle.btf_sanitizing.specs.Faults.{IsFaultless, KindFault};
 ghost use Rattle.btf_sanitizing.specs.Kept.{Keeps};
 ghost use Rattle.btf_sanitizing.specs.Knowledge.{facts_of};
 ghost use Rattle.btf_sanitizing.specs.Rewritten.{after, after_all, all_rewritten, rewritten};
+ghost use Rattle.btf_sanitizing.specs.Stays.{stays};
 ghost use Rattle.btf_sanitizing.specs.Sanitized.{AnyFault, AreFew, AreTooMany, NextFault, SanitizingFault, sanitized_strings, sanitized_types};
 
 use crate::additions::Additions;
 use crate::known::Known;
 use crate::rows::rewritten;
+use crate::staying::stays;
 use btf_encoding::TypeRef;
 use btf_parts::TypeRecords;
 use btf_records::{BtfError, BtfType};
 use std::alloc::Global;
 
+/// Copies a record that stays behind what becomes of those before it.
+#[tactic(auto, using(crate::proofs::Stays::stays_alone))]
+fn keep(
+    known: &Known<'_, '_, '_>,
+    additions: &Additions,
+    records: &mut TypeRecords<'_>,
+    t: &TypeRef<'_>,
+) -> Result<(), BtfError>
+    requires { stays (facts_of known.now) t.now ≡ true }
+    ensures types { OnOk result (records.new.types ≡ records.old.types ++ rewritten (facts_of known.now) additions.now t.now ∷ []) }
+    ensures order { OnOk result (records.new.order ≡ records.old.order) }
+    ensures added { OnOk result (additions.now ≡ after (facts_of known.now) additions.now t.now) }
+    ensures few { OnOk result (AreFew records.new.order records.new.types) }
+    ensures refused { IfErr result (λ e. e ≢ OutOfMemory → NextFault (facts_of known.now) records.old additions.now t.now e) }
+    ensures accepted { OnOk result (IsFaultless (KindFault (facts_of known.now) t.now)) }
+{
+    records.push_copy(t)?;
+    Ok(())
+}
+
 /// Writes what becomes of a record behind what becomes of those before it.
 fn rewrite_next(
     alloc: Global,
-    known: &Known<'_, '_>,
+    known: &Known<'_, '_, '_>,
     additions: &mut Additions,
     records: &mut TypeRecords<'_>,
     t: &TypeRef<'_>,
@@ -31,6 +53,9 @@ fn rewrite_next(
     ensures refused { IfErr result (λ e. e ≢ OutOfMemory → NextFault (facts_of known.now) records.old additions.old t.now e) }
     ensures accepted { OnOk result (IsFaultless (KindFault (facts_of known.now) t.now)) }
 {
+    if stays(known, t) {
+        return keep(known, additions, records, t);
+    }
     let t = t.to_type(alloc)?;
     let t = rewritten(alloc, known, additions, t)?;
     records.push(t)
@@ -40,7 +65,7 @@ fn rewrite_next(
 #[tactic(auto, using(crate::proofs::Passes::refused_here))]
 fn rewrite_all(
     alloc: Global,
-    known: &Known<'_, '_>,
+    known: &Known<'_, '_, '_>,
     additions: &mut Additions,
     records: &mut TypeRecords<'_>,
 ) -> Result<(), BtfError>
@@ -83,7 +108,10 @@ pub struct SanitizedTable<'a> {
 }
 
 /// What the records become, with the types and the texts that are added.
-fn rewritten_table<'a>(alloc: Global, known: &Known<'_, '_>) -> Result<SanitizedTable<'a>, BtfError>
+fn rewritten_table<'a>(
+    alloc: Global,
+    known: &Known<'_, '_, '_>,
+) -> Result<SanitizedTable<'a>, BtfError>
     requires { length (facts_of known.now).strings < 2 ^ 32 }
     ensures types { IfOk result (λ s. s.records.types ≡ sanitized_types (facts_of known.now)) }
     ensures order { IfOk result (λ s. s.records.order ≡ known.now.types.now.order) }
@@ -107,7 +135,10 @@ fn rewritten_table<'a>(alloc: Global, known: &Known<'_, '_>) -> Result<Sanitized
 /// `InvalidDatasec` where an entry of a section names no type, no variable or one too far away,
 /// `UnknownSectionSize` and `SymbolOffsetNotFound` where the object doesn't say what a section lacks,
 /// `InvalidTypeInfo` where the strings, the types, or their bytes are more than 32 bits can count.
-pub fn sanitize<'a>(alloc: Global, known: &Known<'_, '_>) -> Result<SanitizedTable<'a>, BtfError>
+pub fn sanitize<'a>(
+    alloc: Global,
+    known: &Known<'_, '_, '_>,
+) -> Result<SanitizedTable<'a>, BtfError>
     requires { length (facts_of known.now).strings < 2 ^ 32 }
     ensures types { IfOk result (λ s. s.records.types ≡ sanitized_types (facts_of known.now)) }
     ensures order { IfOk result (λ s. s.records.order ≡ known.now.types.now.order) }

@@ -78,10 +78,10 @@ impl<'a> Btf<'a> {
     }
 
     /// The table of which only granted features are left, and the answers.
-    fn rewritten<'m, F: FnMut(BtfFeature) -> bool>(
+    fn rewritten<'m, 'n, F: FnMut(BtfFeature) -> bool>(
         &self,
-        sizes: &'m BTreeMap<&'m str, u64>,
-        offsets: &'m BTreeMap<&'m str, u64>,
+        sizes: &'m BTreeMap<&'n str, u64>,
+        offsets: &'m BTreeMap<&'n str, u64>,
         predicate: F,
     ) -> Result<Rewritten<'a>, BtfError>
         requires { F.IsAlwaysCallable predicate }
@@ -115,11 +115,11 @@ impl<'a> Btf<'a> {
 
     /// The same behind the step on the section of these ids.
     #[tactic(auto, using(crate::proofs::Sanitized::texts_then))]
-    fn rewritten_behind<'m, F: FnMut(BtfFeature) -> bool>(
+    fn rewritten_behind<'m, 'n, F: FnMut(BtfFeature) -> bool>(
         &self,
         ksyms: Option<KsymsIds>,
-        sizes: &'m BTreeMap<&'m str, u64>,
-        offsets: &'m BTreeMap<&'m str, u64>,
+        sizes: &'m BTreeMap<&'n str, u64>,
+        offsets: &'m BTreeMap<&'n str, u64>,
         predicate: F,
     ) -> Result<Rewritten<'a>, BtfError>
         requires { F.IsAlwaysCallable predicate }
@@ -150,10 +150,10 @@ impl<'a> Btf<'a> {
     /// The errors of `fixup_ksyms_datasec`; `InvalidStringOffset` where a name that counts can't be
     /// read, `UnknownSectionSize` and `SymbolOffsetNotFound` where the object doesn't have what a
     /// section lacks, `InvalidDatasec` where an entry of it names no variable or lies too far.
-    pub fn fixup_and_sanitize<'m, F: FnMut(BtfFeature) -> bool>(
+    pub fn fixup_and_sanitize<'m, 'n, F: FnMut(BtfFeature) -> bool>(
         &mut self,
-        sizes: &'m BTreeMap<&'m str, u64>,
-        offsets: &'m BTreeMap<&'m str, u64>,
+        sizes: &'m BTreeMap<&'n str, u64>,
+        offsets: &'m BTreeMap<&'n str, u64>,
         ksyms: Option<KsymsIds>,
         predicate: F,
     ) -> Result<Answers, BtfError>
