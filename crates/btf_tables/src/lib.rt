@@ -11,5 +11,7 @@ mod section;
 mod table;
 
 pub use btf_parts::{Strings, Types};
+pub use btf_sanitizing::Answers;
 pub use essential_names::essential_name;
+pub use sanitizing::KsymsIds;
 pub use table::Btf;
