@@ -1,7 +1,9 @@
 //! Tables that are refused, and stay as they were.
 
 use crate::case::{ALL, SIZES, sanitize};
-use crate::sections::{DATASEC, ENUM, FUNC, INT, ORDERS, VAR, parse, section_of};
+use crate::sections::{
+    DATASEC, DATASEC_1, DATASEC_2, ENUM, EXTERN, GLOBAL, INT, ORDERS, VAR, parse, section_of,
+};
 use btf::{BtfError, BtfFeature, KsymsIds};
 use std::alloc::Global;
 use std::process::Abort;
@@ -56,27 +58,27 @@ struct Refused {
 static SECTIONS: [Refused; 14] = [
     // a global variable without a symbol
     Refused {
-        types: &[1, VAR, 0, 1, 3, DATASEC + 1, 0, 1, 0, 4],
+        types: &[1, VAR, 0, 1, 3, DATASEC_1, 0, 1, 0, 4],
         ksyms: None,
         granted: &ALL,
         refusal: Refusal::SymbolOffsetNotFound("g"),
     },
     // an entry of an integer, an entry of void
     Refused {
-        types: &[0, INT, 4, 0x20, 3, DATASEC + 1, 0, 1, 0, 4],
+        types: &[0, INT, 4, 0x20, 3, DATASEC_1, 0, 1, 0, 4],
         ksyms: None,
         granted: &ALL,
         refusal: Refusal::InvalidDatasec,
     },
     Refused {
-        types: &[3, DATASEC + 1, 0, 0, 0, 4],
+        types: &[3, DATASEC_1, 0, 0, 0, 4],
         ksyms: None,
         granted: &ALL,
         refusal: Refusal::InvalidDatasec,
     },
     // a symbol behind 4 GiB, a section of 4 GiB
     Refused {
-        types: &[8, VAR, 0, 1, 3, DATASEC + 1, 0, 1, 0, 4],
+        types: &[8, VAR, 0, 1, 3, DATASEC_1, 0, 1, 0, 4],
         ksyms: None,
         granted: &ALL,
         refusal: Refusal::InvalidDatasec,
@@ -89,7 +91,7 @@ static SECTIONS: [Refused; 14] = [
     },
     // a member at 2^32 bits
     Refused {
-        types: &[0, INT, 4, 0x20, 3, DATASEC + 1, 4, 1, 0x2000_0000, 4],
+        types: &[0, INT, 4, 0x20, 3, DATASEC_1, 4, 1, 0x2000_0000, 4],
         ksyms: None,
         granted: &[],
         refusal: Refusal::InvalidDatasec,
@@ -102,7 +104,7 @@ static SECTIONS: [Refused; 14] = [
         refusal: Refusal::UnknownSectionSize(".none"),
     },
     Refused {
-        types: &[24, VAR, 0, 1, 18, DATASEC + 1, 0, 1, 0, 4],
+        types: &[24, VAR, 0, 1, 18, DATASEC_1, 0, 1, 0, 4],
         ksyms: None,
         granted: &ALL,
         refusal: Refusal::UnknownSectionSize(".none"),
@@ -121,26 +123,26 @@ static SECTIONS: [Refused; 14] = [
         refusal: Refusal::InvalidStringOffset(99),
     },
     Refused {
-        types: &[99, VAR, 0, 1, 3, DATASEC + 1, 0, 1, 0, 4],
+        types: &[99, VAR, 0, 1, 3, DATASEC_1, 0, 1, 0, 4],
         ksyms: None,
         granted: &ALL,
         refusal: Refusal::InvalidStringOffset(99),
     },
     Refused {
-        types: &[99, FUNC + 1, 0],
+        types: &[99, GLOBAL, 0],
         ksyms: None,
         granted: &[BtfFeature::Func],
         refusal: Refusal::InvalidStringOffset(99),
     },
     // entries of no type
     Refused {
-        types: &[3, DATASEC + 1, 0, 9, 0, 4],
+        types: &[3, DATASEC_1, 0, 9, 0, 4],
         ksyms: None,
         granted: &ALL,
         refusal: Refusal::UnknownBtfType(9),
     },
     Refused {
-        types: &[3, DATASEC + 1, 4, 9, 0, 4],
+        types: &[3, DATASEC_1, 4, 9, 0, 4],
         ksyms: None,
         granted: &[],
         refusal: Refusal::UnknownBtfType(9),
@@ -170,22 +172,7 @@ static EXTERNS: [Refused; 6] = [
     // a function and no placeholder
     Refused {
         types: &[
-            1,
-            VAR,
-            0,
-            2,
-            1,
-            FUNC + 2,
-            0,
-            3,
-            DATASEC + 2,
-            0,
-            1,
-            0,
-            0,
-            2,
-            0,
-            0,
+            1, VAR, 0, 2, 1, EXTERN, 0, 3, DATASEC_2, 0, 1, 0, 0, 2, 0, 0,
         ],
         ksyms: Some((3, None)),
         granted: &ALL,
@@ -193,13 +180,13 @@ static EXTERNS: [Refused; 6] = [
     },
     // entries of an integer and of nothing
     Refused {
-        types: &[1, INT, 4, 0x20, 3, DATASEC + 1, 0, 1, 0, 0],
+        types: &[1, INT, 4, 0x20, 3, DATASEC_1, 0, 1, 0, 0],
         ksyms: Some((2, Some(1))),
         granted: &ALL,
         refusal: Refusal::InvalidDatasec,
     },
     Refused {
-        types: &[1, INT, 4, 0x20, 3, DATASEC + 1, 0, 7, 0, 0],
+        types: &[1, INT, 4, 0x20, 3, DATASEC_1, 0, 7, 0, 0],
         ksyms: Some((2, Some(1))),
         granted: &ALL,
         refusal: Refusal::UnknownBtfType(7),

@@ -8,10 +8,7 @@ use std::process::Abort;
 
 pub(crate) const ORDERS: [Endianness; 2] = [Endianness::Little, Endianness::Big];
 
-/// The bit of an info word that says signed.
-pub(crate) const SIGNED: u32 = 0x8000_0000;
-
-/// The info words of records without items; with items, their count is added.
+/// The info words of records, by kind and, behind a `_`, the count of their items.
 pub(crate) const INT: u32 = 0x0100_0000;
 
 pub(crate) const PTR: u32 = 0x0200_0000;
@@ -20,9 +17,21 @@ pub(crate) const ARRAY: u32 = 0x0300_0000;
 
 pub(crate) const STRUCT: u32 = 0x0400_0000;
 
+pub(crate) const STRUCT_1: u32 = 0x0400_0001;
+
+pub(crate) const STRUCT_2: u32 = 0x0400_0002;
+
 pub(crate) const UNION: u32 = 0x0500_0000;
 
+pub(crate) const UNION_1: u32 = 0x0500_0001;
+
+pub(crate) const UNION_2: u32 = 0x0500_0002;
+
 pub(crate) const ENUM: u32 = 0x0600_0000;
+
+pub(crate) const ENUM_1: u32 = 0x0600_0001;
+
+pub(crate) const ENUM_3: u32 = 0x0600_0003;
 
 pub(crate) const FWD: u32 = 0x0700_0000;
 
@@ -34,14 +43,35 @@ pub(crate) const CONST: u32 = 0x0a00_0000;
 
 pub(crate) const RESTRICT: u32 = 0x0b00_0000;
 
-/// That of a function, to which its linkage is added.
+/// Those of functions: static, global, extern, and of no linkage that is known.
 pub(crate) const FUNC: u32 = 0x0c00_0000;
 
-pub(crate) const FUNC_PROTO: u32 = 0x0d00_0000;
+pub(crate) const GLOBAL: u32 = 0x0c00_0001;
+
+pub(crate) const EXTERN: u32 = 0x0c00_0002;
+
+pub(crate) const OTHER_FUNC: u32 = 0x0c00_0101;
+
+/// Those of signatures.
+pub(crate) const PROTO: u32 = 0x0d00_0000;
+
+pub(crate) const PROTO_1: u32 = 0x0d00_0001;
+
+pub(crate) const PROTO_3: u32 = 0x0d00_0003;
+
+pub(crate) const PROTO_4: u32 = 0x0d00_0004;
+
+pub(crate) const PROTO_11: u32 = 0x0d00_000b;
 
 pub(crate) const VAR: u32 = 0x0e00_0000;
 
 pub(crate) const DATASEC: u32 = 0x0f00_0000;
+
+pub(crate) const DATASEC_1: u32 = 0x0f00_0001;
+
+pub(crate) const DATASEC_2: u32 = 0x0f00_0002;
+
+pub(crate) const DATASEC_3: u32 = 0x0f00_0003;
 
 pub(crate) const FLOAT: u32 = 0x1000_0000;
 
@@ -50,6 +80,21 @@ pub(crate) const DECL_TAG: u32 = 0x1100_0000;
 pub(crate) const TYPE_TAG: u32 = 0x1200_0000;
 
 pub(crate) const ENUM64: u32 = 0x1300_0000;
+
+pub(crate) const ENUM64_1: u32 = 0x1300_0001;
+
+/// Those of signed enums, the last of 64 bits.
+pub(crate) const SIGNED: u32 = 0x8600_0000;
+
+pub(crate) const SIGNED_1: u32 = 0x8600_0001;
+
+pub(crate) const SIGNED64_2: u32 = 0x9300_0002;
+
+/// The last word of a signed integer of 32 bits.
+pub(crate) const SIGNED_INT: u32 = 0x0100_0020;
+
+/// A word of ones.
+pub(crate) const ALL_ONES: u32 = 0xffff_ffff;
 
 fn push_words(out: &mut Vec<u8>, order: Endianness, words: &[u32]) -> Result<(), AllocError> {
     for word in words {
