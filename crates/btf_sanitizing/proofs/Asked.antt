@@ -1,11 +1,11 @@
 -- Lists of answers as questions are asked.
-use Rattle.std.proofs.Common.{◌≡◌, ℕ, ◌+◌, ◌<◌, ◌≤◌, ◌==◌, Bool, true, false, cond, List, [], ◌∷◌, ◌++◌, ◌||◌, length, map, refl, ap, sym, ◌∙◌, suc, subst, arith, Option, Some, None, unwrap_or, append_assoc}
+use Rattle.std.proofs.Common.{◌≡◌, ℕ, ◌+◌, ◌<◌, ◌≤◌, ◌==◌, Bool, true, false, cond, List, [], ◌∷◌, ◌++◌, ◌||◌, length, refl, ap, sym, ◌∙◌, suc, subst, arith, Some, None, append_assoc}
 use Rattle.std.proofs.lemmas.Bool.{eqb-true}
-use Rattle.std.specs.Fn.{Mut, Called}
+use Rattle.std.specs.Fn.{Mut}
 use Rattle.std.specs.List.{FoldsTo, list_any}
 use Rattle.btf_records.specs.declared.feature.BtfFeature.{BtfFeature}
 use Rattle.btf_records.specs.declared.feature.BtfFeature.TheVariants.{Func, FuncGlobal, DataSec, DataSecZero, Float, DeclTag, TypeTag, Enum64}
-use Rattle.btf_sanitizing.specs.Answers.{Answers, AreDistinct, AreGiven, Settles, answer_to, features, granted, is_same, noted, noted_all, place_of, times}
+use Rattle.btf_sanitizing.specs.Answers.{Answers, AreDistinct, AreGiven, Settles, answer_to, features, is_same, noted, place_of, times}
 
 -- ---- features and their places
 

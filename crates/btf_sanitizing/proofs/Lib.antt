@@ -7,3 +7,4 @@ pub mod Passes
 pub mod Placed
 pub mod Stepping
 pub mod Questions
+pub mod Kept

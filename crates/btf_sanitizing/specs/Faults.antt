@@ -1,5 +1,5 @@
 -- Why a record can't be rewritten.
-use Rattle.std.specs.Prelude.{◌≡◌, ℕ, ◌+◌, ◌*◌, ◌⊎◌, Any, Bool, true, false, if◌then◌else◌, length, List, Option, None, Some, option_and_then}
+use Rattle.std.specs.Prelude.{◌≡◌, ℕ, ◌+◌, ◌*◌, ◌⊎◌, Any, true, false, if◌then◌else◌, length, List, Option, None, Some, option_and_then}
 use Rattle.std.specs.Option.{IsSomeAnd}
 use Rattle.std.specs.String.{string_bytes}
 use Rattle.btf_records.specs.Fields.{var_of}

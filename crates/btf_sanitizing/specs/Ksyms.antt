@@ -1,5 +1,6 @@
 -- The section `.ksyms` of a table, whose entries are made such as a kernel takes them, as libbpf's
--- bpf_object__collect_externs has it (tools/lib/bpf/libbpf.c).
+-- bpf_object__collect_externs has it (tools/lib/bpf/libbpf.c), which seeks an integer of 32 bits where one of 4 bytes is
+-- sought here.
 use Rattle.std.specs.Prelude.{◌≡◌, ℕ, ◌+◌, ◌*◌, ◌==◌, ◌&&◌, ◌⊎◌, Any, Bool, true, false, if◌then◌else◌, List, [], ◌∷◌, ◌++◌, codes, length, Option, Some, None, is_none, unwrap_or}
 use Rattle.std.specs.List.{list_any}
 use Rattle.std.specs.Option.{IsSomeAnd, option_map_or}

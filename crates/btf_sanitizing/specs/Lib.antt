@@ -2,6 +2,7 @@ pub mod Additions
 pub mod Answers
 pub mod Facts
 pub mod Faults
+pub mod Kept
 pub mod Knowledge
 pub mod Ksyms
 pub mod Names

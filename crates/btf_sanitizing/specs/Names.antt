@@ -8,7 +8,8 @@ use Rattle.btf_records.specs.declared.item.BtfParam.{BtfParam}
 abbrev pub replaced : ℕ → ℕ → List ℕ → List ℕ
 replaced from to = map (λ b. if b == from then to else b)
 
--- the functions that compilers call on their own: the kernel takes no global function of these names
+-- the functions that compilers call on their own. Kernels verify a global function apart from its callers, whose bounds
+-- these need, so they are made static.
 abbrev pub is_memory_function : List ℕ → Bool
 is_memory_function name = pointwise nat_eq name (codes "memset") || pointwise nat_eq name (codes "memcpy") || pointwise nat_eq name (codes "memmove") || pointwise nat_eq name (codes "memcmp")
 

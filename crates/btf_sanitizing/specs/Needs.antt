@@ -14,7 +14,7 @@ use Rattle.btf_records.specs.declared.types.BtfType.{BtfType}
 use Rattle.btf_sanitizing.specs.Answers.{Answers, features, granted, noted_all}
 use Rattle.btf_sanitizing.specs.Names.{is_memory_function}
 
--- a function of global linkage, whose name can be read and isn't one that a kernel takes as static alone
+-- a function of global linkage, whose name can be read and isn't one that is made static
 abbrev pub stays_global : Option (List ℕ) → ℕ → Bool
 stays_global text linkage = (linkage == 1) && option_map_or (λ name. not (is_memory_function name)) text false
 

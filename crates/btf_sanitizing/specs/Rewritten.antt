@@ -1,15 +1,13 @@
--- What becomes of each record, by its kind: as libbpf's bpf_object__sanitize_btf has it where a feature is missing
--- (tools/lib/bpf/libbpf.c), and as the kernel's checks want names and linkages where it is there (kernel/bpf/btf.c).
-use Rattle.std.specs.Prelude.{ℕ, ◌*◌, ◌==◌, ◌&&◌, Bool, false, true, not, if◌then◌else◌, List, [], ◌∷◌, ◌++◌, length, map, Option, Some, None, option_and_then, unwrap_or, max}
+-- What becomes of each record, by its kind: where a feature is missing, as libbpf's bpf_object__sanitize_btf replaces it
+-- (tools/lib/bpf/libbpf.c); where it is there, as the kernel's checks of names and linkages want it (kernel/bpf/btf.c).
+use Rattle.std.specs.Prelude.{ℕ, ◌*◌, ◌==◌, ◌&&◌, Bool, false, true, not, if◌then◌else◌, List, [], ◌∷◌, length, map, Some, option_and_then, unwrap_or, max}
 use Rattle.std.specs.Option.{option_map_or}
 use Rattle.string_table.specs.Texts.{text_at}
 use Rattle.btf_records.specs.Info.{flagged}
 use Rattle.btf_records.specs.Fields.{name_offset_of, var_of}
-use Rattle.btf_records.specs.declared.compound.Enum64Fallback.{Enum64Fallback}
 use Rattle.btf_records.specs.declared.compound.Struct.{Struct}
 use Rattle.btf_records.specs.declared.encoding.VarLinkage.{VarLinkage}
 use Rattle.btf_records.specs.declared.encoding.VarLinkage.TheVariants as linkages
-use Rattle.btf_records.specs.declared.feature.BtfFeature.{BtfFeature}
 use Rattle.btf_records.specs.declared.feature.BtfFeature.TheVariants as feature
 use Rattle.btf_records.specs.declared.functions.Func.{Func}
 use Rattle.btf_records.specs.declared.functions.FuncProto.{FuncProto}
@@ -28,15 +26,16 @@ use Rattle.btf_sanitizing.specs.Facts.{Facts, name_at, type_at}
 use Rattle.btf_sanitizing.specs.Names.{named_params, param_texts}
 use Rattle.btf_sanitizing.specs.Needs.{stays_global}
 
--- FUNC: without the feature the TYPEDEF of its name and type; else of global linkage where that is granted and the
--- name isn't a memory function's, and so static where it was global (the kernel takes neither otherwise)
+-- FUNC: without the feature the TYPEDEF of its name and type, as in libbpf; a global one becomes static without the
+-- feature of global functions, as in libbpf, and where its name is a memory function's
 abbrev pub rewritten_func : Facts → Func → BtfType
 rewritten_func known t =
     if not (known.grants feature.Func) then types.Typedef (record { name_offset = t.name_offset; vlen = 0; info = flagged false; btf_type = t.btf_type })
     else if (t.vlen == 1) && not (stays_global (text_at known.strings t.name_offset) t.vlen && known.grants feature.FuncGlobal) then types.Func (record t { vlen = 0 })
     else types.Func t
 
--- FUNC_PROTO: without the feature an ENUM of 4 bytes with a variant for each parameter; else its parameters have names
+-- FUNC_PROTO: without the feature an ENUM of 4 bytes with a variant for each parameter, as in libbpf; else its parameters
+-- have names, which the kernel asks for in btf_func_check
 abbrev pub variant_of_param : BtfParam → BtfEnum
 variant_of_param p = record { name_offset = p.name_offset; value = p.btf_type }
 
@@ -48,7 +47,8 @@ rewritten_signature known a t =
 abbrev pub after_signature : Facts → Added → FuncProto → Added
 after_signature known a t = if known.grants feature.Func then with_texts (param_texts 0 t.params) a else a
 
--- ENUM64: without the feature a UNION of its size with a member of one byte for each variant, which keeps the enum aside
+-- ENUM64: without the feature a UNION of its size with a member of one byte for each variant, as in libbpf; the enum is
+-- kept aside for relocations
 abbrev pub member_of_variant : ℕ → BtfEnum64 → BtfMember
 member_of_variant placeholder v = record { name_offset = v.name_offset; btf_type = placeholder; offset = 0 }
 
@@ -60,16 +60,17 @@ rewritten_enum64 known a t =
     if known.grants feature.Enum64 then types.Enum64 t
     else types.Union (record { name_offset = t.name_offset; info = flagged false; size = t.size; members = map (member_of_variant (placeholder_id a)) t.variants; fallback = Some (record { signed = t.info.flag; variants = t.variants }) })
 
--- DATASEC without the feature: a STRUCT with a member for each entry, whose name has `_` where a `.` stood (46, 95)
+-- DATASEC without the feature: a STRUCT with a member for each entry, whose name has `_` where a `.` stood (46, 95), as in
+-- libbpf, which leaves the section's size and changes the name in place; here the size is the number of entries
 abbrev pub member_of_entry : Facts → DataSecEntry → BtfMember
 member_of_entry known e = record { name_offset = option_map_or name_offset_of (type_at known e.btf_type) 0; btf_type = e.btf_type; offset = 8 * e.offset }
 
 abbrev pub section_struct : Facts → Added → DataSec → Struct
 section_struct known a t = record { name_offset = renamed_offset 46 (name_at known t.name_offset) t.name_offset a; info = flagged false; size = length t.entries; members = map (member_of_entry known) t.entries }
 
--- DATASEC with the feature: its name has `.` where a `/` stood (47, 46). Where its size isn't given, it is that of the
--- section of the name that it had, and each variable that isn't static stands at its symbol's offset, as
--- libbpf's btf_fixup_datasec has it.
+-- DATASEC with the feature: its name has `.` where a `/` stood (47, 46), which kernels refuse in names. Where its size isn't
+-- given, it is that of the section of the name that it had, and each variable that isn't static stands at its symbol's
+-- offset, as libbpf's btf_fixup_datasec has it, which also sorts the entries.
 abbrev pub is_static : VarLinkage → Bool
 is_static linkages.Static = true
 is_static _ = false
@@ -111,8 +112,9 @@ after_granted known a t = if is_filled known t then with_filler (with_new_name k
 abbrev pub after_section : Facts → Added → DataSec → Added
 after_section known a t = if known.grants feature.DataSec then after_granted known a t else with_renamed 46 95 (name_at known t.name_offset) a
 
--- a record as it becomes, behind what is added before it. PTR loses its name, which the kernel refuses; VAR and
--- DECL_TAG become an integer of their name, FLOAT a struct of its size, TYPE_TAG a CONST, a signed ENUM an unsigned one
+-- a record as it becomes, behind what is added before it. PTR loses its name, which the kernel refuses in
+-- btf_ref_type_check_meta. Without their features, as in libbpf: VAR and DECL_TAG become an integer of one byte of their
+-- name, FLOAT a nameless struct of its size, TYPE_TAG a nameless CONST, a signed ENUM an unsigned one.
 abbrev pub rewritten : Facts → Added → BtfType → BtfType
 rewritten known a (types.Ptr t) = types.Ptr (record t { name_offset = 0 })
 rewritten known a (types.Var t) = if known.grants feature.DataSec then types.Var t else small_int t.name_offset

@@ -1,5 +1,5 @@
 -- A table of which only granted features are left: its types and strings.
-use Rattle.std.specs.Prelude.{ℕ, ◌+◌, ◌<◌, ◌^◌, ◌⊎◌, ◌≡◌, ◌∷◌, [], Any, List, ◌++◌, length}
+use Rattle.std.specs.Prelude.{ℕ, ◌<◌, ◌^◌, ◌⊎◌, ◌≡◌, ◌∷◌, [], Any, List, ◌++◌, length}
 use Rattle.std.specs.List.{flat_map}
 use Rattle.btf_encoding.specs.Records.{record_bytes}
 use Rattle.btf_parts.specs.Growth.{TooMany}

@@ -113,8 +113,8 @@ fn ask_both<F: FnMut(BtfFeature) -> bool>(
     }
 }
 
-/// Whether a function may stay global: it is, and its name can be read and isn't one that kernels
-/// take as static alone.
+/// Whether a function may stay global: it is, and its name can be read and isn't a memory
+/// function's.
 pub(crate) fn stays_global(strings: &Strings<'_>, name_offset: u32, linkage: usize) -> bool
     ensures { result ≡ stays_global (text_at strings.now name_offset) linkage }
 {

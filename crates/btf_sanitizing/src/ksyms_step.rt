@@ -5,6 +5,7 @@ ghost use Rattle.std.proofs.Math.ListN.{get_or};
 ghost use Rattle.btf_parts.specs.Growth.{TooMany};
 ghost use Rattle.btf_records.specs.declared.error.BtfError.TheVariants.{InvalidTypeInfo, OutOfMemory};
 ghost use Rattle.btf_sanitizing.specs.Faults.{IsFaultless};
+ghost use Rattle.btf_sanitizing.specs.Kept.{StepKeeps};
 ghost use Rattle.btf_sanitizing.specs.Knowledge.{IsStep, ksyms_of};
 ghost use Rattle.btf_sanitizing.specs.Ksyms.{EntryFault, IsOverfull, KsymsFault, adds_int, SubjectFault, int4_from, int_name, section_entries, signed_int, stepped, stepped_from, stepped_texts, stepped_types};
 ghost use Rattle.btf_sanitizing.specs.Sanitized.{AreFew, AreTooMany};
@@ -208,6 +209,25 @@ fn with_int<'a>(
     Ok(SanitizedTable { records, texts })
 }
 
+/// What the records become, with the integer and its name where these are added.
+fn stepped_table<'a>(alloc: Global, k: &KsymsSection<'_>) -> Result<SanitizedTable<'a>, BtfError>
+    requires { length (ksyms_of k.now).strings < 2 ^ 32 }
+    ensures types { IfOk result (λ s. s.records.types ≡ stepped_types (ksyms_of k.now)) }
+    ensures order { IfOk result (λ s. s.records.order ≡ k.now.types.now.order) }
+    ensures texts { IfOk result (λ s. s.texts.items ≡ stepped_texts (ksyms_of k.now)) }
+    ensures refused { IfErr result (λ e. e ≢ OutOfMemory → KsymsFault k.now.types.now.order (ksyms_of k.now) e) }
+    ensures accepted { OnOk result (IsFaultless (KsymsFault k.now.types.now.order (ksyms_of k.now))) }
+{
+    let entries = section_entries(alloc, k)?;
+    let int = int4_id(k.types);
+    let step = step_of(alloc, k, entries.as_slice(), int)?;
+    let mut records = TypeRecords::new(alloc, k.types.order());
+    step_all(alloc, k, &step, &mut records)?;
+    let is_added = any_names_var(k, entries.as_slice()) && int.is_none();
+    let table = with_int(alloc, k, is_added, records)?;
+    Ok(table)
+}
+
 /// The records of a table behind the step on its section `.ksyms`, and the text behind its strings:
 /// each entry gets a place of 4 bytes and, where it names a function, names the placeholder; the
 /// functions and variables that it names become global, the variables of the least integer of 4
@@ -224,13 +244,8 @@ pub fn fixup_ksyms<'a>(alloc: Global, k: &KsymsSection<'_>) -> Result<SanitizedT
     ensures texts { IfOk result (λ s. s.texts.items ≡ stepped_texts (ksyms_of k.now)) }
     ensures refused { IfErr result (λ e. e ≢ OutOfMemory → KsymsFault k.now.types.now.order (ksyms_of k.now) e) }
     ensures accepted { OnOk result (IsFaultless (KsymsFault k.now.types.now.order (ksyms_of k.now))) }
+    ensures keeps { IfOk result (λ s. StepKeeps (ksyms_of k.now) s.records.types) }
 {
-    let entries = section_entries(alloc, k)?;
-    let int = int4_id(k.types);
-    let step = step_of(alloc, k, entries.as_slice(), int)?;
-    let mut records = TypeRecords::new(alloc, k.types.order());
-    step_all(alloc, k, &step, &mut records)?;
-    let is_added = any_names_var(k, entries.as_slice()) && int.is_none();
-    let table = with_int(alloc, k, is_added, records)?;
+    let table = stepped_table(alloc, k)?;
     Ok(table)
 }

@@ -14,11 +14,8 @@ mod section;
 mod signature;
 mod table;
 
-pub use additions::Additions;
-pub use answers::{Answers, ask_all, is_granted};
+pub use answers::{Answers, ask_all};
 pub use known::Known;
 pub use ksyms::KsymsSection;
 pub use ksyms_step::fixup_ksyms;
-pub use names::is_memory_function;
-pub use rows::rewritten;
 pub use table::{SanitizedTable, sanitize};

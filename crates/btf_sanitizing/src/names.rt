@@ -8,7 +8,8 @@ ghost use Rattle.btf_sanitizing.specs.Names.{is_memory_function, is_nameless, pa
 use btf_records::BtfParam;
 use std::alloc::{AllocError, Global};
 
-/// Whether a function is one of those that compilers call on their own, as `memset`.
+/// Whether a function is one of those that compilers call on their own, as `memset`: these are made
+/// static, since kernels verify a global function apart from its callers.
 pub fn is_memory_function(name: &str) -> bool
     ensures { result ≡ is_memory_function name.now }
 {

@@ -3,6 +3,7 @@
 ghost use Rattle.std.specs.Prelude.{◌≡◌, ◌≢◌, ◌<◌, ◌++◌, ◌^◌, ◌∷◌, [], Any, IfErr, IfOk, OnOk, length};
 ghost use Rattle.btf_records.specs.declared.error.BtfError.TheVariants.{InvalidTypeInfo, OutOfMemory};
 ghost use Rattle.btf_sanitizing.specs.Faults.{IsFaultless, KindFault};
+ghost use Rattle.btf_sanitizing.specs.Kept.{Keeps};
 ghost use Rattle.btf_sanitizing.specs.Knowledge.{facts_of};
 ghost use Rattle.btf_sanitizing.specs.Rewritten.{after, after_all, all_rewritten, rewritten};
 ghost use Rattle.btf_sanitizing.specs.Sanitized.{AnyFault, AreFew, AreTooMany, NextFault, SanitizingFault, sanitized_strings, sanitized_types};
@@ -81,12 +82,8 @@ pub struct SanitizedTable<'a> {
     pub texts: Vec<u8>,
 }
 
-/// The records of a table of which only granted features are left, each under its id, and behind
-/// them the types that are added; the texts that are added behind its strings.
-///
-/// The errors of `rewritten`, and `InvalidTypeInfo` where the strings, the types, or their bytes
-/// are more than 32 bits can count.
-pub fn sanitize<'a>(alloc: Global, known: &Known<'_, '_>) -> Result<SanitizedTable<'a>, BtfError>
+/// What the records become, with the types and the texts that are added.
+fn rewritten_table<'a>(alloc: Global, known: &Known<'_, '_>) -> Result<SanitizedTable<'a>, BtfError>
     requires { length (facts_of known.now).strings < 2 ^ 32 }
     ensures types { IfOk result (λ s. s.records.types ≡ sanitized_types (facts_of known.now)) }
     ensures order { IfOk result (λ s. s.records.order ≡ known.now.types.now.order) }
@@ -100,4 +97,25 @@ pub fn sanitize<'a>(alloc: Global, known: &Known<'_, '_>) -> Result<SanitizedTab
     let (texts, types) = additions.into_parts();
     push_all(&mut records, types)?;
     Ok(SanitizedTable { records, texts })
+}
+
+/// The records of a table of which only granted features are left, each under its id, and behind
+/// them the types that are added; the texts that are added behind its strings. What is left needs
+/// granted features alone.
+///
+/// `InvalidStringOffset` where a name must be read and can't be, `UnknownBtfType` and
+/// `InvalidDatasec` where an entry of a section names no type, no variable or one too far away,
+/// `UnknownSectionSize` and `SymbolOffsetNotFound` where the object doesn't say what a section lacks,
+/// `InvalidTypeInfo` where the strings, the types, or their bytes are more than 32 bits can count.
+pub fn sanitize<'a>(alloc: Global, known: &Known<'_, '_>) -> Result<SanitizedTable<'a>, BtfError>
+    requires { length (facts_of known.now).strings < 2 ^ 32 }
+    ensures types { IfOk result (λ s. s.records.types ≡ sanitized_types (facts_of known.now)) }
+    ensures order { IfOk result (λ s. s.records.order ≡ known.now.types.now.order) }
+    ensures strings { IfOk result (λ s. (facts_of known.now).strings ++ s.texts.items ≡ sanitized_strings (facts_of known.now)) }
+    ensures refused { IfErr result (λ e. e ≢ OutOfMemory → SanitizingFault known.now.types.now.order (facts_of known.now) e) }
+    ensures accepted { OnOk result (IsFaultless (SanitizingFault known.now.types.now.order (facts_of known.now))) }
+    ensures keeps { IfOk result (λ s. Keeps (facts_of known.now) s.records.types) }
+{
+    let table = rewritten_table(alloc, known)?;
+    Ok(table)
 }

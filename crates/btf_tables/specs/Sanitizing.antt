@@ -1,5 +1,5 @@
 -- A table rewritten to the features that a kernel grants: the step on `.ksyms`, then each record.
-use Rattle.std.specs.Prelude.{◌≡◌, ℕ, ◌⊎◌, Bool, List, [], ◌++◌, Option, None, Some}
+use Rattle.std.specs.Prelude.{ℕ, Bool, List, [], ◌++◌, Option, None, Some}
 use Rattle.std.specs.Fn.{Mut}
 use Rattle.btf_records.specs.declared.error.BtfError.{BtfError}
 use Rattle.btf_records.specs.declared.feature.BtfFeature.{BtfFeature}

@@ -105,6 +105,29 @@ impl<'a> Btf<'a> {
         Ok(Rewritten { answers, table })
     }
 
+    /// The same behind the step on the section of these ids.
+    fn rewritten_behind<'m, F: FnMut(BtfFeature) -> bool>(
+        &self,
+        ksyms: Option<KsymsIds>,
+        sizes: &'m BTreeMap<&'m str, u64>,
+        offsets: &'m BTreeMap<&'m str, u64>,
+        predicate: F,
+    ) -> Result<Rewritten<'a>, BtfError>
+        requires { F.IsAlwaysCallable predicate }
+        ensures value { IfOk result (λ r. r.table ≡ sanitized r.answers.items (number_named sizes.now.entries) (number_named offsets.now.entries) (stepped ksyms self.now)) }
+        ensures answers { IfOk result (λ r. AreAnswersFor F.FnMut predicate (stepped ksyms self.now) r.answers.items) }
+        ensures refused { IfErr result (λ e. e ≢ OutOfMemory → StepFault ksyms self.now e ⊎ (IsFaultless (StepFault ksyms self.now) × IsRefused F.FnMut predicate (number_named sizes.now.entries) (number_named offsets.now.entries) (stepped ksyms self.now) e)) }
+        ensures stepped { OnOk result (IsFaultless (StepFault ksyms self.now)) }
+        ensures accepted { IfOk result (λ r. IsAccepted r.answers.items (number_named sizes.now.entries) (number_named offsets.now.entries) (stepped ksyms self.now)) }
+    {
+        match ksyms {
+            Some((section, placeholder)) => self
+                .with_ksyms(section, placeholder)?
+                .rewritten(sizes, offsets, predicate),
+            None => self.rewritten(sizes, offsets, predicate),
+        }
+    }
+
     /// Rewrites the table to the features that a kernel grants, as the predicate tells: first the
     /// section `.ksyms` of these ids, as `fixup_ksyms_datasec` does, then each record. What a record
     /// needs that isn't granted is replaced by records that every kernel reads; where sections are
@@ -130,12 +153,7 @@ impl<'a> Btf<'a> {
         ensures accepted { IfOk result (λ answers. IsAccepted answers.items (number_named sizes.now.entries) (number_named offsets.now.entries) (stepped ksyms self.old)) }
         ensures err { OnErr result (self.new ≡ self.old) }
     {
-        let rewritten = match ksyms {
-            Some((section, placeholder)) => self
-                .with_ksyms(section, placeholder)?
-                .rewritten(sizes, offsets, predicate)?,
-            None => self.rewritten(sizes, offsets, predicate)?,
-        };
+        let rewritten = self.rewritten_behind(ksyms, sizes, offsets, predicate)?;
         *self = rewritten.table;
         Ok(rewritten.answers)
     }

@@ -1,4 +1,4 @@
-use Rattle.std.proofs.Common.{rules, arith, sym, ◌∙◌, length}
+use Rattle.std.proofs.Common.{arith, sym, ◌∙◌}
 use Rattle.std.proofs.lemmas.Option.{slice_get_within}
 use Rattle.btf_sanitizing.proofs.Asked.{distinct_none, given_none, given_then}
 use Rattle.btf_sanitizing.proofs.Questions.{all_asked, none_asked, one_more_asked}

@@ -1,7 +1,6 @@
-use Rattle.std.proofs.Common.{rules, refl, arith, length}
+use Rattle.std.proofs.Common.{arith}
 use Rattle.btf_sanitizing.specs.Knowledge.{ksyms_of}
 use Rattle.btf_sanitizing.specs.Ksyms.{EntryFault}
-use Rattle.btf_sanitizing.proofs.Elements.{none_yet}
 use Rattle.btf_sanitizing.proofs.Faultless.{none_of_all}
 use Rattle.btf_sanitizing.proofs.Placed.{all_placed, one_more_placed}
 use Rattle.btf_sanitizing.proofs.ksyms.placed_entries.Goals as goal

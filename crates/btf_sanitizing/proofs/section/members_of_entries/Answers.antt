@@ -1,4 +1,4 @@
-use Rattle.std.proofs.Common.{rules, arith}
+use Rattle.std.proofs.Common.{arith}
 use Rattle.btf_sanitizing.proofs.Elements.{all_hold, all_made, one_more}
 use Rattle.btf_sanitizing.proofs.Faultless.{none_of_any}
 use Rattle.btf_sanitizing.proofs.section.members_of_entries.Goals as goal
