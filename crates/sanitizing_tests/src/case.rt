@@ -23,8 +23,9 @@ pub(crate) static SIZES: [(&str, u64); 3] = [(".bss", 6), ("a/b", 16), (".long",
 /// The offsets of its symbols.
 pub(crate) static OFFSETS: [(&str, u64); 2] = [("v", 24), ("far", 0x1_0000_0000)];
 
-/// The words of a table's records, its strings, and what a kernel grants; the questions that are
-/// asked with their answers, the words of the records then, and the strings that are added.
+/// The words of a table's records, its strings, the ids of its section `.ksyms`, and what a kernel
+/// grants; the questions that are asked with their answers, the words of the records then, and the
+/// strings that are added.
 pub(crate) struct Case {
     pub(crate) title: &'static str,
     pub(crate) types: &'static [u32],
@@ -47,8 +48,8 @@ fn numbers_of(
     Ok(map)
 }
 
-/// Rewrites a table for a kernel that grants these features, for an object of these sections; the
-/// answers come out where each was asked for once.
+/// Rewrites a table for a kernel that grants these features, for an object of these sections. Each
+/// answer was asked for once.
 pub(crate) fn sanitize(
     rt: &impl Abort,
     alloc: Global,
@@ -73,9 +74,8 @@ pub(crate) fn check(rt: &impl Abort, alloc: Global, case: &Case) {
     for order in ORDERS {
         let section = section_of(rt, alloc, order, case.types, case.strings, &[]);
         let mut table = parse(rt, alloc, section.as_slice(), order);
-        let answers = sanitize(rt, alloc, &mut table, &SIZES, case.ksyms, case.granted).expect(
-            rt, case.title,
-        );
+        let outcome = sanitize(rt, alloc, &mut table, &SIZES, case.ksyms, case.granted);
+        let answers = outcome.expect(rt, case.title);
         assert_eq!(rt; answers.as_slice(), case.answers, "{}", case.title);
         let rewritten = table.to_bytes().expect(rt, "bytes");
         let wanted = section_of(rt, alloc, order, case.rewritten, case.strings, case.added);

@@ -1,4 +1,5 @@
-//! Sections of types by hand, from the kernel's BTF documentation.
+//! Sections of types by hand, from the kernel's BTF documentation. Info words are named by kind and,
+//! behind a `_`, by the count of their items.
 
 ghost use Rattle.std.specs.Prelude.{◌<◌, ◌^◌, length};
 
@@ -8,7 +9,6 @@ use std::process::Abort;
 
 pub(crate) const ORDERS: [Endianness; 2] = [Endianness::Little, Endianness::Big];
 
-/// The info words of records, by kind and, behind a `_`, the count of their items.
 pub(crate) const INT: u32 = 0x0100_0000;
 
 pub(crate) const PTR: u32 = 0x0200_0000;
@@ -43,7 +43,7 @@ pub(crate) const CONST: u32 = 0x0a00_0000;
 
 pub(crate) const RESTRICT: u32 = 0x0b00_0000;
 
-/// Those of functions: static, global, extern, and of no linkage that is known.
+/// Of functions: static, global, extern, and of no linkage that is known.
 pub(crate) const FUNC: u32 = 0x0c00_0000;
 
 pub(crate) const GLOBAL: u32 = 0x0c00_0001;
@@ -52,7 +52,7 @@ pub(crate) const EXTERN: u32 = 0x0c00_0002;
 
 pub(crate) const OTHER_FUNC: u32 = 0x0c00_0101;
 
-/// Those of signatures.
+/// Of signatures.
 pub(crate) const PROTO: u32 = 0x0d00_0000;
 
 pub(crate) const PROTO_1: u32 = 0x0d00_0001;
@@ -83,7 +83,7 @@ pub(crate) const ENUM64: u32 = 0x1300_0000;
 
 pub(crate) const ENUM64_1: u32 = 0x1300_0001;
 
-/// Those of signed enums, the last of 64 bits.
+/// Of signed enums, the last of 64 bits.
 pub(crate) const SIGNED: u32 = 0x8600_0000;
 
 pub(crate) const SIGNED_1: u32 = 0x8600_0001;
