@@ -48,6 +48,20 @@ fn numbers_of(
     Ok(map)
 }
 
+/// What a kernel grants, and how often it was asked.
+#[derive(Drop)]
+struct Kernel {
+    granted: &'static [BtfFeature],
+    calls: usize,
+}
+
+impl Kernel {
+    fn grants(&mut self, feature: BtfFeature) -> bool {
+        self.calls = self.calls.wrapping_add(1);
+        self.granted.contains(&feature)
+    }
+}
+
 /// Rewrites a table for a kernel that grants these features, for an object of these sections. Each
 /// answer was asked for once.
 pub(crate) fn sanitize(
@@ -56,17 +70,22 @@ pub(crate) fn sanitize(
     table: &mut Btf<'_>,
     sizes: &[(&'static str, u64)],
     ksyms: Option<KsymsIds>,
-    granted: &[BtfFeature],
+    granted: &'static [BtfFeature],
 ) -> Result<Answers, BtfError> {
     let sizes = numbers_of(alloc, sizes).expect(rt, "sizes");
     let offsets = numbers_of(alloc, &OFFSETS).expect(rt, "offsets");
-    let mut calls: usize = 0;
-    let answers = table.fixup_and_sanitize(&sizes, &offsets, ksyms, |feature| {
-        calls = calls.wrapping_add(1);
-        granted.contains(&feature)
-    })?;
-    assert_eq!(rt; calls, answers.len());
-    Ok(answers)
+    let mut kernel = Kernel { granted, calls: 0 };
+    let outcome = table.fixup_and_sanitize(
+        &sizes,
+        &offsets,
+        ksyms,
+        |feature| kernel.grants(feature),
+    );
+    let count = outcome
+        .as_ref()
+        .map_or(kernel.calls, |answers| answers.len());
+    assert_eq!(rt; kernel.calls, count);
+    outcome
 }
 
 /// Rewrites the table of a case in both byte orders.

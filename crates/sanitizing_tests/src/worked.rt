@@ -4,6 +4,9 @@ use crate::case::sanitize;
 use crate::sections::parse;
 use btf::{BtfError, BtfFeature, Endianness};
 
+/// What is granted for the sections.
+static GRANTED: [BtfFeature; 1] = [BtfFeature::DataSec];
+
 /// Floats of 4 and 8 bytes.
 const FLOATS: [u8; 53] = [
     0x9f, 0xeb, 0x01, 0x00, 0x18, 0x00, 0x00, 0x00, 0x00, 0x00, 0x00, 0x00, 0x18, 0x00, 0x00, 0x00,
@@ -52,9 +55,8 @@ fn floats_become_structs(rt: HostRuntime) {
 #[test]
 fn an_empty_section_is_filled(rt: HostRuntime) {
     let mut table = parse(&rt, rt.alloc(), &EMPTY, Endianness::Little);
-    let granted = [BtfFeature::DataSec];
     let sizes = [(".bss", 0)];
-    let answers = sanitize(&rt, rt.alloc(), &mut table, &sizes, None, &granted).expect(
+    let answers = sanitize(&rt, rt.alloc(), &mut table, &sizes, None, &GRANTED).expect(
         &rt, "answers",
     );
     let wanted = [
@@ -76,8 +78,7 @@ fn names_bss(error: &BtfError) -> bool {
 #[test]
 fn a_section_that_is_not_there_is_refused(rt: HostRuntime) {
     let mut table = parse(&rt, rt.alloc(), &EMPTY, Endianness::Little);
-    let granted = [BtfFeature::DataSec];
-    let refused = sanitize(&rt, rt.alloc(), &mut table, &[], None, &granted);
+    let refused = sanitize(&rt, rt.alloc(), &mut table, &[], None, &GRANTED);
     assert!(rt; refused.is_err_and(|error| names_bss(&error)));
     let section = table.to_bytes().expect(&rt, "bytes");
     assert_eq!(rt; section.as_slice(), EMPTY.as_slice());
