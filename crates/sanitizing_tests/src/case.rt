@@ -62,6 +62,17 @@ impl Kernel {
     }
 }
 
+/// The call itself, over maps of its caller.
+fn rewrite<'m>(
+    table: &mut Btf<'_>,
+    sizes: &'m BTreeMap<&'m str, u64>,
+    offsets: &'m BTreeMap<&'m str, u64>,
+    ksyms: Option<KsymsIds>,
+    kernel: &mut Kernel,
+) -> Result<Answers, BtfError> {
+    table.fixup_and_sanitize(sizes, offsets, ksyms, |feature| kernel.grants(feature))
+}
+
 /// Rewrites a table for a kernel that grants these features, for an object of these sections. Each
 /// answer was asked for once.
 pub(crate) fn sanitize(
@@ -75,12 +86,7 @@ pub(crate) fn sanitize(
     let sizes = numbers_of(alloc, sizes).expect(rt, "sizes");
     let offsets = numbers_of(alloc, &OFFSETS).expect(rt, "offsets");
     let mut kernel = Kernel { granted, calls: 0 };
-    let outcome = table.fixup_and_sanitize(
-        &sizes,
-        &offsets,
-        ksyms,
-        |feature| kernel.grants(feature),
-    );
+    let outcome = rewrite(table, &sizes, &offsets, ksyms, &mut kernel);
     let count = outcome
         .as_ref()
         .map_or(kernel.calls, |answers| answers.len());
