@@ -1,0 +1,141 @@
+//! The section `.ksyms`.
+
+use crate::case::{ALL, Case, check};
+use crate::sections::{
+    DATASEC, DATASEC_1, DATASEC_2, ENUM, EXTERN, FUNC, GLOBAL, INT, ORDERS, PROTO, PROTO_1,
+    SIGNED_INT, STRUCT_2, TYPEDEF, VAR, parse, section_of,
+};
+use btf::BtfFeature;
+
+/// `f`, `v`, `.ksyms` and `p` at 1, 3, 5 and 12.
+const STRINGS: [u8; 14] = *b"\0f\0v\0.ksyms\0p\0";
+
+/// Three integers, the second and third of 4 bytes; a signature, an extern function and an extern
+/// variable; the placeholder of id 7, and the section of id 8.
+const EXTERNS: [u32; 35] = [
+    0, INT, 8, 0x40, 0, INT, 4, 0x20, 0, INT, 4, 0x20, 0, PROTO, 0, 1, EXTERN, 4, 3, VAR, 0, 2, 12,
+    VAR, 2, 1, 5, DATASEC_2, 0, 5, 9, 9, 6, 9, 9,
+];
+
+/// The words of a table's records, the ids of its section and of the placeholder, the words of the
+/// records then, and the strings that are added.
+struct Step {
+    title: &'static str,
+    types: &'static [u32],
+    section: u32,
+    placeholder: Option<u32>,
+    stepped: &'static [u32],
+    added: &'static [u8],
+}
+
+static STEPS: [Step; 4] = [
+    Step {
+        title: "a function and a variable",
+        types: &EXTERNS,
+        section: 8,
+        placeholder: Some(7),
+        stepped: &[
+            0, INT, 8, 0x40, 0, INT, 4, 0x20, 0, INT, 4, 0x20, 0, PROTO, 0, 1, GLOBAL, 4, 3, VAR,
+            2, 1, 12, VAR, 2, 1, 5, DATASEC_2, 8, 7, 0, 4, 6, 4, 4,
+        ],
+        added: b"",
+    },
+    Step {
+        title: "a variable where there is no integer of 4 bytes",
+        types: &[0, INT, 8, 0x40, 3, VAR, 0, 2, 5, DATASEC_1, 0, 2, 0, 0],
+        section: 3,
+        placeholder: None,
+        stepped: &[
+            0, INT, 8, 0x40, 3, VAR, 4, 1, 5, DATASEC_1, 4, 2, 0, 4, 14, INT, 4, SIGNED_INT,
+        ],
+        added: b"int\0",
+    },
+    Step {
+        title: "functions alone need no integer",
+        types: &[
+            1, FUNC, 0, 12, VAR, 0, 1, 5, DATASEC_2, 1, 1, 0, 0, 1, 0, 0, 3, FUNC, 0,
+        ],
+        section: 3,
+        placeholder: Some(2),
+        stepped: &[
+            1, GLOBAL, 0, 12, VAR, 0, 1, 5, DATASEC_2, 8, 2, 0, 4, 2, 4, 4, 3, FUNC, 0,
+        ],
+        added: b"",
+    },
+    Step {
+        title: "a section without entries",
+        types: &[5, DATASEC, 4],
+        section: 1,
+        placeholder: None,
+        stepped: &[5, DATASEC, 0],
+        added: b"",
+    },
+];
+
+#[test]
+fn externs_get_their_places(rt: HostRuntime) {
+    let alloc = rt.alloc();
+    for step in &STEPS {
+        for order in ORDERS {
+            let section = section_of(&rt, alloc, order, step.types, &STRINGS, &[]);
+            let mut table = parse(&rt, alloc, section.as_slice(), order);
+            let outcome = table.fixup_ksyms_datasec(step.section, step.placeholder);
+            assert!(rt; outcome.is_ok(), "{}", step.title);
+            let stepped = table.to_bytes().expect(&rt, "bytes");
+            let wanted = section_of(&rt, alloc, order, step.stepped, &STRINGS, step.added);
+            assert_eq!(rt; stepped.as_slice(), wanted.as_slice(), "{}", step.title);
+        }
+    }
+}
+
+static CASES: [Case; 3] = [
+    Case {
+        title: "externs where nothing is granted",
+        types: &EXTERNS,
+        strings: &STRINGS,
+        ksyms: Some((8, Some(7))),
+        granted: &[],
+        answers: &[(BtfFeature::Func, false), (BtfFeature::DataSec, false)],
+        rewritten: &[
+            0, INT, 8, 0x40, 0, INT, 4, 0x20, 0, INT, 4, 0x20, 0, ENUM, 4, 1, TYPEDEF, 4, 3, INT,
+            1, 8, 12, INT, 1, 8, 14, STRUCT_2, 2, 12, 7, 0, 3, 6, 32,
+        ],
+        added: b"_ksyms\0",
+    },
+    Case {
+        title: "externs where all is granted",
+        types: &EXTERNS,
+        strings: &STRINGS,
+        ksyms: Some((8, Some(7))),
+        granted: &ALL,
+        answers: &[
+            (BtfFeature::Func, true),
+            (BtfFeature::FuncGlobal, true),
+            (BtfFeature::DataSec, true),
+        ],
+        rewritten: &[
+            0, INT, 8, 0x40, 0, INT, 4, 0x20, 0, INT, 4, 0x20, 0, PROTO, 0, 1, GLOBAL, 4, 3, VAR,
+            2, 1, 12, VAR, 2, 1, 5, DATASEC_2, 8, 7, 0, 4, 6, 4, 4,
+        ],
+        added: b"",
+    },
+    Case {
+        title: "the integer stands before what else is added",
+        types: &[3, VAR, 0, 2, 5, DATASEC_1, 0, 1, 0, 0, 1, PROTO_1, 0, 0, 1],
+        strings: &STRINGS,
+        ksyms: Some((2, None)),
+        granted: &[BtfFeature::Func, BtfFeature::DataSec],
+        answers: &[(BtfFeature::DataSec, true), (BtfFeature::Func, true)],
+        rewritten: &[
+            3, VAR, 4, 1, 5, DATASEC_1, 4, 1, 0, 4, 1, PROTO_1, 0, 18, 1, 14, INT, 4, SIGNED_INT,
+        ],
+        added: b"int\0param0\0",
+    },
+];
+
+#[test]
+fn externs_are_rewritten_before_the_rest(rt: HostRuntime) {
+    for case in &CASES {
+        check(&rt, rt.alloc(), case);
+    }
+}

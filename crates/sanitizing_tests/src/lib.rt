@@ -1,0 +1,19 @@
+//! Tests of rewriting tables to the features that a kernel grants.
+#![tactic(auto)]
+
+#[cfg(test)]
+mod case;
+#[cfg(test)]
+mod externs;
+#[cfg(test)]
+mod functions;
+#[cfg(test)]
+mod kinds;
+#[cfg(test)]
+mod refusals;
+#[cfg(test)]
+mod sections;
+#[cfg(test)]
+mod variables;
+#[cfg(test)]
+mod worked;

@@ -1,0 +1,158 @@
+//! Sections of types by hand, from the kernel's BTF documentation. Info words are named by kind and,
+//! behind a `_`, by the count of their items.
+
+ghost use Rattle.std.specs.Prelude.{◌<◌, ◌^◌, length};
+
+use btf::{Btf, Endianness};
+use std::alloc::{AllocError, Global};
+use std::process::Abort;
+
+pub(crate) const ORDERS: [Endianness; 2] = [Endianness::Little, Endianness::Big];
+
+pub(crate) const INT: u32 = 0x0100_0000;
+
+pub(crate) const PTR: u32 = 0x0200_0000;
+
+pub(crate) const ARRAY: u32 = 0x0300_0000;
+
+pub(crate) const STRUCT: u32 = 0x0400_0000;
+
+pub(crate) const STRUCT_1: u32 = 0x0400_0001;
+
+pub(crate) const STRUCT_2: u32 = 0x0400_0002;
+
+pub(crate) const UNION: u32 = 0x0500_0000;
+
+pub(crate) const UNION_1: u32 = 0x0500_0001;
+
+pub(crate) const UNION_2: u32 = 0x0500_0002;
+
+pub(crate) const ENUM: u32 = 0x0600_0000;
+
+pub(crate) const ENUM_1: u32 = 0x0600_0001;
+
+pub(crate) const ENUM_3: u32 = 0x0600_0003;
+
+pub(crate) const FWD: u32 = 0x0700_0000;
+
+pub(crate) const TYPEDEF: u32 = 0x0800_0000;
+
+pub(crate) const VOLATILE: u32 = 0x0900_0000;
+
+pub(crate) const CONST: u32 = 0x0a00_0000;
+
+pub(crate) const RESTRICT: u32 = 0x0b00_0000;
+
+/// Of functions: static, global, extern, and of no linkage that is known.
+pub(crate) const FUNC: u32 = 0x0c00_0000;
+
+pub(crate) const GLOBAL: u32 = 0x0c00_0001;
+
+pub(crate) const EXTERN: u32 = 0x0c00_0002;
+
+pub(crate) const OTHER_FUNC: u32 = 0x0c00_0101;
+
+/// Of signatures.
+pub(crate) const PROTO: u32 = 0x0d00_0000;
+
+pub(crate) const PROTO_1: u32 = 0x0d00_0001;
+
+pub(crate) const PROTO_3: u32 = 0x0d00_0003;
+
+pub(crate) const PROTO_4: u32 = 0x0d00_0004;
+
+pub(crate) const PROTO_11: u32 = 0x0d00_000b;
+
+pub(crate) const VAR: u32 = 0x0e00_0000;
+
+pub(crate) const DATASEC: u32 = 0x0f00_0000;
+
+pub(crate) const DATASEC_1: u32 = 0x0f00_0001;
+
+pub(crate) const DATASEC_2: u32 = 0x0f00_0002;
+
+pub(crate) const DATASEC_3: u32 = 0x0f00_0003;
+
+pub(crate) const FLOAT: u32 = 0x1000_0000;
+
+pub(crate) const DECL_TAG: u32 = 0x1100_0000;
+
+pub(crate) const TYPE_TAG: u32 = 0x1200_0000;
+
+pub(crate) const ENUM64: u32 = 0x1300_0000;
+
+pub(crate) const ENUM64_1: u32 = 0x1300_0001;
+
+/// Of signed enums, the last of 64 bits.
+pub(crate) const SIGNED: u32 = 0x8600_0000;
+
+pub(crate) const SIGNED_1: u32 = 0x8600_0001;
+
+pub(crate) const SIGNED64_2: u32 = 0x9300_0002;
+
+/// The last word of a signed integer of 32 bits.
+pub(crate) const SIGNED_INT: u32 = 0x0100_0020;
+
+/// A word of ones.
+pub(crate) const ALL_ONES: u32 = 0xffff_ffff;
+
+fn push_words(out: &mut Vec<u8>, order: Endianness, words: &[u32]) -> Result<(), AllocError> {
+    for word in words {
+        match order {
+            Endianness::Little => out.extend_from_slice(&word.to_le_bytes())?,
+            Endianness::Big => out.extend_from_slice(&word.to_be_bytes())?,
+        }
+    }
+    Ok(())
+}
+
+/// A section of records with these words, and of these strings and those behind them.
+fn section(
+    alloc: Global,
+    order: Endianness,
+    words: &[u32],
+    strings: &[u8],
+    added: &[u8],
+) -> Result<Vec<u8>, AllocError>
+    requires words { length words.now < 2 ^ 16 }
+    requires strings { length strings.now < 2 ^ 16 }
+    requires added { length added.now < 2 ^ 16 }
+{
+    let mut out = Vec::new(alloc);
+    match order {
+        Endianness::Little => out.extend_from_slice(&[0x9f, 0xeb, 1, 0])?,
+        Endianness::Big => out.extend_from_slice(&[0xeb, 0x9f, 1, 0])?,
+    }
+    let types_len = 4 * words.len() as u32;
+    let strings_len = strings.len() as u32 + added.len() as u32;
+    push_words(&mut out, order, &[24, 0, types_len, types_len, strings_len])?;
+    push_words(&mut out, order, words)?;
+    out.extend_from_slice(strings)?;
+    out.extend_from_slice(added)?;
+    Ok(out)
+}
+
+/// The section of records with these words, and of these strings and those behind them.
+pub(crate) fn section_of(
+    rt: &impl Abort,
+    alloc: Global,
+    order: Endianness,
+    words: &[u32],
+    strings: &[u8],
+    added: &[u8],
+) -> Vec<u8> {
+    assert!(rt; words.len() < 0x1_0000);
+    assert!(rt; strings.len() < 0x1_0000);
+    assert!(rt; added.len() < 0x1_0000);
+    section(alloc, order, words, strings, added).expect(rt, "a section")
+}
+
+/// The table of a section.
+pub(crate) fn parse<'a>(
+    rt: &impl Abort,
+    alloc: Global,
+    section: &'a [u8],
+    order: Endianness,
+) -> Btf<'a> {
+    Btf::parse(alloc, section, order).expect(rt, "a table")
+}
