@@ -63,10 +63,10 @@ impl Kernel {
 }
 
 /// The call itself, over maps of its caller.
-fn rewrite<'m>(
+fn rewrite<'m, 'n>(
     table: &mut Btf<'_>,
-    sizes: &'m BTreeMap<&'m str, u64>,
-    offsets: &'m BTreeMap<&'m str, u64>,
+    sizes: &'m BTreeMap<&'n str, u64>,
+    offsets: &'m BTreeMap<&'n str, u64>,
     ksyms: Option<KsymsIds>,
     kernel: &mut Kernel,
 ) -> Result<Answers, BtfError> {
