@@ -1,11 +1,12 @@
-//! Measures how long it takes to parse a file of type information, to write the table again, to make
-//! an index over it, and to find structs in it by name.
+//! Measures how long it takes to parse a file of type information, to write the table again, to rewrite
+//! it to what a kernel grants, to make an index over it, and to find structs in it by name.
 #![tactic(auto)]
 
 mod error;
 
 use btf::{Btf, BtfKind, Endianness, TypeIndex};
 use error::MeasureError;
+use std::collections::BTreeMap;
 use std::env::Args;
 use std::process::ExitCode;
 use std::time::Instant;
@@ -57,6 +58,27 @@ fn measure_writing(rt: &HostRuntime, table: &Btf<'_>) -> Result<(), MeasureError
         drop(written);
     }
     print_times(rt, "written", times)
+}
+
+/// Rewrites copies of the table for a kernel that grants all features, or none.
+fn measure_rewriting(
+    rt: &HostRuntime,
+    table: &Btf<'_>,
+    what: &str,
+    is_granted: bool,
+) -> Result<(), MeasureError> {
+    let sizes: BTreeMap<&str, u64> = BTreeMap::new(rt.alloc());
+    let offsets: BTreeMap<&str, u64> = BTreeMap::new(rt.alloc());
+    let mut times = Vec::with_capacity(rt.alloc(), ROUNDS as usize)?;
+    for _ in 0..ROUNDS {
+        let mut copy = table.try_clone()?;
+        let start = Instant::now(rt)?;
+        let answers = copy.fixup_and_sanitize(&sizes, &offsets, None, |_feature| is_granted)?;
+        times.push(micros(rt, start)?)?;
+        drop(answers);
+        drop(copy);
+    }
+    print_times(rt, what, times)
 }
 
 fn measure_indexing<'t>(rt: &HostRuntime, table: &'t Btf<'t>) -> Result<(), MeasureError> {
@@ -133,6 +155,8 @@ fn measure(rt: &HostRuntime, words: &mut Args) -> Result<(), MeasureError> {
     measure_parsing(rt, section.as_slice())?;
     let table = Btf::parse(rt.alloc(), section.as_slice(), Endianness::Little)?;
     measure_writing(rt, &table)?;
+    measure_rewriting(rt, &table, "rewritten, all features granted", true)?;
+    measure_rewriting(rt, &table, "rewritten, no feature granted", false)?;
     measure_indexing(rt, &table)?;
     let index = TypeIndex::new(rt.alloc(), &table)?;
     for name in words {
