@@ -8,7 +8,7 @@ use Rattle.std.specs.Cmp.Lexicographic.{slice_cmp}
 use Rattle.std.specs.BTreeMap.{insert_entry}
 use Rattle.std.specs.List.{AllByRecursion}
 use Rattle.std.specs.List.Sorted.{IsStrictlySortedBy}
-use Rattle.ebpf_object.specs.Names.{by_bytes}
+use Rattle.object_parts.specs.Names.{by_bytes}
 
 by_bytes-match : {V : Type 0} (o : Ordering) (a b c : List (Bor (List ℕ) × V)) → by_bytes (match_ordering o a b c) ≡ match_ordering o (by_bytes a) (by_bytes b) (by_bytes c)
 by_bytes-match Less a b c = refl

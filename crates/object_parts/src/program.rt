@@ -1,8 +1,8 @@
-//! The programs of an object, and their functions.
+//! The programs of an object.
 
 ghost use Rattle.std.specs.Prelude.{◌≡◌};
 
-use ebpf_items::{ProgramSection, Slots};
+use ebpf_items::ProgramSection;
 use std::marker::Model;
 
 /// A program of an object: a function of a program section, under its name.
@@ -21,7 +21,7 @@ pub struct Program<'a> {
 }
 
 impl<'a> Model for Program<'a> {
-    ghost use Rattle.ebpf_object.specs.Content.{ProgramContent};
+    ghost use Rattle.object_parts.specs.Content.{ProgramContent};
 
     ghost Value = { ProgramContent };
 
@@ -35,27 +35,4 @@ impl<'a> Program<'a> {
     {
         (self.section_index, self.address)
     }
-}
-
-/// A function of an object.
-#[derive(Debug, Drop)]
-pub struct Function<'a> {
-    /// The address (`st_value`).
-    pub address: u64,
-    /// The symbol's name.
-    pub name: &'a str,
-    /// The index of the function's section.
-    pub section_index: usize,
-    /// The offset of the function's bytes in its section.
-    pub section_offset: usize,
-    /// The instruction slots.
-    pub instructions: Slots<'a>,
-}
-
-impl<'a> Model for Function<'a> {
-    ghost use Rattle.ebpf_object.specs.Content.{FunctionContent};
-
-    ghost Value = { FunctionContent };
-
-    ghost view = { λ f. record { address = f.address; name = f.name.now; section_index = f.section_index; section_offset = f.section_offset; instructions = f.instructions } };
 }

@@ -5,7 +5,7 @@ ghost use Rattle.std.specs.BTreeMap.{insert_entry};
 ghost use Rattle.std.specs.Cmp.Lexicographic.{slice_cmp};
 ghost use Rattle.std.specs.List.Sorted.{IsStrictlySortedBy};
 ghost use Rattle.std.specs.Ordering.{nat_cmp};
-ghost use Rattle.ebpf_object.specs.Names.{by_bytes};
+ghost use Rattle.object_parts.specs.Names.{by_bytes};
 
 use crate::program::Program;
 use std::alloc::{AllocError, Global};
@@ -21,8 +21,8 @@ pub struct Programs<'a> {
 
 impl<'a> Model for Programs<'a> {
     ghost use Rattle.std.specs.Prelude.{ℕ, List};
-    ghost use Rattle.ebpf_object.specs.Content.{ProgramContent};
-    ghost use Rattle.ebpf_object.specs.Names.{by_bytes};
+    ghost use Rattle.object_parts.specs.Content.{ProgramContent};
+    ghost use Rattle.object_parts.specs.Names.{by_bytes};
 
     ghost Value = { List (List ℕ × ProgramContent) };
 
@@ -30,7 +30,8 @@ impl<'a> Model for Programs<'a> {
 }
 
 impl<'a> Programs<'a> {
-    pub(crate) fn new(alloc: Global) -> Programs<'a>
+    /// No programs.
+    pub fn new(alloc: Global) -> Programs<'a>
         ensures { result ≡ [] }
     {
         Programs {
@@ -61,7 +62,7 @@ impl<'a> Programs<'a> {
     }
 
     /// Enters a program under a name, in place of an earlier one of that name.
-    pub(crate) fn insert(&mut self, name: &'a str, program: Program<'a>) -> Result<(), AllocError>
+    pub fn insert(&mut self, name: &'a str, program: Program<'a>) -> Result<(), AllocError>
         ensures ok { OnOk result (self.new ≡ insert_entry (slice_cmp nat_cmp) self.old name.now program.entry) }
         ensures err { OnErr result (self.new ≡ self.old) }
     {
