@@ -31,6 +31,7 @@ impl<'a> Model for Functions<'a> {
 
 impl<'a> Functions<'a> {
     /// No functions.
+    #[tactic(auto, unfolding(crate::specs::Content::AreKeyed))]
     pub fn new(alloc: Global) -> Functions<'a>
         ensures { result ≡ [] }
     {
@@ -69,7 +70,6 @@ impl<'a> Functions<'a> {
     }
 
     /// Enters a function under its key, in place of an earlier one of that key.
-    #[tactic(auto, using(crate::proofs::Keyed::keyed-insert))]
     pub fn insert(&mut self, function: Function<'a>) -> Result<(), AllocError>
         ensures ok { OnOk result (self.new ≡ insert_entry key_cmp self.old (function.entry.section_index, function.entry.address) function.entry) }
         ensures err { OnErr result (self.new ≡ self.old) }
