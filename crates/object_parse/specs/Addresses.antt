@@ -4,7 +4,7 @@ use Rattle.std.specs.BTreeSet.{BTreeSet, contains}
 use Rattle.std.specs.List.{list_any}
 use Rattle.std.specs.Ordering.{nat_cmp}
 use Rattle.elf64.specs.Symbols.{Symbol}
-use Rattle.ebpf_object.specs.Faults.{function_addresses}
+use Rattle.object_parse.specs.TextSections.{function_addresses}
 
 -- the answer says whether the address was there before
 pub record AddsAddress (old new : BTreeSet ℕ) (symbol : Symbol) (answer : Bool) : Type 0 where

@@ -1,26 +1,23 @@
--- The programs of an object and their functions.
-use Rattle.std.specs.Prelude.{ℕ, ◌+◌, ◌%◌, List, [], length, take, drop, fold, ◌==◌, ◌&&◌, ◌||◌, not, nat_lt, Bool, true, false, if◌then◌else◌, Option, Some, None, is_none, is_some, option_and_then, unwrap_or}
-use Rattle.std.specs.Option.{option_map_or}
-use Rattle.std.specs.Ordering.{nat_cmp, ordering_then}
-use Rattle.std.specs.declared.cmp.Ordering.{Ordering}
-use Rattle.std.specs.Cmp.Lexicographic.{slice_cmp}
+-- The programs of an object, and the functions of its program sections.
+use Rattle.std.specs.Prelude.{ℕ, ◌+◌, ◌-◌, ◌/◌, ◌%◌, ◌==◌, ◌&&◌, ◌||◌, not, nat_lt, Bool, true, false, List, [], length, take, drop, fold, filter, Option, Some, None, unwrap_or, is_some, is_none, option_and_then, if◌then◌else◌}
 use Rattle.std.specs.BTreeMap.{insert_entry}
-use Rattle.elf64.specs.declared.kind.SymbolKind.{SymbolKind}
-use Rattle.elf64.specs.declared.kind.SymbolKind.TheVariants as symbol
+use Rattle.std.specs.Cmp.Lexicographic.{slice_cmp}
+use Rattle.std.specs.Option.{option_map_or}
+use Rattle.std.specs.Ordering.{nat_cmp}
 use Rattle.elf64.specs.Sections.{Section}
 use Rattle.elf64.specs.Symbols.{Symbol}
+use Rattle.elf64.specs.declared.kind.SymbolKind.{SymbolKind}
+use Rattle.elf64.specs.declared.kind.SymbolKind.TheVariants as symbol
 use Rattle.ebpf_items.specs.Instruction.{slots_of}
+use Rattle.function_records.specs.Kept.{kept_functions, kept_lines}
+use Rattle.object_file.specs.Kinds.{kind_of}
+use Rattle.object_file.specs.Symbols.{symbols_in}
+use Rattle.object_parts.specs.Content.{ProgramContent, FunctionContent, key_cmp, key_of}
+use Rattle.object_parse.specs.SectionInfos.{SectionInfo}
 use Rattle.program_kinds.specs.ProgramSection.{kind_of_name}
-use Rattle.program_kinds.specs.SectionKind.{kind_of_section}
 use Rattle.program_kinds.specs.declared.program_section.ProgramSection.{ProgramSection}
 use Rattle.program_kinds.specs.declared.section_kind.EbpfSectionKind.{EbpfSectionKind}
 use Rattle.program_kinds.specs.declared.section_kind.EbpfSectionKind.TheVariants as kind
-use Rattle.ebpf_object.specs.Content.{ProgramContent, FunctionContent}
-use Rattle.ebpf_object.specs.Symbols.{symbols_in}
-
--- the kind of a section whose name can be read
-abbrev pub kind_of : Section → EbpfSectionKind
-kind_of section = kind_of_section (unwrap_or section.name []) section.is_text section.size
 
 abbrev pub is_program_kind : EbpfSectionKind → Bool
 is_program_kind kind.Program = true
@@ -55,11 +52,11 @@ code_of section s = option_and_then (λ bytes. code_in bytes section.address s) 
 abbrev pub has_no_code : Section → Symbol → Bool
 has_no_code section s = is_function s && option_map_or (λ bytes. is_none (code_in bytes section.address s)) section.contents false
 
--- keys by section index, then by address
-abbrev pub key_cmp : (ℕ × ℕ) → (ℕ × ℕ) → Ordering
-key_cmp a b = ordering_then (nat_cmp a.0 b.0) (nat_cmp a.1 b.1)
+-- the slot of its section at which a function begins
+abbrev pub first_slot : Section → Symbol → ℕ
+first_slot section s = (s.address - section.address) / 8
 
--- what is entered for a function of a section
+-- what is entered for a function of a program section; its records are counted from its first slot
 abbrev pub program_of : List ℕ → Option ℕ → Section → ProgramSection → Symbol → ProgramContent
 program_of license version section kind s = record {
   license = license;
@@ -69,13 +66,17 @@ program_of license version section kind s = record {
   address = s.address;
 }
 
-abbrev pub function_of : Section → Symbol → FunctionContent
-function_of section s = record {
+abbrev pub function_of : SectionInfo → Section → Symbol → FunctionContent
+function_of info section s = record {
   address = s.address;
   name = unwrap_or s.name [];
   section_index = section.index;
   section_offset = s.address;
   instructions = slots_of (unwrap_or (code_of section s) []);
+  func_info = kept_functions true (first_slot section s) info.functions;
+  line_info = kept_lines true (first_slot section s) (s.size / 8) info.lines;
+  func_info_rec_size = info.func_size;
+  line_info_rec_size = info.line_size;
 }
 
 -- the programs with that of one more function: it takes the place of an earlier one of its name
@@ -86,14 +87,14 @@ with_program license version section kind programs s =
     else programs
 
 -- the functions with one more: it takes the place of an earlier one of its key
-abbrev pub with_function : Section → List ((ℕ × ℕ) × FunctionContent) → Symbol → List ((ℕ × ℕ) × FunctionContent)
-with_function section functions s =
-    if is_function s then insert_entry key_cmp functions (section.index, s.address) (function_of section s) else functions
+abbrev pub with_function : SectionInfo → Section → List ((ℕ × ℕ) × FunctionContent) → Symbol → List ((ℕ × ℕ) × FunctionContent)
+with_function info section functions s =
+    if is_function s then insert_entry key_cmp functions (section.index, s.address) (function_of info section s) else functions
 
--- the programs and the functions with those of one more section, in order of symbol
+-- the programs and the functions with those of one more program section, in order of symbol
 abbrev pub with_programs : List ℕ → Option ℕ → List Symbol → List (List ℕ × ProgramContent) → Section → List (List ℕ × ProgramContent)
 with_programs license version symbols programs section =
     option_map_or (λ kind. fold (with_program license version section kind) programs (symbols_in symbols section.index)) (program_kind section) programs
 
-abbrev pub with_functions : List Symbol → List ((ℕ × ℕ) × FunctionContent) → Section → List ((ℕ × ℕ) × FunctionContent)
-with_functions symbols functions section = fold (with_function section) functions (symbols_in symbols section.index)
+abbrev pub with_program_functions : SectionInfo → List Symbol → List ((ℕ × ℕ) × FunctionContent) → Section → List ((ℕ × ℕ) × FunctionContent)
+with_program_functions info symbols functions section = fold (with_function info section) functions (symbols_in symbols section.index)

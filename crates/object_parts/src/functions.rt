@@ -6,6 +6,7 @@ ghost use Rattle.std.specs.Map.{lookup};
 ghost use Rattle.std.specs.Option.{option_copied};
 ghost use Rattle.object_parts.specs.Content.{AreKeyed, key_cmp};
 
+use crate::by_name::Programs;
 use crate::function::Function;
 use std::alloc::{AllocError, Global};
 use std::collections::BTreeMap;
@@ -16,6 +17,13 @@ use std::marker::Model;
 #[derive(Debug, Drop)]
 pub struct Functions<'a> {
     entries: BTreeMap<(usize, u64), Function<'a>>,
+}
+
+/// The programs and the functions of an object.
+#[derive(Debug, Drop)]
+pub struct Code<'a> {
+    pub programs: Programs<'a>,
+    pub functions: Functions<'a>,
 }
 
 impl<'a> Model for Functions<'a> {

@@ -8,5 +8,5 @@ mod program;
 
 pub use by_name::Programs;
 pub use function::Function;
-pub use functions::Functions;
+pub use functions::{Code, Functions};
 pub use program::Program;
