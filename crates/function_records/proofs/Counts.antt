@@ -8,7 +8,8 @@ use Rattle.std.proofs.lemmas.Bool.Decides.{nat_tests}
 use Rattle.std.proofs.lemmas.List.Elements.{recursion_from_All}
 use Rattle.std.proofs.lemmas.List.Sorted.{sum_by-IsPermutation}
 use Rattle.std.proofs.lemmas.List.Sums.{sum_by-cons}
-use Rattle.function_records.specs.SlotIndexes.{AreBySlot, indexes_within, is_within, numbered}
+use Rattle.function_records.specs.SlotIndexes.{AreBySlot, indexes_within, numbered}
+use Rattle.function_records.specs.Kept.{is_within}
 use Rattle.function_records.specs.declared.slot_index.IndexedSlot.{IndexedSlot}
 
 -- each number is at most those behind it
@@ -98,4 +99,4 @@ indexes_rise test at (slot ∷ slots) = rise_more test at slot slots (test slot)
 pub sorted_indexes : (from many : ℕ) (places : List IndexedSlot) (indexes : List ℕ) → IsPermutation (map (λ p. p.index) (filter (λ p. is_within from many p.slot) places)) indexes → IsNonDecreasingBy (λ x. x) indexes → (slots : List ℕ) → AreBySlot slots places → indexes ≡ indexes_within from many slots
 sorted_indexes from many places indexes moved sorted slots a =
     same_by_counts indexes (indexes_within from many slots) (rise_by indexes sorted) (indexes_rise (is_within from many) 0 slots).1
-      (λ n. sum_by-IsPermutation (unit n) _ indexes moved ∙ kept_counts n from many (numbered 0 slots) places a.same)
+    (λ n. sum_by-IsPermutation (unit n) _ indexes moved ∙ kept_counts n from many (numbered 0 slots) places a.same)

@@ -1,11 +1,8 @@
 -- Records by the slot that they begin at.
-use Rattle.std.specs.Prelude.{ℕ, suc, ◌-◌, ◌&&◌, nat_le, nat_lt, Bool, List, [], ◌∷◌, filter, map}
+use Rattle.std.specs.Prelude.{ℕ, suc, List, [], ◌∷◌, filter, map}
 use Rattle.std.specs.List.Sorted.{IsNonDecreasingBy, IsPermutation}
+use Rattle.function_records.specs.Kept.{is_within}
 use Rattle.function_records.specs.declared.slot_index.IndexedSlot.{IndexedSlot}
-
--- whether a slot is one of so many from another on
-abbrev pub is_within : ℕ → ℕ → ℕ → Bool
-is_within from count slot = nat_le from slot && nat_lt (slot - from) count
 
 -- slots with their indexes, which begin at one
 abbrev pub numbered : ℕ → List ℕ → List IndexedSlot

@@ -1,4 +1,8 @@
-//! The records of functions and lines of a section that a function in it keeps.
+//! The records of functions and lines that a function keeps of those of its section
+//! (Documentation/bpf/btf.rst, "BTF.ext section").
 #![tactic(auto)]
 
+mod section_records;
 mod slot_index;
+
+pub use section_records::SectionRecords;

@@ -2,7 +2,8 @@
 
 ghost use Rattle.std.specs.Prelude.{◌≡◌, ℕ, List, filter, map, IfOk, OnOk};
 ghost use Rattle.std.specs.List.Sorted.{IsNonDecreasingBy};
-ghost use Rattle.function_records.specs.SlotIndexes.{AreBySlot, indexes_within, is_within, numbered};
+ghost use Rattle.function_records.specs.Kept.{is_within};
+ghost use Rattle.function_records.specs.SlotIndexes.{AreBySlot, indexes_within, numbered};
 
 use std::alloc::{AllocError, Global};
 

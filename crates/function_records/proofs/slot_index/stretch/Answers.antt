@@ -3,7 +3,7 @@ use Rattle.std.specs.List.Sorted.{IsNonDecreasingBy, IsPartitionPoint}
 use Rattle.std.proofs.lemmas.Bool.Decides.{nat_tests}
 use Rattle.std.proofs.lemmas.List.{get_or-drop, length-drop}
 use Rattle.std.proofs.lemmas.List.Sorted.{IsNonDecreasingBy-drop, IsPartitionPoint-from_clause, IsPartitionedBy-ltb}
-use Rattle.function_records.specs.SlotIndexes.{is_within}
+use Rattle.function_records.specs.Kept.{is_within}
 use Rattle.function_records.specs.declared.slot_index.IndexedSlot.{IndexedSlot}
 use Rattle.function_records.proofs.Stretches.{kept_stretch}
 use Rattle.function_records.proofs.slot_index.stretch.Goals as goal
@@ -29,9 +29,9 @@ at_place p b places begin k d h e =
 stretch_by : (from many begin len : ℕ) (places : List IndexedSlot) → IsPartitionPoint (λ p. ltb p.slot from ≡ true) (λ p. ltb p.slot from ≡ false) places begin → IsPartitionPoint (λ p. ltb (p.slot - from) many ≡ true) (λ p. ltb (p.slot - from) many ≡ false) (drop begin places) len → take len (drop begin places) ≡ filter (λ p. is_within from many p.slot) places
 stretch_by from many begin len places first second =
     kept_stretch (λ p. is_within from many p.slot) places begin len
-      (λ k d h l. below from many (get_or places k d).slot (first.0 k d (omega arith) h))
-      (λ k d h m l. inside from many (get_or places k d).slot (first.1 k d h l) (at_place (λ p. ltb (p.slot - from) many) true places begin k d h (second.0 (k - begin) d (omega arith) (omega arith))))
-      (λ k d h l. behind from many (get_or places k d).slot (at_place (λ p. ltb (p.slot - from) many) false places begin k d (omega arith) (second.1 (k - begin) d (omega arith) (omega (arith, length-drop begin places)))))
+    (λ k d h l. below from many (get_or places k d).slot (first.0 k d (omega arith) h))
+    (λ k d h m l. inside from many (get_or places k d).slot (first.1 k d h l) (at_place (λ p. ltb (p.slot - from) many) true places begin k d h (second.0 (k - begin) d (omega arith) (omega arith))))
+    (λ k d h l. behind from many (get_or places k d).slot (at_place (λ p. ltb (p.slot - from) many) false places begin k d (omega arith) (second.1 (k - begin) d (omega arith) (omega (arith, length-drop begin places)))))
 
 pub returns : goal.returns
 returns c =
