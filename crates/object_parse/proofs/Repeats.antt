@@ -7,7 +7,8 @@ use Rattle.std.specs.List.{list_any}
 use Rattle.std.proofs.lemmas.List.{take_more}
 use Rattle.std.proofs.lemmas.List.Folds.{list_any-append}
 use Rattle.elf64.specs.Symbols.{Symbol}
-use Rattle.ebpf_object.specs.Faults.{function_addresses, repeats, is_text_definition, AreDistinct}
+use Rattle.object_parse.specs.Faults.{repeats, AreDistinct}
+use Rattle.object_parse.specs.TextSections.{function_addresses, is_text_definition}
 
 kept-append : (keep : Bool) (x : Symbol) (xs ys : List Symbol) → map (λ s. s.address) (cond keep (x ∷ (filter is_text_definition xs)) (filter is_text_definition xs)) ++ function_addresses ys ≡ cond keep (x.address ∷ (function_addresses xs ++ function_addresses ys)) (function_addresses xs ++ function_addresses ys)
 kept-append true x xs ys = refl

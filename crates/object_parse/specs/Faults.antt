@@ -1,10 +1,9 @@
 -- What is wrong with the program and `.text` sections of a file.
 use Rattle.std.specs.Prelude.{◌≡◌, ℕ, ◌+◌, ◌%◌, ◌^◌, ◌==◌, ◌&&◌, ◌||◌, if◌then◌else◌, Bool, true, false, List, [], ◌∷◌, length, unwrap_or, is_none, Option}
 use Rattle.std.specs.List.{list_any}
-use Rattle.std.specs.Option.{option_map_or}
+use Rattle.std.specs.Option.{option_map, option_map_or}
 use Rattle.std.specs.Str.{bytes_eq}
 use Rattle.std.specs.String.{string_bytes}
-use Rattle.std.specs.declared.string.String.{String}
 use Rattle.ebpf_items.specs.declared.error.ParseError.{ParseError}
 use Rattle.ebpf_items.specs.declared.error.ParseError.TheVariants as error
 use Rattle.elf64.specs.Sections.{Section, has_name}
@@ -44,13 +43,13 @@ abbrev pub is_unknown : Section → ℕ → Place → Bool
 is_unknown section address place = is_none place.symbol && ((section.address + place.offset) % 2 ^ 64 == address)
 
 -- a place at which a function of size 0 begins, by its symbol
-abbrev pub has_symbol_name : Option String → Symbol → Bool
-has_symbol_name name s = option_map_or (λ n. option_map_or (bytes_eq (string_bytes n)) s.name false) name false
+abbrev pub has_symbol_name : Option (List ℕ) → Symbol → Bool
+has_symbol_name name s = option_map_or (λ n. option_map_or (bytes_eq n) s.name false) name false
 
-abbrev pub is_empty_symbol : ℕ → Option String → Symbol → Bool
+abbrev pub is_empty_symbol : ℕ → Option (List ℕ) → Symbol → Bool
 is_empty_symbol index name s = (s.index == index) && (s.size == 0) && has_symbol_name name s
 
-abbrev pub is_empty : ℕ → Option String → Place → Bool
+abbrev pub is_empty : ℕ → Option (List ℕ) → Place → Bool
 is_empty index name place = option_map_or (is_empty_symbol index name) place.symbol false
 
 -- a place at which a function begins that goes past the section's bytes, or isn't whole slots
@@ -64,17 +63,21 @@ has_place here symbols section = is_text_section section && list_any (here secti
 abbrev pub has_cut_function : List Symbol → Section → Bool
 has_cut_function symbols section = has_place (λ s. is_cut (length (unwrap_or s.contents []))) symbols section
 
+-- a `.text` section with a place at which no function begins that has code
+abbrev pub has_gap : List Symbol → Section → Bool
+has_gap symbols section = is_text_section section && has_unsound_place symbols section
+
 -- what is wrong with a place of a section
 abbrev pub PlaceFault : Section → Place → ParseError → Type 0
 PlaceFault section place (error.UnknownSymbol index address) = (index ≡ section.index) × (is_unknown section address place ≡ true)
-PlaceFault section place (error.InvalidSymbol index name) = is_empty index name place ≡ true
+PlaceFault section place (error.InvalidSymbol index name) = is_empty index (option_map string_bytes name) place ≡ true
 PlaceFault section place error.InvalidProgramCode = is_cut (length (unwrap_or section.contents [])) place ≡ true
 PlaceFault section place _ = ⊥
 
 -- what is wrong with some place of a section
 abbrev pub HasPlaceFault : List Symbol → Section → ParseError → Type 0
 HasPlaceFault symbols section (error.UnknownSymbol index address) = (index ≡ section.index) × (list_any (is_unknown section address) (places_of symbols section) ≡ true)
-HasPlaceFault symbols section (error.InvalidSymbol index name) = list_any (is_empty index name) (places_of symbols section) ≡ true
+HasPlaceFault symbols section (error.InvalidSymbol index name) = list_any (is_empty index (option_map string_bytes name)) (places_of symbols section) ≡ true
 HasPlaceFault symbols section error.InvalidProgramCode = list_any (is_cut (length (unwrap_or section.contents []))) (places_of symbols section) ≡ true
 HasPlaceFault symbols section _ = ⊥
 
@@ -85,7 +88,7 @@ HasSectionFault symbols sections (error.NoSymbolsForSection name) = list_any (λ
 HasSectionFault symbols sections error.InvalidProgramCode = list_any (λ s. has_function_without_code symbols s || has_cut_function symbols s) sections ≡ true
 HasSectionFault symbols sections (error.SymbolTableConflict index address) = list_any (λ s. (s.index == index) && has_conflict symbols address s) sections ≡ true
 HasSectionFault symbols sections (error.UnknownSymbol index address) = list_any (λ s. (s.index == index) && has_place (λ section. is_unknown section address) symbols s) sections ≡ true
-HasSectionFault symbols sections (error.InvalidSymbol index name) = list_any (has_place (λ _. is_empty index name) symbols) sections ≡ true
+HasSectionFault symbols sections (error.InvalidSymbol index name) = list_any (has_place (λ _. is_empty index (option_map string_bytes name)) symbols) sections ≡ true
 HasSectionFault symbols sections _ = ⊥
 
 -- sections without such a fault
@@ -94,7 +97,7 @@ pub record AreSound (symbols : List Symbol) (sections : List Section) : Type 0 w
   pub with_symbols : list_any (has_no_symbols symbols) sections ≡ false
   pub with_code : list_any (has_function_without_code symbols) sections ≡ false
   pub distinct : (address : ℕ) → list_any (has_conflict symbols address) sections ≡ false
-  pub tiled : list_any (λ s. is_text_section s && has_unsound_place symbols s) sections ≡ false
+  pub tiled : list_any (has_gap symbols) sections ≡ false
 
 -- a fault of the functions of a file
 abbrev pub HasFunctionFault : List ℕ → ParseError → Type 0

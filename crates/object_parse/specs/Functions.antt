@@ -1,5 +1,5 @@
 -- The programs and functions of a file.
-use Rattle.std.specs.Prelude.{ℕ, List, [], fold, filter, Option, if◌then◌else◌}
+use Rattle.std.specs.Prelude.{ℕ, List, [], fold, Option, if◌then◌else◌}
 use Rattle.btf_extension.specs.Extensions.{Extension}
 use Rattle.elf64.specs.Sections.{Section}
 use Rattle.elf64.specs.Symbols.{Symbol, symbols_of}
@@ -11,9 +11,14 @@ use Rattle.object_parse.specs.Programs.{is_program, with_programs, with_program_
 use Rattle.object_parse.specs.SectionInfos.{info_of}
 use Rattle.object_parse.specs.TextSections.{is_text_section, with_text_functions}
 
+-- the programs with those of one more section
+abbrev pub with_section_programs : List ℕ → Option ℕ → List Symbol → List (List ℕ × ProgramContent) → Section → List (List ℕ × ProgramContent)
+with_section_programs license version symbols programs section =
+    if is_program section then with_programs license version symbols programs section else programs
+
 -- the programs by name, of which the last of one name counts
 abbrev pub programs_of : List ℕ → List (List ℕ × ProgramContent)
-programs_of file = fold (with_programs (license_of file) (version_of file) (symbols_of file)) [] (filter is_program (read_sections file))
+programs_of file = fold (with_section_programs (license_of file) (version_of file) (symbols_of file)) [] (read_sections file)
 
 -- the functions with those of one more section
 abbrev pub with_functions : Option Extension → List Symbol → List ((ℕ × ℕ) × FunctionContent) → Section → List ((ℕ × ℕ) × FunctionContent)

@@ -1,7 +1,8 @@
 -- The functions of a `.text` section, entered one by one.
-use Rattle.std.specs.Prelude.{◌≡◌, ℕ, ◌+◌, ◌^◌, ◌≤◌, nat_lt, false, List, [], ◌++◌, length, fold, Option, None, unwrap_or, if◌then◌else◌}
+use Rattle.std.specs.Prelude.{◌≡◌, ℕ, ◌+◌, ◌^◌, ◌≤◌, nat_lt, false, List, [], ◌∷◌, ◌++◌, length, fold, Option, None, unwrap_or, if◌then◌else◌}
 use Rattle.std.specs.BTreeMap.{BTreeMap, get}
 use Rattle.std.specs.List.{list_any}
+use Rattle.std.specs.Option.{option_or}
 use Rattle.std.specs.Ordering.{nat_cmp}
 use Rattle.elf64.specs.Sections.{Section}
 use Rattle.elf64.specs.Symbols.{Symbol}
@@ -13,6 +14,10 @@ use Rattle.object_parse.specs.TextSections.{Place, definition_of, is_unsound, pl
 -- the symbols that define functions are found by address
 pub record AreDefinitionsOf (map : BTreeMap ℕ Symbol) (symbols : List Symbol) : Type 0 where
   pub at : (address : ℕ) → get nat_cmp map address ≡ definition_of symbols address
+
+-- a symbol that defines a function is entered, where no other stands at its address
+pub record AddsDefinition (old new : BTreeMap ℕ Symbol) (symbol : Symbol) : Type 0 where
+  pub at : (address : ℕ) → get nat_cmp new address ≡ option_or (get nat_cmp old address) (definition_of (symbol ∷ []) address)
 
 -- the symbol that a map has for an address
 abbrev pub defined_in : BTreeMap ℕ Symbol → ℕ → Option Symbol

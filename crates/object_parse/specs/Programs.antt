@@ -49,8 +49,11 @@ abbrev pub code_of : Section → Symbol → Option (List ℕ)
 code_of section s = option_and_then (λ bytes. code_in bytes section.address s) section.contents
 
 -- a function that has no code among the section's bytes
+abbrev pub lacks_code : Section → Symbol → Bool
+lacks_code section s = option_map_or (λ bytes. is_none (code_in bytes section.address s)) section.contents false
+
 abbrev pub has_no_code : Section → Symbol → Bool
-has_no_code section s = is_function s && option_map_or (λ bytes. is_none (code_in bytes section.address s)) section.contents false
+has_no_code section s = is_function s && lacks_code section s
 
 -- the slot of its section at which a function begins
 abbrev pub first_slot : Section → Symbol → ℕ

@@ -1,9 +1,9 @@
 //! The addresses of the functions of a `.text` section.
 
-ghost use Rattle.std.specs.Prelude.{◌≡◌, true, IfSome, IfNone, IfOk};
+ghost use Rattle.std.specs.Prelude.{◌≡◌, true, IfSome, IfNone, IfOk, OnOk};
 ghost use Rattle.object_parse.specs.Addresses.{AddsAddress};
 ghost use Rattle.object_parse.specs.Faults.{AreDistinct, repeats};
-ghost use Rattle.object_parse.specs.Places.{AreDefinitionsOf};
+ghost use Rattle.object_parse.specs.Places.{AddsDefinition, AreDefinitionsOf};
 ghost use Rattle.object_parse.specs.TextSections.{function_addresses, is_text_definition};
 
 use elf64::SymbolKind;
@@ -45,6 +45,21 @@ pub(crate) fn repeated_address(
     Ok(None)
 }
 
+/// Enters a symbol that defines a function under its address, where no other stands there.
+fn add_definition<'a>(
+    definitions: &mut BTreeMap<u64, ReadSymbol<'a>>,
+    symbol: &ReadSymbol<'a>,
+) -> Result<(), AllocError>
+    ensures { OnOk result (AddsDefinition definitions.old definitions.new symbol.now) }
+{
+    if is_text_definition(symbol) {
+        definitions
+            .entry(symbol.view().address())?
+            .or_insert(symbol.clone()?);
+    }
+    Ok(())
+}
+
 /// The symbols that define functions, by address; of several at one address the first.
 pub(crate) fn by_address<'a>(
     alloc: Global,
@@ -52,12 +67,9 @@ pub(crate) fn by_address<'a>(
 ) -> Result<BTreeMap<u64, ReadSymbol<'a>>, AllocError>
     ensures { IfOk result (λ m. AreDefinitionsOf m symbols.now) }
 {
-    let mut map = BTreeMap::new(alloc);
+    let mut definitions = BTreeMap::new(alloc);
     for symbol in symbols {
-        if is_text_definition(symbol) {
-            map.entry(symbol.view().address())?
-                .or_insert(symbol.clone()?);
-        }
+        add_definition(&mut definitions, symbol)?;
     }
-    Ok(map)
+    Ok(definitions)
 }

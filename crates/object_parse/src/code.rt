@@ -1,8 +1,8 @@
 //! The functions of program sections, and their code.
 
-ghost use Rattle.std.specs.Prelude.{◌≡◌, ◌↔◌, ◌%◌, true, Some, length, IsSome, IfSome};
+ghost use Rattle.std.specs.Prelude.{◌≡◌, ◌↔◌, ◌%◌, true, Some, is_none, length, IsSome, IfSome};
 ghost use Rattle.std.specs.Option.{option_copied};
-ghost use Rattle.object_parse.specs.Programs.{is_function, code_in, code_of, first_slot};
+ghost use Rattle.object_parse.specs.Programs.{is_function, code_in, code_of, first_slot, lacks_code};
 
 use elf64::{SymbolKind, SymbolView};
 use object_file::{ReadSection, ReadSymbol};
@@ -38,6 +38,7 @@ fn code_in<'a>(bytes: &'a [u8], address: u64, symbol: &SymbolView<'_>) -> Option
 /// The code of a symbol of a section.
 pub(crate) fn code_of<'a>(section: &ReadSection<'a>, symbol: &ReadSymbol<'_>) -> Option<&'a [u8]>
     ensures value { option_copied result ≡ code_of section.now symbol.now }
+    ensures none { is_none result ≡ lacks_code section.now symbol.now }
     ensures whole { IfSome result (λ code. length code.now % 8 ≡ 0) }
 {
     code_in(section.bytes(), section.address(), symbol.view())

@@ -42,7 +42,7 @@ impl<'e> SectionInfo<'e> {
                 line_info_rec_size: extension.line_info_rec_size(),
             }),
             None => Ok(SectionInfo {
-                records: SectionRecords::empty(alloc),
+                records: SectionRecords::empty(alloc)?,
                 func_info_rec_size: 0,
                 line_info_rec_size: 0,
             }),

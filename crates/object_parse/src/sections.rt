@@ -1,14 +1,13 @@
 //! The programs and functions of an object, section by section.
 
-ghost use Rattle.std.specs.Prelude.{◌≡◌, ◌≢◌, ◌∷◌, [], fold, filter, OnOk, IfOk, IfErr};
+ghost use Rattle.std.specs.Prelude.{◌≡◌, ◌≢◌, ◌∷◌, [], fold, OnOk, IfOk, IfErr};
 ghost use Rattle.std.specs.Option.{option_copied};
 ghost use Rattle.elf64.specs.Symbols.{symbols_of};
 ghost use Rattle.ebpf_items.specs.declared.error.ParseError.TheVariants.{OutOfMemory};
 ghost use Rattle.object_file.specs.License.{license_of};
 ghost use Rattle.object_file.specs.Version.{version_of};
 ghost use Rattle.object_parse.specs.Faults.{AreSound, HasFunctionFault, HasSectionFault, HasSoundFunctions};
-ghost use Rattle.object_parse.specs.Functions.{functions_of, programs_of, with_functions};
-ghost use Rattle.object_parse.specs.Programs.{is_program, with_programs};
+ghost use Rattle.object_parse.specs.Functions.{functions_of, programs_of, with_functions, with_section_programs};
 
 use crate::program_sections::add_programs;
 use crate::section_info::SectionInfo;
@@ -27,7 +26,7 @@ fn add_section<'a, 'e>(
     section: &ReadSection<'a>,
     code: &mut Code<'a>,
 ) -> Result<(), ParseError>
-    ensures programs { OnOk result (code.new.programs ≡ fold (with_programs (license_of file.now) (version_of file.now) (symbols_of file.now)) code.old.programs (filter is_program (section.now ∷ []))) }
+    ensures programs { OnOk result (code.new.programs ≡ with_section_programs (license_of file.now) (version_of file.now) (symbols_of file.now) code.old.programs section.now) }
     ensures functions { OnOk result (code.new.functions ≡ with_functions (option_copied extension.entry) (symbols_of file.now) code.old.functions section.now) }
     ensures accepted { OnOk result (AreSound (symbols_of file.now) (section.now ∷ [])) }
     ensures refused { IfErr result (λ e. e ≢ OutOfMemory → HasSectionFault (symbols_of file.now) (section.now ∷ []) e) }
@@ -43,6 +42,25 @@ fn add_section<'a, 'e>(
         }
         _ => Ok(()),
     }
+}
+
+/// Enters the programs and functions of some sections.
+fn add_sections<'a, 'e>(
+    alloc: Global,
+    file: &ObjectFile<'a>,
+    extension: Option<&'e BtfExt<'e>>,
+    sections: &[ReadSection<'a>],
+    code: &mut Code<'a>,
+) -> Result<(), ParseError>
+    ensures programs { OnOk result (code.new.programs ≡ fold (with_section_programs (license_of file.now) (version_of file.now) (symbols_of file.now)) code.old.programs sections.now) }
+    ensures functions { OnOk result (code.new.functions ≡ fold (with_functions (option_copied extension.entry) (symbols_of file.now)) code.old.functions sections.now) }
+    ensures accepted { OnOk result (AreSound (symbols_of file.now) sections.now) }
+    ensures refused { IfErr result (λ e. e ≢ OutOfMemory → HasSectionFault (symbols_of file.now) sections.now e) }
+{
+    for section in sections {
+        add_section(alloc, file, extension, section, code)?;
+    }
+    Ok(())
 }
 
 /// The programs and functions of a file, with the records that an extension of its types has for
@@ -69,8 +87,6 @@ pub fn read_code<'a, 'e>(
         programs: Programs::new(alloc),
         functions: Functions::new(alloc),
     };
-    for section in file.sections() {
-        add_section(alloc, file, extension, section, &mut code)?;
-    }
+    add_sections(alloc, file, extension, file.sections(), &mut code)?;
     Ok(code)
 }

@@ -1,8 +1,8 @@
 //! The functions of `.text` sections.
 
-ghost use Rattle.std.specs.Prelude.{◌≡◌, ◌≢◌, ◌+◌, ◌%◌, ◌∷◌, [], true, false, Some, is_some, take, drop, length, unwrap_or, OnOk, IfOk, IfErr, IfSome};
+ghost use Rattle.std.specs.Prelude.{◌≡◌, ◌≢◌, ◌+◌, ◌%◌, ◌^◌, ◌<◌, ◌∷◌, [], true, false, Some, is_some, take, drop, length, unwrap_or, OnOk, IfOk, IfErr, IfSome};
 ghost use Rattle.std.specs.BTreeMap.{insert_entry};
-ghost use Rattle.std.specs.Option.{IsSomeAnd};
+ghost use Rattle.std.specs.Option.{IsSomeAnd, option_copied};
 ghost use Rattle.elf64.specs.Symbols.{symbols_of};
 ghost use Rattle.ebpf_items.specs.declared.error.ParseError.TheVariants.{InvalidProgramCode, OutOfMemory};
 ghost use Rattle.object_file.specs.Symbols.{symbols_in};
@@ -19,6 +19,18 @@ use object_parts::{Code, Function};
 use std::alloc::{AllocError, Global};
 use std::collections::BTreeMap;
 
+/// The symbol that defines the function at an offset of a section.
+fn definition_at<'s, 'a>(
+    section: &ReadSection<'_>,
+    definitions: &'s BTreeMap<u64, ReadSymbol<'a>>,
+    offset: usize,
+) -> Option<&'s ReadSymbol<'a>>
+    ensures { option_copied result ≡ defined_in definitions.entry.now (section.now.address + offset) }
+{
+    let address = section.address().checked_add(offset as u64)?;
+    definitions.get(&address)
+}
+
 /// The symbol that defines the function at an offset of a section; its size isn't 0.
 fn symbol_at<'s, 'a>(
     alloc: Global,
@@ -26,11 +38,10 @@ fn symbol_at<'s, 'a>(
     definitions: &'s BTreeMap<u64, ReadSymbol<'a>>,
     offset: usize,
 ) -> Result<&'s ReadSymbol<'a>, ParseError>
-    ensures found { IfOk result (λ s. (defined_in definitions.now (section.now.address + offset) ≡ Some s.now) × (s.now.size ≢ 0)) }
-    ensures refused { IfErr result (λ e. e ≢ OutOfMemory → PlaceFault section.now (place_in definitions.now section.now.address offset) e) }
+    ensures found { IfOk result (λ s. (defined_in definitions.entry.now (section.now.address + offset) ≡ Some s.now) × (s.now.size ≢ 0)) }
+    ensures refused { IfErr result (λ e. e ≢ OutOfMemory → PlaceFault section.now (place_in definitions.entry.now section.now.address offset) e) }
 {
-    let address = section.address().checked_add(offset as u64);
-    let Some(symbol) = address.and_then(|address| definitions.get(&address)) else {
+    let Some(symbol) = definition_at(section, definitions, offset) else {
         return Err(ParseError::UnknownSymbol {
             section_index: section.index(),
             address: section.address().wrapping_add(offset as u64),
@@ -50,13 +61,16 @@ fn code_at<'a>(section: &ReadSection<'a>, offset: usize, symbol: &ReadSymbol<'_>
     ensures found { is_some result ≡ has_code_at (byte_count section.now) offset symbol.now }
     ensures value { IfSome result (λ code. code.now ≡ take symbol.now.size (drop offset (unwrap_or section.now.contents []))) }
     ensures whole { IfSome result (λ code. length code.now % 8 ≡ 0) }
+    ensures bounded { IfSome result (λ _. offset + symbol.now.size < 2 ^ 64) }
 {
+    let bytes = section.bytes();
+    let len = bytes.len() as u64;
     let size = symbol.view().size();
     let end = (offset as u64).checked_add(size)?;
-    if end > section.bytes().len() as u64 || size % 8 != 0 {
+    if end > len || size % 8 != 0 {
         return None;
     }
-    Some(&section.bytes()[offset..end as usize])
+    Some(&bytes[offset..end as usize])
 }
 
 /// The function of a symbol at an offset of a section.
@@ -69,6 +83,7 @@ fn function<'a>(
 ) -> Result<Function<'a>, ParseError>
     ensures value { IfOk result (λ f. f ≡ text_function_of info.now section.now offset symbol.now) }
     ensures accepted { OnOk result (has_code_at (byte_count section.now) offset symbol.now ≡ true) }
+    ensures bounded { OnOk result (offset + symbol.now.size < 2 ^ 64) }
     ensures refused { IfErr result (λ e. e ≢ OutOfMemory → (e ≡ InvalidProgramCode) × (has_code_at (byte_count section.now) offset symbol.now ≡ false)) }
 {
     let Some(code) = code_at(section, offset, symbol) else {

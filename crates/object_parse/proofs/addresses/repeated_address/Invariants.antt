@@ -2,8 +2,9 @@ use Rattle.std.proofs.Common.{◌≡◌, ℕ, ◌==◌, take}
 use Rattle.std.specs.BTreeSet.{contains}
 use Rattle.std.specs.List.{list_any}
 use Rattle.std.specs.Ordering.{nat_cmp}
-use Rattle.ebpf_object.specs.Faults.{function_addresses, AreDistinct}
-use Rattle.ebpf_object.proofs.function.repeated_address.Given as goal
+use Rattle.object_parse.specs.Faults.{AreDistinct}
+use Rattle.object_parse.specs.TextSections.{function_addresses}
+use Rattle.object_parse.proofs.addresses.repeated_address.Given as goal
 
 abbrev pub invariant-loop-symbol : goal.invariant-loop-symbol
 invariant-loop-symbol l = record {
