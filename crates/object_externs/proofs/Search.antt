@@ -1,13 +1,17 @@
 -- The search for the section, and for an integer.
-use Rattle.std.proofs.Common.{◌≡◌, ℕ, zero, suc, ◌+◌, ◌==◌, ◌&&◌, ◌||◌, Bool, true, false, cond, not, List, [], ◌∷◌, ◌++◌, Option, None, Some, is_none, refl, ap, sym, ◌∙◌, drop, take, add-one}
+use Rattle.std.proofs.Common.{◌≡◌, ℕ, zero, suc, ◌+◌, ◌==◌, ◌&&◌, ◌||◌, Bool, true, false, cond, not, List, [], ◌∷◌, ◌++◌, Option, None, Some, is_none, refl, ap, sym, ◌∙◌, drop, take, add-one, ◌-◌, ◌<◌, ◌≤◌, length, get_or, arith}
 use Rattle.std.specs.Prelude.{slice_get, take_while}
 use Rattle.std.specs.List.{list_any}
-use Rattle.std.specs.Option.{option_map_or}
+use Rattle.std.specs.Option.{IsSome, option_map_or}
+use Rattle.std.proofs.lemmas.Bool.Decides.{nat_tests}
+use Rattle.std.proofs.lemmas.Option.{slice_get-get_or}
 use Rattle.std.proofs.lemmas.List.Sums.{take_while-cons}
 use Rattle.btf_records.specs.Fields.{kind_of_type, name_offset_of}
 use Rattle.btf_records.specs.declared.types.BtfType.{BtfType}
+use Rattle.btf_records.specs.declared.types.BtfType.TheVariants.{Unknown}
 use Rattle.btf_sanitizing.specs.Ksyms.{int4_from, is_int4}
-use Rattle.object_externs.specs.Section.{has_unreadable, is_ksyms, is_section, is_unreadable, ksyms_from}
+use Rattle.object_externs.specs.Section.{has_unreadable, is_ksyms, is_section, is_unreadable, ksyms_from, ksyms_section}
+use Rattle.btf_tables.specs.Tables.{Table, type_by_id}
 use Rattle.string_table.specs.Texts.{text_at}
 
 -- the section stands here
@@ -67,3 +71,23 @@ taken_none (y ∷ ys) (suc at) e = ap (λ zs. y ∷ zs) (taken_none ys at e)
 
 pub taken_all : {X : Type 0} (xs done : List X) (at : ℕ) → slice_get xs at ≡ None → done ≡ take at xs → done ≡ xs
 taken_all xs done at e is = is ∙ taken_none xs at e
+
+within_more : (strings : List ℕ) (at : ℕ) (t : BtfType) (ts : List BtfType) (id : ℕ) (b : Bool) → is_ksyms strings t ≡ b → (ksyms_from strings (at + 1) ts ≡ Some id → (at + 1 ≤ id) × (id < at + 1 + length ts)) → ksyms_from strings at (t ∷ ts) ≡ Some id → (at ≤ id) × (id < at + length (t ∷ ts))
+within_more strings at t ts id true is more e =
+    let here : Some at ≡ Some id = rw is at e in
+    let same : at ≡ id = cc in
+    (omega arith, omega arith)
+within_more strings at t ts id false is more e =
+    let rest = more (rw is at e) in
+    (omega (arith, rest.0), omega (arith, rest.1))
+
+within : (strings : List ℕ) (at : ℕ) (ts : List BtfType) (id : ℕ) → ksyms_from strings at ts ≡ Some id → (at ≤ id) × (id < at + length ts)
+within strings at [] id e = absurd cc
+within strings at (t ∷ ts) id e = within_more strings at t ts id (is_ksyms strings t) refl (within strings (at + 1) ts id) e
+
+-- the section that is found has a record
+pub ksyms_known : (table : Table) (id : ℕ) → ksyms_section table ≡ Some id → IsSome (type_by_id table id)
+ksyms_known table id e =
+    let bounds = within table.strings 1 table.types id e in
+    let first : (id == 0) ≡ false = grind (arith, nat_tests, bounds.0) in
+    rw (first, slice_get-get_or table.types (id - 1) Unknown (omega (arith, bounds.0, bounds.1))) refl
