@@ -53,13 +53,8 @@ abbrev pub IsOverfull : Table → Type 0
 IsOverfull table = TooMany (length table.strings) ⊎ TooMany (length (type_bytes table)) ⊎ TooMany (length table.types)
 
 abbrev pub GrowthFault : Table → BtfError → Type 0
-GrowthFault table InvalidTypeInfo = (has_function table ≡ true) × IsOverfull (with_placeholder table)
-GrowthFault table _ = ⊥
+GrowthFault table e = (e ≡ InvalidTypeInfo) × (has_function table ≡ true) × IsOverfull (with_placeholder table)
 
 -- why the externs of an object are refused
 abbrev pub ExternsFault : List Symbol → Table → BtfError → Type 0
 ExternsFault symbols table e = SectionFault table e ⊎ Any (λ entry. EntryFault symbols table entry e) (ksyms_entries table) ⊎ GrowthFault table e
-
--- no fault stands
-pub record IsFaultless (Fault : BtfError → Type 0) : Type 0 where
-  pub none : (e : BtfError) → Fault e → ⊥

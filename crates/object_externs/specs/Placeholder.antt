@@ -1,6 +1,6 @@
 -- The placeholder: a variable that stands in `.ksyms` for each function, since the entries of a kernel's sections are
 -- variables. libbpf appends it in bpf_object__collect_externs too, under a name of its own.
-use Rattle.std.specs.Prelude.{ℕ, ◌+◌, if◌then◌else◌, List, codes, length, is_none, unwrap_or}
+use Rattle.std.specs.Prelude.{ℕ, ◌+◌, false, if◌then◌else◌, List, codes, length, is_none, unwrap_or}
 use Rattle.btf_records.specs.Info.{flagged}
 use Rattle.btf_records.specs.declared.encoding.VarLinkage.TheVariants.{Global}
 use Rattle.btf_records.specs.declared.types.BtfType.{BtfType}

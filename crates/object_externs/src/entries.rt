@@ -1,6 +1,6 @@
 //! The externs that the entries of a section declare.
 
-ghost use Rattle.std.specs.Prelude.{◌≡◌, ◌≢◌, [], Any, Some, fold, true, IfErr, IfOk, OnOk};
+ghost use Rattle.std.specs.Prelude.{◌≡◌, ◌≢◌, [], Any, Some, fold, option_and_then, IfErr, IfOk, OnOk};
 ghost use Rattle.std.specs.List.{list_any};
 ghost use Rattle.btf_records.specs.Fields.{kind_of_type};
 ghost use Rattle.btf_records.specs.declared.error.BtfError.TheVariants.{OutOfMemory};
@@ -39,12 +39,15 @@ fn declared_symbol<'s, 'a>(
     t: &TypeRef<'_>,
 ) -> Result<&'s ReadSymbol<'a>, BtfError>
     ensures name { IfOk result (λ symbol. declared_name table.now t.now ≡ symbol.now.name) }
-    ensures value { IfOk result (λ symbol. (name : List ℕ) → symbol.now.name ≡ Some name → symbol_named symbols.now name ≡ Some symbol.now) }
+    ensures value { IfOk result (λ symbol. option_and_then (symbol_named symbols.now) (declared_name table.now t.now) ≡ Some symbol.now) }
     ensures refused { IfErr result (NameFault symbols.now table.now t.now) }
     ensures accepted { OnOk result (IsFaultless (NameFault symbols.now table.now t.now)) }
 {
     let name = table.string_at(t.name_offset())?;
-    symbols.get(name).ok_or(BtfError::InvalidSymbolName)
+    match symbols.get(name) {
+        Some(symbol) => Ok(symbol),
+        None => Err(BtfError::InvalidSymbolName),
+    }
 }
 
 /// The extern that the record of an id declares.
@@ -114,10 +117,10 @@ pub(crate) fn read_entries<'a>(
 fn names_function(table: &Btf<'_>, entry: &DataSecEntry) -> bool
     ensures { result ≡ names_function table.now entry.now }
 {
-    match table.type_by_id(entry.btf_type) {
-        Ok(t) => t.kind() == BtfKind::Func,
-        Err(_) => false,
-    }
+    let Ok(t) = table.type_by_id(entry.btf_type) else {
+        return false;
+    };
+    t.kind() == BtfKind::Func
 }
 
 /// Whether one of the entries names a function.

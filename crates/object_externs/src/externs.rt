@@ -48,7 +48,7 @@ impl<'a> Externs<'a> {
         by_name: BTreeMap<&'a str, ExternDesc<'a>>,
         ksyms: Option<KsymsIds>,
     ) -> Externs<'a>
-        ensures { result ≡ record { by_name = by_bytes by_name.entries; ksyms = ksyms } }
+        ensures { result ≡ record { by_name = by_bytes by_name.entry.entries; ksyms = ksyms } }
     {
         Externs { by_name, ksyms }
     }
@@ -86,7 +86,7 @@ impl<'a> Externs<'a> {
     pub fn has_typed(&self) -> bool
         ensures { result ≡ list_any (λ e. is_some e.1.type_id) self.now.by_name }
     {
-        for (_name, desc) in self.by_name.iter() {
+        for (_name, desc) in self.iter() {
             if desc.type_id.is_some() {
                 return true;
             }
@@ -98,7 +98,7 @@ impl<'a> Externs<'a> {
     pub fn has_strong_typed(&self) -> bool
         ensures { result ≡ list_any (λ e. is_some e.1.type_id && not e.1.is_weak) self.now.by_name }
     {
-        for (_name, desc) in self.by_name.iter() {
+        for (_name, desc) in self.iter() {
             if desc.type_id.is_some() && !desc.is_weak {
                 return true;
             }

@@ -1,6 +1,6 @@
 //! The variable that stands in the section for each function.
 
-ghost use Rattle.std.specs.Prelude.{◌≡◌, ◌≢◌, ◌+◌, ⊥, length, IfErr, IfOk, OnErr, OnOk};
+ghost use Rattle.std.specs.Prelude.{◌≡◌, ◌≢◌, ◌+◌, length, IfErr, IfOk, OnErr, OnOk};
 ghost use Rattle.btf_records.specs.declared.error.BtfError.TheVariants.{InvalidTypeInfo, OutOfMemory};
 ghost use Rattle.btf_sanitizing.specs.Ksyms.{int4_from, is_int4};
 ghost use Rattle.btf_tables.specs.GrownTables.{TextsStay, TypesStay};

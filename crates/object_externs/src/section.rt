@@ -1,10 +1,11 @@
 //! The section `.ksyms` of a table.
 
-ghost use Rattle.std.specs.Prelude.{◌≡◌, ◌≢◌, ◌<◌, ◌^◌, length, IfErr, IfOk, IfSome, OnErr, OnOk, Some, true};
-ghost use Rattle.btf_records.specs.Fields.{entries_of};
-ghost use Rattle.btf_records.specs.declared.error.BtfError.TheVariants.{InvalidStringOffset};
+ghost use Rattle.std.specs.Prelude.{◌≡◌, ◌≢◌, ℕ, IfErr, IfOk, IsSome, OnOk, false, true};
+ghost use Rattle.btf_records.specs.Fields.{name_offset_of};
+ghost use Rattle.btf_records.specs.declared.error.BtfError.TheVariants.{InvalidStringOffset, OutOfMemory};
 ghost use Rattle.btf_sanitizing.specs.Faults.{IsFaultless};
 ghost use Rattle.object_externs.specs.Faults.{SectionFault};
+ghost use Rattle.btf_tables.specs.Tables.{type_by_id};
 ghost use Rattle.object_externs.specs.Section.{entries_at, is_ksyms, is_unreadable, ksyms_section};
 
 use btf_encoding::TypeRef;
@@ -21,7 +22,7 @@ const KSYMS: &str = ".ksyms";
 fn is_ksyms(table: &Btf<'_>, t: &TypeRef<'_>) -> Result<bool, BtfError>
     ensures value { IfOk result (λ r. r ≡ is_ksyms table.now.strings t.now) }
     ensures accepted { OnOk result ((offset : ℕ) → is_unreadable table.now.strings offset t.now ≡ false) }
-    ensures refused { IfErr result (λ e. SectionFault (record table.now { types = t.now ∷ [] }) e) }
+    ensures refused { IfErr result (λ e. (e ≡ InvalidStringOffset (name_offset_of t.now)) × (is_unreadable table.now.strings (name_offset_of t.now) t.now ≡ true)) }
 {
     if t.kind() != BtfKind::DataSec {
         return Ok(false);
@@ -37,10 +38,10 @@ pub(crate) fn ksyms_section(table: &Btf<'_>) -> Result<Option<u32>, BtfError>
     ensures refused { IfErr result (SectionFault table.now) }
     ensures accepted { OnOk result (IsFaultless (SectionFault table.now)) }
 {
-    let mut id = 0;
+    let mut id: usize = 0;
     for t in table.types() {
         if is_ksyms(table, &t)? {
-            return Ok(Some(id));
+            return Ok(Some(id as u32));
         }
         id += 1;
     }
@@ -54,7 +55,8 @@ pub(crate) fn section_entries(
     section: u32,
 ) -> Result<Vec<DataSecEntry>, BtfError>
     requires { IsSome (type_by_id table.now section) }
-    ensures { IfOk result (λ entries. entries.items ≡ entries_at table.now section) }
+    ensures value { IfOk result (λ entries. entries.items ≡ entries_at table.now section) }
+    ensures refused { IfErr result (λ e. e ≡ OutOfMemory) }
 {
     let t = table.type_by_id(section)?;
     let mut entries = Vec::with_capacity(alloc, t.count())?;

@@ -1,6 +1,6 @@
 //! Symbols by name.
 
-ghost use Rattle.std.specs.Prelude.{◌≡◌, ℕ, List, Some, if◌then◌else◌, option_copied, IfOk, OnOk};
+ghost use Rattle.std.specs.Prelude.{◌≡◌, ℕ, List, Some, if◌then◌else◌, option_copied, IfOk, IfSome, OnOk};
 ghost use Rattle.object_externs.specs.Names.{AreByName, symbol_under};
 ghost use Rattle.object_externs.specs.Symbols.{is_named, symbol_named};
 
@@ -10,7 +10,7 @@ use std::collections::BTreeMap;
 use std::marker::Model;
 
 /// The symbols of a file, of which that of a name is found at once.
-#[derive(Debug, Drop)]
+#[derive(Drop)]
 pub(crate) struct SymbolNames<'s, 'a> {
     symbols: &'s [ReadSymbol<'a>],
     by_name: BTreeMap<&'a str, &'s ReadSymbol<'a>>,
@@ -69,7 +69,8 @@ impl<'s, 'a> SymbolNames<'s, 'a> {
 
     /// The symbol of a name with the least index.
     pub(crate) fn get(&self, name: &str) -> Option<&'s ReadSymbol<'a>>
-        ensures { option_copied result ≡ symbol_named self.now name.now }
+        ensures value { option_copied result ≡ symbol_named self.now name.now }
+        ensures named { IfSome result (λ symbol. symbol.now.name ≡ Some name.now) }
     {
         self.by_name.get(name).copied()
     }
