@@ -35,17 +35,23 @@ abbrev pub with_answer : MapWords → Result Said Refusal → MapWords
 with_answer words (Ok s) = with_said words s
 with_answer words (Err r) = words
 
+abbrev pub with_inner_member : Table → MapWords → BtfMember → MapWords
+with_inner_member table words m = with_answer words (member_said_inside table m)
+
 -- its words, of which the last member that sets one counts
 abbrev pub inner_words : Table → ℕ → MapWords
-inner_words table id = fold (λ words m. with_answer words (member_said_inside table m)) zero_words (members_at table id)
+inner_words table id = fold (with_inner_member table) zero_words (members_at table id)
 
 -- all that is wrong with it
 abbrev pub refusals_in : Result Said Refusal → List Refusal
 refusals_in (Ok s) = []
 refusals_in (Err r) = r ∷ []
 
+abbrev pub inner_member_refusals : Table → BtfMember → List Refusal
+inner_member_refusals table m = refusals_in (member_said_inside table m)
+
 abbrev pub inner_refusals : Table → ℕ → List Refusal
-inner_refusals table id = flat_map (λ m. refusals_in (member_said_inside table m)) (members_at table id)
+inner_refusals table id = flat_map (inner_member_refusals table) (members_at table id)
 
 -- ---- a map
 
@@ -69,9 +75,12 @@ defined_by table d (Err r) = d
 abbrev pub with_member : Table → Definition → BtfMember → Definition
 with_member table d m = defined_by table d (member_said table m)
 
+abbrev pub nothing_defined : Definition
+nothing_defined = record { words = zero_words; inner = None }
+
 -- what the struct of an id defines
 abbrev pub defined : Table → ℕ → Definition
-defined table id = fold (with_member table) (record { words = zero_words; inner = None }) (members_at table id)
+defined table id = fold (with_member table) nothing_defined (members_at table id)
 
 -- all that is wrong with it
 abbrev pub refusals_said : Table → Result Said Refusal → List Refusal

@@ -3,12 +3,12 @@
 ghost use Rattle.std.specs.Prelude.{◌≡◌, ◌≢◌, List, [], Contains, MatchResult, IfOk, IfErr, OnOk, Ok, Err};
 ghost use Rattle.ebpf_items.specs.Maps.{btf_words};
 ghost use Rattle.btf_records.specs.declared.error.BtfError.TheVariants.{OutOfMemory};
-ghost use Rattle.map_definitions.specs.Definitions.{HasDefinitionFault, IsFaultAmong, defined, definition_of, inner_refusals, inner_words, map_variable, refusals};
+ghost use Rattle.map_definitions.specs.Definitions.{HasDefinitionFault, IsFaultAmong, defined, definition_of, inner_refusals, inner_words, map_variable, member_refusals, refusals, with_member};
 
 use crate::lookup::{Refusal, name_at, struct_behind, variable_at};
 use crate::member::{Said, enter_said, member_said, member_said_inside};
 use crate::members::Members;
-use btf_records::BtfError;
+use btf_records::{BtfError, BtfMember};
 use btf_tables::Btf;
 use ebpf_items::BtfMapDef;
 use std::alloc::Global;
@@ -58,6 +58,25 @@ fn inner_def(table: &Btf<'_>, struct_id: u32) -> Result<BtfMapDef, Refusal>
     Ok(def)
 }
 
+/// Enters what a member says of a map.
+fn enter_member(
+    table: &Btf<'_>,
+    defined: &mut BtfDefinition,
+    member: BtfMember,
+) -> Result<(), Refusal>
+    ensures value { OnOk result (definition_of defined.new ≡ with_member table.now (definition_of defined.old) member) }
+    ensures accepted { OnOk result (member_refusals table.now member ≡ []) }
+    ensures refused { IfErr result (Contains (member_refusals table.now member)) }
+{
+    let said = member_said(table, member)?;
+    if let Said::Inner(id) = said {
+        let inner = inner_def(table, id)?;
+        defined.inner = Some(inner);
+    }
+    enter_said(&mut defined.def, said);
+    Ok(())
+}
+
 /// What the struct of this id defines.
 fn definition(table: &Btf<'_>, struct_id: u32) -> Result<BtfDefinition, Refusal>
     ensures value { IfOk result (λ d. definition_of d ≡ defined table.now struct_id) }
@@ -69,17 +88,15 @@ fn definition(table: &Btf<'_>, struct_id: u32) -> Result<BtfDefinition, Refusal>
         inner: None,
     };
     for member in Members::new(table, struct_id) {
-        let said = member_said(table, member)?;
-        if let Said::Inner(id) = said {
-            defined.inner = Some(inner_def(table, id)?);
-        }
-        enter_said(&mut defined.def, said);
+        enter_member(table, &mut defined, member)?;
     }
     Ok(defined)
 }
 
 /// The error of a refusal, of the map of this name.
-fn named_error(alloc: Global, name: &str, refusal: Refusal) -> BtfError {
+fn named_error(alloc: Global, name: &str, refusal: Refusal) -> BtfError
+    ensures { (all : List Refusal) → Contains all refusal → result ≢ OutOfMemory → IsFaultAmong all name.now result }
+{
     let name = match String::from_str(alloc, name) {
         Ok(name) => name,
         Err(_error) => return BtfError::OutOfMemory,

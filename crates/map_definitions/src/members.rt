@@ -46,6 +46,7 @@ impl<'t> Iterator for Members<'t> {
 
     ghost remaining = { item_count (λ s. s) };
 
+    #[tactic(auto, using(crate::proofs::Left::left_some))]
     fn next(&mut self) -> Option<BtfMember> {
         if self.next >= self.t.count() {
             return None;
