@@ -43,7 +43,7 @@ pub(crate) fn is_relocation_table(symbol_table: usize, header: &SectionHeader) -
 }
 
 /// A relocation of a section (ELF-64 object file format, "Relocation").
-#[derive(Drop, Debug)]
+#[derive(Clone, Drop, Debug)]
 pub struct RelocView {
     offset: u64,
     info: u64,

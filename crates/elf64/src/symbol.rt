@@ -75,7 +75,7 @@ fn kind_of(symbol_type: u8) -> SymbolKind
 }
 
 /// A symbol of a file (ELF-64 object file format, "Symbol Table").
-#[derive(Drop, Debug)]
+#[derive(Clone, Drop, Debug)]
 pub struct SymbolView<'a> {
     names: Option<&'a [u8]>,
     index: usize,

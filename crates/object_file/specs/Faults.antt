@@ -1,0 +1,40 @@
+-- What is wrong with a file before its types, maps and functions are looked at.
+use Rattle.std.specs.Prelude.{◌≡◌, ◌≢◌, ℕ, List, length, true, IsSomeAnd, IfSome}
+use Rattle.std.specs.List.{list_any}
+use Rattle.btf_records.specs.declared.error.BtfError.TheVariants as btf
+use Rattle.elf64.specs.Faults as elf
+use Rattle.elf64.specs.Symbols.{symbols_of}
+use Rattle.ebpf_items.specs.declared.error.ParseError.{ParseError}
+use Rattle.ebpf_items.specs.declared.error.ParseError.TheVariants as error
+use Rattle.object_file.specs.License.{license_bytes, IsLicense, IsInvalidLicense, LacksNul}
+use Rattle.object_file.specs.Reading.{read_sections, HasUnreadable}
+use Rattle.object_file.specs.Relocations.{has_relocation_without_symbol}
+use Rattle.object_file.specs.Symbols.{is_unnamed}
+use Rattle.object_file.specs.Version.{version_bytes}
+
+-- a fault of what an ELF file that can be read holds
+abbrev pub HasHeldFault : List ℕ → ParseError → Type 0
+HasHeldFault file (error.SectionError index e) = HasUnreadable (read_sections file) (error.SectionError index e)
+HasHeldFault file error.UnsupportedRelocationTarget = list_any (has_relocation_without_symbol file) (read_sections file) ≡ true
+HasHeldFault file (error.InvalidLicense kept) = IsSomeAnd (license_bytes file) (λ bytes. (kept.items ≡ bytes) × IsInvalidLicense bytes)
+HasHeldFault file (error.MissingLicenseNullTerminator kept) = IsSomeAnd (license_bytes file) (λ bytes. (kept.items ≡ bytes) × LacksNul bytes)
+HasHeldFault file (error.InvalidKernelVersion kept) = IsSomeAnd (version_bytes file) (λ bytes. (kept.items ≡ bytes) × (length bytes ≢ 4))
+HasHeldFault file (error.BtfError btf.InvalidSymbolName) = list_any is_unnamed (symbols_of file) ≡ true
+HasHeldFault file _ = ⊥
+
+-- a fault of a file; want of memory is none
+abbrev pub HasFileFault : List ℕ → ParseError → Type 0
+HasFileFault file (error.ElfError e) = elf.HasFault file e
+HasFileFault file e = elf.IsFaultless file × HasHeldFault file e
+
+-- the license is sound, where the file names one
+abbrev pub HasSoundLicense : List ℕ → Type 0
+HasSoundLicense file = IfSome (license_bytes file) IsLicense
+
+-- the version has four bytes, where the file names one
+abbrev pub HasSoundVersion : List ℕ → Type 0
+HasSoundVersion file = IfSome (version_bytes file) (λ bytes. length bytes ≡ 4)
+
+-- no such fault stands
+pub record IsFileFaultless (file : List ℕ) : Type 0 where
+  pub none : (e : ParseError) → HasFileFault file e → ⊥

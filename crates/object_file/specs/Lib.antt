@@ -1,0 +1,11 @@
+pub mod ByteOrders
+pub mod Faults
+pub mod Kinds
+pub mod License
+pub mod ObjectFile
+pub mod Reading
+pub mod Relocations
+pub mod RelocationTable
+pub mod Symbols
+pub mod SymbolTable
+pub mod Version

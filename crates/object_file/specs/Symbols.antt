@@ -1,0 +1,20 @@
+-- The symbols of a file, by section and by name.
+use Rattle.std.specs.Prelude.{ℕ, List, filter, find, is_none, ◌==◌, Bool, false, Option}
+use Rattle.std.specs.Option.{option_map, option_map_or}
+use Rattle.elf64.specs.Symbols.{Symbol, symbols_of}
+
+-- whether a symbol lies in the section of an index
+abbrev pub is_in : ℕ → Symbol → Bool
+is_in index s = option_map_or (λ i. i == index) s.section_index false
+
+-- the symbols that lie in the section of an index, in order
+abbrev pub symbols_in : List Symbol → ℕ → List Symbol
+symbols_in symbols index = filter (is_in index) symbols
+
+-- a symbol whose name can't be read
+abbrev pub is_unnamed : Symbol → Bool
+is_unnamed s = is_none s.name
+
+-- the index of the first symbol whose name can't be read
+abbrev pub unnamed_symbol : List ℕ → Option ℕ
+unnamed_symbol file = option_map (λ s. s.index) (find is_unnamed (symbols_of file))

@@ -1,0 +1,71 @@
+//! The relocations of an object, by section.
+
+ghost use Rattle.std.specs.Prelude.{◌≡◌, ◌++◌, ◌∷◌, [], IfOk, OnOk};
+ghost use Rattle.std.specs.List.{list_any};
+ghost use Rattle.std.specs.Option.{option_map_or};
+ghost use Rattle.object_file.specs.Relocations.{lacks_symbol};
+
+use elf64::{ElfFile, RelocView, RelocationSectionView};
+use std::alloc::{AllocError, Global};
+use std::collections::BTreeMap;
+
+/// The relocations of each section, by the section's index.
+#[derive(Debug, Drop)]
+pub(crate) struct RelocationTable {
+    by_section: BTreeMap<usize, Vec<RelocView>>,
+}
+
+impl RelocationTable {
+    ghost use Rattle.object_file.specs.RelocationTable.{relocations_at, AreRelocationsOf, AddsRelocations};
+
+    /// The relocations of a file.
+    #[tactic(auto, unfolding(elf64::specs::Relocations::relocations_of))]
+    pub(crate) fn read(alloc: Global, elf: &ElfFile<'_>) -> Result<RelocationTable, AllocError>
+        ensures { IfOk result (λ t. AreRelocationsOf t elf.now) }
+    {
+        let mut table = RelocationTable {
+            by_section: BTreeMap::new(alloc),
+        };
+        for section in elf.relocation_sections() {
+            table.add_section(&section)?;
+        }
+        Ok(table)
+    }
+
+    /// Adds the relocations of a relocation section behind those that its target has.
+    fn add_section(&mut self, section: &RelocationSectionView<'_>) -> Result<(), AllocError>
+        ensures { OnOk result (AddsRelocations self.old self.new section.now.target section.now.relocations) }
+    {
+        let target = section.target();
+        for relocation in section.relocations() {
+            self.add(target, relocation)?;
+        }
+        Ok(())
+    }
+
+    fn add(&mut self, target: usize, relocation: RelocView) -> Result<(), AllocError>
+        ensures { OnOk result (AddsRelocations self.old self.new target (relocation ∷ [])) }
+    {
+        self.by_section
+            .entry(target)?
+            .or_default()
+            .push(relocation)?;
+        Ok(())
+    }
+
+    /// The relocations of the section of an index, if there are any.
+    pub(crate) fn of_section(&self, index: usize) -> Option<&Vec<RelocView>>
+        ensures { option_map_or (λ v. v.now.items) result [] ≡ relocations_at self.now index }
+    {
+        self.by_section.get(&index)
+    }
+}
+
+/// Whether a relocation has no symbol.
+pub(crate) fn any_without_symbol(relocations: &[RelocView]) -> bool
+    ensures { result ≡ list_any lacks_symbol relocations.now }
+{
+    relocations
+        .iter()
+        .any(|relocation| relocation.symbol().is_none())
+}
