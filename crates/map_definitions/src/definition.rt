@@ -14,7 +14,7 @@ use ebpf_items::BtfMapDef;
 use std::alloc::Global;
 
 /// The variable that a map is in a section `.maps`.
-#[derive(Debug)]
+#[derive(Debug, Drop)]
 pub struct MapVariable<'t> {
     pub name: &'t str,
     /// The id of the struct that defines it.
