@@ -13,3 +13,6 @@ mod reading;
 
 pub use maps::Maps;
 pub use reading::read_maps;
+
+#[cfg(test)]
+mod tests;
