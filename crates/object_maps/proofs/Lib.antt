@@ -1,0 +1,5 @@
+pub mod Left
+pub mod Names
+pub mod Sayings
+pub mod Shown
+pub mod Unreadable
