@@ -4,7 +4,7 @@ ghost use Rattle.std.specs.Prelude.{◌≡◌, ◌≢◌, true, false, IfErr, On
 ghost use Rattle.std.specs.Io.KnownBytes.{Appends};
 ghost use Rattle.watched.specs.Watched.{watched_inner, has_failed, AppendsPart};
 ghost use Rattle.load_plan.specs.Planned.{IsPrepared};
-ghost use Rattle.bpf_prepare.specs.Run.{text_of, IsRunRefusal};
+ghost use Rattle.bpf_prepare.specs.Run.{HoldsOfText, IsRunRefusal};
 ghost use Rattle.bpf_prepare.specs.declared.error.RunError.TheVariants.{Output};
 
 use crate::error::RunError;
@@ -23,14 +23,14 @@ pub fn run<W: Write>(alloc: Global, object: &[u8], out: &mut Watched<W>) -> Resu
     // Exactly the text of the plan went out, of an object in which no fault stands.
     ensures well { OnOk result (has_failed out.new ≡ false) }
     ensures prepared { OnOk result (IsPrepared object.now) }
-    ensures written { OnOk result (Appends (W.contents (watched_inner out.old)) (W.contents (watched_inner out.new)) (text_of object.now)) }
+    ensures written { OnOk result (HoldsOfText object.now (λ text. Appends (W.contents (watched_inner out.old)) (W.contents (watched_inner out.new)) text)) }
 
     // A refusal names a fault that stands, and writes nothing.
     ensures refused { IfErr result (IsRunRefusal object.now) }
     ensures unwritten { IfErr result (λ e. e ≢ Output → out.new ≡ out.old) }
 
     // Of an object that isn't refused, a beginning of the text went out, and the writer failed.
-    ensures part { result ≡ Err Output → IsPrepared object.now × AppendsPart (W.contents (watched_inner out.old)) (W.contents (watched_inner out.new)) (text_of object.now) }
+    ensures part { result ≡ Err Output → IsPrepared object.now × HoldsOfText object.now (λ text. AppendsPart (W.contents (watched_inner out.old)) (W.contents (watched_inner out.new)) text) }
     ensures failed { result ≡ Err Output → has_failed out.new ≡ true }
     ensures at_once { has_failed out.old ≡ true → out.new ≡ out.old }
 {

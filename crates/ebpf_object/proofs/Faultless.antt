@@ -1,104 +1,116 @@
--- A file in which nothing was found is faultless.
-use Rattle.std.proofs.Common.{◌≡◌, ℕ, Bool, true, false, List, [], ◌∷◌, Option, Some, None, refl, arith, ◌||◌, ◌&&◌, inl, inr}
-use Rattle.std.specs.Prelude.{IfSome, IsSomeAnd}
-use Rattle.std.specs.List.{list_any}
-use Rattle.elf64.specs.declared.error.ElfError.{ElfError}
-use Rattle.elf64.specs.declared.error.ElfError.TheVariants.{Name, SectionData}
-use Rattle.elf64.specs.Faults as elf
-use Rattle.elf64.specs.Sections.{Section}
-use Rattle.elf64.specs.Symbols.{symbols_of}
+-- What was read without a fault has none.
+use Rattle.std.proofs.Common.{◌≡◌, ℕ, List, [], Option, Some, None, refl, sym, ap, inl, inr, subst, arith}
+use Rattle.std.specs.Option.{IsSomeAnd}
+use Rattle.std.specs.Prelude.{◌≢◌, ◌⊎◌, Contains, IfErr, IfSome, OnOk, Result, Ok, Err, codes}
+use Rattle.btf_extension.specs.Extensions.{Extension}
+use Rattle.btf_records.specs.declared.error.BtfError.{BtfError}
+use Rattle.btf_records.specs.declared.error.BtfError.TheVariants as btf
+use Rattle.ebpf_items.specs.Error.{parse_error_of}
+use Rattle.btf_records.specs.declared.words.Endianness.{Endianness}
+use Rattle.btf_sanitizing.specs.Faults.{IsFaultless as AreFaultless}
+use Rattle.btf_tables.specs.Tables.{Table, TableFault}
 use Rattle.ebpf_items.specs.declared.error.ParseError.{ParseError}
 use Rattle.ebpf_items.specs.declared.error.ParseError.TheVariants as error
-use Rattle.btf_records.specs.declared.error.BtfError.TheVariants as btf
-use Rattle.ebpf_object.specs.Faults.{HasFault, HasObjectFault, AreSound, HasSoundLicense, HasSoundVersion}
-use Rattle.ebpf_object.specs.SymbolTable.{is_unnamed}
-use Rattle.ebpf_object.specs.License.{IsLicense, IsInvalidLicense, LacksNul, license_bytes}
-use Rattle.ebpf_object.specs.Version.{version_bytes}
-use Rattle.ebpf_object.specs.Reading.{read_sections, is_unreadable, cannot_read, HasReadingFault}
+use Rattle.elf64.specs.Symbols.{symbols_of}
+use Rattle.object_externs.specs.Faults.{ExternsFault}
+use Rattle.object_file.specs.ByteOrders.{file_endianness}
+use Rattle.object_file.specs.Faults.{IsFileFaultless}
+use Rattle.object_file.specs.Reading.{contents_named}
+use Rattle.object_maps.specs.Faults.{MapFault, Says}
+use Rattle.object_maps.specs.Maps.{HasMapsFault, maps_faults}
+use Rattle.object_parse.specs.Faults.{HasSoundFunctions}
+use Rattle.btf_extension.specs.Faults.{ExtensionFault}
+use Rattle.ebpf_object.specs.Faults.{HasFault, HasMapFault, HasObjectFault, HasTableFault, HasTypesFault, IsFaultless, IsSound, SaysOfTypes, TableFaultOf}
+use Rattle.ebpf_object.specs.Types.{HoldsRecords, HoldsRecordsIn, HoldsTypes, HoldsTypesIn, RecordsFault, TypesFault}
 
-and-right : (a b : Bool) → (a && b) ≡ true → b ≡ true
-and-right true b h = h
-and-right false b h = absurd (cc)
+-- a section holds one table alone
+unique : (order : Endianness) (bytes : Option (List ℕ)) (a b : Option Table) → HoldsTypesIn order bytes a → HoldsTypesIn order bytes b → b ≡ a
+unique order None None None h k = refl
+unique order None (Some a) b h k = absurd h
+unique order None None (Some b) h k = absurd k
+unique order (Some bytes) None b h k = absurd h
+unique order (Some bytes) (Some a) None h k = absurd k
+unique order (Some bytes) (Some a) (Some b) h k = ap (λ t. Some t) (h.alone b k.holds)
 
-or-left : (a b : Bool) → a ≡ true → (a || b) ≡ true
-or-left true b h = refl
-or-left false b h = absurd (cc)
+no-types-fault-in : (order : Endianness) (bytes : Option (List ℕ)) (table : Option Table) → HoldsTypesIn order bytes table → (e : BtfError) → IsSomeAnd bytes (λ b. TableFault order b e) → ⊥
+no-types-fault-in order None table h e fault = fault
+no-types-fault-in order (Some bytes) None h e fault = h
+no-types-fault-in order (Some bytes) (Some table) h e fault = h.faultless e fault
 
-or-right : (a b : Bool) → b ≡ true → (a || b) ≡ true
-or-right true b h = refl
-or-right false b h = h
+no-records-fault-in : (order : Endianness) (table : Table) (bytes : Option (List ℕ)) (extension : Option Extension) → HoldsRecordsIn order (Some table) bytes extension → (e : BtfError) → IsSomeAnd bytes (λ b. ExtensionFault order table.strings b e) → ⊥
+no-records-fault-in order table None extension h e fault = fault
+no-records-fault-in order table (Some bytes) None h e fault = h
+no-records-fault-in order table (Some bytes) (Some extension) h e fault = h.faultless e fault
 
-or-none : (a b : Bool) → (a || b) ≡ false → (a ≡ false) × (b ≡ false)
-or-none true b h = absurd (cc)
-or-none false b h = (refl, h)
+says-none : (Fault : BtfError → Type 0) → ((e : BtfError) → Fault e → ⊥) → (e : ParseError) → SaysOfTypes Fault e → ⊥
+says-none Fault none (error.BtfError e) says = none e says
+says-none Fault none _ says = says
 
-not-both : (b : Bool) → b ≡ true → b ≡ false → ⊥
-not-both true h k = absurd (cc)
-not-both false h k = absurd (cc)
+-- of the table that was read
+table-sound : (file : List ℕ) (table : Table) (extension : Option Extension) → HoldsRecords file (Some table) extension → AreFaultless (ExternsFault (symbols_of file) table) → (e : BtfError) → TableFaultOf file table e → ⊥
+table-sound file table extension records externs e (inl fault) = no-records-fault-in _ table _ extension records e fault
+table-sound file table extension records externs e (inr fault) = externs.none e fault
 
-none-first : (a b c rest : Bool) → a ≡ c → (c ≡ true → b ≡ true) → b ≡ false → (rest ≡ true → ⊥) → (a || rest) ≡ true → ⊥
-none-first a b true rest is weaker none later some = not-both b (weaker refl) none
-none-first a b false rest is weaker none later some = later (rw is at some)
+no-table-fault : (file : List ℕ) (table : Option Table) (extension : Option Extension) → HoldsTypes file table → HoldsRecords file table extension → IfSome table (λ t. AreFaultless (ExternsFault (symbols_of file) t)) → (e : ParseError) (other : Table) → HasTableFault file other e → Some other ≡ table → ⊥
+no-table-fault file None extension holds records externs e other fault same = absurd (cc)
+no-table-fault file (Some table) extension holds records externs e other fault same =
+    let is : other ≡ table = cc in
+    says-none (TableFaultOf file table) (table-sound file table extension records externs) e (subst (λ t. SaysOfTypes (TableFaultOf file t) e) is fault.1)
 
--- what passes one test passes another, so where none passes the other none passes the one
-none-weaker : {X : Type 0} (p q : X → Bool) → ((x : X) → p x ≡ true → q x ≡ true) → (xs : List X) → list_any q xs ≡ false → list_any p xs ≡ true → ⊥
-none-weaker p q weaker [] none some = not-both false some refl
-none-weaker p q weaker (x ∷ xs) none some =
-    let parts = or-none (q x) (list_any q xs) none in
-    none-first (p x) (q x) (p x) (list_any p xs) refl (weaker x) parts.0 (none-weaker p q weaker xs parts.1) some
+nothing-said : (o : Option MapFault) → IsSomeAnd o (Contains []) → ⊥
+nothing-said None said = said
+nothing-said (Some f) said = absurd (omega (arith, said.1))
 
-cannot_read-unreadable : (section : Section) (e : ElfError) → cannot_read section e ≡ true → is_unreadable section ≡ true
-cannot_read-unreadable section Name h = or-left _ _ h
-cannot_read-unreadable section SectionData h = or-right _ _ h
-cannot_read-unreadable section _ h = absurd (cc)
+no-map-fault : (file : List ℕ) (table : Option Table) → maps_faults file table ≡ [] → (e : ParseError) (other : Option Table) → HasMapFault file other e → other ≡ table → ⊥
+no-map-fault file table none e other fault same =
+    nothing-said _ (subst (λ faults. Says faults e) none (subst (λ t. HasMapsFault file t e) same fault.1))
 
--- a sound license has no fault
-license-valid : (bytes : List ℕ) → IsLicense bytes → IsInvalidLicense bytes → ⊥
-license-valid bytes sound (inl short) = absurd (omega (arith, sound.len, short))
-license-valid bytes sound (inr inner) = not-both _ inner sound.text
+pub sound : (file : List ℕ) (table : Option Table) (extension : Option Extension) → HoldsTypes file table → HoldsRecords file table extension → HasSoundFunctions file → maps_faults file table ≡ [] → IfSome table (λ t. AreFaultless (ExternsFault (symbols_of file) t)) → (e : ParseError) → HasObjectFault file e → ⊥
+sound file table extension holds records functions maps externs e (inl fault) = says-none (TypesFault file) (no-types-fault-in _ _ table holds) e fault
+sound file table extension holds records functions maps externs e (inr (inl fault)) =
+    no-table-fault file table extension holds records externs e fault.0 fault.1 (unique _ _ table (Some fault.0) holds fault.1.0)
+sound file table extension holds records functions maps externs e (inr (inr (inl fault))) =
+    no-map-fault file table maps e fault.0 fault.1 (unique _ _ table fault.0 holds fault.1.0)
+sound file table extension holds records functions maps externs e (inr (inr (inr fault))) = functions.none e fault
 
-license-ended : (bytes : List ℕ) → IsLicense bytes → LacksNul bytes → ⊥
-license-ended bytes sound lacking = lacking.2 sound.end
+-- an error of type information, as one of an object
+pub says-from : (Fault : BtfError → Type 0) (e : BtfError) → (e ≢ btf.OutOfMemory → Fault e) → parse_error_of e ≢ error.OutOfMemory → SaysOfTypes Fault (parse_error_of e)
+says-from Fault btf.OutOfMemory fault other = absurd (other refl)
+says-from Fault e fault other = fault (λ same. cc)
 
-both : {X : Type 0} (o : Option X) (P Q : X → Type 0) → ((x : X) → P x → Q x → ⊥) → IfSome o P → IsSomeAnd o Q → ⊥
-both None P Q apart p q = q
-both (Some x) P Q apart p q = apart x p q
+says-weaker : (P Q : BtfError → Type 0) → ((e : BtfError) → P e → Q e) → (e : ParseError) → SaysOfTypes P e → SaysOfTypes Q e
+says-weaker P Q weaker (error.BtfError e) says = weaker e says
+says-weaker P Q weaker e says = absurd says
 
-no-object-fault : (file : List ℕ) → list_any is_unreadable (read_sections file) ≡ false → HasSoundLicense file → HasSoundVersion file → list_any is_unnamed (symbols_of file) ≡ false → AreSound (symbols_of file) (read_sections file) → (e : ParseError) → HasObjectFault file e → ⊥
-no-object-fault file readable license version named sound (error.SectionError index e) fault =
-    none-weaker _ is_unreadable (λ s h. cannot_read-unreadable s e (and-right _ _ h)) (read_sections file) readable fault
-no-object-fault file readable license version named sound (error.InvalidLicense kept) fault =
-    both (license_bytes file) IsLicense _ (λ bytes p q. license-valid bytes p q.1) license fault
-no-object-fault file readable license version named sound (error.MissingLicenseNullTerminator kept) fault =
-    both (license_bytes file) IsLicense _ (λ bytes p q. license-ended bytes p q.1) license fault
-no-object-fault file readable license version named sound (error.InvalidKernelVersion kept) fault =
-    both (version_bytes file) _ _ (λ bytes p q. q.1 p) version fault
-no-object-fault file readable license version named sound (error.BtfError btf.InvalidSymbolName) fault = not-both _ fault named
-no-object-fault file readable license version named sound (error.InvalidProgramSection name) fault =
-    none-weaker _ _ (λ s h. and-right _ _ h) (read_sections file) sound.valid fault
-no-object-fault file readable license version named sound (error.NoSymbolsForSection name) fault =
-    none-weaker _ _ (λ s h. and-right _ _ h) (read_sections file) sound.with_symbols fault
-no-object-fault file readable license version named sound error.InvalidProgramCode fault = not-both _ fault sound.with_code
-no-object-fault file readable license version named sound (error.SymbolTableConflict index address) fault =
-    none-weaker _ _ (λ s h. and-right _ _ h) (read_sections file) (sound.distinct address) fault
-no-object-fault file readable license version named sound _ fault = fault
+-- faults of what stands beside the types, of maps and of externs are some of the object
+pub records-fault : (file : List ℕ) (table : Option Table) → HoldsTypes file table → (e : ParseError) → IsSomeAnd table (λ t. SaysOfTypes (RecordsFault file t) e) → HasObjectFault file e
+records-fault file None holds e said = absurd said
+records-fault file (Some table) holds e said = inr (inl (table, (holds, says-weaker (RecordsFault file table) (TableFaultOf file table) (λ e fault. inl fault) e said)))
 
-pub faultless : (file : List ℕ) → elf.IsFaultless file → ((e : ParseError) → HasObjectFault file e → ⊥) → (e : ParseError) → HasFault file e → ⊥
-faultless file elf none (error.ElfError e) fault = elf.none e fault
-faultless file elf none e fault = none e fault.1
+pub externs-fault : (file : List ℕ) (table : Option Table) → HoldsTypes file table → (e : ParseError) → IsSomeAnd table (λ t. SaysOfTypes (ExternsFault (symbols_of file) t) e) → HasObjectFault file e
+externs-fault file None holds e said = absurd said
+externs-fault file (Some table) holds e said = inr (inl (table, (holds, says-weaker (ExternsFault (symbols_of file) table) (TableFaultOf file table) (λ e fault. inr fault) e said)))
 
-pub object-faultless : (file : List ℕ) → elf.IsFaultless file → list_any is_unreadable (read_sections file) ≡ false → HasSoundLicense file → HasSoundVersion file → list_any is_unnamed (symbols_of file) ≡ false → AreSound (symbols_of file) (read_sections file) → (e : ParseError) → HasFault file e → ⊥
-object-faultless file elf readable license version named sound =
-    faultless file elf (no-object-fault file readable license version named sound)
+pub map-fault : (file : List ℕ) (table : Option Table) → HoldsTypes file table → (e : ParseError) → HasMapsFault file table e → HasObjectFault file e
+map-fault file table holds e said = inr (inr (inl (table, (holds, said))))
 
--- a fault of the object is a fault of its file
-pub HasFault-object : (file : List ℕ) → elf.IsFaultless file → (e : ParseError) → HasObjectFault file e → HasFault file e
-HasFault-object file elf (error.ElfError e) fault = absurd fault
-HasFault-object file elf e fault = (elf, fault)
+pub if-err : {T E : Type 0} {P Q : E → Type 0} (r : Result T E) → ((e : E) → P e → Q e) → IfErr r P → IfErr r Q
+if-err (Ok x) f p = p
+if-err (Err e) f p = f e p
 
--- a file whose headers and sections can be read has no fault of reading
-pub readable : (file : List ℕ) → elf.IsFaultless file → list_any is_unreadable (read_sections file) ≡ false → (e : ParseError) → HasReadingFault file e → ⊥
-readable file elf none (error.ElfError e) fault = elf.none e fault
-readable file elf none (error.SectionError index e) fault =
-    none-weaker _ is_unreadable (λ s h. cannot_read-unreadable s e (and-right _ _ h)) (read_sections file) none fault.1
-readable file elf none _ fault = fault.1
+-- what is wrong with an extension's bytes is wrong with the file
+pub records-fault-at : (file : List ℕ) (table : Table) (bytes : List ℕ) (order : Endianness) → contents_named file (codes ".BTF.ext") ≡ Some bytes → order ≡ file_endianness file → (e : BtfError) → ExtensionFault order table.strings bytes e → RecordsFault file table e
+records-fault-at file table bytes order is same e fault =
+    subst (λ o. IsSomeAnd o (λ b. ExtensionFault (file_endianness file) table.strings b e)) (sym is)
+    (subst (λ order. ExtensionFault order table.strings bytes e) same fault)
+
+none-of-either : (file : List ℕ) → IsFileFaultless file → IsSound file → (e : ParseError) → HasFault file e → ⊥
+none-of-either file whole sound e (inl fault) = whole.none e fault
+none-of-either file whole sound e (inr fault) = sound.none e fault
+
+pub faultless : (file : List ℕ) → IsFileFaultless file → IsSound file → IsFaultless file
+faultless file whole sound = record { none = none-of-either file whole sound }
+
+pub if-ok : {T E : Type 0} {P Q : Type 0} (r : Result T E) → (P → Q) → OnOk r P → OnOk r Q
+if-ok (Ok x) f p = f p
+if-ok (Err e) f p = p

@@ -1,15 +1,5 @@
-pub mod Addresses
-pub mod ByteOrders
-pub mod Content
 pub mod Faults
-pub mod License
-pub mod Names
-pub mod ObjectFile
 pub mod ParsedObject
 pub mod Places
-pub mod Programs
-pub mod Reading
 pub mod Served
-pub mod Symbols
-pub mod SymbolTable
-pub mod Version
+pub mod Types

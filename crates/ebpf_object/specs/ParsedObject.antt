@@ -1,32 +1,43 @@
--- The parsed object, as a function of the file's bytes.
-use Rattle.std.specs.Prelude.{ℕ, List, [], filter, fold}
-use Rattle.elf64.specs.Sections.{Section}
-use Rattle.elf64.specs.Symbols.{symbols_of}
-use Rattle.ebpf_object.specs.ByteOrders.{file_endianness}
-use Rattle.ebpf_object.specs.Content.{ObjectContent, ProgramContent, FunctionContent}
-use Rattle.ebpf_object.specs.License.{license_of}
-use Rattle.ebpf_object.specs.Programs.{is_program, with_programs, with_functions}
-use Rattle.ebpf_object.specs.Reading.{read_sections}
-use Rattle.ebpf_object.specs.Version.{version_of}
+-- The parsed object.
+use Rattle.std.specs.Prelude.{◌≡◌, ℕ, List, [], Option, None, if◌then◌else◌}
+use Rattle.std.specs.Option.{option_map, option_map_or}
+use Rattle.btf_extension.specs.Extensions.{Extension}
+use Rattle.btf_tables.specs.Tables.{Table}
+use Rattle.ebpf_items.specs.Maps.{MapView}
+use Rattle.elf64.specs.Symbols.{Symbol, symbols_of}
+use Rattle.object_externs.specs.Externs.{ExternsContent, externs_of, has_function}
+use Rattle.object_externs.specs.Placeholder.{with_placeholder}
+use Rattle.object_maps.specs.Maps.{maps_of}
+use Rattle.object_parse.specs.Functions.{functions_of, programs_of}
+use Rattle.object_parts.specs.Content.{FunctionContent, ProgramContent}
+use Rattle.ebpf_object.specs.Types.{HoldsRecords, HoldsTypes}
 
--- the program sections of a file, in order of index
-abbrev pub program_sections : List ℕ → List Section
-program_sections file = filter is_program (read_sections file)
+-- An object: the file, whose sections, symbols and relocations it has; its types and what stands beside them; maps, programs
+-- and externs by name, and functions by section index and address, all in order.
+pub record ObjectContent : Type 0 where
+  pub file : List ℕ
+  pub types : Option Table
+  pub extension : Option Extension
+  pub maps : List (List ℕ × MapView)
+  pub programs : List (List ℕ × ProgramContent)
+  pub functions : List ((ℕ × ℕ) × FunctionContent)
+  pub externs : ExternsContent
 
--- the programs by name, of which the last of one name counts
-abbrev pub programs_of : List ℕ → List (List ℕ × ProgramContent)
-programs_of file = fold (with_programs (license_of file) (version_of file) (symbols_of file)) [] (program_sections file)
+abbrev pub no_externs : ExternsContent
+no_externs = record { by_name = []; ksyms = None }
 
--- the functions by key, of which the last of one key counts
-abbrev pub functions_of : List ℕ → List ((ℕ × ℕ) × FunctionContent)
-functions_of file = fold (with_functions (symbols_of file)) [] (program_sections file)
+-- the table in which a variable stands for functions among the externs
+abbrev pub completed : Table → Table
+completed table = if has_function table then with_placeholder table else table
 
--- the object of a file in which no fault stands
-abbrev pub object_of : List ℕ → ObjectContent
-object_of file = record {
-  endianness = file_endianness file;
-  license = license_of file;
-  kernel_version = version_of file;
-  programs = programs_of file;
-  functions = functions_of file;
-}
+-- the object that a file holds: its types are those of the section, completed, all else is of the types as they were read
+pub record IsParsed (file : List ℕ) (object : ObjectContent) : Type 0 where
+  pub table : Option Table
+  pub holds : HoldsTypes file table
+  pub same_file : object.file ≡ file
+  pub types : object.types ≡ option_map completed table
+  pub extension : HoldsRecords file table object.extension
+  pub maps : object.maps ≡ maps_of file table
+  pub programs : object.programs ≡ programs_of file
+  pub functions : object.functions ≡ functions_of file object.extension
+  pub externs : object.externs ≡ option_map_or (externs_of (symbols_of file)) table no_externs

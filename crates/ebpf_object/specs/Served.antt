@@ -1,15 +1,18 @@
 -- The objects that are served so far: programs alone, without maps, types, relocations and calls.
-use Rattle.std.specs.Prelude.{◌≡◌, ◌⊎◌, ℕ, List, [], length, find, ◌==◌, ◌&&◌, not, Bool, true, false, unwrap_or, option_and_then}
+use Rattle.std.specs.Prelude.{◌≡◌, ℕ, List, [], length, ◌==◌, ◌&&◌, not, Bool, true, false}
 use Rattle.std.specs.List.{list_any, list_all}
 use Rattle.std.specs.Option.{option_map_or}
-use Rattle.elf64.specs.Relocations.{RelocationSection, relocation_sections_of}
-use Rattle.elf64.specs.Sections.{Section, sections_of}
+use Rattle.elf64.specs.Relocations.{relocations_of}
+use Rattle.elf64.specs.Sections.{Section}
 use Rattle.elf64.specs.Symbols.{Symbol, symbols_of}
 use Rattle.program_kinds.specs.declared.section_kind.EbpfSectionKind.{EbpfSectionKind}
 use Rattle.program_kinds.specs.declared.section_kind.EbpfSectionKind.TheVariants as kind
 use Rattle.ebpf_items.specs.Instruction.{is_pseudo_call, slots_of}
-use Rattle.ebpf_object.specs.Programs.{kind_of, is_function, code_of}
-use Rattle.ebpf_object.specs.Symbols.{symbols_in}
+use Rattle.object_file.specs.Kinds.{kind_of}
+use Rattle.object_file.specs.Reading.{read_sections}
+use Rattle.object_file.specs.Symbols.{symbols_in}
+use Rattle.object_parse.specs.Programs.{is_function, code_of}
+use Rattle.ebpf_object.specs.Places.{name_at}
 use Rattle.ebpf_object.specs.declared.served.Subject.{Subject}
 use Rattle.ebpf_object.specs.declared.served.Subject.TheVariants as subject
 use Rattle.ebpf_object.specs.declared.served.Unserved.{Unserved}
@@ -27,13 +30,17 @@ is_served_kind symbols section kind.Text = section.size == 0
 is_served_kind symbols section kind.Program = not (list_any (has_call section) symbols)
 is_served_kind symbols section _ = false
 
-abbrev pub is_served_section : List ℕ → Section → Bool
-is_served_section file section = is_served_kind (symbols_in (symbols_of file) section.index) section (kind_of section)
+-- whether a section has relocations
+abbrev pub has_relocations : List ℕ → Section → Bool
+has_relocations file section = not (length (relocations_of file section.index) == 0)
 
--- whether each section of an object is served, and no section has a relocation
+abbrev pub is_served_section : List ℕ → Section → Bool
+is_served_section file section =
+    not (has_relocations file section) && is_served_kind (symbols_in (symbols_of file) section.index) section (kind_of section)
+
+-- whether each section of an object is served
 abbrev pub is_served : List ℕ → Bool
-is_served file =
-    list_all (λ r. length r.relocations == 0) (relocation_sections_of file) && list_all (is_served_section file) (sections_of file)
+is_served file = list_all (is_served_section file) (read_sections file)
 
 -- whether a section of a kind has this, by the symbols that lie in it
 abbrev pub section_asks : List Symbol → Section → EbpfSectionKind → Subject → Bool
@@ -48,23 +55,17 @@ section_asks symbols section kind.Text subject.Functions = not (section.size == 
 section_asks symbols section kind.Program subject.Calls = list_any (has_call section) symbols
 section_asks symbols section _ _ = false
 
+abbrev pub asks_for : List ℕ → Section → Subject → Bool
+asks_for file section subject.Relocations = has_relocations file section
+asks_for file section why = section_asks (symbols_in (symbols_of file) section.index) section (kind_of section) why
+
 -- whether it is the section of an index that has this
 unfoldable pub asks_at : List ℕ → ℕ → Subject → Section → Bool
-asks_at file index subject section =
-    (section.index == index) && section_asks (symbols_in (symbols_of file) section.index) section (kind_of section) subject
-
--- whether a relocation section has relocations of the section of an index
-abbrev pub relocates : ℕ → RelocationSection → Bool
-relocates index r = (r.target == index) && not (length r.relocations == 0)
+asks_at file index why section = (section.index == index) && asks_for file section why
 
 -- why the section of an index isn't served
 abbrev pub AsksFor : List ℕ → Subject → ℕ → Type 0
-AsksFor file why index =
-    ((why ≡ subject.Relocations) × (list_any (relocates index) (relocation_sections_of file) ≡ true)) ⊎ (list_any (asks_at file index why) (sections_of file) ≡ true)
-
--- the name of the section of an index, empty where it can't be read
-abbrev pub name_at : List ℕ → ℕ → List ℕ
-name_at file index = unwrap_or (option_and_then (λ s. s.name) (find (λ s. s.index == index) (sections_of file))) []
+AsksFor file why index = list_any (asks_at file index why) (read_sections file) ≡ true
 
 -- a section that isn't served, why, and its name
 pub record IsUnserved (file : List ℕ) (u : Unserved) : Type 0 where

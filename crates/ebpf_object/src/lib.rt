@@ -1,21 +1,11 @@
 //! Parsed eBPF objects.
 #![tactic(auto)]
 
-mod by_name;
-mod file;
-mod function;
-mod license;
-mod names;
 mod object;
 mod places;
-mod program;
-mod reading;
-mod reading_programs;
 mod served;
-mod symbols;
-mod version;
+mod types;
 
-pub use by_name::Programs;
 pub use ebpf_items::{
     BtfMap, BtfMapDef, CgroupSkbAttachType, CgroupSockAddrAttachType, CgroupSockAttachType,
     CgroupSockoptAttachType, EbpfSectionKind, InvalidSection, InvalidTypeBinding, LegacyMap, Map,
@@ -24,10 +14,11 @@ pub use ebpf_items::{
     bpf_insn, bpf_map_def, bpf_map_info, bpf_map_type, bpf_prog_type, copy_instructions,
     parse_map_info,
 };
-pub use file::ObjectFile;
 pub use object::Object;
-pub use program::{Function, Program};
-pub use served::{Subject, Unserved};
+pub use object_externs::{ExternDesc, Externs};
+pub use object_file::{ObjectFile, ReadSection, ReadSymbol, unnamed_symbol};
+pub use object_maps::Maps;
+pub use object_parts::{Function, Functions, Program, Programs};
+pub use places::{function_without_code, name_at};
+pub use served::{Subject, Unserved, check_served};
 
-#[cfg(test)]
-mod tests;

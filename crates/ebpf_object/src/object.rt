@@ -1,113 +1,155 @@
 //! A parsed object.
 
-ghost use Rattle.std.specs.Prelude.{◌≡◌, ◌≢◌, false, OnOk, IfOk, IfErr};
-ghost use Rattle.std.specs.List.{list_any};
+ghost use Rattle.std.specs.Prelude.{◌≡◌, ◌≢◌, [], ◌==◌, ◌&&◌, not, false, is_some, length, IfErr, IfOk, IfSome, OnOk};
 ghost use Rattle.std.specs.BTreeMap.{is_at};
+ghost use Rattle.std.specs.Cmp.Lexicographic.{slice_cmp};
+ghost use Rattle.std.specs.List.{list_any};
 ghost use Rattle.std.specs.Map.{lookup};
-ghost use Rattle.std.specs.Option.{option_copied};
-ghost use Rattle.elf64.specs.Symbols.{symbols_of};
+ghost use Rattle.std.specs.Option.{IsSomeAnd, option_copied, option_map, option_map_or};
+ghost use Rattle.std.specs.Ordering.{nat_cmp};
 ghost use Rattle.ebpf_items.specs.declared.error.ParseError.TheVariants.{OutOfMemory};
-ghost use Rattle.ebpf_object.specs.Faults.{HasFault, HasSoundLicense, HasObjectFault, HasSoundVersion, IsFaultless};
-ghost use Rattle.ebpf_object.specs.ParsedObject.{object_of};
-ghost use Rattle.ebpf_object.specs.License.{license_of, HasNoNul};
-ghost use Rattle.ebpf_object.specs.Programs.{key_cmp};
-ghost use Rattle.ebpf_object.specs.SymbolTable.{is_unnamed};
-ghost use Rattle.ebpf_object.specs.Version.{version_of, IsKnownVersion};
+ghost use Rattle.elf64.specs.Symbols.{symbols_of};
+ghost use Rattle.object_externs.specs.Externs.{externs_of};
+ghost use Rattle.object_externs.specs.Faults.{ExternsFault};
+ghost use Rattle.object_file.specs.ByteOrders.{file_endianness};
+ghost use Rattle.object_file.specs.License.{license_of, HasNoNul};
+ghost use Rattle.object_file.specs.Version.{version_of, IsKnownVersion};
+ghost use Rattle.object_maps.specs.Maps.{maps_faults, maps_of};
+ghost use Rattle.object_parts.specs.Content.{key_cmp};
+ghost use Rattle.ebpf_object.specs.Types.{HoldsTypes};
+ghost use Rattle.btf_sanitizing.specs.Faults.{IsFaultless as AreFaultless};
+ghost use Rattle.ebpf_object.specs.Faults.{HasFault, HasObjectFault, IsFaultless, IsSound, SaysOfTypes};
+ghost use Rattle.ebpf_object.specs.ParsedObject.{IsParsed, completed, no_externs};
 
-use crate::by_name::Programs;
-use crate::file::ObjectFile;
-use crate::license::{DEFAULT_LICENSE, parse_license};
-use crate::program::Function;
-use crate::version::parse_version;
-use btf_records::{BtfError, Endianness};
+use crate::types::read_types;
+use btf_extension::BtfExt;
+use btf_records::Endianness;
+use btf_tables::Btf;
 use ebpf_items::ParseError;
+use object_externs::{ExternDesc, Externs, read_externs};
+use object_file::{ObjectFile, ReadSymbol};
+use object_maps::{Maps, read_maps};
+use object_parse::read_code;
+use object_parts::{Function, Functions, Programs};
 use std::alloc::Global;
-use std::collections::BTreeMap;
 use std::marker::Model;
 
-/// An object: what is read of a file before anything is relocated.
+/// An object: what a file holds before anything is relocated.
 #[derive(Debug, Drop)]
 pub struct Object<'a> {
-    pub(crate) endianness: Endianness,
-    pub(crate) license: &'a [u8],
-    pub(crate) kernel_version: Option<u32>,
-    pub(crate) programs: Programs<'a>,
-    pub(crate) functions: BTreeMap<(usize, u64), Function<'a>>,
+    pub(crate) file: ObjectFile<'a>,
+    btf: Option<Btf<'a>>,
+    btf_ext: Option<BtfExt<'a>>,
+    maps: Maps<'a>,
+    programs: Programs<'a>,
+    functions: Functions<'a>,
+    externs: Externs<'a>,
 }
 
 impl<'a> Model for Object<'a> {
-    ghost use Rattle.ebpf_object.specs.Content.{ObjectContent};
+    ghost use Rattle.ebpf_object.specs.ParsedObject.{ObjectContent};
 
     ghost Value = { ObjectContent };
 
-    ghost view = { λ o. record { endianness = o.endianness; license = o.license.now; kernel_version = o.kernel_version; programs = o.programs; functions = o.functions.entries } };
-
-    ghost use Rattle.ebpf_object.specs.License.{HasNoNul};
-    ghost use Rattle.ebpf_object.specs.Programs.{key_cmp};
-    ghost use Rattle.ebpf_object.specs.Version.{IsKnownVersion};
-
-    ghost invariant = { λ o. HasNoNul o.license.now × IsKnownVersion o.kernel_version };
+    ghost view = { λ o. record { file = o.file; types = o.btf; extension = o.btf_ext; maps = o.maps; programs = o.programs; functions = o.functions; externs = o.externs } };
 }
 
-/// The license of a file: `GPL` where it names none.
-fn license<'a>(alloc: Global, file: &ObjectFile<'a>) -> Result<&'a [u8], ParseError>
-    ensures value { IfOk result (λ license. license.now ≡ license_of file.now) }
-    ensures text { IfOk result (λ license. HasNoNul license.now) }
-    ensures accepted { OnOk result (HasSoundLicense file.now) }
+/// The maps of a file whose types are these.
+fn maps<'a>(
+    alloc: Global,
+    file: &ObjectFile<'a>,
+    table: &Option<Btf<'_>>,
+) -> Result<Maps<'a>, ParseError>
+    requires { HoldsTypes file.now table.now }
+    ensures value { IfOk result (λ maps. maps ≡ maps_of file.now table.now) }
+    ensures accepted { OnOk result (maps_faults file.now table.now ≡ []) }
     ensures refused { IfErr result (λ e. e ≢ OutOfMemory → HasObjectFault file.now e) }
 {
-    match file.contents_of("license") {
-        Some(bytes) => parse_license(alloc, bytes),
-        None => Ok(DEFAULT_LICENSE),
-    }
+    read_maps(alloc, file, table.as_ref())
 }
 
-/// The kernel version that a file names.
-fn kernel_version(alloc: Global, file: &ObjectFile<'_>) -> Result<Option<u32>, ParseError>
-    ensures value { IfOk result (λ version. version ≡ version_of file.now) }
-    ensures known { IfOk result IsKnownVersion }
-    ensures accepted { OnOk result (HasSoundVersion file.now) }
-    ensures refused { IfErr result (λ e. e ≢ OutOfMemory → HasObjectFault file.now e) }
+/// The externs of a table, which is completed for them.
+fn externs_of<'a>(
+    alloc: Global,
+    symbols: &[ReadSymbol<'a>],
+    table: &mut Btf<'a>,
+) -> Result<Externs<'a>, ParseError>
+    ensures value { IfOk result (λ externs. externs ≡ externs_of symbols.now table.old) }
+    ensures completed { OnOk result (table.new ≡ completed table.old) }
+    ensures accepted { OnOk result (AreFaultless (ExternsFault symbols.now table.old)) }
+    ensures refused { IfErr result (λ e. e ≢ OutOfMemory → SaysOfTypes (ExternsFault symbols.now table.old) e) }
 {
-    match file.contents_of("version") {
-        Some(bytes) => parse_version(alloc, file.endianness(), bytes),
-        None => Ok(None),
-    }
+    Ok(read_externs(alloc, symbols, table)?)
 }
 
-/// Refuses a file with a symbol whose name can't be read.
-fn check_symbols(file: &ObjectFile<'_>) -> Result<(), ParseError>
-    ensures accepted { OnOk result (list_any is_unnamed (symbols_of file.now) ≡ false) }
-    ensures refused { IfErr result (HasObjectFault file.now) }
+/// The externs of a table, if there is one.
+fn externs<'a>(
+    alloc: Global,
+    symbols: &[ReadSymbol<'a>],
+    table: &mut Option<Btf<'a>>,
+) -> Result<Externs<'a>, ParseError>
+    ensures value { IfOk result (λ externs. externs ≡ option_map_or (externs_of symbols.now) table.old no_externs) }
+    ensures completed { OnOk result (table.new ≡ option_map completed table.old) }
+    ensures accepted { OnOk result (IfSome table.old (λ t. AreFaultless (ExternsFault symbols.now t))) }
+    ensures refused { IfErr result (λ e. e ≢ OutOfMemory → IsSomeAnd table.old (λ t. SaysOfTypes (ExternsFault symbols.now t) e)) }
 {
-    if file.unnamed_symbol().is_some() {
-        return Err(ParseError::BtfError(BtfError::InvalidSymbolName));
+    match table {
+        Some(table) => externs_of(alloc, symbols, table),
+        None => Ok(Externs::none(alloc)),
     }
-    Ok(())
 }
 
 impl<'a> Object<'a> {
+    /// The file that the object was made of: its sections, symbols and relocations.
+    pub fn file(&self) -> &ObjectFile<'a>
+        ensures { result.now ≡ self.now.file }
+    {
+        &self.file
+    }
+
     /// The byte order of the file's numbers.
     pub fn endianness(&self) -> Endianness
-        ensures { result ≡ self.now.endianness }
+        ensures { result ≡ file_endianness self.now.file }
     {
-        self.endianness
+        self.file.endianness()
     }
 
     /// The license, without the NUL that ends it: `GPL` where the object names none.
     pub fn license(&self) -> &'a [u8]
-        ensures value { result.now ≡ self.now.license }
+        ensures value { result.now ≡ license_of self.now.file }
         ensures text { HasNoNul result.now }
     {
-        self.license
+        self.file.license()
     }
 
     /// The kernel version that the object was made for. `None` is any version.
     pub fn kernel_version(&self) -> Option<u32>
-        ensures value { result ≡ self.now.kernel_version }
+        ensures value { result ≡ version_of self.now.file }
         ensures known { IsKnownVersion result }
     {
-        self.kernel_version
+        self.file.kernel_version()
+    }
+
+    /// The table of types, if the object has one. Where functions of the kernel are among the
+    /// externs, it ends with a variable that stands for them.
+    pub fn btf(&self) -> Option<&Btf<'a>>
+        ensures { option_copied result ≡ self.now.types }
+    {
+        self.btf.as_ref()
+    }
+
+    /// What the object says of its instructions beside its types.
+    pub fn btf_ext(&self) -> Option<&BtfExt<'a>>
+        ensures { option_copied result ≡ self.now.extension }
+    {
+        self.btf_ext.as_ref()
+    }
+
+    /// The maps, by name.
+    pub fn maps(&self) -> &Maps<'a>
+        ensures { result.now ≡ self.now.maps }
+    {
+        &self.maps
     }
 
     /// The programs, by name.
@@ -118,8 +160,8 @@ impl<'a> Object<'a> {
     }
 
     /// The functions, by section index and address.
-    pub fn functions(&self) -> &BTreeMap<(usize, u64), Function<'a>>
-        ensures { result.now.entries ≡ self.now.functions }
+    pub fn functions(&self) -> &Functions<'a>
+        ensures { result.now ≡ self.now.functions }
     {
         &self.functions
     }
@@ -128,40 +170,71 @@ impl<'a> Object<'a> {
     pub fn function(&self, key: (usize, u64)) -> Option<&Function<'a>>
         ensures { option_copied result ≡ lookup (is_at (key_cmp key)) self.now.functions }
     {
-        self.functions.get(&key)
+        self.functions.get(key)
     }
 
-    /// The object of a file: its license and version, and the programs and functions of its
-    /// program sections. Maps, types, data, relocations and the functions of `.text` sections
-    /// aren't looked at yet.
+    /// The extern of a name.
+    pub fn extern_desc(&self, name: &str) -> Option<&ExternDesc<'a>>
+        ensures { option_copied result ≡ lookup (is_at (slice_cmp nat_cmp name.now)) self.now.externs.by_name }
+    {
+        self.externs.get(name)
+    }
+
+    /// The externs, by name.
+    pub fn externs(&self) -> &Externs<'a>
+        ensures { result.now ≡ self.now.externs }
+    {
+        &self.externs
+    }
+
+    /// Whether an extern has a type.
+    pub fn has_typed_ksyms(&self) -> bool
+        ensures { result ≡ list_any (λ e. is_some e.1.type_id) self.now.externs.by_name }
+    {
+        self.externs.has_typed()
+    }
+
+    /// Whether an extern that must be found has a type.
+    pub fn has_strong_typed_ksyms(&self) -> bool
+        ensures { result ≡ list_any (λ e. is_some e.1.type_id && not e.1.is_weak) self.now.externs.by_name }
+    {
+        self.externs.has_strong_typed()
+    }
+
+    /// Whether the object has a group of type relocations.
+    pub fn has_btf_relocations(&self) -> bool
+        ensures { result ≡ option_map_or (λ x. not (length x.relocations == 0)) self.now.extension false }
+    {
+        match &self.btf_ext {
+            Some(extension) => extension.relocations().next().is_some(),
+            None => false,
+        }
+    }
+
+    /// The object of a file: its types, maps, programs, functions and externs.
     ///
     /// # Errors
     ///
-    /// `InvalidLicense` and `MissingLicenseNullTerminator` for a section `license` that doesn't
-    /// hold a text ended by a NUL, `InvalidKernelVersion` for a section `version` that isn't four
-    /// bytes, `BtfError(InvalidSymbolName)` for a symbol whose name can't be read,
-    /// `InvalidProgramSection` for a program section of an unknown kind, `NoSymbolsForSection` for
-    /// one in which no symbol lies, `InvalidProgramCode` for a function whose bytes aren't whole
-    /// slots of its section, `SymbolTableConflict` for two functions of a `.text` section at one
-    /// address, and `OutOfMemory`.
-    pub fn from_file(alloc: Global, file: &ObjectFile<'a>) -> Result<Object<'a>, ParseError>
-        ensures value { IfOk result (λ o. o ≡ object_of file.now) }
-        ensures accepted { OnOk result (IsFaultless file.now) }
-        ensures refused { IfErr result (λ e. e ≢ OutOfMemory → HasFault file.now e) }
+    /// `BtfError` where the types, what stands beside them or the externs can't be read or don't fit
+    /// the object, those of [`read_code`] and [`read_maps`], and `OutOfMemory`.
+    pub fn from_file(alloc: Global, file: ObjectFile<'a>) -> Result<Object<'a>, ParseError>
+        ensures value { IfOk result (λ o. IsParsed file.entry o) }
+        ensures accepted { OnOk result (IsSound file.entry) }
+        ensures refused { IfErr result (λ e. e ≢ OutOfMemory → HasObjectFault file.entry e) }
     {
-        let sections = file.sections.as_slice();
-        let license = license(alloc, file)?;
-        let kernel_version = kernel_version(alloc, file)?;
-        check_symbols(file)?;
-        let mut object = Object {
-            endianness: file.endianness(),
-            license,
-            kernel_version,
-            programs: Programs::new(alloc),
-            functions: BTreeMap::new(alloc),
-        };
-        object.read_sections(alloc, file, sections)?;
-        Ok(object)
+        let mut types = read_types(alloc, &file)?;
+        let code = read_code(alloc, &file, types.extension.as_ref())?;
+        let maps = maps(alloc, &file, &types.table)?;
+        let externs = externs(alloc, file.symbols(), &mut types.table)?;
+        Ok(Object {
+            file,
+            btf: types.table,
+            btf_ext: types.extension,
+            maps,
+            programs: code.programs,
+            functions: code.functions,
+            externs,
+        })
     }
 
     /// Parses an object file: [`ObjectFile::parse`], and then [`Object::from_file`].
@@ -170,11 +243,11 @@ impl<'a> Object<'a> {
     ///
     /// Those of the two calls.
     pub fn parse(alloc: Global, bytes: &'a [u8]) -> Result<Object<'a>, ParseError>
-        ensures value { IfOk result (λ o. o ≡ object_of bytes.entry.now) }
+        ensures value { IfOk result (λ o. IsParsed bytes.entry.now o) }
         ensures accepted { OnOk result (IsFaultless bytes.entry.now) }
         ensures refused { IfErr result (λ e. e ≢ OutOfMemory → HasFault bytes.entry.now e) }
     {
         let file = ObjectFile::parse(alloc, bytes)?;
-        Object::from_file(alloc, &file)
+        Object::from_file(alloc, file)
     }
 }

@@ -1,20 +1,16 @@
 //! Which objects are served so far.
 
-ghost use Rattle.std.specs.Prelude.{◌≡◌, [], ◌==◌, true, false, length, is_none, IfSome, IfErr, OnOk, OnErr};
+ghost use Rattle.std.specs.Prelude.{◌≡◌, ◌==◌, true, false, length, is_none, IfSome, IfErr, OnOk, OnErr};
 ghost use Rattle.std.specs.List.{list_any, list_all};
-ghost use Rattle.std.specs.Option.{option_map_or};
-ghost use Rattle.elf64.specs.Relocations.{relocation_sections_of};
-ghost use Rattle.elf64.specs.Sections.{sections_of};
 ghost use Rattle.elf64.specs.Symbols.{symbols_of};
 ghost use Rattle.ebpf_items.specs.Instruction.{is_pseudo_call};
-ghost use Rattle.ebpf_object.specs.Programs.{kind_of};
-ghost use Rattle.ebpf_object.specs.Served.{has_call, is_served_section, relocates, asks_at, AsksFor, name_at, IsUnserved, is_served};
-ghost use Rattle.ebpf_object.specs.Symbols.{symbols_in};
+ghost use Rattle.object_file.specs.Reading.{read_sections};
+ghost use Rattle.ebpf_object.specs.Served.{has_call, is_served_section, asks_at, IsUnserved, is_served};
 
-use crate::file::ObjectFile;
-use crate::function::{code_of, function_name, section_kind};
-use crate::names::{NamedSection, NamedSymbol};
+use crate::places::name_at;
 use ebpf_items::{EbpfSectionKind, Slots};
+use object_file::{ObjectFile, ReadSection, ReadSymbol};
+use object_parse::{code_of, function_name};
 use std::alloc::Global;
 
 /// Whether a slot calls another function.
@@ -30,13 +26,13 @@ fn has_pseudo_call(slots: &Slots<'_>) -> bool
 }
 
 /// Whether a symbol of a section is a function with a slot that calls another.
-fn has_call(alloc: Global, section: &NamedSection<'_>, symbol: &NamedSymbol<'_>) -> bool
+fn has_call(alloc: Global, section: &ReadSection<'_>, symbol: &ReadSymbol<'_>) -> bool
     ensures { result ≡ has_call section.now symbol.now }
 {
     if function_name(symbol).is_none() {
         return false;
     }
-    let Some(code) = code_of(&section.view, &symbol.view) else {
+    let Some(code) = code_of(section, symbol) else {
         return false;
     };
     match Slots::borrowed(alloc, code) {
@@ -46,7 +42,7 @@ fn has_call(alloc: Global, section: &NamedSection<'_>, symbol: &NamedSymbol<'_>)
 }
 
 /// Whether a function of a section calls another.
-fn any_call(alloc: Global, section: &NamedSection<'_>, symbols: &[NamedSymbol<'_>]) -> bool
+fn any_call(alloc: Global, section: &ReadSection<'_>, symbols: &[ReadSymbol<'_>]) -> bool
     ensures { result ≡ list_any (has_call section.now) symbols.now }
 {
     for symbol in symbols {
@@ -85,99 +81,59 @@ pub struct Unserved<'a> {
     pub name: &'a str,
 }
 
-impl<'a> ObjectFile<'a> {
-    /// What a section has that isn't looked at yet. A license, a version, a section that nothing
-    /// is read of, and functions that call no other are served.
-    #[tactic(auto, unfolding(crate::specs::Served::asks_at))]
-    fn subject_of(&self, alloc: Global, section: &NamedSection<'a>) -> Option<Subject>
-        ensures served { is_none result ≡ is_served_section self.now section.now }
-        ensures why { IfSome result (λ subject. asks_at self.now section.now.index subject section.now ≡ true) }
-    {
-        match section_kind(section) {
-            EbpfSectionKind::License | EbpfSectionKind::Version | EbpfSectionKind::Undefined =>
-                None,
-            EbpfSectionKind::Maps | EbpfSectionKind::BtfMaps => Some(Subject::Maps),
-            EbpfSectionKind::Btf | EbpfSectionKind::BtfExt => Some(Subject::Types),
-            EbpfSectionKind::Data | EbpfSectionKind::Rodata | EbpfSectionKind::Bss => {
-                Some(Subject::Data)
-            }
-            EbpfSectionKind::Text if section.view.size() == 0 => None,
-            EbpfSectionKind::Text => Some(Subject::Functions),
-            EbpfSectionKind::Program => match self.symbols_in(section.view.index()) {
-                Some(symbols) if any_call(alloc, section, symbols.as_slice()) => {
-                    Some(Subject::Calls)
-                }
-                _ => None,
-            },
+/// What a section of a kind has, by the symbols that lie in it, that isn't looked at yet. A license, a
+/// version, a section that nothing is read of, and functions that call no other are served.
+#[tactic(auto, unfolding(crate::specs::Served::asks_at))]
+fn subject_of(alloc: Global, file: &ObjectFile<'_>, section: &ReadSection<'_>) -> Option<Subject>
+    ensures served { is_none result ≡ is_served_section file.now section.now }
+    ensures why { IfSome result (λ subject. asks_at file.now section.now.index subject section.now ≡ true) }
+{
+    if !file.relocations_of(section.index()).is_empty() {
+        return Some(Subject::Relocations);
+    }
+    match section.kind() {
+        EbpfSectionKind::License | EbpfSectionKind::Version | EbpfSectionKind::Undefined => None,
+        EbpfSectionKind::Maps | EbpfSectionKind::BtfMaps => Some(Subject::Maps),
+        EbpfSectionKind::Btf | EbpfSectionKind::BtfExt => Some(Subject::Types),
+        EbpfSectionKind::Data | EbpfSectionKind::Rodata | EbpfSectionKind::Bss => {
+            Some(Subject::Data)
+        }
+        EbpfSectionKind::Text if section.size() == 0 => None,
+        EbpfSectionKind::Text => Some(Subject::Functions),
+        EbpfSectionKind::Program if any_call(alloc, section, file.symbols_in(section.index())) => {
+            Some(Subject::Calls)
+        }
+        EbpfSectionKind::Program => None,
+    }
+}
+
+/// The first section that isn't served, and what it has.
+fn section_with_subject(alloc: Global, file: &ObjectFile<'_>) -> Option<(Subject, usize)>
+    ensures served { is_none result ≡ is_served file.now }
+    ensures why { IfSome result (λ found. list_any (asks_at file.now found.1 found.0) (read_sections file.now) ≡ true) }
+{
+    for section in file.sections() {
+        if let Some(subject) = subject_of(alloc, file, section) {
+            return Some((subject, section.index()));
         }
     }
+    None
+}
 
-    /// The first section with relocations, by its relocation sections.
-    fn relocated_section(&self) -> Option<usize>
-        ensures served { is_none result ≡ list_all (λ r. length r.relocations == 0) (relocation_sections_of self.now) }
-        ensures why { IfSome result (λ index. list_any (relocates index) (relocation_sections_of self.now) ≡ true) }
-    {
-        for section in self.elf.relocation_sections() {
-            if section.relocations().next().is_some() {
-                return Some(section.target());
-            }
-        }
-        None
-    }
-
-    /// The first section that isn't served, relocations apart.
-    fn section_with_subject(&self, alloc: Global) -> Option<(Subject, usize)>
-        ensures served { is_none result ≡ list_all (is_served_section self.now) (sections_of self.now) }
-        ensures why { IfSome result (λ found. list_any (asks_at self.now found.1 found.0) (sections_of self.now) ≡ true) }
-    {
-        for view in self.elf.sections() {
-            let section = self.section_names.section(view);
-            if let Some(subject) = self.subject_of(alloc, &section) {
-                return Some((subject, section.view.index()));
-            }
-        }
-        None
-    }
-
-    /// The name of the section of an index, empty where it can't be read.
-    pub fn name_at(&self, index: usize) -> &'a str
-        ensures { result.now ≡ name_at self.now index }
-    {
-        for section in self.elf.sections() {
-            if section.index() == index {
-                return section.name().unwrap_or("");
-            }
-        }
-        ""
-    }
-
-    /// A section that isn't served.
-    fn unserved(&self, subject: Subject, index: usize) -> Unserved<'a>
-        requires { AsksFor self.now subject index }
-        ensures { IsUnserved self.now result }
-    {
-        Unserved {
+/// Answers the first section in order of index that isn't served yet, where there is one. Served are
+/// licenses, versions, sections that nothing is read of, an empty `.text`, and program sections whose
+/// functions call no other, where none has relocations. Takes no memory.
+pub fn check_served<'a>(alloc: Global, file: &ObjectFile<'a>) -> Result<(), Unserved<'a>>
+    ensures accepted { OnOk result (is_served file.now ≡ true) }
+    ensures refused { OnErr result (is_served file.now ≡ false) }
+    ensures why { IfErr result (IsUnserved file.now) }
+{
+    match section_with_subject(alloc, file) {
+        Some((subject, index)) => Err(Unserved {
             subject,
             index,
-            name: self.name_at(index),
-        }
-    }
-
-    /// Answers a section that isn't served yet, where there is one: first by relocations, then in
-    /// order of index. Served are licenses, versions, sections that nothing is read of, an empty
-    /// `.text`, and program sections whose functions call no other, where none has relocations.
-    /// Takes no memory.
-    pub fn check_served(&self, alloc: Global) -> Result<(), Unserved<'a>>
-        ensures accepted { OnOk result (is_served self.now ≡ true) }
-        ensures refused { OnErr result (is_served self.now ≡ false) }
-        ensures why { IfErr result (IsUnserved self.now) }
-    {
-        if let Some(index) = self.relocated_section() {
-            return Err(self.unserved(Subject::Relocations, index));
-        }
-        match self.section_with_subject(alloc) {
-            Some((subject, index)) => Err(self.unserved(subject, index)),
-            None => Ok(()),
-        }
+            name: name_at(file, index),
+        }),
+        None => Ok(()),
     }
 }

@@ -1,6 +1,6 @@
 -- The names of plan_program_of programs.
 use Rattle.std.proofs.Common.{◌≡◌, ℕ, List, [], ◌∷◌, map, refl, ap}
-use Rattle.ebpf_object.specs.Content as object
+use Rattle.object_parts.specs.Content as object
 use Rattle.load_plan.specs.Planned.{plan_program_of}
 
 -- they are those of the object's programs

@@ -1,8 +1,8 @@
 //! What a plan holds.
 
 ghost use Rattle.std.specs.Prelude.{◌≡◌};
-ghost use Rattle.ebpf_object.specs.License.{HasNoNul};
-ghost use Rattle.ebpf_object.specs.Version.{IsKnownVersion};
+ghost use Rattle.object_file.specs.License.{HasNoNul};
+ghost use Rattle.object_file.specs.Version.{IsKnownVersion};
 ghost use Rattle.load_plan.specs.Content.{AreRising};
 
 use ebpf_items::{ProgramSection, Slots};
@@ -63,8 +63,8 @@ impl<'a> Model for Plan<'a> {
 
     ghost view = { λ p. record { license = p.license.now; version = p.version; programs = p.programs.items } };
 
-    ghost use Rattle.ebpf_object.specs.License.{HasNoNul};
-    ghost use Rattle.ebpf_object.specs.Version.{IsKnownVersion};
+    ghost use Rattle.object_file.specs.License.{HasNoNul};
+    ghost use Rattle.object_file.specs.Version.{IsKnownVersion};
     ghost use Rattle.load_plan.specs.Content.{AreRising};
 
     ghost invariant = { λ p. HasNoNul p.license.now × IsKnownVersion p.version × AreRising p.programs.items };

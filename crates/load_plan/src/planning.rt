@@ -1,15 +1,16 @@
 //! From an object's bytes to its plan.
 
 ghost use Rattle.std.specs.Prelude.{◌≡◌, List, map, IfSome, IfOk, IfErr, OnOk};
-ghost use Rattle.ebpf_object.specs.ParsedObject.{object_of};
 ghost use Rattle.load_plan.specs.Content.{AreRising};
-ghost use Rattle.load_plan.specs.Planned.{slots_at, plan_program_of, plan_of, IsPlace, IsRefusal, IsPrepared};
+ghost use Rattle.load_plan.specs.Planned.{slots_at, plan_program_of, plan_of, IsPlace, IsPlanned, IsRefusal, IsPrepared};
 
 use crate::error::{NotYet, Place, PrepareError};
 use crate::plan::{Plan, PlanProgram};
 use btf_records::BtfError;
 use ebpf_items::{ParseError, Slots};
-use ebpf_object::{Object, ObjectFile, Program};
+use ebpf_object::{
+    Object, ObjectFile, Program, check_served, function_without_code, name_at, unnamed_symbol,
+};
 use std::alloc::{AllocError, Global};
 
 /// The slots of the function of a key, none where there is no such function.
@@ -67,31 +68,37 @@ fn plan_of<'a>(alloc: Global, object: &Object<'a>) -> Result<Plan<'a>, AllocErro
     })
 }
 
-/// Where a fault of an opened file stands, if its error doesn't say it.
-fn place_in(
-    alloc: Global,
-    file: &ObjectFile<'_>,
-    error: &ParseError,
-) -> Result<Option<Place>, AllocError>
-    ensures { IfOk result (λ place. IfSome place (IsPlace file.now error.now)) }
+/// Where a fault of an opened file stands, if it is code that a function lacks.
+fn place_in(alloc: Global, file: &ObjectFile<'_>) -> Result<Option<Place>, AllocError>
+    ensures { IfOk result (λ place. IfSome place (IsPlace file.now ParseError.InvalidProgramCode)) }
 {
-    match error {
-        ParseError::InvalidProgramCode => {
-            let Some((index, name)) = file.function_without_code() else {
-                return Ok(None);
-            };
-            Ok(Some(Place::Function {
-                index,
-                section: String::from_str(alloc, file.name_at(index))?,
-                name: String::from_str(alloc, name)?,
-            }))
-        }
-        ParseError::BtfError(BtfError::InvalidSymbolName) => match file.unnamed_symbol() {
-            Some(index) => Ok(Some(Place::Symbol { index })),
-            None => Ok(None),
-        },
-        _ => Ok(None),
+    let Some((index, name)) = function_without_code(file) else {
+        return Ok(None);
+    };
+    Ok(Some(Place::Function {
+        index,
+        section: String::from_str(alloc, name_at(file, index))?,
+        name: String::from_str(alloc, name)?,
+    }))
+}
+
+/// The first function of an object file that has no code.
+fn place_of_function(alloc: Global, object: &[u8]) -> Option<Place>
+    ensures { IfSome result (IsPlace object.now ParseError.InvalidProgramCode) }
+{
+    let file = ObjectFile::parse(alloc, object).ok()?;
+    match place_in(alloc, &file) {
+        Ok(place) => place,
+        Err(_) => None,
     }
+}
+
+/// The first symbol of an object file whose name can't be read.
+fn place_of_symbol(alloc: Global, object: &[u8]) -> Option<Place>
+    ensures { IfSome result (IsPlace object.now (ParseError.BtfError BtfError.InvalidSymbolName)) }
+{
+    let index = unnamed_symbol(alloc, object)?;
+    Some(Place::Symbol { index })
 }
 
 /// Where a fault of an object file stands, for the errors that don't say it: a function without
@@ -99,12 +106,10 @@ fn place_in(
 pub fn place_of(alloc: Global, object: &[u8], error: &ParseError) -> Option<Place>
     ensures { IfSome result (IsPlace object.now error.now) }
 {
-    let Ok(file) = ObjectFile::parse(alloc, object) else {
-        return None;
-    };
-    match place_in(alloc, &file, error) {
-        Ok(place) => place,
-        Err(_) => None,
+    match error {
+        ParseError::InvalidProgramCode => place_of_function(alloc, object),
+        ParseError::BtfError(BtfError::InvalidSymbolName) => place_of_symbol(alloc, object),
+        _ => None,
     }
 }
 
@@ -115,18 +120,17 @@ pub fn place_of(alloc: Global, object: &[u8], error: &ParseError) -> Option<Plac
 /// [`PrepareError::Parse`] where the file isn't an object that can be parsed, and
 /// [`PrepareError::NotYet`] for an object with a section that isn't served yet, which it names.
 pub fn prepare<'a>(alloc: Global, object: &'a [u8]) -> Result<Plan<'a>, PrepareError>
-    ensures value { IfOk result (λ p. p ≡ plan_of (object_of object.entry.now)) }
+    ensures value { IfOk result (λ p. IsPlanned object.entry.now p) }
     ensures accepted { OnOk result (IsPrepared object.entry.now) }
     ensures refused { IfErr result (IsRefusal object.entry.now) }
 {
-    let file = ObjectFile::parse(alloc, object)?;
-    if let Err(section) = file.check_served(alloc) {
+    let object = Object::parse(alloc, object)?;
+    if let Err(section) = check_served(alloc, object.file()) {
         return Err(PrepareError::NotYet(NotYet {
             subject: section.subject,
             index: section.index,
             name: String::from_str(alloc, section.name)?,
         }));
     }
-    let object = Object::from_file(alloc, &file)?;
     Ok(plan_of(alloc, &object)?)
 }

@@ -7,8 +7,9 @@ ghost use Rattle.object_parse.specs.Programs.{is_function, code_in, code_of, fir
 use elf64::{SymbolKind, SymbolView};
 use object_file::{ReadSection, ReadSymbol};
 
-/// The name of a function, where a symbol is one.
-pub(crate) fn function_name<'a>(symbol: &ReadSymbol<'a>) -> Option<&'a str>
+/// The name of the function that a symbol of a program section is, if it is one: a symbol of kind Text
+/// whose name isn't empty.
+pub fn function_name<'a>(symbol: &ReadSymbol<'a>) -> Option<&'a str>
     ensures found { IsSome result ↔ (is_function symbol.now ≡ true) }
     ensures name { IfSome result (λ name. symbol.now.name ≡ Some name.now) }
 {
@@ -35,8 +36,8 @@ fn code_in<'a>(bytes: &'a [u8], address: u64, symbol: &SymbolView<'_>) -> Option
     Some(&bytes[start as usize..end as usize])
 }
 
-/// The code of a symbol of a section.
-pub(crate) fn code_of<'a>(section: &ReadSection<'a>, symbol: &ReadSymbol<'_>) -> Option<&'a [u8]>
+/// The code of a symbol of a section, where its range lies in the bytes and is whole slots.
+pub fn code_of<'a>(section: &ReadSection<'a>, symbol: &ReadSymbol<'_>) -> Option<&'a [u8]>
     ensures value { option_copied result ≡ code_of section.now symbol.now }
     ensures none { is_none result ≡ lacks_code section.now symbol.now }
     ensures whole { IfSome result (λ code. length code.now % 8 ≡ 0) }

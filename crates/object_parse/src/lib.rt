@@ -9,4 +9,5 @@ mod section_info;
 mod sections;
 mod text_sections;
 
+pub use code::{code_of, function_name};
 pub use sections::read_code;

@@ -1,5 +1,5 @@
 use Rattle.std.proofs.Common.{◌≡◌, ◌++◌, map}
-use Rattle.ebpf_object.specs.Names.{by_bytes}
+use Rattle.object_parts.specs.Names.{by_bytes}
 use Rattle.load_plan.specs.Planned.{plan_program_of}
 use Rattle.load_plan.proofs.planning.plan_programs.Given as goal
 

@@ -1,14 +1,26 @@
-use Rattle.std.proofs.Common.{◌≡◌, ◌∙◌, ap}
-use Rattle.ebpf_object.proofs.Faultless.{object-faultless}
-use Rattle.ebpf_object.specs.Reading.{read_sections}
+use Rattle.std.proofs.Common.{subst}
+use Rattle.std.proofs.lemmas.Result.{err_from_is_err_and}
+use Rattle.std.specs.Option.{IsSomeAnd}
+use Rattle.std.specs.Prelude.{IfSome}
+use Rattle.btf_sanitizing.specs.Faults.{IsFaultless as AreFaultless}
+use Rattle.object_externs.specs.Faults.{ExternsFault}
+use Rattle.ebpf_object.proofs.Faultless.{externs-fault, sound}
+use Rattle.ebpf_object.specs.Faults.{SaysOfTypes}
 use Rattle.ebpf_object.proofs.object.Object.from_file.Goals as goal
+
+pub returns-in_err-externs-clause-refused : goal.returns-in_err-externs-clause-refused
+returns-in_err-externs-clause-refused c =
+    let p = err_from_is_err_and c.from_residual-in_err-externs.result c.from_residual-in_err-externs.ensures.1 in
+    rw (p.1, p.2)
+    (λ other. externs-fault c.args.file c.in_ok-types.types.table c.in_ok-types.ensures.table c.in_err-externs.field-0.0
+     (subst (λ symbols. IsSomeAnd c.in_ok-types.types.table (λ t. SaysOfTypes (ExternsFault symbols t) c.in_err-externs.field-0.0)) c.symbols.ensures.value
+      (c.in_err-externs.ensures.refused other)))
 
 pub returns-clause-accepted : goal.returns-clause-accepted
 returns-clause-accepted c =
-    let same : c.as_slice-sections.result.now ≡ read_sections c.args.file.now = c.as_slice-sections.ensures.value ∙ c.file.invariant.read ∙ ap read_sections c.file.view_is in
     record {
       none =
-          object-faultless c.args.file.now (rw c.file.view_is at c.file.invariant.faultless) (rw c.file.view_is at c.file.invariant.readable)
-          c.in_ok-license.ensures.accepted c.in_ok-kernel_version.ensures.accepted c.in_ok-check_symbols.ensures.accepted
-          (rw same at c.in_ok-read_sections.ensures.accepted);
+          sound c.args.file c.in_ok-types.types.table c.in_ok-types.types.extension c.in_ok-types.ensures.table c.in_ok-types.ensures.extension
+          c.in_ok-code.ensures.accepted c.in_ok-maps.ensures.accepted
+          (subst (λ symbols. IfSome c.in_ok-types.types.table (λ t. AreFaultless (ExternsFault symbols t))) c.symbols.ensures.value c.in_ok-externs.ensures.accepted);
     }
