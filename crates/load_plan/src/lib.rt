@@ -12,5 +12,3 @@ pub use error::{NotYet, Place, PrepareError};
 pub use plan::{Plan, PlanProgram};
 pub use planning::{place_of, prepare};
 
-#[cfg(test)]
-mod tests;
