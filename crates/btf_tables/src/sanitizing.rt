@@ -3,15 +3,16 @@
 ghost use Rattle.std.specs.Prelude.{◌≡◌, ◌≢◌, ◌⊎◌, IfErr, IfOk, OnErr, OnOk};
 ghost use Rattle.btf_records.specs.declared.error.BtfError.TheVariants.{OutOfMemory};
 ghost use Rattle.btf_sanitizing.specs.Facts.{number_named};
-ghost use Rattle.btf_sanitizing.specs.Faults.{IsFaultless};
-ghost use Rattle.btf_sanitizing.specs.Kept.{Keeps, StepKeeps};
-ghost use Rattle.btf_sanitizing.specs.Ksyms.{KsymsFault};
+ghost use Rattle.btf_sanitizing.specs.Kept.{Keeps};
+ghost use Rattle.btf_ksyms.specs.Ksyms.{KsymsFault, StepKeeps};
 ghost use Rattle.btf_tables.specs.GrownTables.{TextsStay};
 ghost use Rattle.btf_tables.specs.Sanitizing.{AreAnswersFor, IsAccepted, IsRefused, StepFault, StepStays, facts_in, ksyms_in, sanitized, stepped, with_ksyms};
+ghost use Rattle.btf_parts.specs.Faultless.{IsFaultless};
 
 use crate::table::Btf;
+use btf_ksyms::{KsymsSection, fixup_ksyms};
 use btf_records::{BtfError, BtfFeature};
-use btf_sanitizing::{Answers, Known, KsymsSection, ask_all, fixup_ksyms, sanitize};
+use btf_sanitizing::{Answers, Known, ask_all, sanitize};
 use std::collections::BTreeMap;
 
 /// The id of the section `.ksyms`, and of the variable that stands in it for each function, where

@@ -2,22 +2,27 @@
 
 ghost use Rattle.std.specs.Prelude.{◌≡◌, ◌≢◌, ◌+◌, ◌<◌, ◌++◌, ◌^◌, ◌∷◌, ◌⊎◌, [], Any, false, IfErr, IfOk, OnOk, length};
 ghost use Rattle.std.proofs.Math.ListN.{get_or};
-ghost use Rattle.btf_parts.specs.Growth.{TooMany};
+ghost use Rattle.btf_parts.specs.Growth.{AreFew, AreTooMany, TooMany};
 ghost use Rattle.btf_records.specs.declared.error.BtfError.TheVariants.{InvalidTypeInfo, OutOfMemory};
-ghost use Rattle.btf_sanitizing.specs.Faults.{IsFaultless};
-ghost use Rattle.btf_sanitizing.specs.Kept.{StepKeeps};
-ghost use Rattle.btf_sanitizing.specs.Knowledge.{IsStep, ksyms_of};
-ghost use Rattle.btf_sanitizing.specs.Ksyms.{EntryFault, IsOverfull, KsymsFault, adds_int, SubjectFault, int4_from, int_name, section_entries, signed_int, stepped, stepped_from, stepped_texts, stepped_types};
-ghost use Rattle.btf_sanitizing.specs.Sanitized.{AreFew, AreTooMany};
+ghost use Rattle.btf_ksyms.specs.Ksyms.{EntryFault, IsOverfull, KsymsFault, StepKeeps, SubjectFault, adds_int, int4_from, int_name, leaves, section_entries, signed_int, stepped, stepped_from, stepped_texts, stepped_types};
+ghost use Rattle.btf_parts.specs.Faultless.{IsFaultless};
+ghost use Rattle.btf_ksyms.specs.Steps.{IsStep, ksyms_of};
 
-use crate::ksyms::{KsymsSection, any_names_var, int4_id, marks, placed_entries};
-use crate::table::SanitizedTable;
+use crate::section::{KsymsSection, int4_id, marks, placed_entries};
 use btf_encoding::TypeRef;
 use btf_parts::{MOST, TypeRecords};
 use btf_records::{
-    BtfError, BtfType, DataSec, DataSecEntry, FuncLinkage, Int, IntEncoding, Items, Var, VarLinkage,
+    BtfError, BtfKind, BtfType, DataSec, DataSecEntry, FuncLinkage, Int, IntEncoding, Items, Var,
+    VarLinkage,
 };
 use std::alloc::{AllocError, Global};
+
+/// What a table's records become, and the text behind its strings.
+#[derive(Debug, Drop)]
+pub struct SteppedTable<'a> {
+    pub records: TypeRecords<'a>,
+    pub texts: Vec<u8>,
+}
 
 /// What the records of a table are rewritten by.
 #[derive(Debug, Drop)]
@@ -28,6 +33,7 @@ pub(crate) struct KsymsStep {
     marks: Vec<bool>,
     /// The integer that its variables are of.
     int: u32,
+    has_variables: bool,
 }
 
 /// Whether an id is marked.
@@ -69,7 +75,21 @@ fn stepped(
     }
 }
 
+/// Whether the step leaves the record of an id as it is.
+fn leaves(k: &KsymsSection<'_>, step: &KsymsStep, id: usize, t: &TypeRef<'_>) -> bool
+    requires step { IsStep (ksyms_of k.now) step.now }
+    requires within { id < length step.now.marks.items }
+    ensures { result ≡ leaves (ksyms_of k.now) id t.now }
+{
+    match t.kind() {
+        BtfKind::DataSec => id != k.section as usize,
+        BtfKind::Func | BtfKind::Var => !is_marked(step.marks.as_slice(), id),
+        _ => true,
+    }
+}
+
 /// Writes what becomes of a record behind what becomes of those before it.
+#[tactic(auto, using(crate::proofs::Left::left_alone))]
 fn step_next(
     alloc: Global,
     k: &KsymsSection<'_>,
@@ -85,6 +105,9 @@ fn step_next(
     ensures few { OnOk result (AreFew records.new.order records.new.types) }
     ensures refused { IfErr result (λ e. e ≢ OutOfMemory → (e ≡ InvalidTypeInfo) × AreTooMany records.old.order (records.old.types ++ stepped (ksyms_of k.now) id t.now ∷ [])) }
 {
+    if leaves(k, step, id, t) {
+        return records.push_copy(t);
+    }
     let t = t.to_type(alloc)?;
     let t = stepped(k, step, id, t)?;
     records.push(t)
@@ -147,9 +170,10 @@ fn step_of(
     let placed = placed_entries(alloc, k, entries)?;
     let next_id = k.types.len() + 1;
     Ok(KsymsStep {
-        entries: Items::from_vec(placed),
+        entries: Items::from_vec(placed.entries),
         marks: marks(alloc, next_id, entries)?,
         int: int.unwrap_or(next_id as u32),
+        has_variables: placed.has_variables,
     })
 }
 
@@ -188,7 +212,7 @@ fn with_int<'a>(
     k: &KsymsSection<'_>,
     is_added: bool,
     mut records: TypeRecords<'a>,
-) -> Result<SanitizedTable<'a>, BtfError>
+) -> Result<SteppedTable<'a>, BtfError>
     requires strings { length (ksyms_of k.now).strings < 2 ^ 32 }
     requires int { is_added ≡ adds_int (ksyms_of k.now) }
     requires types { records.types ≡ stepped_from (ksyms_of k.now) 1 (ksyms_of k.now).types }
@@ -200,17 +224,17 @@ fn with_int<'a>(
     ensures accepted { OnOk result (IsFaultless (IsOverfull records.entry.order (ksyms_of k.now))) }
 {
     if !is_added {
-        return Ok(SanitizedTable {
+        return Ok(SteppedTable {
             records,
             texts: Vec::new(alloc),
         });
     }
     let texts = add_int(alloc, k.strings.len(), &mut records)?;
-    Ok(SanitizedTable { records, texts })
+    Ok(SteppedTable { records, texts })
 }
 
 /// What the records become, with the integer and its name where these are added.
-fn stepped_table<'a>(alloc: Global, k: &KsymsSection<'_>) -> Result<SanitizedTable<'a>, BtfError>
+fn stepped_table<'a>(alloc: Global, k: &KsymsSection<'_>) -> Result<SteppedTable<'a>, BtfError>
     requires { length (ksyms_of k.now).strings < 2 ^ 32 }
     ensures types { IfOk result (λ s. s.records.types ≡ stepped_types (ksyms_of k.now)) }
     ensures order { IfOk result (λ s. s.records.order ≡ k.now.types.now.order) }
@@ -223,7 +247,7 @@ fn stepped_table<'a>(alloc: Global, k: &KsymsSection<'_>) -> Result<SanitizedTab
     let step = step_of(alloc, k, entries.as_slice(), int)?;
     let mut records = TypeRecords::new(alloc, k.types.order());
     step_all(alloc, k, &step, &mut records)?;
-    let is_added = any_names_var(k, entries.as_slice()) && int.is_none();
+    let is_added = step.has_variables && int.is_none();
     let table = with_int(alloc, k, is_added, records)?;
     Ok(table)
 }
@@ -237,7 +261,7 @@ fn stepped_table<'a>(alloc: Global, k: &KsymsSection<'_>) -> Result<SanitizedTab
 /// where the id is of no section, `InvalidDatasec` where an entry names neither a function nor a
 /// variable, or a function and there is no placeholder, `InvalidTypeInfo` where the table gets
 /// greater than 32 bits can count.
-pub fn fixup_ksyms<'a>(alloc: Global, k: &KsymsSection<'_>) -> Result<SanitizedTable<'a>, BtfError>
+pub fn fixup_ksyms<'a>(alloc: Global, k: &KsymsSection<'_>) -> Result<SteppedTable<'a>, BtfError>
     requires { length (ksyms_of k.now).strings < 2 ^ 32 }
     ensures types { IfOk result (λ s. s.records.types ≡ stepped_types (ksyms_of k.now)) }
     ensures order { IfOk result (λ s. s.records.order ≡ k.now.types.now.order) }

@@ -6,7 +6,7 @@ use Rattle.std.proofs.lemmas.Bool.Decides.{nat_tests}
 use Rattle.std.proofs.lemmas.List.{get_or-set_other, get_or-set_same, length-set, take_all}
 use Rattle.std.proofs.lemmas.List.Folds.{list_any_more}
 use Rattle.btf_records.specs.declared.item.DataSecEntry.{DataSecEntry}
-use Rattle.btf_sanitizing.specs.Knowledge.{AreMarks}
+use Rattle.btf_ksyms.specs.Steps.{AreMarks}
 
 -- marks of the first so many entries
 pub record MarkFirst (marks : List Bool) (entries : List DataSecEntry) (i : ℕ) : Type 0 where

@@ -1,12 +1,12 @@
 use Rattle.std.proofs.Common.{◌≡◌, ◌≢◌, ◌+◌, ◌++◌, ◌∷◌, [], sym, ◌∙◌, arith}
 use Rattle.std.proofs.lemmas.Option.{slice_get_within}
 use Rattle.btf_records.specs.declared.error.BtfError.TheVariants.{InvalidTypeInfo, OutOfMemory}
-use Rattle.btf_sanitizing.specs.Knowledge.{ksyms_of}
-use Rattle.btf_sanitizing.specs.Ksyms.{stepped, stepped_from}
-use Rattle.btf_sanitizing.specs.Sanitized.{AreFew, AreTooMany}
-use Rattle.btf_sanitizing.proofs.Passes.{passed_on}
-use Rattle.btf_sanitizing.proofs.Stepping.{all_stepped, one_more_stepped, too_many_stepped}
-use Rattle.btf_sanitizing.proofs.ksyms_step.step_all.Goals as goal
+use Rattle.btf_ksyms.specs.Ksyms.{stepped, stepped_from}
+use Rattle.btf_ksyms.proofs.Growth.{passed_on}
+use Rattle.btf_ksyms.proofs.Stepping.{all_stepped, one_more_stepped, too_many_stepped}
+use Rattle.btf_ksyms.proofs.step.step_all.Goals as goal
+use Rattle.btf_ksyms.specs.Steps.{ksyms_of}
+use Rattle.btf_parts.specs.Growth.{AreFew, AreTooMany}
 
 pub step_next-requires-clause-within : goal.step_next-requires-clause-within
 step_next-requires-clause-within c = omega (arith, c.requires.marks, slice_get_within (ksyms_of c.args.k.now).types c.loop-t.index c.in-Some.t (sym c.get.ensures.value ∙ c.in-Some.is))

@@ -3,10 +3,10 @@ use Rattle.std.proofs.Common.{◌≡◌, ℕ, ◌+◌, List, [], ◌∷◌, ◌+
 use Rattle.std.specs.List.{slice_get}
 use Rattle.btf_records.specs.declared.types.BtfType.{BtfType}
 use Rattle.btf_records.specs.declared.words.Endianness.{Endianness}
-use Rattle.btf_sanitizing.specs.Ksyms.{Ksyms, stepped, stepped_from}
-use Rattle.btf_sanitizing.specs.Sanitized.{AreFew, AreTooMany}
-use Rattle.btf_sanitizing.proofs.Elements.{next_left, none_left}
-use Rattle.btf_sanitizing.proofs.Passes.{too_many_more}
+use Rattle.btf_ksyms.specs.Ksyms.{Ksyms, stepped, stepped_from}
+use Rattle.btf_ksyms.proofs.Elements.{next_left, none_left}
+use Rattle.btf_ksyms.proofs.Growth.{too_many_more}
+use Rattle.btf_parts.specs.Growth.{AreFew, AreTooMany}
 
 pub record HaveStepped (k : Ksyms) (order : Endianness) (i : ℕ) (done : List BtfType) : Type 0 where
   pub made : done ++ stepped_from k (i + 1) (drop i k.types) ≡ stepped_from k 1 k.types

@@ -2,8 +2,8 @@
 use Rattle.std.proofs.Common.{◌≡◌, ℕ, ◌+◌, true, false, List, drop, Option, None, Some}
 use Rattle.std.specs.List.{slice_get}
 use Rattle.btf_records.specs.declared.types.BtfType.{BtfType}
-use Rattle.btf_sanitizing.specs.Ksyms.{int4_from, is_int4}
-use Rattle.btf_sanitizing.proofs.Elements.{next_left, none_left}
+use Rattle.btf_ksyms.specs.Ksyms.{int4_from, is_int4}
+use Rattle.btf_ksyms.proofs.Elements.{next_left, none_left}
 
 pub int_here : (types : List BtfType) (i : ℕ) (t : BtfType) (wanted : Option ℕ) → int4_from (i + 1) (drop i types) ≡ wanted → slice_get types i ≡ Some t → is_int4 t ≡ true → Some (i + 1) ≡ wanted
 int_here types i t wanted left here is = rw (next_left types i t here, is) at left

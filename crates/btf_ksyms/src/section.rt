@@ -4,10 +4,10 @@ ghost use Rattle.std.specs.Prelude.{◌≡◌, ◌≢◌, ◌≤◌, ◌<◌, �
 ghost use Rattle.std.specs.List.{list_any};
 ghost use Rattle.btf_records.specs.declared.error.BtfError.TheVariants.{InvalidTypeInfo, OutOfMemory};
 ghost use Rattle.btf_records.specs.declared.kind.BtfKind.TheVariants as kinds;
-ghost use Rattle.btf_sanitizing.specs.Faults.{IsFaultless};
-ghost use Rattle.btf_sanitizing.specs.Knowledge.{AreMarks, ksyms_of};
-ghost use Rattle.btf_sanitizing.specs.Ksyms.{EntryFault, KsymsFault, int4_from, int_id, is_int4, names_a, placed_entry, placed_from, section_entries, signed_int, stepped, stepped_from, stepped_texts, stepped_types};
-ghost use Rattle.btf_sanitizing.specs.Sanitized.{AreFew, AreTooMany};
+ghost use Rattle.btf_ksyms.specs.Ksyms.{EntryFault, KsymsFault, int4_from, int_id, is_int4, names_a, placed_entry, placed_from, section_entries, signed_int, stepped, stepped_from, stepped_texts, stepped_types};
+ghost use Rattle.btf_parts.specs.Faultless.{IsFaultless};
+ghost use Rattle.btf_ksyms.specs.Steps.{AreMarks, ksyms_of};
+ghost use Rattle.btf_parts.specs.Growth.{AreFew, AreTooMany};
 
 use btf_encoding::TypeRef;
 use btf_parts::{Strings, TypeRecords};
@@ -23,14 +23,16 @@ pub struct KsymsSection<'t> {
     pub placeholder: Option<u32>,
 }
 
-/// An entry at its place in the section, with the placeholder where it names a function.
+/// An entry at its place in the section, with the placeholder where it names a function; and whether it
+/// names a variable.
 fn placed_entry(
     k: &KsymsSection<'_>,
     index: usize,
     entry: DataSecEntry,
-) -> Result<DataSecEntry, BtfError>
+) -> Result<(DataSecEntry, bool), BtfError>
     requires { index < 65536 }
-    ensures value { IfOk result (λ e. e ≡ placed_entry (ksyms_of k.now) index entry) }
+    ensures value { IfOk result (λ e. e.0 ≡ placed_entry (ksyms_of k.now) index entry) }
+    ensures variable { IfOk result (λ e. e.1 ≡ names_a kinds.Var (ksyms_of k.now) entry) }
     ensures refused { IfErr result (EntryFault (ksyms_of k.now) entry) }
     ensures accepted { OnOk result (IsFaultless (EntryFault (ksyms_of k.now) entry)) }
 {
@@ -38,16 +40,24 @@ fn placed_entry(
     let Some(t) = k.types.by_id(type_id as usize) else {
         return Err(BtfError::UnknownBtfType { type_id });
     };
-    let btf_type = match t.kind() {
-        BtfKind::Func => k.placeholder.ok_or(BtfError::InvalidDatasec)?,
-        BtfKind::Var => type_id,
+    let (btf_type, is_variable) = match t.kind() {
+        BtfKind::Func => (k.placeholder.ok_or(BtfError::InvalidDatasec)?, false),
+        BtfKind::Var => (type_id, true),
         _ => return Err(BtfError::InvalidDatasec),
     };
-    Ok(DataSecEntry {
+    let placed = DataSecEntry {
         btf_type,
         offset: 4 * index as u32,
         size: 4,
-    })
+    };
+    Ok((placed, is_variable))
+}
+
+/// The entries of the section, each at its place, and whether one of them names a variable.
+#[derive(Debug, Drop)]
+pub(crate) struct PlacedEntries {
+    pub(crate) entries: Vec<DataSecEntry>,
+    pub(crate) has_variables: bool,
 }
 
 /// The entries of the section, each at its place.
@@ -55,40 +65,25 @@ pub(crate) fn placed_entries(
     alloc: Global,
     k: &KsymsSection<'_>,
     entries: &[DataSecEntry],
-) -> Result<Vec<DataSecEntry>, BtfError>
+) -> Result<PlacedEntries, BtfError>
     requires { length entries.now < 65536 }
-    ensures value { IfOk result (λ p. p.items ≡ placed_from (ksyms_of k.now) 0 entries.now) }
-    ensures len { IfOk result (λ p. length p.items ≡ length entries.now) }
+    ensures value { IfOk result (λ p. p.entries.items ≡ placed_from (ksyms_of k.now) 0 entries.now) }
+    ensures len { IfOk result (λ p. length p.entries.items ≡ length entries.now) }
+    ensures variables { IfOk result (λ p. p.has_variables ≡ list_any (names_a kinds.Var (ksyms_of k.now)) entries.now) }
     ensures refused { IfErr result (λ e. e ≢ OutOfMemory → Any (λ entry. EntryFault (ksyms_of k.now) entry e) entries.now) }
     ensures accepted { OnOk result (IsFaultless (λ e. Any (λ entry. EntryFault (ksyms_of k.now) entry e) entries.now)) }
 {
     let mut placed = Vec::with_capacity(alloc, entries.len())?;
+    let mut has_variables = false;
     for (index, entry) in entries.iter().enumerate() {
-        placed.push(placed_entry(k, index, *entry)?)?;
+        let next = placed_entry(k, index, *entry)?;
+        placed.push(next.0)?;
+        has_variables |= next.1;
     }
-    Ok(placed)
-}
-
-/// Whether an entry names a variable.
-fn names_var(k: &KsymsSection<'_>, entry: &DataSecEntry) -> bool
-    ensures { result ≡ names_a kinds.Var (ksyms_of k.now) entry.now }
-{
-    match k.types.by_id(entry.btf_type as usize) {
-        Some(t) => t.kind() == BtfKind::Var,
-        None => false,
-    }
-}
-
-/// Whether one of the entries names a variable.
-pub(crate) fn any_names_var(k: &KsymsSection<'_>, entries: &[DataSecEntry]) -> bool
-    ensures { result ≡ list_any (names_a kinds.Var (ksyms_of k.now)) entries.now }
-{
-    for entry in entries {
-        if names_var(k, entry) {
-            return true;
-        }
-    }
-    false
+    Ok(PlacedEntries {
+        entries: placed,
+        has_variables,
+    })
 }
 
 /// Whether a record is an integer of 4 bytes.

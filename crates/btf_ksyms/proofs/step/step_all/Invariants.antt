@@ -1,7 +1,7 @@
 use Rattle.std.proofs.Common.{◌≡◌, ◌-◌, length}
-use Rattle.btf_sanitizing.specs.Knowledge.{ksyms_of}
-use Rattle.btf_sanitizing.proofs.Stepping.{HaveStepped}
-use Rattle.btf_sanitizing.proofs.ksyms_step.step_all.Given as goal
+use Rattle.btf_ksyms.proofs.Stepping.{HaveStepped}
+use Rattle.btf_ksyms.proofs.step.step_all.Given as goal
+use Rattle.btf_ksyms.specs.Steps.{ksyms_of}
 
 abbrev pub invariant-loop-t : goal.invariant-loop-t
 invariant-loop-t l = HaveStepped (ksyms_of l.k) l.records.order l.index l.records.types × (l.records.order ≡ l.fn.records.order)

@@ -1,10 +1,11 @@
 -- The section `.ksyms` of a table, whose entries are made such as a kernel takes them, as libbpf's
 -- bpf_object__collect_externs has it (tools/lib/bpf/libbpf.c), which seeks an integer of 32 bits where one of 4 bytes is
 -- sought here.
-use Rattle.std.specs.Prelude.{◌≡◌, ℕ, ◌+◌, ◌*◌, ◌==◌, ◌&&◌, ◌⊎◌, Any, Bool, true, false, if◌then◌else◌, List, [], ◌∷◌, ◌++◌, codes, length, Option, Some, None, is_none, unwrap_or}
+use Rattle.std.specs.Prelude.{◌≡◌, ℕ, ◌+◌, ◌*◌, ◌==◌, ◌&&◌, ◌⊎◌, Any, Bool, true, false, not, if◌then◌else◌, List, [], ◌∷◌, ◌++◌, codes, length, Option, Some, None, is_none, unwrap_or}
 use Rattle.std.specs.List.{list_any}
 use Rattle.std.specs.Option.{IsSomeAnd, option_map_or}
-use Rattle.btf_parts.specs.Growth.{TooMany}
+use Rattle.btf_parts.specs.Growth.{AreTooMany, TooMany}
+use Rattle.btf_parts.specs.Ids.{record_of_id}
 use Rattle.btf_records.specs.Fields.{entries_of, int_of, kind_of_type}
 use Rattle.btf_records.specs.Info.{flagged, int_word_of}
 use Rattle.btf_records.specs.declared.encoding.VarLinkage.TheVariants.{Global}
@@ -16,8 +17,6 @@ use Rattle.btf_records.specs.declared.kind.BtfKind.TheVariants as kinds
 use Rattle.btf_records.specs.declared.types.BtfType.{BtfType}
 use Rattle.btf_records.specs.declared.types.BtfType.TheVariants as types
 use Rattle.btf_records.specs.declared.words.Endianness.{Endianness}
-use Rattle.btf_sanitizing.specs.Facts.{record_of_id}
-use Rattle.btf_sanitizing.specs.Sanitized.{AreTooMany}
 
 -- the table, the id of the section, and that of the variable which stands in it for each function
 pub record Ksyms : Type 0 where
@@ -73,6 +72,16 @@ stepped k id (types.Func t) = if is_named k id then types.Func (record t { vlen 
 stepped k id (types.Var t) = if is_named k id then types.Var (record t { btf_type = int_id k; linkage = Global }) else types.Var t
 stepped k id t = t
 
+-- a record that is left as it is, by its kind and its id
+abbrev pub leaves_a : BtfKind → Ksyms → ℕ → Bool
+leaves_a kinds.DataSec k id = not (id == k.section)
+leaves_a kinds.Func k id = not (is_named k id)
+leaves_a kinds.Var k id = not (is_named k id)
+leaves_a _ k id = true
+
+abbrev pub leaves : Ksyms → ℕ → BtfType → Bool
+leaves k id t = leaves_a (kind_of_type t) k id
+
 abbrev pub stepped_from : Ksyms → ℕ → List BtfType → List BtfType
 stepped_from k id [] = []
 stepped_from k id (t ∷ ts) = stepped k id t ∷ stepped_from k (id + 1) ts
@@ -116,3 +125,8 @@ IsOverfull order k _ = ⊥
 -- why the step can't be taken
 abbrev pub KsymsFault : Endianness → Ksyms → BtfError → Type 0
 KsymsFault order k e = SubjectFault k e ⊎ Any (λ entry. EntryFault k entry e) (section_entries k) ⊎ IsOverfull order k e
+
+-- each id's record is that of its rule, and the same where it is left
+pub record StepKeeps (k : Ksyms) (types : List BtfType) : Type 0 where
+  pub each : (id : ℕ) (t : BtfType) → record_of_id k.types id ≡ Some t → record_of_id types id ≡ Some (stepped k id t)
+  pub left : (id : ℕ) (t : BtfType) → record_of_id k.types id ≡ Some t → leaves k id t ≡ true → record_of_id types id ≡ Some t
