@@ -1,5 +1,5 @@
 -- The entries of maps by name, as contracts see them.
-use Rattle.std.proofs.Common.{◌≡◌, ℕ, Bool, true, false, cond, List, [], ◌∷◌, Option, Some, None, map, refl, ap, sym, ◌∙◌}
+use Rattle.std.proofs.Common.{◌≡◌, ℕ, Bool, true, false, cond, List, [], ◌∷◌, Option, Some, None, map, refl, ap, ◌∙◌}
 use Rattle.std.specs.Borrow.{Bor}
 use Rattle.std.specs.declared.cmp.Ordering.{Ordering}
 use Rattle.std.specs.declared.cmp.Ordering.TheVariants.{Less, Equal, Greater}
@@ -13,7 +13,7 @@ use Rattle.std.specs.Option.{option_copied, option_map}
 use Rattle.ebpf_items.specs.Maps.{MapView, map_view}
 use Rattle.ebpf_items.specs.declared.maps.Map.{Map}
 use Rattle.object_maps.specs.Found.{with_map}
-use Rattle.object_maps.specs.Maps.{entry_shown, shown}
+use Rattle.object_maps.specs.Maps.{shown}
 
 shown-match : (o : Ordering) (a b c : List (Bor (List ℕ) × Map)) → shown (match_ordering o a b c) ≡ match_ordering o (shown a) (shown b) (shown c)
 shown-match Less a b c = refl

@@ -1,5 +1,5 @@
 -- Maps of sections `.maps`: each variable of the sections of this name in the type table is one.
-use Rattle.std.specs.Prelude.{ℕ, List, [], ◌∷◌, ◌++◌, find, map, reverse, length, ◌==◌, not, bytes_eq, Bool, false, Option, Some, None, Result, Ok, Err, is_none, if◌then◌else◌}
+use Rattle.std.specs.Prelude.{ℕ, List, [], ◌∷◌, ◌++◌, find, map, reverse, length, ◌==◌, not, bytes_eq, Bool, false, Option, Result, Ok, Err, is_none, if◌then◌else◌}
 use Rattle.std.specs.List.{flat_map}
 use Rattle.std.specs.Option.{option_map_or}
 use Rattle.btf_records.specs.Fields.{entries_of}
@@ -12,8 +12,8 @@ use Rattle.elf64.specs.Symbols.{Symbol}
 use Rattle.ebpf_items.specs.Maps.{MapView, btf_map_view}
 use Rattle.map_definitions.specs.Definitions.{defined, map_variable, refusals}
 use Rattle.object_file.specs.Symbols.{symbols_in}
-use Rattle.object_maps.specs.DataSections.{name_faults, sections_named}
-use Rattle.object_maps.specs.Faults.{MapFault, NoSymbol, NoTable, struct_fault, symbols_lack, types_fault}
+use Rattle.object_maps.specs.DataSections.{sections_named}
+use Rattle.object_maps.specs.Faults.{MapFault, NoSymbol, struct_fault, symbols_lack, types_fault}
 use Rattle.object_maps.specs.LegacyMaps.{section_name}
 
 abbrev pub has_symbol_name : List ℕ → Symbol → Bool

@@ -1,5 +1,5 @@
 -- Maps with their names, as they are found and by name.
-use Rattle.std.specs.Prelude.{◌≡◌, ℕ, List, [], fold, find, reverse, bytes_eq, Bool, Option}
+use Rattle.std.specs.Prelude.{◌≡◌, ℕ, List, fold, find, reverse, bytes_eq, Bool, Option}
 use Rattle.std.specs.BTreeMap.{insert_entry, is_at}
 use Rattle.std.specs.Cmp.Lexicographic.{slice_cmp}
 use Rattle.std.specs.Map.{lookup}
