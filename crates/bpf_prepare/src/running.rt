@@ -2,7 +2,7 @@
 
 ghost use Rattle.std.specs.Prelude.{◌≡◌, ◌≢◌, true, false, IfErr, OnOk, Err};
 ghost use Rattle.std.specs.Io.KnownBytes.{Appends};
-ghost use Rattle.ebpf_items.specs.Watched.{watched_inner, has_failed, AppendsPart};
+ghost use Rattle.watched.specs.Watched.{watched_inner, has_failed, AppendsPart};
 ghost use Rattle.load_plan.specs.Planned.{IsPrepared};
 ghost use Rattle.bpf_prepare.specs.Run.{text_of, IsRunRefusal};
 ghost use Rattle.bpf_prepare.specs.declared.error.RunError.TheVariants.{Output};

@@ -5,7 +5,6 @@ pub mod Maps
 pub mod RelocationKind
 pub mod Section
 pub mod Slots
-pub mod Watched
 pub use Rattle.program_kinds.specs.Attach
 pub use Rattle.program_kinds.specs.Bindings
 pub use Rattle.program_kinds.specs.ProgramSection

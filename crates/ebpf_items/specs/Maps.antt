@@ -1,8 +1,10 @@
 -- Maps, as contracts see them.
-use Rattle.std.specs.Prelude.{ℕ, ◌==◌, Bool, true, false, List, [], Option, Some, None, if◌then◌else◌}
+use Rattle.std.specs.Prelude.{ℕ, ◌==◌, Bool, true, false, List, [], Option, Some, None, unwrap_or, if◌then◌else◌}
 use Rattle.std.specs.Option.{option_map}
 use Rattle.program_kinds.specs.declared.section_kind.EbpfSectionKind.{EbpfSectionKind}
 use Rattle.program_kinds.specs.declared.section_kind.EbpfSectionKind.TheVariants.{Undefined, BtfMaps}
+use Rattle.ebpf_items.specs.declared.maps.MapWord.{MapWord}
+use Rattle.ebpf_items.specs.declared.maps.MapWord.TheVariants as word
 use Rattle.ebpf_items.specs.declared.maps.PinningType.{PinningType}
 use Rattle.ebpf_items.specs.declared.maps.PinningType.TheVariants as pinning
 use Rattle.ebpf_items.specs.declared.maps.bpf_map_def.{bpf_map_def}
@@ -14,6 +16,10 @@ use Rattle.ebpf_items.specs.declared.maps.Map.TheVariants.{Legacy, Btf}
 -- the way of pinning that a number names
 abbrev pub pinning_of : ℕ → Option PinningType
 pinning_of value = if value == 0 then Some pinning.None else if value == 1 then Some pinning.ByName else None
+
+-- the way of pinning that a map's definition names: other numbers count as none
+abbrev pub pinning_or_none : ℕ → PinningType
+pinning_or_none value = unwrap_or (pinning_of value) pinning.None
 
 -- what a definition holds by default: zeros, and no pinning
 abbrev pub zero_map_def : bpf_map_def
@@ -81,6 +87,16 @@ btf_words def = record {
   btf_value_type_id = def.btf_value_type_id;
 }
 
+-- the words with one of them set
+abbrev pub with_word : MapWord → ℕ → MapWords → MapWords
+with_word word.MapType value words = record words { map_type = value }
+with_word word.KeySize value words = record words { key_size = value }
+with_word word.ValueSize value words = record words { value_size = value }
+with_word word.MaxEntries value words = record words { max_entries = value }
+with_word word.MapFlags value words = record words { map_flags = value }
+with_word word.MapExtra value words = record words { map_extra = value }
+with_word word.Pinning value words = record words { pinning = pinning_or_none value }
+
 -- a map: whether types define it, its words, those of the maps that it holds, where it comes from,
 -- and its bytes
 pub record MapView : Type 0 where
@@ -110,6 +126,18 @@ map_view (Btf m) = record {
   section_kind = BtfMaps;
   symbol_index = Some m.symbol_index;
   contents = m.contents.items;
+}
+
+-- a map that types define, of a section and a symbol
+abbrev pub btf_map_view : MapWords → Option MapWords → ℕ → ℕ → MapView
+btf_map_view words inner section_index symbol_index = record {
+  is_btf = true;
+  words = words;
+  inner = inner;
+  section_index = section_index;
+  section_kind = BtfMaps;
+  symbol_index = Some symbol_index;
+  contents = [];
 }
 
 abbrev pub with_value_size : MapView → ℕ → MapView

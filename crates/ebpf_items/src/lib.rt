@@ -7,13 +7,12 @@ mod maps;
 mod relocation_kind;
 mod section;
 mod slot_list;
-mod watch;
 
 pub use error::ParseError;
 pub use instruction::bpf_insn;
 pub use maps::{
-    BtfMap, BtfMapDef, LegacyMap, Map, PinningError, PinningType, bpf_map_def, bpf_map_info,
-    parse_map_info,
+    BtfMap, BtfMapDef, LegacyMap, Map, MapWord, PinningError, PinningType, bpf_map_def,
+    bpf_map_info, parse_map_info,
 };
 pub use program_kinds::{
     CgroupSkbAttachType, CgroupSockAddrAttachType, CgroupSockAttachType, CgroupSockoptAttachType,
@@ -24,7 +23,7 @@ pub use program_kinds::{
 pub use relocation_kind::RelocationKind;
 pub use section::Section;
 pub use slot_list::{SlotIter, Slots, copy_instructions};
-pub use watch::Watched;
+pub use watched::Watched;
 
 #[cfg(test)]
 mod tests;

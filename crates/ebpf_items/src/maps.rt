@@ -5,7 +5,7 @@ ghost use Rattle.std.specs.Option.{option_map};
 ghost use Rattle.std.specs.Result.{result_ok};
 ghost use Rattle.std.specs.Borrow.{sem};
 ghost use Rattle.ebpf_items.specs.LentContents.{LendsContents};
-ghost use Rattle.ebpf_items.specs.Maps.{map_view, with_value_size, with_max_entries, zero_map_def, zero_btf_map_def, inner_view, bare_view, view_of_info, pinning_of, legacy_words, btf_words};
+ghost use Rattle.ebpf_items.specs.Maps.{map_view, with_value_size, with_max_entries, zero_map_def, zero_btf_map_def, inner_view, bare_view, view_of_info, pinning_of, pinning_or_none, legacy_words, btf_words, btf_map_view, with_word};
 
 use program_kinds::EbpfSectionKind;
 use std::alloc::{AllocError, Global};
@@ -51,6 +51,16 @@ impl TryFrom<u32> for PinningType {
             1 => Ok(PinningType::ByName),
             pinning_type => Err(PinningError::Unsupported { pinning_type }),
         }
+    }
+}
+
+impl PinningType {
+    /// The way of pinning that a map's definition names: a number that names none counts as not
+    /// pinned.
+    pub fn of_number(value: u32) -> PinningType
+        ensures { result ≡ pinning_or_none value }
+    {
+        PinningType::try_from(value).unwrap_or_default()
     }
 }
 
@@ -119,6 +129,39 @@ impl Default for BtfMapDef {
     }
 }
 
+/// A word of a map's definition that a number sets.
+#[derive(Clone, Copy, Debug, PartialEq, Eq)]
+pub enum MapWord {
+    MapType,
+    /// The size of a key, in bytes.
+    KeySize,
+    /// The size of a value, in bytes.
+    ValueSize,
+    MaxEntries,
+    MapFlags,
+    /// The per-type extra word.
+    MapExtra,
+    /// 1 stands for pinning by name, any other number for none.
+    Pinning,
+}
+
+impl BtfMapDef {
+    /// Sets one of its words.
+    pub fn set_word(&mut self, word: MapWord, value: u32)
+        ensures { btf_words self.new ≡ with_word word value (btf_words self.old) }
+    {
+        match word {
+            MapWord::MapType => self.map_type = value,
+            MapWord::KeySize => self.key_size = value,
+            MapWord::ValueSize => self.value_size = value,
+            MapWord::MaxEntries => self.max_entries = value,
+            MapWord::MapFlags => self.map_flags = value,
+            MapWord::MapExtra => self.map_extra = u64::from(value),
+            MapWord::Pinning => self.pinning = PinningType::of_number(value),
+        }
+    }
+}
+
 /// What the kernel tells of a map: nine fields of `struct bpf_map_info` of its `bpf.h`.
 #[derive(Clone, Copy, Debug)]
 pub struct bpf_map_info {
@@ -156,6 +199,27 @@ pub struct BtfMap {
     pub(crate) section_index: usize,
     pub(crate) symbol_index: usize,
     pub(crate) contents: Vec<u8>,
+}
+
+impl BtfMap {
+    /// A map without bytes, by its words and those of the maps that it holds.
+    pub fn new(
+        alloc: Global,
+        def: BtfMapDef,
+        inner_def: Option<BtfMapDef>,
+        section_index: usize,
+        symbol_index: usize,
+    ) -> BtfMap
+        ensures { map_view (Map.Btf result) ≡ btf_map_view (btf_words def) (option_map btf_words inner_def) section_index symbol_index }
+    {
+        BtfMap {
+            def,
+            inner_def,
+            section_index,
+            symbol_index,
+            contents: Vec::new(alloc),
+        }
+    }
 }
 
 /// A map of an object, as libbpf's two ways of defining maps give it.

@@ -4,7 +4,7 @@ ghost use Rattle.std.specs.Prelude.{◌≡◌, ℕ, ◌↔◌, List, [], ◌∷�
 ghost use Rattle.std.specs.Fmt.{decimal};
 ghost use Rattle.std.specs.Io.KnownBytes.{Appends};
 ghost use Rattle.ebpf_items.specs.Instruction.{bytes_of};
-ghost use Rattle.ebpf_items.specs.Watched.{watched_inner, has_failed, AppendsPart, Sends};
+ghost use Rattle.watched.specs.Watched.{watched_inner, has_failed, AppendsPart, Sends};
 ghost use Rattle.hex.specs.Hex.{encode_lower};
 ghost use Rattle.load_plan.specs.PlanGrammar.{hex_word, slot_bytes, version_word, program_words, program_lines, text_of_lines, text_of};
 

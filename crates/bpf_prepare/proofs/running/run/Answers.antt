@@ -1,6 +1,6 @@
 use Rattle.std.proofs.Common.{subst}
 use Rattle.std.specs.Io.KnownBytes.{Appends}
-use Rattle.ebpf_items.specs.Watched.{watched_inner}
+use Rattle.watched.specs.Watched.{watched_inner}
 use Rattle.load_plan.specs.Content.{PlanContent}
 use Rattle.load_plan.specs.PlanGrammar.{text_of}
 use Rattle.bpf_prepare.proofs.running.run.Goals as goal

@@ -1,6 +1,6 @@
 use Rattle.std.proofs.Common.{arith}
 use Rattle.std.proofs.lemmas.Fmt.{decimal_digit, decimal_step}
-use Rattle.ebpf_items.specs.Watched.{Sends-then}
+use Rattle.watched.specs.Watched.{Sends-then}
 use Rattle.load_plan.proofs.writing.+send_decimal.Goals as goal
 
 pub returns-then-number-lt10 : goal.returns-then-number-lt10

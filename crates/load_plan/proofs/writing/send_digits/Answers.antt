@@ -1,5 +1,5 @@
 use Rattle.std.proofs.Common.{◌<◌, length, arith}
-use Rattle.ebpf_items.specs.Watched.{Sends-none, Sends-then}
+use Rattle.watched.specs.Watched.{Sends-none, Sends-then}
 use Rattle.load_plan.proofs.Texts.{encode_lower-nil, encode_lower-more}
 use Rattle.load_plan.proofs.writing.send_digits.Goals as goal
 

@@ -1,6 +1,6 @@
 use Rattle.std.proofs.Common.{take}
 use Rattle.hex.specs.Hex.{encode_lower}
-use Rattle.ebpf_items.specs.Watched.{Sends}
+use Rattle.watched.specs.Watched.{Sends}
 use Rattle.load_plan.proofs.writing.send_digits.Given as goal
 
 abbrev pub invariant-loop-byte : goal.invariant-loop-byte

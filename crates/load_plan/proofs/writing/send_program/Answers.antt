@@ -1,6 +1,6 @@
 use Rattle.std.proofs.Common.{sym, subst}
-use Rattle.ebpf_items.specs.Watched.{Sends}
-use Rattle.ebpf_items.specs.Watched.{Sends-then}
+use Rattle.watched.specs.Watched.{Sends}
+use Rattle.watched.specs.Watched.{Sends-then}
 use Rattle.load_plan.proofs.Texts.{program_lines-parts}
 use Rattle.load_plan.proofs.writing.send_program.Goals as goal
 

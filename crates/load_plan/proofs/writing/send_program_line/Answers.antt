@@ -1,4 +1,4 @@
-use Rattle.ebpf_items.specs.Watched.{Sends-then}
+use Rattle.watched.specs.Watched.{Sends-then}
 use Rattle.load_plan.proofs.writing.send_program_line.Goals as goal
 
 pub returns : goal.returns

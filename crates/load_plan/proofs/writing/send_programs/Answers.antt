@@ -1,5 +1,5 @@
 use Rattle.std.proofs.Common.{◌<◌, length, arith}
-use Rattle.ebpf_items.specs.Watched.{Sends-then}
+use Rattle.watched.specs.Watched.{Sends-then}
 use Rattle.load_plan.proofs.Texts.{program_lines-more}
 use Rattle.load_plan.proofs.writing.send_programs.Goals as goal
 

@@ -1,6 +1,6 @@
 use Rattle.std.proofs.Common.{take}
 use Rattle.std.specs.Prelude.{flat_map}
-use Rattle.ebpf_items.specs.Watched.{Sends}
+use Rattle.watched.specs.Watched.{Sends}
 use Rattle.load_plan.specs.PlanGrammar.{program_lines, text_of_lines}
 use Rattle.load_plan.proofs.writing.send_programs.Given as goal
 

@@ -1,6 +1,6 @@
 use Rattle.std.proofs.Common.{sym, subst}
 use Rattle.hex.specs.Hex.{encode_lower}
-use Rattle.ebpf_items.specs.Watched.{Sends, Sends-none, Sends-then}
+use Rattle.watched.specs.Watched.{Sends, Sends-none, Sends-then}
 use Rattle.load_plan.specs.PlanGrammar.{slot_bytes}
 use Rattle.load_plan.proofs.Texts.{encode_lower-nil, slot_digits-first}
 use Rattle.load_plan.proofs.writing.send_slot_digits.Goals as goal

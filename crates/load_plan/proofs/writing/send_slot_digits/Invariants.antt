@@ -1,5 +1,5 @@
 use Rattle.hex.specs.Hex.{encode_lower}
-use Rattle.ebpf_items.specs.Watched.{Sends}
+use Rattle.watched.specs.Watched.{Sends}
 use Rattle.load_plan.specs.PlanGrammar.{slot_bytes}
 use Rattle.load_plan.proofs.writing.send_slot_digits.Given as goal
 

@@ -1,6 +1,6 @@
 use Rattle.std.proofs.Common.{rules, arith}
-use Rattle.ebpf_items.specs.Watched.{AppendsAllBut-none, AppendsAllBut-more}
-use Rattle.ebpf_items.proofs.watch.Watched.write_all.Goals as goal
+use Rattle.watched.specs.Watched.{AppendsAllBut-none, AppendsAllBut-more}
+use Rattle.watched.proofs.watch.Watched.write_all.Goals as goal
 
 pub returns-then-self-clause-part : goal.returns-then-self-clause-part
 returns-then-self-clause-part g c = (_, AppendsAllBut-none _ _)

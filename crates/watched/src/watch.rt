@@ -3,7 +3,7 @@
 ghost use Rattle.std.specs.Prelude.{◌≡◌, ◌+◌, ◌-◌, ◌≤◌, ◌<◌, ◌^◌, ◌↔◌, ◌⊎◌, true, false, length, IfOk, OnOk, OnErr, IsErr};
 ghost use Rattle.std.specs.Io.{ReadsAtMost, WritesAtMost};
 ghost use Rattle.std.specs.Io.KnownBytes.{Appends, ReadConsumes, WriteAppends};
-ghost use Rattle.ebpf_items.specs.Watched.{watched_inner, has_failed, calls_left, AppendsPart, Sends};
+ghost use Rattle.watched.specs.Watched.{watched_inner, has_failed, calls_left, AppendsPart, Sends};
 
 use std::io;
 use std::io::{ErrorKind, Read, Write};

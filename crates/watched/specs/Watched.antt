@@ -5,7 +5,7 @@ use Rattle.std.proofs.Common.{sym, ap, ◌∙◌, subst, append_assoc, take-appe
 use Rattle.std.proofs.lemmas.List.{take_rest}
 use Rattle.std.proofs.Math.Nat.{le_refl, le_trans}
 use Rattle.std.proofs.KnownBytes.{Appends-nil, Appends-trans}
-use Rattle.ebpf_items.specs.declared.watch.Watched.{Watched}
+use Rattle.watched.specs.declared.watch.Watched.{Watched}
 
 -- the reader or writer itself
 abbrev pub watched_inner : {T : Type 0} → Watched T → T

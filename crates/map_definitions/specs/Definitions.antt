@@ -1,0 +1,108 @@
+-- Maps of a section `.maps`, which their types define.
+use Rattle.std.specs.Prelude.{◌≡◌, ◌⊎◌, ℕ, List, [], ◌∷◌, fold, Contains, Option, Some, None, Result, Ok, Err}
+use Rattle.std.specs.List.{flat_map}
+use Rattle.std.specs.Option.{option_map}
+use Rattle.std.specs.String.{string_bytes}
+use Rattle.btf_records.specs.declared.error.BtfError.{BtfError}
+use Rattle.btf_records.specs.declared.error.BtfError.TheVariants as btf
+use Rattle.btf_records.specs.declared.item.BtfMember.{BtfMember}
+use Rattle.btf_records.specs.declared.variables.Var.{Var}
+use Rattle.btf_tables.specs.Tables.{Table}
+use Rattle.ebpf_items.specs.Maps.{MapWords, btf_words, zero_btf_map_def}
+use Rattle.map_definitions.specs.Lookups.{and_then, answer_map, members_at, name_at, struct_behind, variable_at}
+use Rattle.map_definitions.specs.Members.{member_said, member_said_inside, with_said}
+use Rattle.map_definitions.specs.declared.definition.BtfDefinition.{BtfDefinition}
+use Rattle.map_definitions.specs.declared.lookup.Refusal.{Refusal}
+use Rattle.map_definitions.specs.declared.lookup.Refusal.TheVariants as refusal
+use Rattle.map_definitions.specs.declared.member.Said.{Said}
+use Rattle.map_definitions.specs.declared.member.Said.TheVariants as said
+
+-- the name and the struct of the map that a variable is
+abbrev pub named_struct : Table → Var → Result (List ℕ × ℕ) BtfError
+named_struct table v = and_then (λ name. answer_map (λ id. (name, id)) (struct_behind table v.btf_type)) (name_at table v.name_offset)
+
+abbrev pub map_variable : Table → ℕ → Result (List ℕ × ℕ) BtfError
+map_variable table id = and_then (named_struct table) (variable_at table id)
+
+-- before its members say anything
+abbrev pub zero_words : MapWords
+zero_words = btf_words zero_btf_map_def
+
+-- ---- a map inside another
+
+abbrev pub with_answer : MapWords → Result Said Refusal → MapWords
+with_answer words (Ok s) = with_said words s
+with_answer words (Err r) = words
+
+abbrev pub with_inner_member : Table → MapWords → BtfMember → MapWords
+with_inner_member table words m = with_answer words (member_said_inside table m)
+
+-- its words, of which the last member that sets one counts
+abbrev pub inner_words : Table → ℕ → MapWords
+inner_words table id = fold (with_inner_member table) zero_words (members_at table id)
+
+-- all that is wrong with it
+abbrev pub refusals_in : Result Said Refusal → List Refusal
+refusals_in (Ok s) = []
+refusals_in (Err r) = r ∷ []
+
+abbrev pub inner_member_refusals : Table → BtfMember → List Refusal
+inner_member_refusals table m = refusals_in (member_said_inside table m)
+
+abbrev pub inner_refusals : Table → ℕ → List Refusal
+inner_refusals table id = flat_map (inner_member_refusals table) (members_at table id)
+
+-- ---- a map
+
+-- its words, and those of the maps that it holds
+pub record Definition : Type 0 where
+  pub words : MapWords
+  pub inner : Option MapWords
+
+abbrev pub definition_of : BtfDefinition → Definition
+definition_of d = record { words = btf_words d.def; inner = option_map btf_words d.inner }
+
+-- the inner map's words, of which the last member that gives them counts
+abbrev pub inner_said : Table → Option MapWords → Said → Option MapWords
+inner_said table inner (said.Inner id) = Some (inner_words table id)
+inner_said table inner _ = inner
+
+abbrev pub defined_by : Table → Definition → Result Said Refusal → Definition
+defined_by table d (Ok s) = record { words = with_said d.words s; inner = inner_said table d.inner s }
+defined_by table d (Err r) = d
+
+abbrev pub with_member : Table → Definition → BtfMember → Definition
+with_member table d m = defined_by table d (member_said table m)
+
+abbrev pub nothing_defined : Definition
+nothing_defined = record { words = zero_words; inner = None }
+
+-- what the struct of an id defines
+abbrev pub defined : Table → ℕ → Definition
+defined table id = fold (with_member table) nothing_defined (members_at table id)
+
+-- all that is wrong with it
+abbrev pub refusals_said : Table → Result Said Refusal → List Refusal
+refusals_said table (Ok (said.Inner id)) = inner_refusals table id
+refusals_said table (Ok _) = []
+refusals_said table (Err r) = r ∷ []
+
+abbrev pub member_refusals : Table → BtfMember → List Refusal
+member_refusals table m = refusals_said table (member_said table m)
+
+abbrev pub refusals : Table → ℕ → List Refusal
+refusals table id = flat_map (member_refusals table) (members_at table id)
+
+-- the errors that name the map
+abbrev pub HasNamedFault : List Refusal → List ℕ → BtfError → Type 0
+HasNamedFault all name (btf.InnerMapCannotBePinned n) = (string_bytes n ≡ name) × Contains all refusal.PinnedInnerMap
+HasNamedFault all name (btf.MultiLevelMapInMapNotSupported n) = (string_bytes n ≡ name) × Contains all refusal.MapsInInnerMap
+HasNamedFault all name (btf.InvalidValuesSpec n) = (string_bytes n ≡ name) × Contains all refusal.ValuesWithCount
+HasNamedFault all name _ = ⊥
+
+-- an error that says one of these of the map of a name
+abbrev pub IsFaultAmong : List Refusal → List ℕ → BtfError → Type 0
+IsFaultAmong all name e = Contains all (refusal.Types e) ⊎ HasNamedFault all name e
+
+abbrev pub HasDefinitionFault : Table → List ℕ → ℕ → BtfError → Type 0
+HasDefinitionFault table name id e = IsFaultAmong (refusals table id) name e

@@ -1,0 +1,4 @@
+pub mod Definitions
+pub mod LegacyWords
+pub mod Lookups
+pub mod Members

@@ -1,0 +1,11 @@
+//! How the maps of an object are defined: by words of a section `maps`, or by types.
+#![tactic(auto)]
+
+mod definition;
+mod legacy;
+mod lookup;
+mod member;
+mod members;
+
+pub use definition::{BtfDefinition, MapVariable, map_variable, read_definition};
+pub use legacy::legacy_map_def;

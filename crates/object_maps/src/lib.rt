@@ -1,0 +1,18 @@
+//! The maps of an object: those of sections `maps`, those that types define, and sections of
+//! variables.
+#![tactic(auto)]
+
+mod btf_maps;
+mod data_maps;
+mod data_sections;
+mod entries;
+mod legacy_maps;
+mod maps;
+mod named_symbols;
+mod reading;
+
+pub use maps::Maps;
+pub use reading::read_maps;
+
+#[cfg(test)]
+mod tests;

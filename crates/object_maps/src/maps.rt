@@ -1,0 +1,82 @@
+//! Maps by name.
+
+ghost use Rattle.std.specs.Prelude.{◌≡◌, ◌↔◌, [], length, map, IsTrue, OnOk, OnErr};
+ghost use Rattle.std.specs.BTreeMap.{is_at};
+ghost use Rattle.std.specs.Cmp.Lexicographic.{slice_cmp};
+ghost use Rattle.std.specs.List.Sorted.{IsStrictlySortedBy};
+ghost use Rattle.std.specs.Map.{lookup};
+ghost use Rattle.std.specs.Option.{option_map};
+ghost use Rattle.std.specs.Ordering.{nat_cmp};
+ghost use Rattle.ebpf_items.specs.Maps.{map_view};
+ghost use Rattle.object_maps.specs.Found.{with_map};
+ghost use Rattle.object_maps.specs.Maps.{shown};
+
+use ebpf_items::Map;
+use std::alloc::{AllocError, Global};
+use std::collections::BTreeMap;
+use std::collections::btree_map::Iter;
+use std::marker::Model;
+
+/// The maps of an object, by name.
+#[derive(Debug, Drop)]
+pub struct Maps<'a> {
+    entries: BTreeMap<&'a str, Map>,
+}
+
+impl<'a> Model for Maps<'a> {
+    ghost use Rattle.std.specs.Prelude.{ℕ, List};
+    ghost use Rattle.ebpf_items.specs.Maps.{MapView};
+    ghost use Rattle.object_maps.specs.Maps.{shown};
+
+    ghost Value = { List (List ℕ × MapView) };
+
+    ghost view = { λ m. shown m.entries.entries };
+}
+
+impl<'a> Maps<'a> {
+    pub(crate) fn new(alloc: Global) -> Maps<'a>
+        ensures { result ≡ [] }
+    {
+        Maps {
+            entries: BTreeMap::new(alloc),
+        }
+    }
+
+    /// How many maps there are.
+    pub fn len(&self) -> usize
+        ensures { result ≡ length self.now }
+    {
+        self.entries.len()
+    }
+
+    /// Whether there is no map.
+    pub fn is_empty(&self) -> bool
+        ensures { IsTrue result ↔ (self.now ≡ []) }
+    {
+        self.entries.is_empty()
+    }
+
+    /// The map of a name.
+    pub fn get(&self, name: &str) -> Option<&Map>
+        ensures { option_map (λ m. map_view m.now) result ≡ lookup (is_at (slice_cmp nat_cmp name.now)) self.now }
+    {
+        self.entries.get(name)
+    }
+
+    /// The maps with their names, which strictly rise by bytes.
+    pub fn iter(&self) -> Iter<'_, &'a str, Map>
+        ensures value { shown result ≡ self.now }
+        ensures rising { IsStrictlySortedBy (slice_cmp nat_cmp) (map (λ e. e.0) self.now) }
+    {
+        self.entries.iter()
+    }
+
+    /// Enters a map under a name, in place of an earlier one of that name.
+    pub(crate) fn insert(&mut self, name: &'a str, map: Map) -> Result<(), AllocError>
+        ensures ok { OnOk result (self.new ≡ with_map self.old (name.now, map_view map)) }
+        ensures err { OnErr result (self.new ≡ self.old) }
+    {
+        self.entries.insert(name, map)?;
+        Ok(())
+    }
+}

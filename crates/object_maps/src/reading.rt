@@ -1,0 +1,105 @@
+//! The maps of an object, read section by section.
+
+ghost use Rattle.std.specs.Prelude.{◌≡◌, ◌≢◌, [], flat_map, IfErr, IfOk, OnOk};
+ghost use Rattle.std.specs.Option.{option_copied};
+ghost use Rattle.elf64.specs.Symbols.{symbols_of};
+ghost use Rattle.ebpf_items.specs.declared.error.ParseError.TheVariants.{OutOfMemory};
+ghost use Rattle.object_maps.specs.Faults.{Says};
+ghost use Rattle.object_maps.specs.Found.{AreLast, entered};
+ghost use Rattle.object_maps.specs.Maps.{HasMapsFault, found_maps, maps_faults, maps_of, section_faults, section_maps};
+
+use crate::data_sections::DataSections;
+use crate::maps::Maps;
+use btf_tables::Btf;
+use ebpf_items::{EbpfSectionKind, ParseError};
+use object_file::{ObjectFile, ReadSection};
+use std::alloc::Global;
+
+impl<'a> Maps<'a> {
+    /// Enters the maps of a section.
+    #[tactic(auto, using(crate::proofs::Entered::entered_none), unfolding(crate::specs::Maps::section_faults, crate::specs::Maps::section_maps))]
+    fn read_section(
+        &mut self,
+        alloc: Global,
+        file: &ObjectFile<'a>,
+        types: Option<&DataSections<'_, '_>>,
+        section: &ReadSection<'a>,
+    ) -> Result<(), ParseError>
+        ensures value { OnOk result (self.new ≡ entered self.old (section_maps (option_copied types.entry) (symbols_of file.now) section.now)) }
+        ensures accepted { OnOk result (section_faults (option_copied types.entry) (symbols_of file.now) section.now ≡ []) }
+        ensures refused { IfErr result (λ e. e ≢ OutOfMemory → Says (section_faults (option_copied types.entry) (symbols_of file.now) section.now) e) }
+    {
+        match section.kind() {
+            EbpfSectionKind::Maps => self.read_legacy_maps(alloc, file, section),
+            EbpfSectionKind::BtfMaps => self.read_btf_maps(alloc, file, types, section),
+            EbpfSectionKind::Data | EbpfSectionKind::Rodata | EbpfSectionKind::Bss => {
+                self.read_data_map(alloc, section)
+            }
+            _ => Ok(()),
+        }
+    }
+
+    /// Enters the maps of these sections.
+    #[tactic(auto, using(crate::proofs::Entered::entered_none))]
+    fn read_sections(
+        &mut self,
+        alloc: Global,
+        file: &ObjectFile<'a>,
+        types: Option<&DataSections<'_, '_>>,
+        sections: &[ReadSection<'a>],
+    ) -> Result<(), ParseError>
+        ensures value { OnOk result (self.new ≡ entered self.old (flat_map (section_maps (option_copied types.entry) (symbols_of file.now)) sections.now)) }
+        ensures accepted { OnOk result (flat_map (section_faults (option_copied types.entry) (symbols_of file.now)) sections.now ≡ []) }
+        ensures refused { IfErr result (λ e. e ≢ OutOfMemory → Says (flat_map (section_faults (option_copied types.entry) (symbols_of file.now)) sections.now) e) }
+    {
+        for section in sections {
+            self.read_section(alloc, file, types, section)?;
+        }
+        Ok(())
+    }
+}
+
+/// The maps of an object file, with the sections of variables of its type table, if it has one.
+#[tactic(auto, using(crate::proofs::Entered::entered_last))]
+fn maps_in<'a>(
+    alloc: Global,
+    file: &ObjectFile<'a>,
+    types: Option<&DataSections<'_, '_>>,
+) -> Result<Maps<'a>, ParseError>
+    ensures value { IfOk result (λ maps. maps ≡ maps_of file.now (option_copied types.entry)) }
+    ensures last { IfOk result (λ maps. AreLast maps (found_maps file.now (option_copied types.entry))) }
+    ensures accepted { OnOk result (maps_faults file.now (option_copied types.entry) ≡ []) }
+    ensures refused { IfErr result (λ e. e ≢ OutOfMemory → HasMapsFault file.now (option_copied types.entry) e) }
+{
+    let mut maps = Maps::new(alloc);
+    maps.read_sections(alloc, file, types, file.sections())?;
+    Ok(maps)
+}
+
+/// The maps of an object file, with its type table, if it has one.
+///
+/// # Errors
+///
+/// `NoSymbolsForSection` for a section of maps without symbols for them, `InvalidMapDefinition`
+/// where the symbol of a section `maps` lies outside it or has fewer than 20 bytes, and where a
+/// section of variables is of 2^32 bytes or more, `NoBTF` for a section `.maps` without a table,
+/// `SymbolNotFound` for a map of such a section that no symbol names, `BtfError` where the table
+/// doesn't define these maps, and `OutOfMemory`.
+pub fn read_maps<'a>(
+    alloc: Global,
+    file: &ObjectFile<'a>,
+    table: Option<&Btf<'_>>,
+) -> Result<Maps<'a>, ParseError>
+    ensures value { IfOk result (λ maps. maps ≡ maps_of file.now (option_copied table.entry)) }
+    ensures last { IfOk result (λ maps. AreLast maps (found_maps file.now (option_copied table.entry))) }
+    ensures accepted { OnOk result (maps_faults file.now (option_copied table.entry) ≡ []) }
+    ensures refused { IfErr result (λ e. e ≢ OutOfMemory → HasMapsFault file.now (option_copied table.entry) e) }
+{
+    match table {
+        Some(table) => {
+            let types = DataSections::new(alloc, table)?;
+            maps_in(alloc, file, Some(&types))
+        }
+        None => maps_in(alloc, file, None),
+    }
+}

@@ -1,0 +1,6 @@
+//! Readers and writers that keep whether they failed.
+#![tactic(auto)]
+
+mod watch;
+
+pub use watch::Watched;
