@@ -33,27 +33,6 @@ impl Extern {
     }
 }
 
-/// A function and a variable.
-const fn function(btf_id: u32, type_id: u32) -> Extern {
-    Extern {
-        name: "f___x",
-        essential_name: "f",
-        btf_id,
-        is_weak: false,
-        type_id: Some(type_id),
-    }
-}
-
-const fn variable(btf_id: u32, type_id: Option<u32>) -> Extern {
-    Extern {
-        name: "v",
-        essential_name: "v",
-        btf_id,
-        is_weak: true,
-        type_id,
-    }
-}
-
 /// The words of a table's records; its externs by name, what a rewriting is handed, and what is
 /// added to the records and to the strings.
 struct Case {
@@ -72,7 +51,13 @@ static CASES: [Case; 8] = [
             0, INT, 8, 0x40, 0, INT, 4, 0x20, 0, INT, 4, 0x20, 0, PROTO, 0, 1, EXTERN, 4, 9,
             DATASEC_1, 0, 5, 0, 0,
         ],
-        externs: &[function(5, 4)],
+        externs: &[Extern {
+            name: "f___x",
+            essential_name: "f",
+            btf_id: 5,
+            is_weak: false,
+            type_id: Some(4),
+        }],
         ksyms: Some((6, Some(7))),
         added: &[18, VAR, 2, 1],
         texts: b"ksym_func_placeholder\0",
@@ -80,7 +65,13 @@ static CASES: [Case; 8] = [
     Case {
         title: "a function where there is no integer of 4 bytes",
         types: &[0, PROTO, 0, 1, EXTERN, 1, 9, DATASEC_1, 0, 2, 0, 0],
-        externs: &[function(2, 1)],
+        externs: &[Extern {
+            name: "f___x",
+            essential_name: "f",
+            btf_id: 2,
+            is_weak: false,
+            type_id: Some(1),
+        }],
         ksyms: Some((3, Some(5))),
         added: &[18, INT, 4, SIGNED_INT, 22, VAR, 4, 1],
         texts: b"int\0ksym_func_placeholder\0",
@@ -91,7 +82,22 @@ static CASES: [Case; 8] = [
             0, INT, 4, 0x20, 0, PROTO, 1, 7, VAR, 1, 2, 1, EXTERN, 2, 9, DATASEC_2, 0, 3, 0, 0, 4,
             0, 0,
         ],
-        externs: &[function(4, 2), variable(3, Some(1))],
+        externs: &[
+            Extern {
+                name: "f___x",
+                essential_name: "f",
+                btf_id: 4,
+                is_weak: false,
+                type_id: Some(2),
+            },
+            Extern {
+                name: "v",
+                essential_name: "v",
+                btf_id: 3,
+                is_weak: true,
+                type_id: Some(1),
+            },
+        ],
         ksyms: Some((5, Some(6))),
         added: &[18, VAR, 1, 1],
         texts: b"ksym_func_placeholder\0",
@@ -99,7 +105,13 @@ static CASES: [Case; 8] = [
     Case {
         title: "a variable of void",
         types: &[7, VAR, 0, 2, 9, DATASEC_1, 0, 1, 0, 0],
-        externs: &[variable(1, None)],
+        externs: &[Extern {
+            name: "v",
+            essential_name: "v",
+            btf_id: 1,
+            is_weak: true,
+            type_id: None,
+        }],
         ksyms: Some((2, None)),
         added: &[],
         texts: b"",
@@ -109,7 +121,13 @@ static CASES: [Case; 8] = [
         types: &[
             0, CONST, 2, 0, VOLATILE, 0, 7, VAR, 1, 2, 9, DATASEC_1, 0, 3, 0, 0,
         ],
-        externs: &[variable(3, None)],
+        externs: &[Extern {
+            name: "v",
+            essential_name: "v",
+            btf_id: 3,
+            is_weak: true,
+            type_id: None,
+        }],
         ksyms: Some((4, None)),
         added: &[],
         texts: b"",
@@ -119,7 +137,13 @@ static CASES: [Case; 8] = [
         types: &[
             0, INT, 8, 0x40, 7, VAR, 0, 2, 7, VAR, 1, 2, 9, DATASEC_2, 0, 2, 0, 0, 3, 0, 0,
         ],
-        externs: &[variable(3, Some(1))],
+        externs: &[Extern {
+            name: "v",
+            essential_name: "v",
+            btf_id: 3,
+            is_weak: true,
+            type_id: Some(1),
+        }],
         ksyms: Some((4, None)),
         added: &[],
         texts: b"",
@@ -165,7 +189,9 @@ fn externs_are_read(rt: HostRuntime) {
             let strong = case.externs.iter().any(|e| !e.is_weak);
             assert_eq!(rt; externs.has_strong_typed(), strong, "{}", case.title);
             let mut words = Vec::from_slice(alloc, case.types).expect(&rt, "words");
-            words.extend_from_slice(case.added).expect(&rt, "more words");
+            words
+                .extend_from_slice(case.added)
+                .expect(&rt, "more words");
             let grown = section_of(&rt, alloc, order, words.as_slice(), case.texts);
             let bytes = table.to_bytes().expect(&rt, "bytes");
             assert_eq!(rt; bytes.as_slice(), grown.as_slice(), "{}", case.title);
