@@ -1,0 +1,6 @@
+pub mod ByBytes
+pub mod Entered
+pub mod Faultless
+pub mod Growth
+pub mod NamedSymbols
+pub mod Search

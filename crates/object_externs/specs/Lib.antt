@@ -1,0 +1,6 @@
+pub mod Externs
+pub mod Faults
+pub mod Names
+pub mod Placeholder
+pub mod Section
+pub mod Symbols

@@ -1,0 +1,16 @@
+//! The externs of an object: what its programs expect of the kernel (libbpf's
+//! `bpf_object__collect_externs`; Documentation/bpf/btf.rst, "BTF_KIND_DATASEC").
+#![tactic(auto)]
+
+mod entries;
+mod extern_desc;
+mod externs;
+mod placeholder;
+mod reading;
+mod section;
+mod symbols;
+
+pub use extern_desc::ExternDesc;
+pub use externs::Externs;
+pub use reading::read_externs;
+pub use symbols::is_extern_symbol;

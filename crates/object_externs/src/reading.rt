@@ -1,0 +1,58 @@
+//! The externs of an object, read.
+
+ghost use Rattle.std.specs.Prelude.{◌≡◌, ◌≢◌, if◌then◌else◌, IfErr, IfOk, OnErr, OnOk};
+ghost use Rattle.btf_records.specs.declared.error.BtfError.TheVariants.{OutOfMemory};
+ghost use Rattle.btf_parts.specs.Faultless.{IsFaultless};
+ghost use Rattle.btf_tables.specs.GrownTables.{TextsStay, TypesStay};
+ghost use Rattle.object_externs.specs.Externs.{externs_of, has_function};
+ghost use Rattle.object_externs.specs.Faults.{ExternsFault};
+ghost use Rattle.object_externs.specs.Placeholder.{with_placeholder};
+
+use crate::entries::{any_names_function, read_entries};
+use crate::externs::Externs;
+use crate::placeholder::add_placeholder;
+use crate::section::{ksyms_section, section_entries};
+use crate::symbols::SymbolNames;
+use btf_records::BtfError;
+use btf_tables::Btf;
+use object_file::ReadSymbol;
+use std::alloc::Global;
+
+/// The externs that the first section `.ksyms` of a table declares, of an object with these
+/// symbols. Where one is a function, a variable is added to the table that stands for functions
+/// when the section is rewritten; what look-ups find in the table stays.
+///
+/// `InvalidStringOffset` where the name of a section before it, or of an extern, can't be read;
+/// `UnknownBtfType` where no type has the id of an entry, or one of the chain to an extern's type
+/// isn't there, and `MaximumTypeDepthReached` where that is too long; `InvalidDatasec` where an
+/// entry names neither a function nor a variable; `InvalidSymbolName` where no symbol has an
+/// extern's name; `InvalidTypeInfo` where the table would get greater than 32 bits can count.
+pub fn read_externs<'a>(
+    alloc: Global,
+    symbols: &[ReadSymbol<'a>],
+    table: &mut Btf<'a>,
+) -> Result<Externs<'a>, BtfError>
+    ensures value { IfOk result (λ externs. externs ≡ externs_of symbols.now table.old) }
+    ensures table { OnOk result (table.new ≡ (if has_function table.old then with_placeholder table.old else table.old)) }
+    ensures texts { OnOk result (TextsStay table.old table.new) }
+    ensures types { OnOk result (TypesStay table.old table.new) }
+    ensures refused { IfErr result (λ e. e ≢ OutOfMemory → ExternsFault symbols.now table.old e) }
+    ensures accepted { OnOk result (IsFaultless (ExternsFault symbols.now table.old)) }
+    ensures err { OnErr result (table.new ≡ table.old) }
+{
+    let Some(section) = ksyms_section(table)? else {
+        return Ok(Externs::none(alloc));
+    };
+    let entries = section_entries(alloc, table, section)?;
+    let names = SymbolNames::new(alloc, symbols)?;
+    let by_name = read_entries(alloc, &names, table, entries.as_slice())?;
+    if entries.is_empty() {
+        return Ok(Externs::new(by_name, None));
+    }
+    let placeholder = if any_names_function(table, entries.as_slice()) {
+        Some(add_placeholder(table)?)
+    } else {
+        None
+    };
+    Ok(Externs::new(by_name, Some((section, placeholder))))
+}
