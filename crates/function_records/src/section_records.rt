@@ -1,6 +1,6 @@
 //! The records of a section, by the slot that they begin at.
 
-ghost use Rattle.std.specs.Prelude.{◌≡◌, filter_map, map, slice_get, IfOk};
+ghost use Rattle.std.specs.Prelude.{◌≡◌, [], filter_map, map, slice_get, IfOk};
 ghost use Rattle.function_records.specs.Kept.{kept_functions, kept_lines, moved, moved_function, moved_line, section_content};
 ghost use Rattle.function_records.specs.SlotIndexes.{AreBySlot};
 
@@ -124,6 +124,30 @@ fn lines_of(
 }
 
 impl<'e> SectionRecords<'e> {
+    fn of_records(
+        alloc: Global,
+        functions: FuncSecInfo<'e>,
+        lines: LineSecInfo<'e>,
+    ) -> Result<SectionRecords<'e>, AllocError>
+        ensures { IfOk result (λ records. records ≡ record { functions = functions.entry; lines = lines.entry }) }
+    {
+        Ok(SectionRecords {
+            function_slots: slots_of_functions(alloc, &functions)?,
+            functions,
+            line_slots: slots_of_lines(alloc, &lines)?,
+            lines,
+        })
+    }
+
+    /// No records.
+    pub fn empty(alloc: Global) -> Result<SectionRecords<'e>, AllocError>
+        ensures { IfOk result (λ records. records ≡ record { functions = []; lines = [] }) }
+    {
+        let functions = FuncSecInfo::from_records(Vec::new(alloc));
+        let lines = LineSecInfo::from_records(Vec::new(alloc));
+        SectionRecords::of_records(alloc, functions, lines)
+    }
+
     /// What an extension says of the section of a name; nothing, where no group is of its name.
     pub fn new(
         alloc: Global,
@@ -140,12 +164,7 @@ impl<'e> SectionRecords<'e> {
             Some(lines) => lines,
             None => LineSecInfo::from_records(Vec::new(alloc)),
         };
-        Ok(SectionRecords {
-            function_slots: slots_of_functions(alloc, &functions)?,
-            functions,
-            line_slots: slots_of_lines(alloc, &lines)?,
-            lines,
-        })
+        SectionRecords::of_records(alloc, functions, lines)
     }
 
     /// The records of functions that begin at a slot, in order; their slots are counted from that

@@ -1,6 +1,6 @@
 //! Sections and symbols with their names, each of which is looked up once.
 
-ghost use Rattle.std.specs.Prelude.{◌≡◌, false, is_none, Some, IfOk, IfErr, OnOk, IfSome};
+ghost use Rattle.std.specs.Prelude.{◌≡◌, true, false, is_none, is_some, Some, IfOk, IfErr, OnOk, IfSome};
 ghost use Rattle.std.specs.Option.{option_copied};
 ghost use Rattle.elf64.specs.Names.{name_in};
 ghost use Rattle.ebpf_items.specs.Section.{IsUnreadable};
@@ -91,7 +91,8 @@ impl<'a> ReadSection<'a> {
 
     /// What it holds, by its name.
     pub fn kind(&self) -> EbpfSectionKind
-        ensures { result ≡ kind_of self.now }
+        ensures value { result ≡ kind_of self.now }
+        ensures named { is_some self.now.name ≡ true }
     {
         EbpfSectionKind::of_section(self.name, self.view.is_text(), self.view.size())
     }

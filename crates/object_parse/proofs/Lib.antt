@@ -1,0 +1,6 @@
+pub mod Definitions
+pub mod Entered
+pub mod Faultless
+pub mod PlaceFaults
+pub mod Repeats
+pub mod Sound

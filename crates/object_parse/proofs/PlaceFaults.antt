@@ -1,0 +1,65 @@
+-- Faults of places, of the sections in which they stand, and of all sections.
+use Rattle.std.proofs.Common.{◌≡◌, ℕ, ◌<◌, Bool, true, false, List, [], ◌∷◌, length, get_or, refl, sym, ap, ◌∙◌, ◌&&◌, ◌||◌, ◌==◌}
+use Rattle.std.proofs.lemmas.Bool.{eq-eqb}
+use Rattle.std.proofs.lemmas.List.Folds.{list_any_at}
+use Rattle.std.specs.List.{list_any}
+use Rattle.std.specs.Prelude.{Result, Ok, Err, IfErr}
+use Rattle.elf64.specs.Sections.{Section}
+use Rattle.elf64.specs.Symbols.{Symbol}
+use Rattle.ebpf_items.specs.declared.error.ParseError.{ParseError}
+use Rattle.ebpf_items.specs.declared.error.ParseError.TheVariants as error
+use Rattle.object_file.specs.Symbols.{symbols_in}
+use Rattle.object_parts.specs.Content.{FunctionContent}
+use Rattle.object_parse.proofs.Entered.{place-stands}
+use Rattle.object_parse.specs.Faults.{HasPlaceFault, HasSectionFault, PlaceFault, is_cut, is_empty, is_unknown}
+use Rattle.object_parse.specs.Places.{AreEntered, byte_count}
+use Rattle.object_parse.specs.SectionInfos.{SectionInfo}
+use Rattle.object_parse.specs.TextSections.{is_text_section, place_at}
+
+-- a fault of the place at an offset is one of the section's places
+pub place-fault : (info : SectionInfo) (symbols : List Symbol) (section : Section) (old new : List ((ℕ × ℕ) × FunctionContent)) (offset : ℕ) → AreEntered info symbols section old new offset → offset < byte_count section → (e : ParseError) → PlaceFault section (place_at (symbols_in symbols section.index) section.address offset) e → HasPlaceFault symbols section e
+place-fault info symbols section old new offset entered left (error.UnknownSymbol index address) fault =
+    (fault.0, place-stands (is_unknown section address) info symbols section old new offset entered left fault.1)
+place-fault info symbols section old new offset entered left (error.InvalidSymbol index name) fault =
+    place-stands _ info symbols section old new offset entered left fault
+place-fault info symbols section old new offset entered left error.InvalidProgramCode fault =
+    place-stands (is_cut (byte_count section)) info symbols section old new offset entered left fault
+place-fault info symbols section old new offset entered left e fault = fault
+
+three : (a b c : Bool) → a ≡ true → b ≡ true → c ≡ true → ((a && (b && c)) || false) ≡ true
+three a b c h k l = rw (h, k, l) refl
+
+two : (b c : Bool) → b ≡ true → c ≡ true → ((b && c) || false) ≡ true
+two b c k l = rw (k, l) refl
+
+second : (a b c : Bool) → b ≡ true → c ≡ true → ((a || (b && c)) || false) ≡ true
+second true b c k l = refl
+second false b c k l = rw (k, l) refl
+
+-- a fault of a place of a `.text` section is one of the section
+pub text-fault : (symbols : List Symbol) (section : Section) → is_text_section section ≡ true → (e : ParseError) → HasPlaceFault symbols section e → HasSectionFault symbols (section ∷ []) e
+text-fault symbols section text (error.UnknownSymbol index address) fault = three (section.index == index) _ _ (eq-eqb section.index index (sym fault.0)) text fault.1
+text-fault symbols section text (error.InvalidSymbol index name) fault = two _ _ text fault
+text-fault symbols section text error.InvalidProgramCode fault = second _ _ _ text fault
+text-fault symbols section text e fault = absurd fault
+
+pub if-err : {T E : Type 0} {P Q : E → Type 0} (r : Result T E) → ((e : E) → P e → Q e) → IfErr r P → IfErr r Q
+if-err (Ok x) f p = p
+if-err (Err e) f p = f e p
+
+or-false : (a : Bool) → (a || false) ≡ true → a ≡ true
+or-false true h = refl
+or-false false h = h
+
+one : {X : Type 0} (p : X → Bool) (xs : List X) (i : ℕ) (x : X) → i < length xs → x ≡ get_or xs i x → list_any p (x ∷ []) ≡ true → list_any p xs ≡ true
+one p xs i x within is passes = list_any_at p xs i x within (ap p (sym is) ∙ or-false (p x) passes)
+
+-- a fault of one section is one of the sections among which it stands
+pub HasSectionFault-at : (symbols : List Symbol) (sections : List Section) (i : ℕ) (section : Section) → i < length sections → section ≡ get_or sections i section → (e : ParseError) → HasSectionFault symbols (section ∷ []) e → HasSectionFault symbols sections e
+HasSectionFault-at symbols sections i section within is (error.InvalidProgramSection name) fault = one _ sections i section within is fault
+HasSectionFault-at symbols sections i section within is (error.NoSymbolsForSection name) fault = one _ sections i section within is fault
+HasSectionFault-at symbols sections i section within is error.InvalidProgramCode fault = one _ sections i section within is fault
+HasSectionFault-at symbols sections i section within is (error.SymbolTableConflict index address) fault = one _ sections i section within is fault
+HasSectionFault-at symbols sections i section within is (error.UnknownSymbol index address) fault = one _ sections i section within is fault
+HasSectionFault-at symbols sections i section within is (error.InvalidSymbol index name) fault = one _ sections i section within is fault
+HasSectionFault-at symbols sections i section within is e fault = fault

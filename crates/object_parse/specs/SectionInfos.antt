@@ -1,0 +1,29 @@
+-- What the object's extension says of the functions of a section.
+use Rattle.std.specs.Prelude.{ℕ, List, [], Option, unwrap_or}
+use Rattle.std.specs.Option.{option_map_or}
+use Rattle.btf_extension.specs.Extensions.{Extension}
+use Rattle.btf_extension.specs.declared.record.bpf_func_info.{bpf_func_info}
+use Rattle.btf_extension.specs.declared.record.bpf_line_info.{bpf_line_info}
+use Rattle.elf64.specs.Sections.{Section}
+use Rattle.function_records.specs.Kept.{section_content}
+
+-- records of functions and of lines, and their sizes in bytes
+pub record SectionInfo : Type 0 where
+  pub functions : List bpf_func_info
+  pub lines : List bpf_line_info
+  pub func_size : ℕ
+  pub line_size : ℕ
+
+abbrev pub no_info : SectionInfo
+no_info = record { functions = []; lines = []; func_size = 0; line_size = 0 }
+
+abbrev pub named_info : List ℕ → Extension → SectionInfo
+named_info name extension = record {
+  functions = (section_content extension name).functions;
+  lines = (section_content extension name).lines;
+  func_size = extension.func_size;
+  line_size = extension.line_size;
+}
+
+abbrev pub info_of : Option Extension → Section → SectionInfo
+info_of extension section = option_map_or (named_info (unwrap_or section.name [])) extension no_info

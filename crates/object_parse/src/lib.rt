@@ -1,0 +1,13 @@
+//! The programs and the functions of an object file: those of program sections, and those of
+//! `.text` sections, which programs call.
+#![tactic(auto)]
+
+mod addresses;
+mod code;
+mod program_sections;
+mod section_info;
+mod sections;
+mod text_sections;
+
+pub use code::{code_of, function_name};
+pub use sections::read_code;

@@ -1,0 +1,92 @@
+//! The programs and functions of an object, section by section.
+
+ghost use Rattle.std.specs.Prelude.{◌≡◌, ◌≢◌, ◌∷◌, [], fold, OnOk, IfOk, IfErr};
+ghost use Rattle.std.specs.Option.{option_copied};
+ghost use Rattle.elf64.specs.Symbols.{symbols_of};
+ghost use Rattle.ebpf_items.specs.declared.error.ParseError.TheVariants.{OutOfMemory};
+ghost use Rattle.object_file.specs.License.{license_of};
+ghost use Rattle.object_file.specs.Version.{version_of};
+ghost use Rattle.object_parse.specs.Faults.{AreSound, HasFunctionFault, HasSectionFault, HasSoundFunctions};
+ghost use Rattle.object_parse.specs.Functions.{functions_of, programs_of, with_functions, with_section_programs};
+
+use crate::program_sections::add_programs;
+use crate::section_info::SectionInfo;
+use crate::text_sections::add_text;
+use btf_extension::BtfExt;
+use ebpf_items::{EbpfSectionKind, ParseError};
+use object_file::{ObjectFile, ReadSection};
+use object_parts::{Code, Functions, Programs};
+use std::alloc::Global;
+
+/// Enters the programs and functions of a section.
+fn add_section<'a, 'e>(
+    alloc: Global,
+    file: &ObjectFile<'a>,
+    extension: Option<&'e BtfExt<'e>>,
+    section: &ReadSection<'a>,
+    code: &mut Code<'a>,
+) -> Result<(), ParseError>
+    ensures programs { OnOk result (code.new.programs ≡ with_section_programs (license_of file.now) (version_of file.now) (symbols_of file.now) code.old.programs section.now) }
+    ensures functions { OnOk result (code.new.functions ≡ with_functions (option_copied extension.entry) (symbols_of file.now) code.old.functions section.now) }
+    ensures accepted { OnOk result (AreSound (symbols_of file.now) (section.now ∷ [])) }
+    ensures refused { IfErr result (λ e. e ≢ OutOfMemory → HasSectionFault (symbols_of file.now) (section.now ∷ []) e) }
+{
+    match section.kind() {
+        EbpfSectionKind::Program => {
+            let info = SectionInfo::of_section(alloc, extension, section)?;
+            add_programs(alloc, file, section, &info, code)
+        }
+        EbpfSectionKind::Text => {
+            let info = SectionInfo::of_section(alloc, extension, section)?;
+            add_text(alloc, file, section, &info, code)
+        }
+        _ => Ok(()),
+    }
+}
+
+/// Enters the programs and functions of some sections.
+fn add_sections<'a, 'e>(
+    alloc: Global,
+    file: &ObjectFile<'a>,
+    extension: Option<&'e BtfExt<'e>>,
+    sections: &[ReadSection<'a>],
+    code: &mut Code<'a>,
+) -> Result<(), ParseError>
+    ensures programs { OnOk result (code.new.programs ≡ fold (with_section_programs (license_of file.now) (version_of file.now) (symbols_of file.now)) code.old.programs sections.now) }
+    ensures functions { OnOk result (code.new.functions ≡ fold (with_functions (option_copied extension.entry) (symbols_of file.now)) code.old.functions sections.now) }
+    ensures accepted { OnOk result (AreSound (symbols_of file.now) sections.now) }
+    ensures refused { IfErr result (λ e. e ≢ OutOfMemory → HasSectionFault (symbols_of file.now) sections.now e) }
+{
+    for section in sections {
+        add_section(alloc, file, extension, section, code)?;
+    }
+    Ok(())
+}
+
+/// The programs and functions of a file, with the records that an extension of its types has for
+/// them.
+///
+/// # Errors
+///
+/// `InvalidProgramSection` for a program section of an unknown kind, `NoSymbolsForSection` for one
+/// in which no symbol lies, `InvalidProgramCode` for a function whose bytes aren't whole slots of its
+/// section, `SymbolTableConflict` for two functions of a `.text` section at one address,
+/// `UnknownSymbol` where no symbol defines the function at its beginning or behind one of its
+/// functions, `InvalidSymbol` where that function's size is 0, and `OutOfMemory`.
+pub fn read_code<'a, 'e>(
+    alloc: Global,
+    file: &ObjectFile<'a>,
+    extension: Option<&'e BtfExt<'e>>,
+) -> Result<Code<'a>, ParseError>
+    ensures programs { IfOk result (λ code. code.programs ≡ programs_of file.now) }
+    ensures functions { IfOk result (λ code. code.functions ≡ functions_of file.now (option_copied extension.entry)) }
+    ensures accepted { OnOk result (HasSoundFunctions file.now) }
+    ensures refused { IfErr result (λ e. e ≢ OutOfMemory → HasFunctionFault file.now e) }
+{
+    let mut code = Code {
+        programs: Programs::new(alloc),
+        functions: Functions::new(alloc),
+    };
+    add_sections(alloc, file, extension, file.sections(), &mut code)?;
+    Ok(code)
+}

@@ -1,0 +1,11 @@
+use Rattle.std.proofs.Common.{refl}
+use Rattle.object_parts.proofs.Keyed.{keyed_after}
+use Rattle.object_parts.proofs.functions.Functions.insert.Goals as goal
+
+pub invariant_of-self-2 : goal.invariant_of-self-2
+invariant_of-self-2 c =
+    keyed_after c.insert.result c.self.inside.entries.entries c.insert.new.self.entries c.args.function
+    (rw c.key.ensures at c.insert.ensures.entries) c.insert.ensures.err c.self.invariant
+
+pub returns-clause-ok : goal.returns-clause-ok
+returns-clause-ok c = rw (← c.self.view_is, c.in_ok-insert.ensures.entries, c.key.ensures) refl

@@ -1,0 +1,41 @@
+-- What an object is made of.
+use Rattle.std.specs.Prelude.{◌≡◌, ℕ, List, [], ◌∷◌, ⊤, Option}
+use Rattle.std.specs.declared.cmp.Ordering.{Ordering}
+use Rattle.std.specs.Ordering.{nat_cmp, ordering_then}
+use Rattle.btf_extension.specs.declared.record.bpf_func_info.{bpf_func_info}
+use Rattle.btf_extension.specs.declared.record.bpf_line_info.{bpf_line_info}
+use Rattle.ebpf_items.specs.declared.instruction.bpf_insn.{bpf_insn}
+use Rattle.program_kinds.specs.declared.program_section.ProgramSection.{ProgramSection}
+
+-- a program: its license and version are those of the object, its section and address are its function's key
+pub record ProgramContent : Type 0 where
+  pub license : List ℕ
+  pub kernel_version : Option ℕ
+  pub section : ProgramSection
+  pub section_index : ℕ
+  pub address : ℕ
+
+-- a function, its slots and its records; the sizes of records are in bytes
+pub record FunctionContent : Type 0 where
+  pub address : ℕ
+  pub name : List ℕ
+  pub section_index : ℕ
+  pub section_offset : ℕ
+  pub instructions : List bpf_insn
+  pub func_info : List bpf_func_info
+  pub line_info : List bpf_line_info
+  pub func_info_rec_size : ℕ
+  pub line_info_rec_size : ℕ
+
+-- keys by section index, then by address
+abbrev pub key_cmp : (ℕ × ℕ) → (ℕ × ℕ) → Ordering
+key_cmp a b = ordering_then (nat_cmp a.0 b.0) (nat_cmp a.1 b.1)
+
+-- the key of a function
+abbrev pub key_of : FunctionContent → ℕ × ℕ
+key_of f = (f.section_index, f.address)
+
+-- each function stands under its key
+unfoldable pub AreKeyed : List ((ℕ × ℕ) × FunctionContent) → Type 0
+AreKeyed [] = ⊤
+AreKeyed (e ∷ es) = (e.0 ≡ key_of e.1) × AreKeyed es

@@ -1,0 +1,48 @@
+//! The functions of an object.
+
+ghost use Rattle.std.specs.Prelude.{◌≡◌};
+
+use btf_extension::{FuncSecInfo, LineSecInfo};
+use ebpf_items::Slots;
+use std::marker::Model;
+
+/// A function of an object.
+#[derive(Debug, Drop)]
+pub struct Function<'a> {
+    /// The address (`st_value`).
+    pub address: u64,
+    /// The symbol's name.
+    pub name: &'a str,
+    /// The index of the function's section.
+    pub section_index: usize,
+    /// Where the function begins, in bytes: in a program section the address, in `.text` the
+    /// distance from the section's beginning.
+    pub section_offset: usize,
+    /// The instruction slots.
+    pub instructions: Slots<'a>,
+    /// The records of functions at its beginning.
+    pub func_info: FuncSecInfo<'a>,
+    /// The records of lines inside it.
+    pub line_info: LineSecInfo<'a>,
+    /// The size of a function's record in bytes, as the object gives it; 0 where it has none.
+    pub func_info_rec_size: usize,
+    /// The size of a line's record in bytes, as the object gives it; 0 where it has none.
+    pub line_info_rec_size: usize,
+}
+
+impl<'a> Model for Function<'a> {
+    ghost use Rattle.object_parts.specs.Content.{FunctionContent};
+
+    ghost Value = { FunctionContent };
+
+    ghost view = { λ f. record { address = f.address; name = f.name.now; section_index = f.section_index; section_offset = f.section_offset; instructions = f.instructions; func_info = f.func_info; line_info = f.line_info; func_info_rec_size = f.func_info_rec_size; line_info_rec_size = f.line_info_rec_size } };
+}
+
+impl<'a> Function<'a> {
+    /// The function's key: its section's index and its address.
+    pub fn key(&self) -> (usize, u64)
+        ensures { result ≡ (self.now.section_index, self.now.address) }
+    {
+        (self.section_index, self.address)
+    }
+}

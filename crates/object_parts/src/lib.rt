@@ -1,0 +1,12 @@
+//! What an object is made of: its programs by name, and its functions by section and address.
+#![tactic(auto)]
+
+mod by_name;
+mod function;
+mod functions;
+mod program;
+
+pub use by_name::Programs;
+pub use function::Function;
+pub use functions::{Code, Functions};
+pub use program::Program;
