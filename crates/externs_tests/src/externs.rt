@@ -6,7 +6,7 @@ use crate::sections::{
     section_of,
 };
 use btf_tables::{Btf, KsymsIds};
-use object_externs::{ExternDesc, read_externs};
+use object_externs::{ExternDesc, is_extern_symbol, read_externs};
 use object_file::ObjectFile;
 
 /// An extern: its name, with and without its flavour, the id of what declares it, whether it is
@@ -170,6 +170,9 @@ static CASES: [Case; 8] = [
 fn externs_are_read(rt: HostRuntime) {
     let alloc = rt.alloc();
     let file = ObjectFile::parse(alloc, &OBJECT).expect(&rt, "an object");
+    for symbol in file.symbols() {
+        assert!(rt; is_extern_symbol(symbol.view()));
+    }
     for case in &CASES {
         for order in ORDERS {
             let section = section_of(&rt, alloc, order, case.types, &[]);
@@ -184,6 +187,12 @@ fn externs_are_read(rt: HostRuntime) {
                 assert!(rt; is_wanted, "{}", case.title);
             }
             assert_eq!(rt; externs.ksyms(), case.ksyms, "{}", case.title);
+            let copy = externs.try_clone().expect(&rt, case.title);
+            assert_eq!(rt; copy.is_empty(), case.externs.is_empty(), "{}", case.title);
+            for (name, desc) in copy.iter() {
+                let is_wanted = case.externs.iter().any(|e| e.name == *name && e.is(desc));
+                assert!(rt; is_wanted, "{}", case.title);
+            }
             let typed = case.externs.iter().any(|e| e.type_id.is_some());
             assert_eq!(rt; externs.has_typed(), typed, "{}", case.title);
             let strong = case.externs.iter().any(|e| !e.is_weak);
