@@ -15,10 +15,10 @@ with_map maps found = insert_entry (slice_cmp nat_cmp) maps found.0 found.1
 unfoldable pub entered : List (List ℕ × MapView) → List (List ℕ × MapView) → List (List ℕ × MapView)
 entered maps found = fold with_map maps found
 
--- of the maps found that of a name that comes last
 abbrev pub is_named : List ℕ → List ℕ × MapView → Bool
 is_named name found = bytes_eq name found.0
 
+-- of the maps found that have a name the last
 abbrev pub last_named : List (List ℕ × MapView) → List ℕ → Option MapView
 last_named found name = option_map (λ f. f.1) (find (is_named name) (reverse found))
 
