@@ -8,6 +8,7 @@ pub mod FieldRounds
 pub mod FieldsAgreed
 pub mod FieldsExchanged
 pub mod FreePairs
+pub mod Held
 pub mod OpenPairs
 pub mod Parts
 pub mod Rounds

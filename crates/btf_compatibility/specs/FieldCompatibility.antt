@@ -1,9 +1,8 @@
 -- When the type of a local member is compatible with that of a target member. libbpf has this as
 -- `bpf_core_fields_are_compat` (tools/lib/bpf/relo_core.c); here ENUM and ENUM64 are two kinds, an empty
 -- name is a name, a flavour is cut from its first `___` on, and other kinds are a fault.
-use Rattle.std.specs.Prelude.{ℕ, zero, suc, Bool, true, false, ◌&&◌, ◌||◌, ◌==◌, nat_eq, List, [], ◌∷◌, ◌++◌, codes, Result, Ok, Err, if◌then◌else◌}
+use Rattle.std.specs.Prelude.{ℕ, zero, suc, Bool, true, false, ◌&&◌, ◌||◌, ◌==◌, nat_eq, List, ◌++◌, Result, Ok, Err, if◌then◌else◌}
 use Rattle.std.specs.Cmp.Lexicographic.{pointwise}
-use Rattle.std.specs.List.{starts_with}
 use Rattle.std.specs.Option.{option_map, option_map_or, option_to_list}
 use Rattle.btf_compatibility.specs.TypeCompatibility.{behind_modifiers, has_no_bit_offset, record_at, same_kind}
 use Rattle.btf_tables.specs.ResolvedTypes.{max_depth, modified_type}

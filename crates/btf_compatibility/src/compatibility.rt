@@ -2,6 +2,7 @@
 
 ghost use Rattle.std.specs.Prelude.{◌≡◌, ◌≢◌, ◌<◌, true, [], ◌∷◌, ◌++◌, IfOk, IfErr, IfSome, Ok, Err, slice_get};
 ghost use Rattle.btf_tables.specs.Agreement.{RestsOnBoth};
+ghost use Rattle.btf_tables.specs.Holdings.{AreHeld};
 ghost use Rattle.btf_compatibility.specs.TypeCompatibility.{IsBoundless, compared_ids, ends_compatible, has_no_bit_offset, pair_parts, pair_verdict, parts_of, record_at, types_compatible, verdict};
 ghost use Rattle.btf_compatibility.specs.Pairs.{SetsState};
 ghost use Rattle.btf_records.specs.Fields.{kind_of_type};
@@ -161,6 +162,7 @@ fn ends_are_compatible(
 /// `UnknownBtfType` where a type isn't there, `UnexpectedBtfType` where functions, variables,
 /// sections or declaration tags are compared, `MaximumTypeDepthReached` with the local id where a
 /// pair of types is met inside itself or a chain of modifiers is too long.
+#[tactic(auto, using(crate::proofs::Held::compared_are_held))]
 pub fn types_are_compatible<'t>(
     local: &Btf<'t>,
     local_id: u32,
@@ -172,6 +174,7 @@ pub fn types_are_compatible<'t>(
     ensures boundless { IsBoundless local.now local_id target.now target_id }
     ensures exchanged { IfOk result (λ yes. types_compatible target.now target_id local.now local_id ≡ Ok yes) }
     ensures rests { RestsOnBoth compared_ids local.now local_id target.now target_id (λ one other. types_compatible one local_id other target_id) }
+    ensures held { AreHeld compared_ids }
 {
     let local_kind = local.type_by_id(local_id)?.kind();
     let target_kind = target.type_by_id(target_id)?.kind();

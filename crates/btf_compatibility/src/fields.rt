@@ -3,6 +3,7 @@
 ghost use Rattle.std.specs.Prelude.{◌≡◌, ◌&&◌, ◌==◌, Err, Ok, IfOk};
 ghost use Rattle.std.specs.Option.{option_map, option_zip};
 ghost use Rattle.btf_tables.specs.Agreement.{RestsOnNames};
+ghost use Rattle.btf_tables.specs.Holdings.{AreHeld};
 ghost use Rattle.btf_compatibility.specs.FieldCompatibility.{field_ids, fields_compatible, is_composite, field_answer, same_names};
 ghost use Rattle.btf_records.specs.Fields.{array_of};
 
@@ -111,6 +112,7 @@ pub fn fields_are_compatible<'t>(
     ensures value { result ≡ fields_compatible local.now local_id target.now target_id }
     ensures exchanged { IfOk result (λ yes. fields_compatible target.now target_id local.now local_id ≡ Ok yes) }
     ensures rests { RestsOnNames field_ids local.now local_id target.now target_id (λ one other. fields_compatible one local_id other target_id) }
+    ensures held { AreHeld field_ids }
 {
     compare_fields(local, local_id, target, target_id)
 }

@@ -1,4 +1,6 @@
 pub mod ByteLists
+pub mod Faultless
 pub mod Growth
+pub mod Ids
 pub mod Layout
 pub mod NewRecords

@@ -26,19 +26,6 @@ all_made f P xs i ys h k = h.made ∙ ap (map f) (take_all i xs k)
 pub all_hold : {X Y : Type 0} (f : X → Y) (P : X → Type 0) (xs : List X) (i : ℕ) (ys : List Y) → AreMade f P xs i ys → length xs ≤ i → All P xs
 all_hold f P xs i ys h k = subst (All P) (take_all i xs k) h.each
 
--- the same without what is made
-pub record HoldsOfFirst {X : Type 0} (P : X → Type 0) (xs : List X) (i : ℕ) : Type 0 where
-  pub each : All P (take i xs)
-
-pub none_yet : {X : Type 0} (P : X → Type 0) (xs : List X) → HoldsOfFirst P xs 0
-none_yet P xs = record { each = λ k d lt. absurd (omega (arith, lt)) }
-
-pub one_more_holds : {X : Type 0} (P : X → Type 0) (xs : List X) (i : ℕ) (x : X) → HoldsOfFirst P xs i → i < length xs → P (get_or xs i x) → HoldsOfFirst P xs (i + 1)
-one_more_holds P xs i x before h holds = record { each = All-more P xs i x h before.each holds }
-
-pub holds_of_all : {X : Type 0} (P : X → Type 0) (xs : List X) (i : ℕ) → HoldsOfFirst P xs i → length xs ≤ i → All P xs
-holds_of_all P xs i h k = subst (All P) (take_all i xs k) h.each
-
 -- ---- elements by place
 
 pub within : {X : Type 0} (xs : List X) (i : ℕ) (x : X) → slice_get xs i ≡ Some x → i < length xs

@@ -1,22 +1,18 @@
 -- That no fault stands, of several parts together.
-use Rattle.std.proofs.Common.{◌≡◌, ℕ, ◌≤◌, length, Bool, true, false, List, ◌⊎◌, Any, Some, inl, inr, subst, sym}
+use Rattle.std.proofs.Common.{◌≡◌, ℕ, Bool, true, false, List, ◌⊎◌, Any, Some, inl, inr, subst, sym}
 use Rattle.std.specs.List.{All}
 use Rattle.std.specs.Option.{IsSomeAnd}
 use Rattle.string_table.specs.Texts.{text_at}
 use Rattle.btf_records.specs.declared.error.BtfError.{BtfError}
 use Rattle.btf_records.specs.declared.feature.BtfFeature.TheVariants.{DataSec}
 use Rattle.btf_records.specs.declared.variables.DataSec.{DataSec as Section}
-use Rattle.btf_sanitizing.proofs.Elements.{HoldsOfFirst, holds_of_all}
 use Rattle.btf_sanitizing.specs.Facts.{Facts}
-use Rattle.btf_sanitizing.specs.Faults.{IsFaultless, MemberFault, NameFault, PlaceFault, SectionFault, SizeFault, UnsizedFault}
+use Rattle.btf_sanitizing.specs.Faults.{MemberFault, NameFault, PlaceFault, SectionFault, SizeFault, UnsizedFault}
+use Rattle.btf_parts.specs.Faultless.{IsFaultless}
 
 -- of each element, so of any
 pub none_of_any : {X : Type 0} (fault : X → BtfError → Type 0) (xs : List X) → All (λ x. IsFaultless (fault x)) xs → IsFaultless (λ e. Any (λ x. fault x e) xs)
 none_of_any fault xs each = record { none = λ e any. (each any.0 any.1 any.2).none e (subst (λ x. fault x e) (sym any.3) any.4) }
-
--- of the first so many, and there are no more
-pub none_of_all : {X : Type 0} (fault : X → BtfError → Type 0) (xs : List X) (i : ℕ) → HoldsOfFirst (λ x. IsFaultless (fault x)) xs i → length xs ≤ i → IsFaultless (λ e. Any (λ x. fault x e) xs)
-none_of_all fault xs i h k = none_of_any fault xs (holds_of_all (λ x. IsFaultless (fault x)) xs i h k)
 
 -- of either
 pub none_of_either : (one other : BtfError → Type 0) → IsFaultless one → IsFaultless other → IsFaultless (λ e. one e ⊎ other e)

@@ -1,5 +1,5 @@
 -- Each record keeps its id, and what is left needs granted features alone.
-use Rattle.std.proofs.Common.{◌≡◌, ℕ, zero, suc, ◌+◌, ◌-◌, ◌<◌, ◌≤◌, ◌==◌, ◌&&◌, Bool, true, false, not, cond, List, [], ◌∷◌, ◌++◌, Option, Some, None, is_some, drop, length, map, refl, ap, sym, ◌∙◌, subst, arith, max, length-append}
+use Rattle.std.proofs.Common.{◌≡◌, ℕ, zero, suc, ◌-◌, ◌==◌, ◌&&◌, Bool, true, false, not, cond, List, [], ◌∷◌, ◌++◌, Some, is_some, drop, length, map, refl, ap, sym, ◌∙◌, subst, arith}
 use Rattle.std.specs.List.{slice_get}
 use Rattle.std.proofs.Math.Seq.{drop-append_seam}
 use Rattle.std.proofs.lemmas.Bool.Decides.{nat_tests}
@@ -11,13 +11,14 @@ use Rattle.btf_records.specs.declared.types.BtfType.TheVariants as types
 use Rattle.btf_records.specs.declared.variables.DataSec.{DataSec}
 use Rattle.string_table.specs.Texts.{text_at}
 use Rattle.btf_sanitizing.specs.Additions.{Added, has_byte, next_id, next_offset, small_int, static_var, with_filler, with_filler_int, with_filler_var, with_new_placeholder, with_placeholder, with_renamed, with_text, with_texts}
-use Rattle.btf_sanitizing.specs.Facts.{Facts, name_at, record_of_id}
-use Rattle.btf_sanitizing.specs.Kept.{AllGranted, Becomes, EachGranted, Keeps, StepKeeps, came_unsized, needed_after}
-use Rattle.btf_sanitizing.specs.Ksyms.{Ksyms, stepped, stepped_from, stepped_types}
+use Rattle.btf_parts.specs.Ids.{record_of_id}
+use Rattle.btf_sanitizing.specs.Facts.{Facts, name_at}
+use Rattle.btf_sanitizing.specs.Kept.{AllGranted, Becomes, EachGranted, Keeps, needed_after}
 use Rattle.btf_sanitizing.specs.Names.{param_texts, replaced}
 use Rattle.btf_sanitizing.specs.Needs.{stays_global}
-use Rattle.btf_sanitizing.specs.Rewritten.{after, after_all, after_granted, after_section, after_signature, after_enum64, all_rewritten, granted_section, is_filled, placed, rewritten, rewritten_enum64, rewritten_func, rewritten_section, rewritten_signature, section_struct, sized, with_new_name}
+use Rattle.btf_sanitizing.specs.Rewritten.{after, after_all, after_section, after_enum64, all_rewritten, granted_section, is_filled, placed, rewritten, rewritten_func, rewritten_section, section_struct, sized, with_new_name}
 use Rattle.btf_sanitizing.specs.Sanitized.{all_added, at_first, sanitized_types}
+use Rattle.btf_sanitizing.proofs.Stays.{stays_alone}
 
 -- ---- what is left needs granted features alone
 
@@ -202,34 +203,10 @@ kept known =
     let dropped : drop (length known.types) (sanitized_types known) ≡ (all_added known).types = ap (λ n. drop n (sanitized_types known)) (sym (length_all known (at_first known) known.types)) ∙ drop-append_seam (all_rewritten known (at_first known) known.types) (all_added known).types in
     record {
       each = becomes known;
+      left = λ id t here same. (becomes known id t here).here ∙ ap Some ((stays_alone known t same).same (becomes known id t here).behind);
       added = subst (EachGranted known.grants) (sym dropped) (all_granted_left known (at_first known) known.types tt);
     }
 
 -- the same of a list that is those types
 pub keeps : (known : Facts) (types : List BtfType) → types ≡ sanitized_types known → Keeps known types
 keeps known types same = subst (Keeps known) (sym same) (kept known)
-
--- ---- the step on `.ksyms`
-
-stepped_at : (k : Ksyms) (id : ℕ) (ts rest : List BtfType) (i : ℕ) (t : BtfType) → slice_get ts i ≡ Some t → slice_get (stepped_from k id ts ++ rest) i ≡ Some (stepped k (id + i) t)
-stepped_at k id [] rest i t h = absurd cc
-stepped_at k id (x ∷ ts) rest zero t h =
-    let same : x ≡ t = cc in
-    let first : id + 0 ≡ id = omega arith in
-    rw (same, first) refl
-stepped_at k id (x ∷ ts) rest (suc i) t h =
-    let next : id + suc i ≡ (id + 1) + i = omega arith in
-    rw next (stepped_at k (id + 1) ts rest i t h)
-
-stepped_here : (k : Ksyms) (id : ℕ) (t : BtfType) → record_of_id k.types id ≡ Some t → record_of_id (stepped_types k) id ≡ Some (stepped k id t)
-stepped_here k zero t h = let same : types.Unknown ≡ t = cc in rw (sym same) refl
-stepped_here k (suc i) t h =
-    let at : slice_get k.types i ≡ Some t = sym (at_suc k.types i) ∙ h in
-    let id : 1 + i ≡ suc i = omega arith in
-    at_suc (stepped_types k) i ∙ (stepped_at k 1 k.types _ i t at ∙ ap (λ n. Some (stepped k n t)) id)
-
-pub step_kept : (k : Ksyms) → StepKeeps k (stepped_types k)
-step_kept k = record { each = stepped_here k }
-
-pub step_keeps : (k : Ksyms) (types : List BtfType) → types ≡ stepped_types k → StepKeeps k types
-step_keeps k types same = subst (StepKeeps k) (sym same) (step_kept k)

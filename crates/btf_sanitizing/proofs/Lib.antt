@@ -1,11 +1,7 @@
 pub mod Asked
 pub mod Elements
 pub mod Faultless
-pub mod Ints
-pub mod Marks
 pub mod Passes
-pub mod Placed
-pub mod Stepping
 pub mod Questions
 pub mod Kept
 pub mod Stays

@@ -7,7 +7,7 @@ use Rattle.std.proofs.lemmas.List.{take_all}
 use Rattle.std.proofs.lemmas.List.Elements.{All-more}
 use Rattle.std.proofs.lemmas.Option.{get_or_from_slice_get, slice_get_within}
 use Rattle.btf_encoding.specs.Records.{record_bytes}
-use Rattle.btf_parts.specs.Growth.{TooMany}
+use Rattle.btf_parts.specs.Growth.{AreFew, AreTooMany, TooMany}
 use Rattle.btf_parts.specs.Layout.{RecordList}
 use Rattle.btf_records.specs.declared.error.BtfError.{BtfError}
 use Rattle.btf_records.specs.declared.error.BtfError.TheVariants.{InvalidTypeInfo}
@@ -19,12 +19,13 @@ use Rattle.btf_records.specs.declared.variables.DataSec.{DataSec}
 use Rattle.btf_records.specs.declared.words.Endianness.{Endianness}
 use Rattle.btf_sanitizing.specs.Additions.{Added, has_byte, next_id, next_offset, small_int, static_var, with_filler, with_filler_int, with_filler_var, with_new_placeholder, with_placeholder, with_renamed, with_text, with_texts}
 use Rattle.btf_sanitizing.specs.Facts.{Facts, name_at}
-use Rattle.btf_sanitizing.specs.Faults.{IsFaultless, IsTooMuch, KindFault}
+use Rattle.btf_sanitizing.specs.Faults.{IsTooMuch, KindFault}
 use Rattle.btf_sanitizing.specs.Names.{filler_int_name, filler_name, param_texts, placeholder_name, replaced}
 use Rattle.btf_sanitizing.specs.Rewritten.{after, after_all, after_enum64, after_granted, after_section, after_signature, all_rewritten, is_filled, rewritten, with_new_name}
-use Rattle.btf_sanitizing.specs.Sanitized.{AnyFault, AreFew, AreTooMany, IsOverfull, NextFault, SanitizingFault, all_added, at_first, sanitized_strings, sanitized_types}
+use Rattle.btf_sanitizing.specs.Sanitized.{AnyFault, IsOverfull, NextFault, SanitizingFault, all_added, at_first, sanitized_strings, sanitized_types}
 use Rattle.btf_sanitizing.proofs.Elements.{next_left, none_left, past_length}
 use Rattle.btf_sanitizing.proofs.Faultless.{none_of_any, none_of_either}
+use Rattle.btf_parts.specs.Faultless.{IsFaultless}
 
 -- ---- what is added only grows
 

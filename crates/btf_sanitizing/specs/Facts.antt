@@ -1,14 +1,14 @@
 -- What a rewriting rests on.
-use Rattle.std.specs.Prelude.{ℕ, ◌-◌, ◌==◌, Bool, if◌then◌else◌, List, [], Option, Some, unwrap_or, slice_get}
+use Rattle.std.specs.Prelude.{ℕ, Bool, List, [], Option, unwrap_or}
 use Rattle.std.specs.Borrow.{Bor}
 use Rattle.std.specs.BTreeMap.{is_at}
 use Rattle.std.specs.Cmp.Lexicographic.{slice_cmp}
 use Rattle.std.specs.Map.{lookup}
 use Rattle.std.specs.Ordering.{nat_cmp}
 use Rattle.string_table.specs.Texts.{text_at}
+use Rattle.btf_parts.specs.Ids.{record_of_id}
 use Rattle.btf_records.specs.declared.feature.BtfFeature.{BtfFeature}
 use Rattle.btf_records.specs.declared.types.BtfType.{BtfType}
-use Rattle.btf_records.specs.declared.types.BtfType.TheVariants.{Unknown}
 
 -- what is granted, the table's strings and types as they were, and by name the sizes of the object's sections and
 -- the offsets of its symbols
@@ -18,10 +18,6 @@ pub record Facts : Type 0 where
   pub types : List BtfType
   pub sizes : List ℕ → Option ℕ
   pub offsets : List ℕ → Option ℕ
-
--- the record of an id; that of id 0 is void
-abbrev pub record_of_id : List BtfType → ℕ → Option BtfType
-record_of_id types id = if id == 0 then Some Unknown else slice_get types (id - 1)
 
 abbrev pub type_at : Facts → ℕ → Option BtfType
 type_at known id = record_of_id known.types id

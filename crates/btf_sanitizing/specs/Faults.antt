@@ -16,10 +16,6 @@ use Rattle.btf_sanitizing.specs.Additions.{Added, next_offset}
 use Rattle.btf_sanitizing.specs.Facts.{Facts, type_at}
 use Rattle.btf_sanitizing.specs.Rewritten.{is_static}
 
--- none of these faults stands
-pub record IsFaultless (fault : BtfError → Type 0) : Type 0 where
-  pub none : (e : BtfError) → fault e → ⊥
-
 -- the name of the symbol of a variable that isn't static
 abbrev pub symbol_name : BtfType → Option ℕ
 symbol_name t = option_and_then (λ v. if is_static v.linkage then None else Some v.name_offset) (var_of t)

@@ -5,9 +5,10 @@ use Rattle.btf_records.specs.declared.feature.BtfFeature.TheVariants as feature
 use Rattle.btf_records.specs.declared.types.BtfType.{BtfType}
 use Rattle.btf_records.specs.declared.types.BtfType.TheVariants as types
 use Rattle.btf_sanitizing.specs.Additions.{Added}
-use Rattle.btf_sanitizing.specs.Facts.{Facts, record_of_id}
-use Rattle.btf_sanitizing.specs.Ksyms.{Ksyms, stepped}
+use Rattle.btf_parts.specs.Ids.{record_of_id}
+use Rattle.btf_sanitizing.specs.Facts.{Facts}
 use Rattle.btf_sanitizing.specs.Rewritten.{rewritten}
+use Rattle.btf_sanitizing.specs.Stays.{stays}
 
 -- a section that came without a size
 abbrev pub came_unsized : BtfType → Bool
@@ -43,11 +44,9 @@ pub record Becomes (known : Facts) (types : List BtfType) (id : ℕ) (t : BtfTyp
   pub here : record_of_id types id ≡ Some (rewritten known behind t)
   pub granted : AllGranted known.grants (needed_after t (rewritten known behind t))
 
--- so does each id's; behind these records stand types that need granted features alone
+-- so does each id's, and it is the same where it stays; behind these records stand types that need granted features
+-- alone
 pub record Keeps (known : Facts) (types : List BtfType) : Type 0 where
   pub each : (id : ℕ) (t : BtfType) → record_of_id known.types id ≡ Some t → Becomes known types id t
+  pub left : (id : ℕ) (t : BtfType) → record_of_id known.types id ≡ Some t → stays known t ≡ true → record_of_id types id ≡ Some t
   pub added : EachGranted known.grants (drop (length known.types) types)
-
--- of the step on `.ksyms`: each id's record is that of its rule
-pub record StepKeeps (k : Ksyms) (types : List BtfType) : Type 0 where
-  pub each : (id : ℕ) (t : BtfType) → record_of_id k.types id ≡ Some t → record_of_id types id ≡ Some (stepped k id t)

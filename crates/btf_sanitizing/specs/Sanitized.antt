@@ -1,8 +1,6 @@
 -- A table of which only granted features are left: its types and strings.
-use Rattle.std.specs.Prelude.{ℕ, ◌<◌, ◌^◌, ◌⊎◌, ◌≡◌, ◌∷◌, [], Any, List, ◌++◌, length}
-use Rattle.std.specs.List.{flat_map}
-use Rattle.btf_encoding.specs.Records.{record_bytes}
-use Rattle.btf_parts.specs.Growth.{TooMany}
+use Rattle.std.specs.Prelude.{ℕ, ◌⊎◌, ◌≡◌, ◌∷◌, [], Any, List, ◌++◌, length}
+use Rattle.btf_parts.specs.Growth.{AreTooMany, TooMany}
 use Rattle.btf_parts.specs.Layout.{RecordList}
 use Rattle.btf_records.specs.declared.error.BtfError.{BtfError}
 use Rattle.btf_records.specs.declared.error.BtfError.TheVariants.{InvalidTypeInfo}
@@ -26,14 +24,6 @@ sanitized_types known = all_rewritten known (at_first known) known.types ++ (all
 
 abbrev pub sanitized_strings : Facts → List ℕ
 sanitized_strings known = known.strings ++ (all_added known).texts
-
--- so many types, or so many bytes of them
-abbrev pub AreTooMany : Endianness → List BtfType → Type 0
-AreTooMany order types = TooMany (length (flat_map (record_bytes order) types)) ⊎ TooMany (length types)
-
-pub record AreFew (order : Endianness) (types : List BtfType) : Type 0 where
-  pub bytes : length (flat_map (record_bytes order) types) < 2 ^ 32
-  pub count : length types < 2 ^ 32
 
 -- the table would be greater than 32 bits can count
 abbrev pub IsOverfull : Endianness → Facts → BtfError → Type 0

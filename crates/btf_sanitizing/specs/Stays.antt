@@ -1,5 +1,5 @@
 -- Records that a rewriting leaves as they are.
-use Rattle.std.specs.Prelude.{◌≡◌, ℕ, ◌==◌, ◌&&◌, ◌||◌, Bool, true, false, not}
+use Rattle.std.specs.Prelude.{◌≡◌, ◌==◌, ◌&&◌, ◌||◌, Bool, true, false, not}
 use Rattle.std.specs.List.{list_any}
 use Rattle.btf_encoding.specs.Records.{bits_of, count_of}
 use Rattle.btf_records.specs.Fields.{kind_of_type, name_offset_of, params_of}
@@ -9,9 +9,10 @@ use Rattle.btf_records.specs.declared.kind.BtfKind.TheVariants as kinds
 use Rattle.btf_records.specs.declared.types.BtfType.{BtfType}
 use Rattle.btf_sanitizing.specs.Additions.{Added}
 use Rattle.btf_sanitizing.specs.Facts.{Facts}
-use Rattle.btf_sanitizing.specs.Faults.{IsFaultless, KindFault}
+use Rattle.btf_sanitizing.specs.Faults.{KindFault}
 use Rattle.btf_sanitizing.specs.Names.{is_nameless}
 use Rattle.btf_sanitizing.specs.Rewritten.{after, rewritten}
+use Rattle.btf_parts.specs.Faultless.{IsFaultless}
 
 -- a record of a kind that can be told to stay by its first words and its parameters
 abbrev pub stays_as : BtfKind → Facts → BtfType → Bool

@@ -3,9 +3,10 @@
 ghost use Rattle.std.specs.Prelude.{◌≡◌, IfErr, IfOk, OnOk, Some};
 ghost use Rattle.std.specs.Option.{option_copied};
 ghost use Rattle.btf_sanitizing.specs.Facts.{number_named, type_at};
-ghost use Rattle.btf_sanitizing.specs.Faults.{IsFaultless, NameFault};
+ghost use Rattle.btf_sanitizing.specs.Faults.{NameFault};
 ghost use Rattle.btf_sanitizing.specs.Knowledge.{facts_of};
 ghost use Rattle.string_table.specs.Texts.{text_at};
+ghost use Rattle.btf_parts.specs.Faultless.{IsFaultless};
 
 use crate::answers::{Answers, is_granted};
 use btf_encoding::TypeRef;

@@ -6,8 +6,6 @@ mod additions;
 mod answers;
 mod items;
 mod known;
-mod ksyms;
-mod ksyms_step;
 mod names;
 mod rows;
 mod section;
@@ -17,6 +15,4 @@ mod table;
 
 pub use answers::{Answers, ask_all};
 pub use known::Known;
-pub use ksyms::KsymsSection;
-pub use ksyms_step::fixup_ksyms;
 pub use table::{SanitizedTable, sanitize};

@@ -2,11 +2,12 @@
 
 ghost use Rattle.std.specs.Prelude.{◌≡◌, ◌≢◌, ◌⊎◌, ◌∷◌, [], Any, IfErr, IfOk, OnOk, Some, length, map};
 ghost use Rattle.btf_records.specs.declared.error.BtfError.TheVariants.{OutOfMemory};
-ghost use Rattle.btf_sanitizing.specs.Faults.{IsFaultless, IsTooMuch, MemberFault, PlaceFault, SectionFault, SizeFault, UnsizedFault};
+ghost use Rattle.btf_sanitizing.specs.Faults.{IsTooMuch, MemberFault, PlaceFault, SectionFault, SizeFault, UnsizedFault};
 ghost use Rattle.btf_sanitizing.specs.Additions.{with_renamed};
 ghost use Rattle.string_table.specs.Texts.{text_at};
 ghost use Rattle.btf_sanitizing.specs.Knowledge.{facts_of};
 ghost use Rattle.btf_sanitizing.specs.Rewritten.{after_granted, after_section, filler_entry, granted_section, member_of_entry, placed, rewritten_section, section_size, section_struct, sized};
+ghost use Rattle.btf_parts.specs.Faultless.{IsFaultless};
 
 use crate::additions::Additions;
 use crate::known::Known;

@@ -2,12 +2,14 @@
 
 ghost use Rattle.std.specs.Prelude.{◌≡◌, ◌≢◌, ◌<◌, ◌++◌, ◌^◌, ◌∷◌, [], Any, IfErr, IfOk, OnOk, length, true};
 ghost use Rattle.btf_records.specs.declared.error.BtfError.TheVariants.{InvalidTypeInfo, OutOfMemory};
-ghost use Rattle.btf_sanitizing.specs.Faults.{IsFaultless, KindFault};
+ghost use Rattle.btf_sanitizing.specs.Faults.{KindFault};
 ghost use Rattle.btf_sanitizing.specs.Kept.{Keeps};
 ghost use Rattle.btf_sanitizing.specs.Knowledge.{facts_of};
 ghost use Rattle.btf_sanitizing.specs.Rewritten.{after, after_all, all_rewritten, rewritten};
 ghost use Rattle.btf_sanitizing.specs.Stays.{stays};
-ghost use Rattle.btf_sanitizing.specs.Sanitized.{AnyFault, AreFew, AreTooMany, NextFault, SanitizingFault, sanitized_strings, sanitized_types};
+ghost use Rattle.btf_sanitizing.specs.Sanitized.{AnyFault, NextFault, SanitizingFault, sanitized_strings, sanitized_types};
+ghost use Rattle.btf_parts.specs.Faultless.{IsFaultless};
+ghost use Rattle.btf_parts.specs.Growth.{AreFew, AreTooMany};
 
 use crate::additions::Additions;
 use crate::known::Known;

@@ -1,7 +1,9 @@
 pub mod Flavours
 pub mod Added
+pub mod Carried
 pub mod Chains
 pub mod Headers
+pub mod Held
 pub mod Named
 pub mod NamedAlike
 pub mod OtherTexts

@@ -8,9 +8,9 @@ use Rattle.btf_tables.specs.GrownTables.{TextsStay}
 use Rattle.btf_tables.specs.Tables.{Table}
 use Rattle.btf_tables.proofs.Texts.{texts_stay}
 use Rattle.btf_sanitizing.specs.Facts.{Facts}
-use Rattle.btf_sanitizing.specs.Faults.{IsFaultless}
-use Rattle.btf_sanitizing.specs.Ksyms.{Ksyms, KsymsFault, stepped_texts}
+use Rattle.btf_ksyms.specs.Ksyms.{Ksyms, KsymsFault, stepped_texts}
 use Rattle.btf_sanitizing.specs.Sanitized.{SanitizingFault, sanitized_strings}
+use Rattle.btf_parts.specs.Faultless.{IsFaultless}
 
 not_many : (n : ℕ) → (2 ^ 32 ≤ n → ⊥) → n < 2 ^ 32
 not_many n few = grind (arith, few)

@@ -1,7 +1,9 @@
 pub mod Agreement
+pub mod Carrying
 pub mod EssentialNames
 pub mod GrownTables
 pub mod Headers
+pub mod Holdings
 pub mod OtherTexts
 pub mod ResolvedTypes
 pub mod Sanitizing

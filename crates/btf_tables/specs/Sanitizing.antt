@@ -5,12 +5,11 @@ use Rattle.btf_records.specs.declared.error.BtfError.{BtfError}
 use Rattle.btf_records.specs.declared.feature.BtfFeature.{BtfFeature}
 use Rattle.btf_sanitizing.specs.Answers.{Answers, AreDistinct, AreGiven, features, granted}
 use Rattle.btf_sanitizing.specs.Facts.{Facts}
-use Rattle.btf_sanitizing.specs.Faults.{IsFaultless}
-use Rattle.btf_sanitizing.specs.Kept.{StepKeeps}
-use Rattle.btf_sanitizing.specs.Ksyms.{Ksyms, KsymsFault, stepped_texts, stepped_types}
+use Rattle.btf_ksyms.specs.Ksyms.{Ksyms, KsymsFault, StepKeeps, stepped_texts, stepped_types}
 use Rattle.btf_sanitizing.specs.Needs.{AreQuestions}
 use Rattle.btf_sanitizing.specs.Sanitized.{SanitizingFault, sanitized_strings, sanitized_types}
 use Rattle.btf_tables.specs.Tables.{Table}
+use Rattle.btf_parts.specs.Faultless.{IsFaultless}
 
 -- the section of an id, and the variable that stands in it for each function
 abbrev pub ksyms_in : Table → ℕ → Option ℕ → Ksyms

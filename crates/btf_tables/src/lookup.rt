@@ -3,6 +3,7 @@
 ghost use Rattle.std.specs.Prelude.{◌≡◌, ◌≢◌, ◌*◌, true, false, ℕ, IfOk, IfErr, MatchOption, Ok, Some, None};
 ghost use Rattle.std.specs.Option.{IsSomeAnd, option_map};
 ghost use Rattle.btf_tables.specs.Agreement.{FoundAlike, IsReached, RestsOn, chain_ids, size_ids};
+ghost use Rattle.btf_tables.specs.Holdings.{AreHeld};
 ghost use Rattle.btf_tables.specs.OtherTexts.{AreOthers};
 ghost use Rattle.btf_tables.specs.ResolvedTypes.{IsEnd, resolved_type};
 ghost use Rattle.btf_tables.specs.TypeSizes.{IsSize, own_size, sized_by, type_size, type_size_in_32_bits};
@@ -68,6 +69,7 @@ impl<'a> Btf<'a> {
         ensures again { IfOk result (λ end. resolved_type self.now end ≡ Ok end) }
         ensures reached { IfOk result (λ end. IsReached chain_ids self.now type_id end) }
         ensures rests { RestsOn chain_ids self.now type_id (λ table. resolved_type table type_id) }
+        ensures held { AreHeld chain_ids }
     {
         self.chain_end(type_id, type_id)
     }
@@ -83,6 +85,7 @@ impl<'a> Btf<'a> {
         ensures walk { IfOk result (λ size. IsSize self.now type_id size) }
         ensures no_walk { IfErr result (λ _. (size : ℕ) → IsSize self.now type_id size → ⊥) }
         ensures rests { RestsOn size_ids self.now type_id (λ table. type_size table type_id) }
+        ensures held { AreHeld size_ids }
     {
         self.walk_size(type_id)
     }

@@ -3,15 +3,17 @@
 ghost use Rattle.std.specs.Prelude.{◌≡◌, ◌≢◌, ◌⊎◌, IfErr, IfOk, OnErr, OnOk};
 ghost use Rattle.btf_records.specs.declared.error.BtfError.TheVariants.{OutOfMemory};
 ghost use Rattle.btf_sanitizing.specs.Facts.{number_named};
-ghost use Rattle.btf_sanitizing.specs.Faults.{IsFaultless};
-ghost use Rattle.btf_sanitizing.specs.Kept.{Keeps, StepKeeps};
-ghost use Rattle.btf_sanitizing.specs.Ksyms.{KsymsFault};
+ghost use Rattle.btf_sanitizing.specs.Kept.{Keeps};
+ghost use Rattle.btf_ksyms.specs.Ksyms.{KsymsFault, StepKeeps, leaves};
+ghost use Rattle.btf_tables.specs.Carrying.{Carries, stays_in};
 ghost use Rattle.btf_tables.specs.GrownTables.{TextsStay};
 ghost use Rattle.btf_tables.specs.Sanitizing.{AreAnswersFor, IsAccepted, IsRefused, StepFault, StepStays, facts_in, ksyms_in, sanitized, stepped, with_ksyms};
+ghost use Rattle.btf_parts.specs.Faultless.{IsFaultless};
 
 use crate::table::Btf;
+use btf_ksyms::{KsymsSection, fixup_ksyms};
 use btf_records::{BtfError, BtfFeature};
-use btf_sanitizing::{Answers, Known, KsymsSection, ask_all, fixup_ksyms, sanitize};
+use btf_sanitizing::{Answers, Known, ask_all, sanitize};
 use std::collections::BTreeMap;
 
 /// The id of the section `.ksyms`, and of the variable that stands in it for each function, where
@@ -70,6 +72,7 @@ impl<'a> Btf<'a> {
         ensures accepted { OnOk result (IsFaultless (KsymsFault self.old.order (ksyms_in self.old section placeholder))) }
         ensures keeps { OnOk result (StepKeeps (ksyms_in self.old section placeholder) self.new.types) }
         ensures texts { OnOk result (TextsStay self.old self.new) }
+        ensures carries { OnOk result (Carries (leaves (ksyms_in self.old section placeholder)) self.old self.new) }
         ensures err { OnErr result (self.new ≡ self.old) }
     {
         let stepped = self.with_ksyms(section, placeholder)?;
@@ -166,6 +169,7 @@ impl<'a> Btf<'a> {
         ensures step { OnOk result (StepStays ksyms self.old) }
         ensures keeps { IfOk result (λ answers. Keeps (facts_in answers.items (number_named sizes.now.entries) (number_named offsets.now.entries) (stepped ksyms self.old)) self.new.types) }
         ensures texts { OnOk result (TextsStay self.old self.new) }
+        ensures carries { IfOk result (λ answers. Carries (stays_in ksyms self.old (facts_in answers.items (number_named sizes.now.entries) (number_named offsets.now.entries) (stepped ksyms self.old))) self.old self.new) }
         ensures err { OnErr result (self.new ≡ self.old) }
     {
         let rewritten = self.rewritten_behind(ksyms, sizes, offsets, predicate)?;

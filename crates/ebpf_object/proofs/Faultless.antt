@@ -7,7 +7,7 @@ use Rattle.btf_records.specs.declared.error.BtfError.{BtfError}
 use Rattle.btf_records.specs.declared.error.BtfError.TheVariants as btf
 use Rattle.ebpf_items.specs.Error.{parse_error_of}
 use Rattle.btf_records.specs.declared.words.Endianness.{Endianness}
-use Rattle.btf_sanitizing.specs.Faults.{IsFaultless as AreFaultless}
+use Rattle.btf_parts.specs.Faultless.{IsFaultless as AreFaultless}
 use Rattle.btf_tables.specs.Tables.{Table, TableFault}
 use Rattle.ebpf_items.specs.declared.error.ParseError.{ParseError}
 use Rattle.ebpf_items.specs.declared.error.ParseError.TheVariants as error

@@ -22,3 +22,5 @@ pub use object_parts::{Function, Functions, Program, Programs};
 pub use places::{function_without_code, name_at};
 pub use served::{Subject, Unserved, check_served};
 
+#[cfg(test)]
+mod tests;

@@ -17,7 +17,7 @@ ghost use Rattle.object_file.specs.Version.{version_of, IsKnownVersion};
 ghost use Rattle.object_maps.specs.Maps.{maps_faults, maps_of};
 ghost use Rattle.object_parts.specs.Content.{key_cmp};
 ghost use Rattle.ebpf_object.specs.Types.{HoldsTypes};
-ghost use Rattle.btf_sanitizing.specs.Faults.{IsFaultless as AreFaultless};
+ghost use Rattle.btf_parts.specs.Faultless.{IsFaultless as AreFaultless};
 ghost use Rattle.ebpf_object.specs.Faults.{HasFault, HasObjectFault, IsFaultless, IsSound, SaysOfTypes};
 ghost use Rattle.ebpf_object.specs.ParsedObject.{IsParsed, completed, no_externs};
 

@@ -20,10 +20,7 @@ pub(crate) struct Types<'a> {
 }
 
 /// The table of the section `.BTF`, if there is one.
-fn read_table<'a>(
-    alloc: Global,
-    file: &ObjectFile<'a>,
-) -> Result<Option<Btf<'a>>, ParseError>
+fn read_table<'a>(alloc: Global, file: &ObjectFile<'a>) -> Result<Option<Btf<'a>>, ParseError>
     ensures holds { IfOk result (λ table. HoldsTypes file.now table) }
     ensures refused { IfErr result (λ e. e ≢ OutOfMemory → HasTypesFault file.now e) }
 {
@@ -67,10 +64,7 @@ fn read_extension<'a>(
 }
 
 /// The types of a file.
-pub(crate) fn read_types<'a>(
-    alloc: Global,
-    file: &ObjectFile<'a>,
-) -> Result<Types<'a>, ParseError>
+pub(crate) fn read_types<'a>(alloc: Global, file: &ObjectFile<'a>) -> Result<Types<'a>, ParseError>
     ensures table { IfOk result (λ types. HoldsTypes file.now types.table) }
     ensures extension { IfOk result (λ types. HoldsRecords file.now types.table types.extension) }
     ensures refused { IfErr result (λ e. e ≢ OutOfMemory → HasObjectFault file.now e) }

@@ -4,5 +4,7 @@
 
 mod section_records;
 mod slot_index;
+#[cfg(test)]
+mod tests;
 
 pub use section_records::SectionRecords;

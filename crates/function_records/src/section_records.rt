@@ -167,8 +167,8 @@ impl<'e> SectionRecords<'e> {
         SectionRecords::of_records(alloc, functions, lines)
     }
 
-    /// The records of functions that begin at a slot, in order; their slots are counted from it where
-    /// they are to be relative, else from the section's start.
+    /// The records of functions that begin at a slot, in order; their slots are counted from that
+    /// one where they are to be relative, else from the section's start.
     pub fn functions_at<'a>(
         &self,
         alloc: Global,
@@ -184,8 +184,8 @@ impl<'e> SectionRecords<'e> {
         Ok(FuncSecInfo::from_records(kept))
     }
 
-    /// The records of lines that begin at one of so many slots from one on, in order; their slots are
-    /// counted from it where they are to be relative, else from the section's start.
+    /// The records of lines that begin at one of so many slots from one on, in order; their slots
+    /// are counted from that one where they are to be relative, else from the section's start.
     pub fn lines_in<'a>(
         &self,
         alloc: Global,

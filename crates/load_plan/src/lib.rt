@@ -12,3 +12,5 @@ pub use error::{NotYet, Place, PrepareError};
 pub use plan::{Plan, PlanProgram};
 pub use planning::{place_of, prepare};
 
+#[cfg(test)]
+mod tests;

@@ -1,5 +1,5 @@
 -- What is gathered from the items of a list.
-use Rattle.std.proofs.Common.{◌≡◌, List, ◌∷◌, [], ◌++◌, Contains, flat_map, refl, zero, zero-lt-suc, subst}
+use Rattle.std.proofs.Common.{◌≡◌, List, ◌∷◌, [], Contains, flat_map, refl, zero, zero-lt-suc, subst}
 use Rattle.std.proofs.lemmas.List.Elements.{Contains-append_left}
 
 pub only : {X : Type 0} (x : X) → Contains (x ∷ []) x

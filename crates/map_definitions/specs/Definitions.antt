@@ -1,5 +1,5 @@
 -- Maps of a section `.maps`, which their types define.
-use Rattle.std.specs.Prelude.{◌≡◌, ◌⊎◌, ℕ, List, [], ◌∷◌, ◌++◌, fold, Contains, Option, Some, None, Result, Ok, Err}
+use Rattle.std.specs.Prelude.{◌≡◌, ◌⊎◌, ℕ, List, [], ◌∷◌, fold, Contains, Option, Some, None, Result, Ok, Err}
 use Rattle.std.specs.List.{flat_map}
 use Rattle.std.specs.Option.{option_map}
 use Rattle.std.specs.String.{string_bytes}
@@ -8,7 +8,6 @@ use Rattle.btf_records.specs.declared.error.BtfError.TheVariants as btf
 use Rattle.btf_records.specs.declared.item.BtfMember.{BtfMember}
 use Rattle.btf_records.specs.declared.variables.Var.{Var}
 use Rattle.btf_tables.specs.Tables.{Table}
-use Rattle.ebpf_items.specs.declared.maps.BtfMapDef.{BtfMapDef}
 use Rattle.ebpf_items.specs.Maps.{MapWords, btf_words, zero_btf_map_def}
 use Rattle.map_definitions.specs.Lookups.{and_then, answer_map, members_at, name_at, struct_behind, variable_at}
 use Rattle.map_definitions.specs.Members.{member_said, member_said_inside, with_said}

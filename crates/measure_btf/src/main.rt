@@ -81,6 +81,32 @@ fn measure_rewriting(
     print_times(rt, what, times)
 }
 
+/// The first section of the table, by id.
+fn first_section(table: &Btf<'_>) -> Option<u32> {
+    for (id, t) in table.types().enumerate() {
+        if t.kind() == BtfKind::DataSec {
+            return u32::try_from(id).ok();
+        }
+    }
+    None
+}
+
+/// Takes the step on `.ksyms` for that section, in copies of the table.
+fn measure_step(rt: &HostRuntime, table: &Btf<'_>) -> Result<(), MeasureError> {
+    let Some(section) = first_section(table) else {
+        return Ok(());
+    };
+    let mut times = Vec::with_capacity(rt.alloc(), ROUNDS as usize)?;
+    for _ in 0..ROUNDS {
+        let mut copy = table.try_clone()?;
+        let start = Instant::now(rt)?;
+        copy.fixup_ksyms_datasec(section, None)?;
+        times.push(micros(rt, start)?)?;
+        drop(copy);
+    }
+    print_times(rt, "stepped on a section", times)
+}
+
 fn measure_indexing<'t>(rt: &HostRuntime, table: &'t Btf<'t>) -> Result<(), MeasureError> {
     let mut times = Vec::with_capacity(rt.alloc(), ROUNDS as usize)?;
     for _ in 0..ROUNDS {
@@ -157,6 +183,7 @@ fn measure(rt: &HostRuntime, words: &mut Args) -> Result<(), MeasureError> {
     measure_writing(rt, &table)?;
     measure_rewriting(rt, &table, "rewritten, all features granted", true)?;
     measure_rewriting(rt, &table, "rewritten, no feature granted", false)?;
+    measure_step(rt, &table)?;
     measure_indexing(rt, &table)?;
     let index = TypeIndex::new(rt.alloc(), &table)?;
     for name in words {

@@ -1,5 +1,5 @@
 -- Tables that grow.
-use Rattle.std.proofs.Common.{◌≡◌, ℕ, ◌+◌, ◌≤◌, List, [], ◌∷◌, ◌++◌, length, ◌⊎◌, inl, inr, ap, ◌∙◌, arith, length-append}
+use Rattle.std.proofs.Common.{◌≡◌, ℕ, ◌+◌, [], ◌∷◌, ◌++◌, length, inl, inr, ap, ◌∙◌, arith, length-append}
 use Rattle.std.specs.List.{flat_map}
 use Rattle.std.proofs.lemmas.Grind.{flat_map-append}
 use Rattle.btf_encoding.specs.Records.{record_bytes}
@@ -21,6 +21,6 @@ still_overfull table int (inl strings) =
     inl (omega (arith, strings, more))
 still_overfull table int (inr (inl bytes)) =
     let more : length (type_bytes (with_variable int table)) ≡ length (type_bytes table) + length (flat_map (record_bytes table.order) (placeholder (length table.strings) int ∷ [])) =
-        ap length (flat_map-append (record_bytes table.order) table.types (placeholder (length table.strings) int ∷ [])) ∙ length-append (type_bytes table) _ in
+    ap length (flat_map-append (record_bytes table.order) table.types (placeholder (length table.strings) int ∷ [])) ∙ length-append (type_bytes table) _ in
     inr (inl (omega (arith, bytes, more)))
 still_overfull table int (inr (inr types)) = inr (inr (omega (arith, types, length-append table.types (placeholder (length table.strings) int ∷ []))))

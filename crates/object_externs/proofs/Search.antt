@@ -1,5 +1,5 @@
 -- The search for the section, and for an integer.
-use Rattle.std.proofs.Common.{◌≡◌, ℕ, zero, suc, ◌+◌, ◌==◌, ◌&&◌, ◌||◌, Bool, true, false, cond, not, List, [], ◌∷◌, ◌++◌, Option, None, Some, is_none, refl, ap, sym, ◌∙◌, drop, take, add-one, ◌-◌, ◌<◌, ◌≤◌, length, get_or, arith}
+use Rattle.std.proofs.Common.{◌≡◌, ℕ, zero, suc, ◌+◌, ◌==◌, ◌&&◌, ◌||◌, Bool, true, false, not, List, [], ◌∷◌, ◌++◌, Option, None, Some, is_none, refl, ap, sym, ◌∙◌, take, add-one, ◌-◌, ◌<◌, ◌≤◌, length, arith}
 use Rattle.std.specs.Prelude.{slice_get, take_while}
 use Rattle.std.specs.List.{list_any}
 use Rattle.std.specs.Option.{IsSome, option_map_or}
@@ -9,7 +9,6 @@ use Rattle.std.proofs.lemmas.List.Sums.{take_while-cons}
 use Rattle.btf_records.specs.Fields.{kind_of_type, name_offset_of}
 use Rattle.btf_records.specs.declared.types.BtfType.{BtfType}
 use Rattle.btf_records.specs.declared.types.BtfType.TheVariants.{Unknown}
-use Rattle.btf_sanitizing.specs.Ksyms.{int4_from, is_int4}
 use Rattle.object_externs.specs.Section.{has_unreadable, is_ksyms, is_section, is_unreadable, ksyms_from, ksyms_section}
 use Rattle.btf_tables.specs.Tables.{Table, type_by_id}
 use Rattle.string_table.specs.Texts.{text_at}

@@ -1,5 +1,5 @@
 -- What is wrong with the externs of an object.
-use Rattle.std.specs.Prelude.{◌≡◌, ℕ, ◌⊎◌, Any, Bool, true, false, if◌then◌else◌, List, length, None, Err}
+use Rattle.std.specs.Prelude.{◌≡◌, ℕ, ◌⊎◌, Any, true, false, List, length, None, Err}
 use Rattle.std.specs.Option.{IsSomeAnd}
 use Rattle.btf_parts.specs.Growth.{TooMany}
 use Rattle.btf_records.specs.Fields.{kind_of_type, name_offset_of}

@@ -1,5 +1,5 @@
 -- The section `.ksyms` of a table of types ("BTF_KIND_DATASEC"), in which a compiler lists what a program expects of the kernel.
-use Rattle.std.specs.Prelude.{ℕ, ◌+◌, ◌==◌, ◌&&◌, Bool, true, false, if◌then◌else◌, List, [], ◌∷◌, codes, nat_eq, not, take_while, Option, None, Some, is_none, option_and_then}
+use Rattle.std.specs.Prelude.{ℕ, ◌+◌, ◌==◌, ◌&&◌, Bool, true, false, if◌then◌else◌, List, [], ◌∷◌, codes, nat_eq, not, take_while, Option, None, Some, is_none}
 use Rattle.std.specs.Cmp.Lexicographic.{pointwise}
 use Rattle.std.specs.List.{list_any}
 use Rattle.std.specs.Option.{option_map_or}

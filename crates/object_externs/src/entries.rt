@@ -4,7 +4,7 @@ ghost use Rattle.std.specs.Prelude.{◌≡◌, ◌≢◌, [], Any, Some, fold, o
 ghost use Rattle.std.specs.List.{list_any};
 ghost use Rattle.btf_records.specs.Fields.{kind_of_type};
 ghost use Rattle.btf_records.specs.declared.error.BtfError.TheVariants.{OutOfMemory};
-ghost use Rattle.btf_sanitizing.specs.Faults.{IsFaultless};
+ghost use Rattle.btf_parts.specs.Faultless.{IsFaultless};
 ghost use Rattle.object_externs.specs.Externs.{declared, declared_name, declared_type, declares, names_function, with_extern};
 ghost use Rattle.object_externs.specs.Faults.{EntryFault, NameFault, RecordFault, TypeFault};
 ghost use Rattle.object_externs.specs.Names.{by_bytes};

@@ -7,7 +7,7 @@ use btf_tables::essential_name;
 use std::marker::Model;
 
 /// What a program expects of the kernel: a function or a variable, declared in the table of types.
-#[derive(Debug, Drop)]
+#[derive(Clone, Debug, Drop)]
 pub struct ExternDesc<'a> {
     /// Its name, with its flavour.
     pub name: &'a str,

@@ -1,6 +1,6 @@
 //! The externs of an object, by name.
 
-ghost use Rattle.std.specs.Prelude.{◌≡◌, ◌↔◌, ◌&&◌, [], None, length, map, not, is_some, IsTrue, option_copied};
+ghost use Rattle.std.specs.Prelude.{◌≡◌, ◌↔◌, ◌&&◌, [], None, length, map, not, is_some, IfOk, IsTrue, option_copied};
 ghost use Rattle.std.specs.BTreeMap.{is_at};
 ghost use Rattle.std.specs.Cmp.Lexicographic.{slice_cmp};
 ghost use Rattle.std.specs.List.{list_any};
@@ -11,7 +11,7 @@ ghost use Rattle.object_externs.specs.Names.{by_bytes};
 
 use crate::extern_desc::ExternDesc;
 use btf_tables::KsymsIds;
-use std::alloc::Global;
+use std::alloc::{AllocError, Global};
 use std::collections::BTreeMap;
 use std::collections::btree_map::Iter;
 use std::marker::Model;
@@ -112,5 +112,15 @@ impl<'a> Externs<'a> {
         ensures { result ≡ self.now.ksyms }
     {
         self.ksyms
+    }
+
+    /// The same externs.
+    pub fn try_clone(&self) -> Result<Externs<'a>, AllocError>
+        ensures { IfOk result (λ externs. externs ≡ self.now) }
+    {
+        Ok(Externs {
+            by_name: self.by_name.clone()?,
+            ksyms: self.ksyms,
+        })
     }
 }

@@ -13,3 +13,4 @@ mod symbols;
 pub use extern_desc::ExternDesc;
 pub use externs::Externs;
 pub use reading::read_externs;
+pub use symbols::is_extern_symbol;

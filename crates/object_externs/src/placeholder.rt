@@ -2,7 +2,7 @@
 
 ghost use Rattle.std.specs.Prelude.{◌≡◌, ◌≢◌, ◌+◌, length, IfErr, IfOk, OnErr, OnOk};
 ghost use Rattle.btf_records.specs.declared.error.BtfError.TheVariants.{InvalidTypeInfo, OutOfMemory};
-ghost use Rattle.btf_sanitizing.specs.Ksyms.{int4_from, is_int4};
+ghost use Rattle.btf_ksyms.specs.Ksyms.{int4_from, is_int4};
 ghost use Rattle.btf_tables.specs.GrownTables.{TextsStay, TypesStay};
 ghost use Rattle.object_externs.specs.Faults.{IsOverfull};
 ghost use Rattle.object_externs.specs.Placeholder.{int_id, placeholder_id, with_int, with_placeholder, with_variable};
@@ -47,12 +47,7 @@ fn int_of(table: &mut Btf<'_>) -> Result<u32, BtfError>
         return Ok(id);
     }
     let name_offset = table.add_string("int")?;
-    table.add_type(BtfType::Int(Int::new(
-        name_offset,
-        4,
-        IntEncoding::Signed,
-        0,
-    )))
+    table.add_type(BtfType::Int(Int::new(name_offset, 4, IntEncoding::Signed, 0)))
 }
 
 /// Adds a variable of an integer, and answers its id.
@@ -65,11 +60,7 @@ fn add_variable(table: &mut Btf<'_>, int: u32) -> Result<u32, BtfError>
     ensures accepted { OnOk result (IsOverfull (with_variable int table.old) → ⊥) }
 {
     let name_offset = table.add_string("ksym_func_placeholder")?;
-    table.add_type(BtfType::Var(Var::new(
-        name_offset,
-        int,
-        VarLinkage::Global,
-    )))
+    table.add_type(BtfType::Var(Var::new(name_offset, int, VarLinkage::Global)))
 }
 
 /// Adds the placeholder, and the integer that it is of where none is there, and answers its id.

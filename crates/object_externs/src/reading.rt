@@ -2,7 +2,7 @@
 
 ghost use Rattle.std.specs.Prelude.{◌≡◌, ◌≢◌, if◌then◌else◌, IfErr, IfOk, OnErr, OnOk};
 ghost use Rattle.btf_records.specs.declared.error.BtfError.TheVariants.{OutOfMemory};
-ghost use Rattle.btf_sanitizing.specs.Faults.{IsFaultless};
+ghost use Rattle.btf_parts.specs.Faultless.{IsFaultless};
 ghost use Rattle.btf_tables.specs.GrownTables.{TextsStay, TypesStay};
 ghost use Rattle.object_externs.specs.Externs.{externs_of, has_function};
 ghost use Rattle.object_externs.specs.Faults.{ExternsFault};
@@ -18,15 +18,15 @@ use btf_tables::Btf;
 use object_file::ReadSymbol;
 use std::alloc::Global;
 
-/// The externs that the first section `.ksyms` of a table declares, of an object with these symbols.
-/// Where one is a function, a variable is added to the table that stands for functions when the
-/// section is rewritten; what look-ups find in the table stays.
+/// The externs that the first section `.ksyms` of a table declares, of an object with these
+/// symbols. Where one is a function, a variable is added to the table that stands for functions
+/// when the section is rewritten; what look-ups find in the table stays.
 ///
 /// `InvalidStringOffset` where the name of a section before it, or of an extern, can't be read;
 /// `UnknownBtfType` where no type has the id of an entry, or one of the chain to an extern's type
-/// isn't there, and `MaximumTypeDepthReached` where that is too long; `InvalidDatasec` where an entry
-/// names neither a function nor a variable; `InvalidSymbolName` where no symbol has an extern's name;
-/// `InvalidTypeInfo` where the table would get greater than 32 bits can count.
+/// isn't there, and `MaximumTypeDepthReached` where that is too long; `InvalidDatasec` where an
+/// entry names neither a function nor a variable; `InvalidSymbolName` where no symbol has an
+/// extern's name; `InvalidTypeInfo` where the table would get greater than 32 bits can count.
 pub fn read_externs<'a>(
     alloc: Global,
     symbols: &[ReadSymbol<'a>],

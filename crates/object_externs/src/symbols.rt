@@ -2,12 +2,23 @@
 
 ghost use Rattle.std.specs.Prelude.{◌≡◌, ℕ, List, Some, if◌then◌else◌, option_copied, IfOk, IfSome, OnOk};
 ghost use Rattle.object_externs.specs.Names.{AreByName, symbol_under};
-ghost use Rattle.object_externs.specs.Symbols.{is_named, symbol_named};
+ghost use Rattle.object_externs.specs.Symbols.{is_extern_symbol, is_named, symbol_named};
 
+use elf64::{SymbolKind, SymbolView};
 use object_file::ReadSymbol;
 use std::alloc::{AllocError, Global};
 use std::collections::BTreeMap;
 use std::marker::Model;
+
+/// Whether a symbol stands for something outside the object: it lies in no section, defines nothing,
+/// and is of no kind.
+pub fn is_extern_symbol(symbol: &SymbolView<'_>) -> bool
+    ensures { result ≡ is_extern_symbol symbol.now }
+{
+    symbol.section_index().is_none()
+        && !symbol.is_definition()
+        && symbol.kind() == SymbolKind::Unknown
+}
 
 /// The symbols of a file, of which that of a name is found at once.
 #[derive(Drop)]

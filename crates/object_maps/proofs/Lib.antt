@@ -1,3 +1,4 @@
+pub mod Entered
 pub mod Left
 pub mod Names
 pub mod Sayings

@@ -1,6 +1,8 @@
 -- What an error says of one item, it says of all.
-use Rattle.std.proofs.Common.{◌≡◌, ◌≢◌, ℕ, zero, suc, ◌+◌, ◌<◌, List, [], ◌∷◌, ◌++◌, map, length, get_or, Contains, Option, Some, None, flat_map, refl, arith, sym, ap, ◌∙◌, zero-lt-suc, le_of_suc-le-suc, inl, inr, subst, suc-le-suc}
+use Rattle.std.proofs.Common.{◌≡◌, ◌≢◌, take, ap₂, ℕ, zero, suc, ◌+◌, ◌<◌, List, [], ◌∷◌, ◌++◌, map, length, get_or, Contains, Option, Some, None, flat_map, refl, arith, sym, ap, ◌∙◌, zero-lt-suc, le_of_suc-le-suc, inl, inr, subst, suc-le-suc}
 use Rattle.std.proofs.lemmas.List.Elements.{Contains-append_left, Contains-append_right}
+use Rattle.std.proofs.lemmas.Grind.{flat_map-append}
+use Rattle.std.proofs.lemmas.List.{take_more}
 use Rattle.std.specs.Option.{IsSomeAnd}
 use Rattle.std.specs.String.{string_bytes}
 use Rattle.btf_records.specs.declared.error.BtfError.{BtfError}
@@ -57,3 +59,10 @@ types_said all name _ (inr h) = absurd h
 pub definition_said : (all : List Refusal) (name : List ℕ) (others : List MapFault) (e : BtfError) → (e ≢ btf.OutOfMemory → IsFaultAmong all name e) → parse_error_of e ≢ error.OutOfMemory → Says (others ++ map (struct_fault name) all) (parse_error_of e)
 definition_said all name others btf.OutOfMemory h other = absurd (other refl)
 definition_said all name others e h other = Contains-append_right others (map (struct_fault name) all) (types_fault e) (types_said all name e (h (λ same. other (ap parse_error_of same))))
+
+-- nothing is wrong with one more item
+pub none_more : {X : Type 0} (faults : X → List MapFault) (xs : List X) (i : ℕ) (x : X) → i < length xs → x ≡ get_or xs i x → flat_map faults (take i xs) ≡ [] → faults x ≡ [] → flat_map faults (take (i + 1) xs) ≡ []
+none_more faults xs i x within is before here =
+    ap (flat_map faults) (take_more xs i x within ∙ ap (λ y. take i xs ++ y ∷ []) (sym is))
+    ∙ flat_map-append faults (take i xs) (x ∷ [])
+    ∙ ap₂ (λ a b. a ++ (b ++ [])) before here

@@ -1,5 +1,5 @@
 -- The entries of maps by name, as contracts see them.
-use Rattle.std.proofs.Common.{◌≡◌, ℕ, Bool, true, false, cond, List, [], ◌∷◌, Option, Some, None, map, refl, ap, sym, ◌∙◌}
+use Rattle.std.proofs.Common.{◌≡◌, ℕ, Bool, true, false, cond, List, [], ◌∷◌, Option, Some, None, map, refl, ap, ◌∙◌}
 use Rattle.std.specs.Borrow.{Bor}
 use Rattle.std.specs.declared.cmp.Ordering.{Ordering}
 use Rattle.std.specs.declared.cmp.Ordering.TheVariants.{Less, Equal, Greater}
@@ -12,15 +12,15 @@ use Rattle.std.specs.Map.{lookup}
 use Rattle.std.specs.Option.{option_copied, option_map}
 use Rattle.ebpf_items.specs.Maps.{MapView, map_view}
 use Rattle.ebpf_items.specs.declared.maps.Map.{Map}
-use Rattle.object_maps.specs.LegacyMaps.{with_map}
-use Rattle.object_maps.specs.Maps.{entry_shown, shown}
+use Rattle.object_maps.specs.Found.{with_map}
+use Rattle.object_maps.specs.Maps.{shown}
 
 shown-match : (o : Ordering) (a b c : List (Bor (List ℕ) × Map)) → shown (match_ordering o a b c) ≡ match_ordering o (shown a) (shown b) (shown c)
 shown-match Less a b c = refl
 shown-match Equal a b c = refl
 shown-match Greater a b c = refl
 
-pub shown-insert : (entries : List (Bor (List ℕ) × Map)) (name : Bor (List ℕ)) (m : Map) → shown (insert_entry (λ x y. slice_cmp nat_cmp x.now y.now) entries name m) ≡ with_map (shown entries) name.now (map_view m)
+pub shown-insert : (entries : List (Bor (List ℕ) × Map)) (name : Bor (List ℕ)) (m : Map) → shown (insert_entry (λ x y. slice_cmp nat_cmp x.now y.now) entries name m) ≡ with_map (shown entries) (name.now, map_view m)
 shown-insert [] name m = refl
 shown-insert (e ∷ es) name m =
     shown-match (slice_cmp nat_cmp name.now e.0.now) ((name, m) ∷ e ∷ es) ((e.0, m) ∷ es) (e ∷ insert_entry (λ x y. slice_cmp nat_cmp x.now y.now) es name m)

@@ -1,5 +1,5 @@
 -- A name that can't be read, where there is one.
-use Rattle.std.proofs.Common.{◌≡◌, ℕ, zero, List, [], ◌∷◌, ◌++◌, Contains, Option, Some, None, flat_map, refl, zero-lt-suc, subst, sym}
+use Rattle.std.proofs.Common.{◌≡◌, ℕ, zero, List, [], ◌∷◌, Contains, Option, Some, None, flat_map, refl, zero-lt-suc, subst, sym}
 use Rattle.std.specs.Option.{option_or}
 use Rattle.std.specs.Prelude.{MatchOption}
 use Rattle.std.proofs.lemmas.List.Elements.{Contains-append_left}

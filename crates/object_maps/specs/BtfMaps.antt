@@ -1,5 +1,5 @@
 -- Maps of sections `.maps`: each variable of the sections of this name in the type table is one.
-use Rattle.std.specs.Prelude.{ℕ, List, [], ◌∷◌, ◌++◌, fold, find, map, reverse, length, ◌==◌, not, bytes_eq, Bool, false, Option, Some, None, Result, Ok, Err, is_none, if◌then◌else◌}
+use Rattle.std.specs.Prelude.{ℕ, List, [], ◌∷◌, ◌++◌, find, map, reverse, length, ◌==◌, not, bytes_eq, Bool, false, Option, Result, Ok, Err, is_none, if◌then◌else◌}
 use Rattle.std.specs.List.{flat_map}
 use Rattle.std.specs.Option.{option_map_or}
 use Rattle.btf_records.specs.Fields.{entries_of}
@@ -12,9 +12,9 @@ use Rattle.elf64.specs.Symbols.{Symbol}
 use Rattle.ebpf_items.specs.Maps.{MapView, btf_map_view}
 use Rattle.map_definitions.specs.Definitions.{defined, map_variable, refusals}
 use Rattle.object_file.specs.Symbols.{symbols_in}
-use Rattle.object_maps.specs.DataSections.{name_faults, sections_named}
-use Rattle.object_maps.specs.Faults.{MapFault, NoSymbol, NoTable, struct_fault, symbols_lack, types_fault}
-use Rattle.object_maps.specs.LegacyMaps.{section_name, with_map}
+use Rattle.object_maps.specs.DataSections.{sections_named}
+use Rattle.object_maps.specs.Faults.{MapFault, NoSymbol, struct_fault, symbols_lack, types_fault}
+use Rattle.object_maps.specs.LegacyMaps.{section_name}
 
 abbrev pub has_symbol_name : List ℕ → Symbol → Bool
 has_symbol_name name s = option_map_or (λ text. bytes_eq text name) s.name false
@@ -27,21 +27,21 @@ symbol_named symbols name = find (has_symbol_name name) (reverse symbols)
 abbrev pub variable_view : Table → Section → ℕ → Symbol → MapView
 variable_view table section id s = btf_map_view (defined table id).words (defined table id).inner section.index s.index
 
-abbrev pub with_variable : Table → Section → List Symbol → List (List ℕ × MapView) → Result (List ℕ × ℕ) BtfError → List (List ℕ × MapView)
-with_variable table section symbols maps (Ok v) =
-    option_map_or (λ s. with_map maps v.0 (variable_view table section v.1 s)) (symbol_named symbols v.0) maps
-with_variable table section symbols maps (Err e) = maps
+abbrev pub variable_map : Table → Section → List Symbol → Result (List ℕ × ℕ) BtfError → List (List ℕ × MapView)
+variable_map table section symbols (Ok v) =
+    option_map_or (λ s. (v.0, variable_view table section v.1 s) ∷ []) (symbol_named symbols v.0) []
+variable_map table section symbols (Err e) = []
 
-abbrev pub with_entry : Table → Section → List Symbol → List (List ℕ × MapView) → DataSecEntry → List (List ℕ × MapView)
-with_entry table section symbols maps entry = with_variable table section symbols maps (map_variable table entry.btf_type)
+abbrev pub entry_map : Table → Section → List Symbol → DataSecEntry → List (List ℕ × MapView)
+entry_map table section symbols entry = variable_map table section symbols (map_variable table entry.btf_type)
 
 -- those of the variables of a section of the table
-abbrev pub with_entries : Table → Section → List Symbol → List (List ℕ × MapView) → BtfType → List (List ℕ × MapView)
-with_entries table section symbols maps t = fold (with_entry table section symbols) maps (entries_of t)
+abbrev pub entries_maps : Table → Section → List Symbol → BtfType → List (List ℕ × MapView)
+entries_maps table section symbols t = flat_map (entry_map table section symbols) (entries_of t)
 
-abbrev pub with_btf_maps : Table → List Symbol → List (List ℕ × MapView) → Section → List (List ℕ × MapView)
-with_btf_maps table symbols maps section =
-    fold (with_entries table section (symbols_in symbols section.index)) maps (sections_named table (section_name section))
+abbrev pub btf_maps : Table → List Symbol → Section → List (List ℕ × MapView)
+btf_maps table symbols section =
+    flat_map (entries_maps table section (symbols_in symbols section.index)) (sections_named table (section_name section))
 
 -- what is wrong with them
 abbrev pub symbol_faults : List ℕ → Option Symbol → List MapFault

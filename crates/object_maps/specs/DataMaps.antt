@@ -9,7 +9,7 @@ use Rattle.object_file.specs.Kinds.{kind_of}
 use Rattle.program_kinds.specs.declared.section_kind.EbpfSectionKind.{EbpfSectionKind}
 use Rattle.program_kinds.specs.declared.section_kind.EbpfSectionKind.TheVariants as kind
 use Rattle.object_maps.specs.Faults.{MapFault, BadDefinition}
-use Rattle.object_maps.specs.LegacyMaps.{section_name, with_map}
+use Rattle.object_maps.specs.LegacyMaps.{section_name}
 
 -- BPF_MAP_TYPE_ARRAY
 abbrev pub array_type : ℕ
@@ -54,9 +54,9 @@ data_map_view section = record {
   contents = data_contents section;
 }
 
-abbrev pub with_data_map : List (List ℕ × MapView) → Section → List (List ℕ × MapView)
-with_data_map maps section =
-    if nat_lt section.size (2 ^ 32) then with_map maps (section_name section) (data_map_view section) else maps
+abbrev pub data_map : Section → List (List ℕ × MapView)
+data_map section =
+    if nat_lt section.size (2 ^ 32) then (section_name section, data_map_view section) ∷ [] else []
 
 -- the size doesn't fit 32 bits
 abbrev pub data_map_faults : Section → List MapFault

@@ -1,11 +1,7 @@
 -- The sections of variables that a type table names ("BTF_KIND_DATASEC").
-use Rattle.std.specs.Prelude.{◌≡◌, ℕ, List, [], ◌∷◌, ◌++◌, filter, Contains, bytes_eq, Bool, true, false, ◌&&◌, Option, is_none, MatchOption, if◌then◌else◌}
-use Rattle.std.specs.Borrow.{Bor}
-use Rattle.std.specs.BTreeMap.{BTreeMap, get_by}
-use Rattle.std.specs.Cmp.Lexicographic.{slice_cmp}
+use Rattle.std.specs.Prelude.{ℕ, List, [], ◌∷◌, filter, bytes_eq, Bool, true, false, ◌&&◌, is_none, if◌then◌else◌}
 use Rattle.std.specs.List.{flat_map}
 use Rattle.std.specs.Option.{option_map_or}
-use Rattle.std.specs.Ordering.{nat_cmp}
 use Rattle.btf_records.specs.Fields.{name_offset_of}
 use Rattle.btf_records.specs.declared.error.BtfError.TheVariants.{InvalidStringOffset}
 use Rattle.btf_records.specs.declared.types.BtfType.{BtfType}

@@ -1,10 +1,7 @@
 -- Maps of sections `maps`: each symbol but the section's own is one, defined by its bytes.
-use Rattle.std.specs.Prelude.{ℕ, List, [], ◌∷◌, fold, Bool, true, false, not, ◌&&◌, Option, Some, None, is_none, unwrap_or, option_and_then, if◌then◌else◌}
-use Rattle.std.specs.BTreeMap.{insert_entry}
-use Rattle.std.specs.Cmp.Lexicographic.{slice_cmp}
+use Rattle.std.specs.Prelude.{ℕ, List, [], ◌∷◌, Bool, true, false, not, ◌&&◌, Option, Some, None, is_none, unwrap_or, option_and_then, if◌then◌else◌}
 use Rattle.std.specs.List.{flat_map, list_any}
 use Rattle.std.specs.Option.{option_map_or}
-use Rattle.std.specs.Ordering.{nat_cmp}
 use Rattle.elf64.specs.Numbers.{bytes_at}
 use Rattle.elf64.specs.Sections.{Section}
 use Rattle.elf64.specs.Symbols.{Symbol}
@@ -15,10 +12,6 @@ use Rattle.map_definitions.specs.LegacyWords.{legacy_map_words}
 use Rattle.object_file.specs.Symbols.{symbols_in}
 use Rattle.program_kinds.specs.declared.section_kind.EbpfSectionKind.TheVariants.{Maps}
 use Rattle.object_maps.specs.Faults.{MapFault, BadDefinition, symbols_lack}
-
--- maps by name, of which the last of one name counts
-abbrev pub with_map : List (List ℕ × MapView) → List ℕ → MapView → List (List ℕ × MapView)
-with_map maps name m = insert_entry (slice_cmp nat_cmp) maps name m
 
 abbrev pub section_name : Section → List ℕ
 section_name section = unwrap_or section.name []
@@ -49,15 +42,15 @@ legacy_map_view section s words = record {
   contents = [];
 }
 
--- the maps with that of one more symbol
-abbrev pub with_legacy_map : Section → List (List ℕ × MapView) → Symbol → List (List ℕ × MapView)
-with_legacy_map section maps s =
+-- the map of a symbol, where it is one
+abbrev pub legacy_map : Section → Symbol → List (List ℕ × MapView)
+legacy_map section s =
     if is_map_symbol s
-    then option_map_or (λ words. with_map maps (symbol_name s) (legacy_map_view section s words)) (symbol_words section s) maps
-    else maps
+    then option_map_or (λ words. (symbol_name s, legacy_map_view section s words) ∷ []) (symbol_words section s) []
+    else []
 
-abbrev pub with_legacy_maps : List Symbol → List (List ℕ × MapView) → Section → List (List ℕ × MapView)
-with_legacy_maps symbols maps section = fold (with_legacy_map section) maps (symbols_in symbols section.index)
+abbrev pub legacy_maps : List Symbol → Section → List (List ℕ × MapView)
+legacy_maps symbols section = flat_map (legacy_map section) (symbols_in symbols section.index)
 
 -- what is wrong with them
 abbrev pub legacy_map_faults : Section → Symbol → List MapFault

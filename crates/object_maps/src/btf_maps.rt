@@ -1,13 +1,14 @@
 //! Maps of sections `.maps`, which their types define.
 
-ghost use Rattle.std.specs.Prelude.{◌≡◌, ◌≢◌, [], ◌++◌, fold, flat_map, IfErr, OnOk};
+ghost use Rattle.std.specs.Prelude.{◌≡◌, ◌≢◌, [], ◌++◌, flat_map, IfErr, OnOk};
 ghost use Rattle.std.specs.Option.{option_copied};
 ghost use Rattle.elf64.specs.Symbols.{symbols_of};
 ghost use Rattle.ebpf_items.specs.declared.error.ParseError.TheVariants.{OutOfMemory};
 ghost use Rattle.object_file.specs.Symbols.{symbols_in};
-ghost use Rattle.object_maps.specs.BtfMaps.{any_symbol_faults, btf_maps_faults, entries_faults, entry_faults, with_btf_maps, with_entries, with_entry};
+ghost use Rattle.object_maps.specs.BtfMaps.{any_symbol_faults, btf_maps_faults, entries_faults, entries_maps, entry_faults, entry_map};
 ghost use Rattle.object_maps.specs.Faults.{Says};
-ghost use Rattle.object_maps.specs.Maps.{typed_faults, with_typed};
+ghost use Rattle.object_maps.specs.Found.{entered};
+ghost use Rattle.object_maps.specs.Maps.{typed_faults, typed_maps};
 
 use crate::data_sections::DataSections;
 use crate::entries::Entries;
@@ -23,6 +24,7 @@ use std::alloc::Global;
 
 impl<'a> Maps<'a> {
     /// Enters the map of an entry of a section of the table.
+    #[tactic(auto, unfolding(crate::specs::Found::entered))]
     fn read_entry(
         &mut self,
         alloc: Global,
@@ -31,7 +33,7 @@ impl<'a> Maps<'a> {
         symbols: &NamedSymbols<'_, 'a>,
         entry: DataSecEntry,
     ) -> Result<(), ParseError>
-        ensures value { OnOk result (self.new ≡ with_entry table.now section.now symbols.now self.old entry) }
+        ensures value { OnOk result (self.new ≡ entered self.old (entry_map table.now section.now symbols.now entry)) }
         ensures accepted { OnOk result (entry_faults table.now symbols.now entry ≡ []) }
         ensures refused { IfErr result (λ e. e ≢ OutOfMemory → Says (entry_faults table.now symbols.now entry) e) }
     {
@@ -49,6 +51,7 @@ impl<'a> Maps<'a> {
     }
 
     /// Enters the maps of the entries of a section of the table.
+    #[tactic(auto, using(crate::proofs::Entered::entered_append, crate::proofs::Entered::entered_none))]
     fn read_entries(
         &mut self,
         alloc: Global,
@@ -57,7 +60,7 @@ impl<'a> Maps<'a> {
         symbols: &NamedSymbols<'_, 'a>,
         variables: &TypeRef<'_>,
     ) -> Result<(), ParseError>
-        ensures value { OnOk result (self.new ≡ with_entries table.now section.now symbols.now self.old variables.now) }
+        ensures value { OnOk result (self.new ≡ entered self.old (entries_maps table.now section.now symbols.now variables.now)) }
         ensures accepted { OnOk result (entries_faults table.now symbols.now variables.now ≡ []) }
         ensures refused { IfErr result (λ e. e ≢ OutOfMemory → Says (entries_faults table.now symbols.now variables.now) e) }
     {
@@ -68,6 +71,7 @@ impl<'a> Maps<'a> {
     }
 
     /// Enters the maps of these sections of the table.
+    #[tactic(auto, using(crate::proofs::Entered::entered_none))]
     fn read_variables(
         &mut self,
         alloc: Global,
@@ -76,7 +80,7 @@ impl<'a> Maps<'a> {
         symbols: &NamedSymbols<'_, 'a>,
         sections: &[TypeRef<'_>],
     ) -> Result<(), ParseError>
-        ensures value { OnOk result (self.new ≡ fold (with_entries table.now section.now symbols.now) self.old sections.now) }
+        ensures value { OnOk result (self.new ≡ entered self.old (flat_map (entries_maps table.now section.now symbols.now) sections.now)) }
         ensures accepted { OnOk result (flat_map (entries_faults table.now symbols.now) sections.now ≡ []) }
         ensures refused { IfErr result (λ e. e ≢ OutOfMemory → Says (flat_map (entries_faults table.now symbols.now) sections.now) e) }
     {
@@ -87,6 +91,7 @@ impl<'a> Maps<'a> {
     }
 
     /// Enters the maps of a section `.maps`.
+    #[tactic(auto, using(crate::proofs::Entered::entered_none))]
     pub(crate) fn read_btf_maps(
         &mut self,
         alloc: Global,
@@ -94,7 +99,7 @@ impl<'a> Maps<'a> {
         types: Option<&DataSections<'_, '_>>,
         section: &ReadSection<'a>,
     ) -> Result<(), ParseError>
-        ensures value { OnOk result (self.new ≡ with_typed (option_copied types.entry) (symbols_of file.now) self.old section.now) }
+        ensures value { OnOk result (self.new ≡ entered self.old (typed_maps (option_copied types.entry) (symbols_of file.now) section.now)) }
         ensures accepted { OnOk result (any_symbol_faults (symbols_of file.now) section.now ++ typed_faults (option_copied types.entry) (symbols_of file.now) section.now ≡ []) }
         ensures refused { IfErr result (λ e. e ≢ OutOfMemory → Says (any_symbol_faults (symbols_of file.now) section.now ++ typed_faults (option_copied types.entry) (symbols_of file.now) section.now) e) }
     {

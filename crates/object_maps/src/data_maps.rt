@@ -3,8 +3,9 @@
 ghost use Rattle.std.specs.Prelude.{◌≡◌, ◌≢◌, ◌<◌, ◌^◌, [], IfErr, IfOk, OnOk};
 ghost use Rattle.ebpf_items.specs.declared.error.ParseError.TheVariants.{OutOfMemory};
 ghost use Rattle.object_file.specs.Kinds.{kind_of};
-ghost use Rattle.object_maps.specs.DataMaps.{data_contents, data_map_faults, flags_of_kind, with_data_map};
+ghost use Rattle.object_maps.specs.DataMaps.{data_contents, data_map_faults, data_map, flags_of_kind};
 ghost use Rattle.object_maps.specs.Faults.{Says};
+ghost use Rattle.object_maps.specs.Found.{entered};
 
 use crate::maps::Maps;
 use ebpf_items::{EbpfSectionKind, LegacyMap, Map, ParseError, PinningType, bpf_map_def};
@@ -41,12 +42,13 @@ fn contents(alloc: Global, section: &ReadSection<'_>) -> Result<Vec<u8>, AllocEr
 
 impl<'a> Maps<'a> {
     /// Enters the map of a section of variables.
+    #[tactic(auto, unfolding(crate::specs::Found::entered))]
     pub(crate) fn read_data_map(
         &mut self,
         alloc: Global,
         section: &ReadSection<'a>,
     ) -> Result<(), ParseError>
-        ensures value { OnOk result (self.new ≡ with_data_map self.old section.now) }
+        ensures value { OnOk result (self.new ≡ entered self.old (data_map section.now)) }
         ensures accepted { OnOk result (data_map_faults section.now ≡ []) }
         ensures refused { IfErr result (λ e. e ≢ OutOfMemory → Says (data_map_faults section.now) e) }
     {

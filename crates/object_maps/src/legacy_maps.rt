@@ -1,6 +1,6 @@
 //! Maps of sections `maps`.
 
-ghost use Rattle.std.specs.Prelude.{◌≡◌, ◌≢◌, [], ◌++◌, fold, flat_map, IfErr, OnOk};
+ghost use Rattle.std.specs.Prelude.{◌≡◌, ◌≢◌, [], ◌++◌, flat_map, IfErr, OnOk};
 ghost use Rattle.std.specs.List.{list_any};
 ghost use Rattle.std.specs.Option.{option_copied, option_map};
 ghost use Rattle.elf64.specs.Numbers.{bytes_at};
@@ -8,7 +8,8 @@ ghost use Rattle.elf64.specs.Symbols.{symbols_of};
 ghost use Rattle.ebpf_items.specs.Maps.{legacy_words};
 ghost use Rattle.ebpf_items.specs.declared.error.ParseError.TheVariants.{OutOfMemory};
 ghost use Rattle.object_maps.specs.Faults.{Says};
-ghost use Rattle.object_maps.specs.LegacyMaps.{is_map_symbol, legacy_map_faults, legacy_maps_faults, map_symbol_faults, symbol_words, with_legacy_map, with_legacy_maps};
+ghost use Rattle.object_maps.specs.LegacyMaps.{is_map_symbol, legacy_map_faults, legacy_maps_faults, map_symbol_faults, symbol_words, legacy_map, legacy_maps};
+ghost use Rattle.object_maps.specs.Found.{entered};
 
 use crate::maps::Maps;
 use ebpf_items::{EbpfSectionKind, LegacyMap, Map, ParseError, bpf_map_def};
@@ -57,13 +58,14 @@ fn symbol_def(section: &ReadSection<'_>, symbol: &ReadSymbol<'_>) -> Option<bpf_
 
 impl<'a> Maps<'a> {
     /// Enters the map of a symbol, where it is one.
+    #[tactic(auto, unfolding(crate::specs::Found::entered))]
     fn read_legacy_map(
         &mut self,
         alloc: Global,
         section: &ReadSection<'a>,
         symbol: &ReadSymbol<'a>,
     ) -> Result<(), ParseError>
-        ensures value { OnOk result (self.new ≡ with_legacy_map section.now self.old symbol.now) }
+        ensures value { OnOk result (self.new ≡ entered self.old (legacy_map section.now symbol.now)) }
         ensures accepted { OnOk result (legacy_map_faults section.now symbol.now ≡ []) }
         ensures refused { IfErr result (λ e. e ≢ OutOfMemory → Says (legacy_map_faults section.now symbol.now) e) }
     {
@@ -88,13 +90,14 @@ impl<'a> Maps<'a> {
     }
 
     /// Enters the maps of these symbols of a section.
+    #[tactic(auto, using(crate::proofs::Entered::entered_none))]
     fn read_symbols(
         &mut self,
         alloc: Global,
         section: &ReadSection<'a>,
         symbols: &[ReadSymbol<'a>],
     ) -> Result<(), ParseError>
-        ensures value { OnOk result (self.new ≡ fold (with_legacy_map section.now) self.old symbols.now) }
+        ensures value { OnOk result (self.new ≡ entered self.old (flat_map (legacy_map section.now) symbols.now)) }
         ensures accepted { OnOk result (flat_map (legacy_map_faults section.now) symbols.now ≡ []) }
         ensures refused { IfErr result (λ e. e ≢ OutOfMemory → Says (flat_map (legacy_map_faults section.now) symbols.now) e) }
     {
@@ -111,7 +114,7 @@ impl<'a> Maps<'a> {
         file: &ObjectFile<'a>,
         section: &ReadSection<'a>,
     ) -> Result<(), ParseError>
-        ensures value { OnOk result (self.new ≡ with_legacy_maps (symbols_of file.now) self.old section.now) }
+        ensures value { OnOk result (self.new ≡ entered self.old (legacy_maps (symbols_of file.now) section.now)) }
         ensures accepted { OnOk result (map_symbol_faults (symbols_of file.now) section.now ++ legacy_maps_faults (symbols_of file.now) section.now ≡ []) }
         ensures refused { IfErr result (λ e. e ≢ OutOfMemory → Says (map_symbol_faults (symbols_of file.now) section.now ++ legacy_maps_faults (symbols_of file.now) section.now) e) }
     {

@@ -8,7 +8,7 @@ ghost use Rattle.std.specs.Map.{lookup};
 ghost use Rattle.std.specs.Option.{option_map};
 ghost use Rattle.std.specs.Ordering.{nat_cmp};
 ghost use Rattle.ebpf_items.specs.Maps.{map_view};
-ghost use Rattle.object_maps.specs.LegacyMaps.{with_map};
+ghost use Rattle.object_maps.specs.Found.{with_map};
 ghost use Rattle.object_maps.specs.Maps.{shown};
 
 use ebpf_items::Map;
@@ -73,7 +73,7 @@ impl<'a> Maps<'a> {
 
     /// Enters a map under a name, in place of an earlier one of that name.
     pub(crate) fn insert(&mut self, name: &'a str, map: Map) -> Result<(), AllocError>
-        ensures ok { OnOk result (self.new ≡ with_map self.old name.now (map_view map)) }
+        ensures ok { OnOk result (self.new ≡ with_map self.old (name.now, map_view map)) }
         ensures err { OnErr result (self.new ≡ self.old) }
     {
         self.entries.insert(name, map)?;

@@ -1,11 +1,12 @@
 //! The maps of an object, read section by section.
 
-ghost use Rattle.std.specs.Prelude.{◌≡◌, ◌≢◌, [], fold, flat_map, IfErr, IfOk, OnOk};
+ghost use Rattle.std.specs.Prelude.{◌≡◌, ◌≢◌, [], flat_map, IfErr, IfOk, OnOk};
 ghost use Rattle.std.specs.Option.{option_copied};
 ghost use Rattle.elf64.specs.Symbols.{symbols_of};
 ghost use Rattle.ebpf_items.specs.declared.error.ParseError.TheVariants.{OutOfMemory};
 ghost use Rattle.object_maps.specs.Faults.{Says};
-ghost use Rattle.object_maps.specs.Maps.{HasMapsFault, maps_faults, maps_of, section_faults, with_section};
+ghost use Rattle.object_maps.specs.Found.{AreLast, entered};
+ghost use Rattle.object_maps.specs.Maps.{HasMapsFault, found_maps, maps_faults, maps_of, section_faults, section_maps};
 
 use crate::data_sections::DataSections;
 use crate::maps::Maps;
@@ -16,7 +17,7 @@ use std::alloc::Global;
 
 impl<'a> Maps<'a> {
     /// Enters the maps of a section.
-    #[tactic(auto, unfolding(crate::specs::Maps::section_faults, crate::specs::Maps::with_section))]
+    #[tactic(auto, using(crate::proofs::Entered::entered_none), unfolding(crate::specs::Maps::section_faults, crate::specs::Maps::section_maps))]
     fn read_section(
         &mut self,
         alloc: Global,
@@ -24,7 +25,7 @@ impl<'a> Maps<'a> {
         types: Option<&DataSections<'_, '_>>,
         section: &ReadSection<'a>,
     ) -> Result<(), ParseError>
-        ensures value { OnOk result (self.new ≡ with_section (option_copied types.entry) (symbols_of file.now) self.old section.now) }
+        ensures value { OnOk result (self.new ≡ entered self.old (section_maps (option_copied types.entry) (symbols_of file.now) section.now)) }
         ensures accepted { OnOk result (section_faults (option_copied types.entry) (symbols_of file.now) section.now ≡ []) }
         ensures refused { IfErr result (λ e. e ≢ OutOfMemory → Says (section_faults (option_copied types.entry) (symbols_of file.now) section.now) e) }
     {
@@ -39,6 +40,7 @@ impl<'a> Maps<'a> {
     }
 
     /// Enters the maps of these sections.
+    #[tactic(auto, using(crate::proofs::Entered::entered_none))]
     fn read_sections(
         &mut self,
         alloc: Global,
@@ -46,7 +48,7 @@ impl<'a> Maps<'a> {
         types: Option<&DataSections<'_, '_>>,
         sections: &[ReadSection<'a>],
     ) -> Result<(), ParseError>
-        ensures value { OnOk result (self.new ≡ fold (with_section (option_copied types.entry) (symbols_of file.now)) self.old sections.now) }
+        ensures value { OnOk result (self.new ≡ entered self.old (flat_map (section_maps (option_copied types.entry) (symbols_of file.now)) sections.now)) }
         ensures accepted { OnOk result (flat_map (section_faults (option_copied types.entry) (symbols_of file.now)) sections.now ≡ []) }
         ensures refused { IfErr result (λ e. e ≢ OutOfMemory → Says (flat_map (section_faults (option_copied types.entry) (symbols_of file.now)) sections.now) e) }
     {
@@ -55,6 +57,23 @@ impl<'a> Maps<'a> {
         }
         Ok(())
     }
+}
+
+/// The maps of an object file, with the sections of variables of its type table, if it has one.
+#[tactic(auto, using(crate::proofs::Entered::entered_last))]
+fn maps_in<'a>(
+    alloc: Global,
+    file: &ObjectFile<'a>,
+    types: Option<&DataSections<'_, '_>>,
+) -> Result<Maps<'a>, ParseError>
+    ensures value { IfOk result (λ maps. maps ≡ maps_of file.now (option_copied types.entry)) }
+    ensures last { IfOk result (λ maps. AreLast maps (found_maps file.now (option_copied types.entry))) }
+    ensures accepted { OnOk result (maps_faults file.now (option_copied types.entry) ≡ []) }
+    ensures refused { IfErr result (λ e. e ≢ OutOfMemory → HasMapsFault file.now (option_copied types.entry) e) }
+{
+    let mut maps = Maps::new(alloc);
+    maps.read_sections(alloc, file, types, file.sections())?;
+    Ok(maps)
 }
 
 /// The maps of an object file, with its type table, if it has one.
@@ -72,17 +91,15 @@ pub fn read_maps<'a>(
     table: Option<&Btf<'_>>,
 ) -> Result<Maps<'a>, ParseError>
     ensures value { IfOk result (λ maps. maps ≡ maps_of file.now (option_copied table.entry)) }
+    ensures last { IfOk result (λ maps. AreLast maps (found_maps file.now (option_copied table.entry))) }
     ensures accepted { OnOk result (maps_faults file.now (option_copied table.entry) ≡ []) }
     ensures refused { IfErr result (λ e. e ≢ OutOfMemory → HasMapsFault file.now (option_copied table.entry) e) }
 {
-    let mut maps = Maps::new(alloc);
-    let sections = file.sections();
     match table {
         Some(table) => {
             let types = DataSections::new(alloc, table)?;
-            maps.read_sections(alloc, file, Some(&types), sections)?;
+            maps_in(alloc, file, Some(&types))
         }
-        None => maps.read_sections(alloc, file, None, sections)?,
+        None => maps_in(alloc, file, None),
     }
-    Ok(maps)
 }

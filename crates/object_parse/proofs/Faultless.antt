@@ -97,9 +97,9 @@ no-section-fault symbols sections sound (error.NoSymbolsForSection name) fault =
 no-section-fault symbols sections sound error.InvalidProgramCode fault =
     none-either (has_function_without_code symbols) (has_gap symbols) sections sound.with_code sound.tiled
     (some-weaker (λ s. has_function_without_code symbols s || has_cut_function symbols s) (λ s. has_function_without_code symbols s || has_gap symbols s)
-     (λ s h. by-first (has_function_without_code symbols s) (has_cut_function symbols s) h (or-left (has_function_without_code symbols s) (has_gap symbols s))
-      (λ cut. or-right (has_function_without_code symbols s) (has_gap symbols s) (gap (is_cut (byte_count s)) symbols s (λ p. cut-unsound (byte_count s) p.offset p.symbol) cut)))
-     sections fault)
+    (λ s h. by-first (has_function_without_code symbols s) (has_cut_function symbols s) h (or-left (has_function_without_code symbols s) (has_gap symbols s))
+    (λ cut. or-right (has_function_without_code symbols s) (has_gap symbols s) (gap (is_cut (byte_count s)) symbols s (λ p. cut-unsound (byte_count s) p.offset p.symbol) cut)))
+    sections fault)
 no-section-fault symbols sections sound (error.SymbolTableConflict index address) fault = none-weaker _ _ (λ s h. and-right _ _ h) sections (sound.distinct address) fault
 no-section-fault symbols sections sound (error.UnknownSymbol index address) fault =
     none-weaker _ (has_gap symbols) (λ s h. gap (is_unknown s address) symbols s (λ p. unknown-unsound p.symbol _ (is_sound_at (byte_count s) p.offset)) (and-right (s.index == index) _ h)) sections sound.tiled fault

@@ -57,7 +57,11 @@ fn symbol_at<'s, 'a>(
 }
 
 /// The bytes of a section from an offset on, as many as a symbol's, where they are whole slots.
-fn code_at<'a>(section: &ReadSection<'a>, offset: usize, symbol: &ReadSymbol<'_>) -> Option<&'a [u8]>
+fn code_at<'a>(
+    section: &ReadSection<'a>,
+    offset: usize,
+    symbol: &ReadSymbol<'_>,
+) -> Option<&'a [u8]>
     ensures found { is_some result ≡ has_code_at (byte_count section.now) offset symbol.now }
     ensures value { IfSome result (λ code. code.now ≡ take symbol.now.size (drop offset (unwrap_or section.now.contents []))) }
     ensures whole { IfSome result (λ code. length code.now % 8 ≡ 0) }

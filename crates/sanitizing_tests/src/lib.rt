@@ -1,6 +1,7 @@
 //! Tests of rewriting tables to the features that a kernel grants.
 #![tactic(auto)]
 
+mod carried;
 #[cfg(test)]
 mod case;
 #[cfg(test)]
@@ -17,3 +18,5 @@ mod sections;
 mod variables;
 #[cfg(test)]
 mod worked;
+
+pub use carried::{SizeBehind, size_behind};

@@ -104,7 +104,8 @@ pub(crate) const SECTION: &[u32] = &[
     40,
 ];
 
-/// Further: 17 a struct with this member, 18 a pointer to it, 19 an array without elements of these.
+/// Further: 17 a struct with this member, 18 a pointer to it, 19 an array without elements of
+/// these.
 pub(crate) const PINNED_INNER: &[u32] = &[
     0,
     STRUCT + 1,

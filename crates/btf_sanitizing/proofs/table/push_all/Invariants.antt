@@ -1,6 +1,6 @@
 use Rattle.std.proofs.Common.{◌≡◌, ◌++◌}
-use Rattle.btf_sanitizing.specs.Sanitized.{AreFew}
 use Rattle.btf_sanitizing.proofs.table.push_all.Given as goal
+use Rattle.btf_parts.specs.Growth.{AreFew}
 
 abbrev pub invariant-loop-t : goal.invariant-loop-t
 invariant-loop-t l =

@@ -3,9 +3,10 @@ use Rattle.std.proofs.lemmas.Option.{slice_get_within}
 use Rattle.btf_records.specs.declared.error.BtfError.TheVariants.{OutOfMemory}
 use Rattle.btf_sanitizing.specs.Knowledge.{facts_of}
 use Rattle.btf_sanitizing.specs.Rewritten.{rewritten}
-use Rattle.btf_sanitizing.specs.Sanitized.{AnyFault, AreFew}
+use Rattle.btf_sanitizing.specs.Sanitized.{AnyFault}
 use Rattle.btf_sanitizing.proofs.Passes.{all_are_added, all_are_faultless, all_are_made, one_more_passed, passed_on, refused_here}
 use Rattle.btf_sanitizing.proofs.table.rewrite_all.Goals as goal
+use Rattle.btf_parts.specs.Growth.{AreFew}
 
 pub returns-in_err-rewrite_next-clause-refused : goal.returns-in_err-rewrite_next-clause-refused
 returns-in_err-rewrite_next-clause-refused c =

@@ -2,9 +2,10 @@ use Rattle.std.proofs.Common.{◌≡◌, ◌≢◌, ◌+◌, ◌<◌, ◌^◌, a
 use Rattle.btf_records.specs.declared.error.BtfError.TheVariants.{OutOfMemory}
 use Rattle.btf_parts.specs.Layout.{RecordList}
 use Rattle.btf_sanitizing.specs.Knowledge.{facts_of}
-use Rattle.btf_sanitizing.specs.Sanitized.{AnyFault, AreFew, SanitizingFault, all_added, at_first, sanitized_types}
+use Rattle.btf_sanitizing.specs.Sanitized.{AnyFault, SanitizingFault, all_added, at_first, sanitized_types}
 use Rattle.btf_sanitizing.proofs.Passes.{faultless_all, passed_on, refused_all}
 use Rattle.btf_sanitizing.proofs.table.rewritten_table.Goals as goal
+use Rattle.btf_parts.specs.Growth.{AreFew}
 
 pub returns-in_err-rewrite_all-clause-refused : goal.returns-in_err-rewrite_all-clause-refused
 returns-in_err-rewrite_all-clause-refused c =

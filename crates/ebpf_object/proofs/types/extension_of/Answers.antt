@@ -10,5 +10,5 @@ returns-in_err-extension-in-Some-clause-refused c =
     let p = err_from_is_err_and c.from_residual.result c.from_residual.ensures.1 in
     rw (p.1, p.2)
     (says-from (RecordsFault c.args.file.now c.args.table.now) c.in_err-extension-in-Some.field-0.0
-     (λ other. records-fault-at c.args.file.now c.args.table.now c.in-Some.bytes.now c.endianness.result (sym c.contents_of.ensures ∙ ap option_copied c.in-Some.is) c.endianness.ensures
-      c.in_err-extension-in-Some.field-0.0 (c.in_err-extension-in-Some.ensures.refused other)))
+    (λ other. records-fault-at c.args.file.now c.args.table.now c.in-Some.bytes.now c.endianness.result (sym c.contents_of.ensures ∙ ap option_copied c.in-Some.is) c.endianness.ensures
+    c.in_err-extension-in-Some.field-0.0 (c.in_err-extension-in-Some.ensures.refused other)))

@@ -1,4 +1,4 @@
-use Rattle.std.proofs.Common.{sym, ◌∙◌, arith}
+use Rattle.std.proofs.Common.{sym, arith}
 use Rattle.std.specs.Prelude.{slice_get}
 use Rattle.function_records.specs.Kept.{moved_line}
 use Rattle.function_records.proofs.Records.{none_kept, one_kept}

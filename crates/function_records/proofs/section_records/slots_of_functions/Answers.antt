@@ -1,4 +1,4 @@
-use Rattle.std.proofs.Common.{sym, ◌∙◌, add-one}
+use Rattle.std.proofs.Common.{sym, add-one}
 use Rattle.function_records.proofs.Records.{number_all, number_more}
 use Rattle.function_records.proofs.section_records.slots_of_functions.Goals as goal
 

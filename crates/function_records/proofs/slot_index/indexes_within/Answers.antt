@@ -1,4 +1,3 @@
-use Rattle.std.proofs.Common.{ap, rules}
 use Rattle.std.proofs.lemmas.List.Sorted.{IsNonDecreasingBy-from_sort}
 use Rattle.function_records.proofs.Counts.{sorted_indexes}
 use Rattle.function_records.proofs.slot_index.indexes_within.Goals as goal

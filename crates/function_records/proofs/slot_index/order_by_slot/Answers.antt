@@ -1,5 +1,4 @@
-use Rattle.std.proofs.Common.{subst, rules}
-use Rattle.std.specs.List.Sorted.{IsPermutation}
+use Rattle.std.proofs.Common.{rules}
 use Rattle.std.proofs.lemmas.List.Sorted.{IsNonDecreasingBy-from_sort_by_key}
 use Rattle.function_records.proofs.slot_index.order_by_slot.Goals as goal
 

@@ -1,4 +1,4 @@
-use Rattle.std.proofs.Common.{◌≡◌, ℕ, List, Some, ap, sym, ◌∙◌}
+use Rattle.std.proofs.Common.{◌≡◌, Some, ap, sym, ◌∙◌}
 use Rattle.object_externs.specs.Externs.{ExternContent, declared}
 use Rattle.object_externs.specs.Names.{by_bytes}
 use Rattle.object_externs.proofs.ByBytes.{inserted}

@@ -1,4 +1,4 @@
-use Rattle.btf_sanitizing.specs.Faults.{IsFaultless}
+use Rattle.btf_parts.specs.Faultless.{IsFaultless}
 use Rattle.object_externs.specs.Faults.{EntryFault}
 use Rattle.object_externs.proofs.Faultless.{each_of_all, none_of_any}
 use Rattle.object_externs.proofs.entries.read_entries.Goals as goal

@@ -1,8 +1,8 @@
-use Rattle.std.proofs.Common.{◌≡◌, sym, ◌∙◌, arith, ap, length, subst}
+use Rattle.std.proofs.Common.{sym, ◌∙◌, arith, ap, length, subst}
 use Rattle.btf_records.specs.Fields.{name_offset_of}
 use Rattle.object_externs.specs.Faults.{SectionFault}
 use Rattle.object_externs.proofs.Faultless.{passed_on}
-use Rattle.object_externs.proofs.Search.{ksyms_here, no_ksyms_here, readable_here, unreadable_here}
+use Rattle.object_externs.proofs.Search.{no_ksyms_here, readable_here, unreadable_here}
 use Rattle.object_externs.proofs.section.ksyms_section.Goals as goal
 
 pub returns-in_err-is_ksyms-clause-refused : goal.returns-in_err-is_ksyms-clause-refused

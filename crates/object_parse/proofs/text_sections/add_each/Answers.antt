@@ -19,7 +19,7 @@ returns-in_err-offset-clause-refused c =
     let same = place-in c.args.definitions.now (symbols_in (symbols_of c.args.file.now) c.args.section.now.index) c.args.section.now.address c.loop-offset.offset c.requires in
     rw (p.1, p.2)
     (λ other. place-fault c.args.info.now (symbols_of c.args.file.now) c.args.section.now c.args.code.now.functions c.loop-offset.code.functions c.loop-offset.offset c.loop-offset.invariant.entered left _
-     (subst (λ place. PlaceFault c.args.section.now place c.in_err-offset.field-0.0) same (c.in_err-offset.ensures.refused other)))
+    (subst (λ place. PlaceFault c.args.section.now place c.in_err-offset.field-0.0) same (c.in_err-offset.ensures.refused other)))
 
 pub loop-offset-preserved : goal.loop-offset-preserved
 loop-offset-preserved c =

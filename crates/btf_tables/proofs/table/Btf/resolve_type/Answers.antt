@@ -1,3 +1,4 @@
+use Rattle.btf_tables.proofs.Held.{chains_are_held}
 use Rattle.btf_tables.proofs.Rests.{end_reached, resolved_rests}
 use Rattle.btf_tables.proofs.Walks.{no_end, resolved_again, resolved_chain}
 use Rattle.btf_tables.proofs.table.Btf.resolve_type.Goals as goal
@@ -16,3 +17,6 @@ returns-clause-reached c = end_reached c.args.self.now c.args.type_id c.chain_en
 
 pub returns-clause-rests : goal.returns-clause-rests
 returns-clause-rests c = resolved_rests c.args.self.now c.args.type_id
+
+pub returns-clause-held : goal.returns-clause-held
+returns-clause-held c = chains_are_held

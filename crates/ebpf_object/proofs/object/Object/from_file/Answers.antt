@@ -2,7 +2,7 @@ use Rattle.std.proofs.Common.{subst}
 use Rattle.std.proofs.lemmas.Result.{err_from_is_err_and}
 use Rattle.std.specs.Option.{IsSomeAnd}
 use Rattle.std.specs.Prelude.{IfSome}
-use Rattle.btf_sanitizing.specs.Faults.{IsFaultless as AreFaultless}
+use Rattle.btf_parts.specs.Faultless.{IsFaultless as AreFaultless}
 use Rattle.object_externs.specs.Faults.{ExternsFault}
 use Rattle.ebpf_object.proofs.Faultless.{externs-fault, sound}
 use Rattle.ebpf_object.specs.Faults.{SaysOfTypes}
@@ -13,8 +13,8 @@ returns-in_err-externs-clause-refused c =
     let p = err_from_is_err_and c.from_residual-in_err-externs.result c.from_residual-in_err-externs.ensures.1 in
     rw (p.1, p.2)
     (λ other. externs-fault c.args.file c.in_ok-types.types.table c.in_ok-types.ensures.table c.in_err-externs.field-0.0
-     (subst (λ symbols. IsSomeAnd c.in_ok-types.types.table (λ t. SaysOfTypes (ExternsFault symbols t) c.in_err-externs.field-0.0)) c.symbols.ensures.value
-      (c.in_err-externs.ensures.refused other)))
+    (subst (λ symbols. IsSomeAnd c.in_ok-types.types.table (λ t. SaysOfTypes (ExternsFault symbols t) c.in_err-externs.field-0.0)) c.symbols.ensures.value
+    (c.in_err-externs.ensures.refused other)))
 
 pub returns-clause-accepted : goal.returns-clause-accepted
 returns-clause-accepted c =

@@ -1,6 +1,6 @@
-use Rattle.std.proofs.Common.{◌≡◌, ◌==◌, ◌∙◌, ap, map, arith}
+use Rattle.std.proofs.Common.{◌==◌, ◌∙◌, ap, map, arith}
 use Rattle.std.specs.Prelude.{filter_map, slice_get}
-use Rattle.function_records.specs.Kept.{SectionContent, is_within, kept_functions, moved_function}
+use Rattle.function_records.specs.Kept.{SectionContent, kept_functions, moved_function}
 use Rattle.function_records.proofs.Records.{kept_few, records_at_slot}
 use Rattle.function_records.proofs.section_records.SectionRecords.functions_at.Goals as goal
 

@@ -1,4 +1,4 @@
-use Rattle.std.proofs.Common.{◌≡◌, ◌==◌, ◌∙◌, ap, map, arith}
+use Rattle.std.proofs.Common.{◌∙◌, ap, map, arith}
 use Rattle.std.specs.Prelude.{filter_map, slice_get}
 use Rattle.function_records.specs.Kept.{SectionContent, is_within, kept_lines, moved_line}
 use Rattle.function_records.proofs.Records.{kept_few, records_within}

@@ -1,4 +1,4 @@
-use Rattle.std.proofs.Common.{◌≡◌, ◌&&◌, is_some, not}
+use Rattle.std.proofs.Common.{◌≡◌, is_some}
 use Rattle.std.specs.List.{list_any}
 use Rattle.object_externs.specs.Names.{by_bytes}
 use Rattle.object_externs.proofs.externs.Externs.has_typed.Given as goal

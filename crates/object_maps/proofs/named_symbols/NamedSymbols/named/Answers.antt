@@ -1,4 +1,4 @@
-use Rattle.std.proofs.Common.{◌≡◌, rules, ◌∙◌, ap}
+use Rattle.std.proofs.Common.{◌≡◌, rules}
 use Rattle.std.specs.Option.{option_copied}
 use Rattle.object_maps.proofs.Names.{held-named}
 use Rattle.object_maps.specs.BtfMaps.{symbol_named}

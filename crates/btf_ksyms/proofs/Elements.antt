@@ -1,0 +1,42 @@
+-- Lists that are gone through one element after the other.
+use Rattle.std.proofs.Common.{◌≡◌, ℕ, zero, suc, ◌+◌, ◌<◌, ◌≤◌, List, [], ◌∷◌, None, Some, drop, arith, get_or, length, take, refl, subst, sym}
+use Rattle.std.specs.List.{All, slice_get}
+use Rattle.std.specs.Prelude.{Any}
+use Rattle.std.proofs.lemmas.Option.{slice_get_within}
+use Rattle.std.proofs.lemmas.List.{get_or_default, take_all}
+use Rattle.btf_parts.specs.Faultless.{IsFaultless}
+use Rattle.btf_records.specs.declared.error.BtfError.{BtfError}
+
+-- ---- what holds of each
+
+pub record HoldsOfFirst {X : Type 0} (P : X → Type 0) (xs : List X) (i : ℕ) : Type 0 where
+  pub each : All P (take i xs)
+
+none_of_any : {X : Type 0} (fault : X → BtfError → Type 0) (xs : List X) → All (λ x. IsFaultless (fault x)) xs → IsFaultless (λ e. Any (λ x. fault x e) xs)
+none_of_any fault xs each = record { none = λ e any. (each any.0 any.1 any.2).none e (subst (λ x. fault x e) (sym any.3) any.4) }
+
+-- of the first so many nothing is wrong, and there are no more
+pub none_of_all : {X : Type 0} (fault : X → BtfError → Type 0) (xs : List X) (i : ℕ) → HoldsOfFirst (λ x. IsFaultless (fault x)) xs i → length xs ≤ i → IsFaultless (λ e. Any (λ x. fault x e) xs)
+none_of_all fault xs i h k = none_of_any fault xs (subst (All (λ x. IsFaultless (fault x))) (take_all i xs k) h.each)
+
+-- a fault of one of them
+pub any_at : {X : Type 0} (P : X → Type 0) (xs : List X) (i : ℕ) (x : X) → i < length xs → P (get_or xs i x) → Any P xs
+any_at P xs i x h holds = (i, get_or xs i x, h, get_or_default xs i (get_or xs i x) x h, holds)
+
+-- ---- elements by place
+
+pub within : {X : Type 0} (xs : List X) (i : ℕ) (x : X) → slice_get xs i ≡ Some x → i < length xs
+within xs i x h = slice_get_within xs i x h
+
+pub next_left : {X : Type 0} (xs : List X) (i : ℕ) (x : X) → slice_get xs i ≡ Some x → drop i xs ≡ x ∷ drop (i + 1) xs
+next_left [] i x h = absurd cc
+next_left (y ∷ ys) zero x h = cc
+next_left (y ∷ ys) (suc i) x h =
+    let same : suc i + 1 ≡ suc (i + 1) = omega arith in
+    rw same (next_left ys i x h)
+
+pub none_left : {X : Type 0} (xs : List X) (i : ℕ) → slice_get xs i ≡ None → drop i xs ≡ []
+none_left [] zero h = refl
+none_left [] (suc i) h = refl
+none_left (y ∷ ys) zero h = absurd cc
+none_left (y ∷ ys) (suc i) h = none_left ys i h

@@ -1,0 +1,132 @@
+-- The section `.ksyms` of a table, whose entries are made such as a kernel takes them, as libbpf's
+-- bpf_object__collect_externs has it (tools/lib/bpf/libbpf.c), which seeks an integer of 32 bits where one of 4 bytes is
+-- sought here.
+use Rattle.std.specs.Prelude.{◌≡◌, ℕ, ◌+◌, ◌*◌, ◌==◌, ◌&&◌, ◌⊎◌, Any, Bool, true, false, not, if◌then◌else◌, List, [], ◌∷◌, ◌++◌, codes, length, Option, Some, None, is_none, unwrap_or}
+use Rattle.std.specs.List.{list_any}
+use Rattle.std.specs.Option.{IsSomeAnd, option_map_or}
+use Rattle.btf_parts.specs.Growth.{AreTooMany, TooMany}
+use Rattle.btf_parts.specs.Ids.{record_of_id}
+use Rattle.btf_records.specs.Fields.{entries_of, int_of, kind_of_type}
+use Rattle.btf_records.specs.Info.{flagged, int_word_of}
+use Rattle.btf_records.specs.declared.encoding.VarLinkage.TheVariants.{Global}
+use Rattle.btf_records.specs.declared.error.BtfError.{BtfError}
+use Rattle.btf_records.specs.declared.error.BtfError.TheVariants.{InvalidDatasec, InvalidTypeInfo, UnexpectedBtfType, UnknownBtfType}
+use Rattle.btf_records.specs.declared.item.DataSecEntry.{DataSecEntry}
+use Rattle.btf_records.specs.declared.kind.BtfKind.{BtfKind}
+use Rattle.btf_records.specs.declared.kind.BtfKind.TheVariants as kinds
+use Rattle.btf_records.specs.declared.types.BtfType.{BtfType}
+use Rattle.btf_records.specs.declared.types.BtfType.TheVariants as types
+use Rattle.btf_records.specs.declared.words.Endianness.{Endianness}
+
+-- the table, the id of the section, and that of the variable which stands in it for each function
+pub record Ksyms : Type 0 where
+  pub types : List BtfType
+  pub strings : List ℕ
+  pub section : ℕ
+  pub placeholder : Option ℕ
+
+abbrev pub section_entries : Ksyms → List DataSecEntry
+section_entries k = option_map_or entries_of (record_of_id k.types k.section) []
+
+-- an entry names a record of this kind
+abbrev pub is_kind : BtfKind → BtfKind → Bool
+is_kind kinds.Func kinds.Func = true
+is_kind kinds.Var kinds.Var = true
+is_kind _ _ = false
+
+abbrev pub names_a : BtfKind → Ksyms → DataSecEntry → Bool
+names_a kind k e = option_map_or (λ t. is_kind kind (kind_of_type t)) (record_of_id k.types e.btf_type) false
+
+-- the integer of 4 bytes that each variable is of: the least, or one that is appended where none is there
+abbrev pub is_int4 : BtfType → Bool
+is_int4 t = option_map_or (λ int. int.size == 4) (int_of t) false
+
+abbrev pub int4_from : ℕ → List BtfType → Option ℕ
+int4_from id [] = None
+int4_from id (t ∷ ts) = if is_int4 t then Some id else int4_from (id + 1) ts
+
+abbrev pub adds_int : Ksyms → Bool
+adds_int k = list_any (names_a kinds.Var k) (section_entries k) && is_none (int4_from 1 k.types)
+
+abbrev pub int_id : Ksyms → ℕ
+int_id k = unwrap_or (int4_from 1 k.types) (length k.types + 1)
+
+abbrev pub signed_int : ℕ → BtfType
+signed_int name_offset = types.Int (record { name_offset = name_offset; vlen = 0; info = flagged false; size = 4; int_word = int_word_of 1 0 32 })
+
+-- the entries: a place of 4 bytes for each, and in the place of a function the placeholder
+abbrev pub placed_entry : Ksyms → ℕ → DataSecEntry → DataSecEntry
+placed_entry k index e = record { btf_type = if names_a kinds.Func k e then unwrap_or k.placeholder 0 else e.btf_type; offset = 4 * index; size = 4 }
+
+abbrev pub placed_from : Ksyms → ℕ → List DataSecEntry → List DataSecEntry
+placed_from k index [] = []
+placed_from k index (e ∷ es) = placed_entry k index e ∷ placed_from k (index + 1) es
+
+-- a function or a variable that the section names becomes global, a variable of the integer's type
+abbrev pub is_named : Ksyms → ℕ → Bool
+is_named k id = list_any (λ e. e.btf_type == id) (section_entries k)
+
+abbrev pub stepped : Ksyms → ℕ → BtfType → BtfType
+stepped k id (types.DataSec t) = if id == k.section then types.DataSec (record t { entries = placed_from k 0 (section_entries k); size = 4 * length (section_entries k) }) else types.DataSec t
+stepped k id (types.Func t) = if is_named k id then types.Func (record t { vlen = 1 }) else types.Func t
+stepped k id (types.Var t) = if is_named k id then types.Var (record t { btf_type = int_id k; linkage = Global }) else types.Var t
+stepped k id t = t
+
+-- a record that is left as it is, by its kind and its id
+abbrev pub leaves_a : BtfKind → Ksyms → ℕ → Bool
+leaves_a kinds.DataSec k id = not (id == k.section)
+leaves_a kinds.Func k id = not (is_named k id)
+leaves_a kinds.Var k id = not (is_named k id)
+leaves_a _ k id = true
+
+abbrev pub leaves : Ksyms → ℕ → BtfType → Bool
+leaves k id t = leaves_a (kind_of_type t) k id
+
+abbrev pub stepped_from : Ksyms → ℕ → List BtfType → List BtfType
+stepped_from k id [] = []
+stepped_from k id (t ∷ ts) = stepped k id t ∷ stepped_from k (id + 1) ts
+
+-- the table behind the step: its types, and what is behind its strings
+abbrev pub int_name : List ℕ
+int_name = codes "int"
+
+abbrev pub stepped_types : Ksyms → List BtfType
+stepped_types k = stepped_from k 1 k.types ++ (if adds_int k then signed_int (length k.strings) ∷ [] else [])
+
+abbrev pub stepped_texts : Ksyms → List ℕ
+stepped_texts k = if adds_int k then int_name ++ 0 ∷ [] else []
+
+-- an entry that names no type, neither a function nor a variable, or a function where there is no placeholder
+abbrev pub is_wrong : Option ℕ → BtfKind → Bool
+is_wrong placeholder kinds.Func = is_none placeholder
+is_wrong placeholder kinds.Var = false
+is_wrong placeholder _ = true
+
+abbrev pub EntryFault : Ksyms → DataSecEntry → BtfError → Type 0
+EntryFault k e (UnknownBtfType id) = (e.btf_type ≡ id) × (record_of_id k.types id ≡ None)
+EntryFault k e InvalidDatasec = IsSomeAnd (record_of_id k.types e.btf_type) (λ t. is_wrong k.placeholder (kind_of_type t) ≡ true)
+EntryFault k e _ = ⊥
+
+-- the id names no type, or one that is no section
+abbrev pub is_section : BtfKind → Bool
+is_section kinds.DataSec = true
+is_section _ = false
+
+abbrev pub SubjectFault : Ksyms → BtfError → Type 0
+SubjectFault k (UnknownBtfType id) = (k.section ≡ id) × (record_of_id k.types id ≡ None)
+SubjectFault k (UnexpectedBtfType id) = (k.section ≡ id) × IsSomeAnd (record_of_id k.types id) (λ t. is_section (kind_of_type t) ≡ false)
+SubjectFault k _ = ⊥
+
+-- the table would be greater than 32 bits can count
+abbrev pub IsOverfull : Endianness → Ksyms → BtfError → Type 0
+IsOverfull order k InvalidTypeInfo = TooMany (length (k.strings ++ stepped_texts k)) ⊎ AreTooMany order (stepped_types k)
+IsOverfull order k _ = ⊥
+
+-- why the step can't be taken
+abbrev pub KsymsFault : Endianness → Ksyms → BtfError → Type 0
+KsymsFault order k e = SubjectFault k e ⊎ Any (λ entry. EntryFault k entry e) (section_entries k) ⊎ IsOverfull order k e
+
+-- each id's record is that of its rule, and the same where it is left
+pub record StepKeeps (k : Ksyms) (types : List BtfType) : Type 0 where
+  pub each : (id : ℕ) (t : BtfType) → record_of_id k.types id ≡ Some t → record_of_id types id ≡ Some (stepped k id t)
+  pub left : (id : ℕ) (t : BtfType) → record_of_id k.types id ≡ Some t → leaves k id t ≡ true → record_of_id types id ≡ Some t

@@ -1,0 +1,2 @@
+pub mod Ksyms
+pub mod Steps

@@ -1,6 +1,0 @@
-use Rattle.std.proofs.Common.{◌≡◌, length}
-use Rattle.btf_sanitizing.proofs.Marks.{MarkFirst}
-use Rattle.btf_sanitizing.proofs.ksyms.marks.Given as goal
-
-abbrev pub invariant-loop-entry : goal.invariant-loop-entry
-invariant-loop-entry l = MarkFirst l.marks.items l.entries l.entry-index × (length l.marks.items ≡ l.count)
