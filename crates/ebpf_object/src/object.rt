@@ -215,8 +215,8 @@ impl<'a> Object<'a> {
     ///
     /// # Errors
     ///
-    /// `BtfError` where the types, what stands beside them or the externs can't be read or don't fit
-    /// the object, those of [`read_code`] and [`read_maps`], and `OutOfMemory`.
+    /// `BtfError` where the types, what stands beside them or the externs can't be read or don't
+    /// fit the object, those of [`read_code`] and [`read_maps`], and `OutOfMemory`.
     pub fn from_file(alloc: Global, file: ObjectFile<'a>) -> Result<Object<'a>, ParseError>
         ensures value { IfOk result (λ o. IsParsed file.entry o) }
         ensures accepted { OnOk result (IsSound file.entry) }

@@ -81,8 +81,9 @@ pub struct Unserved<'a> {
     pub name: &'a str,
 }
 
-/// What a section of a kind has, by the symbols that lie in it, that isn't looked at yet. A license, a
-/// version, a section that nothing is read of, and functions that call no other are served.
+/// What a section of a kind has, by the symbols that lie in it, that isn't looked at yet. A
+/// license, a version, a section that nothing is read of, and functions that call no other are
+/// served.
 #[tactic(auto, unfolding(crate::specs::Served::asks_at))]
 fn subject_of(alloc: Global, file: &ObjectFile<'_>, section: &ReadSection<'_>) -> Option<Subject>
     ensures served { is_none result ≡ is_served_section file.now section.now }
@@ -120,9 +121,9 @@ fn section_with_subject(alloc: Global, file: &ObjectFile<'_>) -> Option<(Subject
     None
 }
 
-/// Answers the first section in order of index that isn't served yet, where there is one. Served are
-/// licenses, versions, sections that nothing is read of, an empty `.text`, and program sections whose
-/// functions call no other, where none has relocations. Takes no memory.
+/// Answers the first section in order of index that isn't served yet, where there is one. Served
+/// are licenses, versions, sections that nothing is read of, an empty `.text`, and program
+/// sections whose functions call no other, where none has relocations. Takes no memory.
 pub fn check_served<'a>(alloc: Global, file: &ObjectFile<'a>) -> Result<(), Unserved<'a>>
     ensures accepted { OnOk result (is_served file.now ≡ true) }
     ensures refused { OnErr result (is_served file.now ≡ false) }

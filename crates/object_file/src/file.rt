@@ -110,9 +110,9 @@ impl<'a> ObjectFile<'a> {
     /// # Errors
     ///
     /// `ElfError` where the file isn't an ELF64 file that can be read, `SectionError` where a
-    /// section's name or bytes can't be read, `UnsupportedRelocationTarget` for a relocation of such
-    /// a section that has no symbol, `InvalidLicense` and `MissingLicenseNullTerminator` for a
-    /// section `license` that doesn't hold a text ended by a NUL, `InvalidKernelVersion` for a
+    /// section's name or bytes can't be read, `UnsupportedRelocationTarget` for a relocation of
+    /// such a section that has no symbol, `InvalidLicense` and `MissingLicenseNullTerminator` for
+    /// a section `license` that doesn't hold a text ended by a NUL, `InvalidKernelVersion` for a
     /// section `version` that isn't four bytes, `BtfError(InvalidSymbolName)` for a symbol whose
     /// name can't be read, and `OutOfMemory`.
     pub fn parse(alloc: Global, bytes: &'a [u8]) -> Result<ObjectFile<'a>, ParseError>

@@ -7,8 +7,8 @@ ghost use Rattle.object_parse.specs.Programs.{is_function, code_in, code_of, fir
 use elf64::{SymbolKind, SymbolView};
 use object_file::{ReadSection, ReadSymbol};
 
-/// The name of the function that a symbol of a program section is, if it is one: a symbol of kind Text
-/// whose name isn't empty.
+/// The name of the function that a symbol of a program section is, if it is one: a symbol of kind
+/// Text whose name isn't empty.
 pub fn function_name<'a>(symbol: &ReadSymbol<'a>) -> Option<&'a str>
     ensures found { IsSome result ↔ (is_function symbol.now ≡ true) }
     ensures name { IfSome result (λ name. symbol.now.name ≡ Some name.now) }

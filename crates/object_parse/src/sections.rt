@@ -68,11 +68,11 @@ fn add_sections<'a, 'e>(
 ///
 /// # Errors
 ///
-/// `InvalidProgramSection` for a program section of an unknown kind, `NoSymbolsForSection` for one
-/// in which no symbol lies, `InvalidProgramCode` for a function whose bytes aren't whole slots of its
-/// section, `SymbolTableConflict` for two functions of a `.text` section at one address,
-/// `UnknownSymbol` where no symbol defines the function at its beginning or behind one of its
-/// functions, `InvalidSymbol` where that function's size is 0, and `OutOfMemory`.
+/// `InvalidProgramSection` for a program section of an unknown kind, `NoSymbolsForSection` for
+/// one in which no symbol lies, `InvalidProgramCode` for a function whose bytes aren't whole
+/// slots of its section, `SymbolTableConflict` for two functions of a `.text` section at one
+/// address, `UnknownSymbol` where no symbol defines the function at its beginning or behind one
+/// of its functions, `InvalidSymbol` where that function's size is 0, and `OutOfMemory`.
 pub fn read_code<'a, 'e>(
     alloc: Global,
     file: &ObjectFile<'a>,
