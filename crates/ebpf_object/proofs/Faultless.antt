@@ -106,7 +106,7 @@ records-fault-at file table bytes order is same e fault =
 
 none-of-either : (file : List ℕ) → IsFileFaultless file → IsSound file → (e : ParseError) → HasFault file e → ⊥
 none-of-either file whole sound e (inl fault) = whole.none e fault
-none-of-either file whole sound e (inr fault) = sound.none e fault
+none-of-either file whole sound e (inr fault) = sound.none e fault.1
 
 pub faultless : (file : List ℕ) → IsFileFaultless file → IsSound file → IsFaultless file
 faultless file whole sound = record { none = none-of-either file whole sound }

@@ -6,7 +6,7 @@ use Rattle.ebpf_items.specs.declared.error.ParseError.{ParseError}
 use Rattle.ebpf_items.specs.declared.error.ParseError.TheVariants as error
 use Rattle.elf64.specs.Symbols.{symbols_of}
 use Rattle.object_externs.specs.Faults.{ExternsFault}
-use Rattle.object_file.specs.Faults.{HasFileFault}
+use Rattle.object_file.specs.Faults.{HasFileFault, IsFileFaultless}
 use Rattle.object_maps.specs.Maps.{HasMapsFault}
 use Rattle.object_parse.specs.Faults.{HasFunctionFault}
 use Rattle.ebpf_object.specs.Types.{HoldsTypes, RecordsFault, TypesFault}
@@ -39,9 +39,9 @@ HasObjectFault file e = HasTypesFault file e ⊎ ((table : Table) × HasTableFau
 pub record IsSound (file : List ℕ) : Type 0 where
   pub none : (e : ParseError) → HasObjectFault file e → ⊥
 
--- a fault of a file; want of memory is none
+-- a fault of a file, or of what one without such a fault holds; want of memory is none
 abbrev pub HasFault : List ℕ → ParseError → Type 0
-HasFault file e = HasFileFault file e ⊎ HasObjectFault file e
+HasFault file e = HasFileFault file e ⊎ (IsFileFaultless file × HasObjectFault file e)
 
 -- no fault stands
 pub record IsFaultless (file : List ℕ) : Type 0 where
