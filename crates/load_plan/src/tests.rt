@@ -85,7 +85,7 @@ fn writers_that_fail(rt: HostRuntime) -> Result<(), Fail> {
 const CHANGES: [(&[u8], &[u8], u8, Option<(Subject, usize)>); 4] = [
     (b".bss\0\0", &[0xb7], 4, Some((Subject::Data, 2))),
     (b"kprobe", &CALL, 4, Some((Subject::Calls, 2))),
-    (b"kprobe", &CALL, 1, Some((Subject::Calls, 2))),
+    (b"kprobe", &CALL, 1, None),
     (b"kprobe", &[0xb7], 1, None),
 ];
 
