@@ -1,1 +1,3 @@
 pub mod Faultless
+pub mod Indexes
+pub mod Lookups

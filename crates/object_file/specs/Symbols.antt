@@ -18,3 +18,7 @@ is_unnamed s = is_none s.name
 -- the index of the first symbol whose name can't be read
 abbrev pub unnamed_symbol : List ℕ → Option ℕ
 unnamed_symbol file = option_map (λ s. s.index) (find is_unnamed (symbols_of file))
+
+-- the symbol of an index in the symbol table
+abbrev pub symbol_at : List ℕ → ℕ → Option Symbol
+symbol_at file index = find (λ s. s.index == index) (symbols_of file)

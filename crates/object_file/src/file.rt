@@ -1,8 +1,10 @@
 //! An object file, opened.
 
-ghost use Rattle.std.specs.Prelude.{◌≡◌, ◌≢◌, Some, false, IfOk, IfErr, IfSome, OnOk};
+ghost use Rattle.std.specs.Prelude.{◌≡◌, ◌≢◌, Some, false, map, slice_get, IfOk, IfErr, IfSome, OnOk};
 ghost use Rattle.std.specs.List.{list_any};
+ghost use Rattle.std.specs.List.Sorted.{IsStrictlySortedBy};
 ghost use Rattle.std.specs.Option.{option_copied};
+ghost use Rattle.std.specs.Ordering.{nat_cmp};
 ghost use Rattle.elf64.specs.Symbols.{symbols_of};
 ghost use Rattle.elf64.specs.Relocations.{relocations_of};
 ghost use Rattle.ebpf_items.specs.declared.error.ParseError.TheVariants.{OutOfMemory};
@@ -10,8 +12,8 @@ ghost use Rattle.object_file.specs.ByteOrders.{file_endianness};
 ghost use Rattle.object_file.specs.Faults.{HasFileFault, HasHeldFault, HasSoundLicense, HasSoundVersion, IsFileFaultless};
 ghost use Rattle.object_file.specs.License.{license_of, HasNoNul};
 ghost use Rattle.object_file.specs.Reading.{contents_named, read_sections};
-ghost use Rattle.object_file.specs.Relocations.{has_relocation_without_symbol};
-ghost use Rattle.object_file.specs.Symbols.{is_unnamed, symbols_in, unnamed_symbol};
+ghost use Rattle.object_file.specs.Relocations.{has_relocation_without_symbol, last_of_offset, relocation_at, relocations_by_offset};
+ghost use Rattle.object_file.specs.Symbols.{is_unnamed, symbol_at, symbols_in, unnamed_symbol};
 ghost use Rattle.object_file.specs.Version.{version_of, IsKnownVersion};
 
 use crate::license::{DEFAULT_LICENSE, parse_license};
@@ -23,12 +25,14 @@ use crate::version::parse_version;
 use btf_records::Endianness;
 use ebpf_items::ParseError;
 use elf64::{ByteOrder, ElfFile, RelocView};
-use std::alloc::Global;
+use std::alloc::{AllocError, Global};
+use std::collections::btree_map::Iter;
 use std::marker::Model;
 
 /// An ELF file whose sections and symbols could be read, and whose license and version are sound.
 #[derive(Debug, Drop)]
 pub struct ObjectFile<'a> {
+    bytes: &'a [u8],
     elf: ElfFile<'a>,
     sections: Vec<ReadSection<'a>>,
     symbols: SymbolTable<'a>,
@@ -45,7 +49,7 @@ impl<'a> Model for ObjectFile<'a> {
 
     ghost view = { λ f. f.elf };
 
-    ghost invariant = { λ f. IsObjectFile f.elf f.sections.items f.symbols f.relocations f.license.now f.kernel_version };
+    ghost invariant = { λ f. IsObjectFile f.elf f.bytes.now f.sections.items f.symbols f.relocations f.license.now f.kernel_version };
 }
 
 /// The byte order of a file's numbers, as type information has it.
@@ -103,6 +107,16 @@ pub fn unnamed_symbol(alloc: Global, bytes: &[u8]) -> Option<usize>
     first_unnamed(&elf, &names)
 }
 
+/// The symbol at a place of some.
+fn symbol_of_place<'s, 'a>(
+    symbols: &'s [ReadSymbol<'a>],
+    place: usize,
+) -> Option<&'s ReadSymbol<'a>>
+    ensures { option_copied result ≡ slice_get symbols.entry.now place }
+{
+    symbols.get(place)
+}
+
 impl<'a> ObjectFile<'a> {
     /// Reads the headers of a file, the names and bytes of its sections, their relocations, the
     /// license, the version and the symbols.
@@ -129,6 +143,7 @@ impl<'a> ObjectFile<'a> {
         let symbols = SymbolTable::read(alloc, &elf, &symbol_names)?;
         let relocations = RelocationTable::read(alloc, &elf)?;
         let file = ObjectFile {
+            bytes,
             elf,
             sections,
             symbols,
@@ -140,6 +155,16 @@ impl<'a> ObjectFile<'a> {
             return Err(ParseError::UnsupportedRelocationTarget);
         }
         Ok(file)
+    }
+
+    /// The same file, read anew.
+    pub fn try_clone(&self) -> Result<ObjectFile<'a>, AllocError>
+        ensures { IfOk result (λ file. file ≡ self.now) }
+    {
+        match ObjectFile::parse(*self.sections.allocator(), self.bytes) {
+            Ok(file) => Ok(file),
+            Err(_) => Err(AllocError),
+        }
     }
 
     /// The byte order of the file's numbers, as type information has it.
@@ -199,6 +224,31 @@ impl<'a> ObjectFile<'a> {
             return &[];
         };
         relocations.as_slice()
+    }
+
+    /// The relocations of the section of an index with their offsets, which strictly rise; of
+    /// several of one offset the last entry.
+    pub fn relocations_by_offset(&self, index: usize) -> Iter<'_, u64, RelocView>
+        ensures value { result ≡ relocations_by_offset self.now index }
+        ensures rising { IsStrictlySortedBy nat_cmp (map (λ e. e.0) (relocations_by_offset self.now index)) }
+    {
+        self.relocations.by_offset(index).iter()
+    }
+
+    /// The relocation of an offset in the section of an index: of several the last entry.
+    pub fn relocation_at(&self, index: usize, offset: u64) -> Option<&RelocView>
+        ensures value { option_copied result ≡ relocation_at self.now index offset }
+        ensures last { option_copied result ≡ last_of_offset (relocations_of self.now index) offset }
+    {
+        self.relocations.by_offset(index).get(&offset)
+    }
+
+    /// The symbol of an index in the symbol table. Symbol 0 is none.
+    pub fn symbol_at(&self, index: usize) -> Option<&ReadSymbol<'a>>
+        ensures { option_copied result ≡ symbol_at self.now index }
+    {
+        let place = index.checked_sub(1)?;
+        symbol_of_place(self.symbols(), place)
     }
 
     /// The bytes of the first section of a name, where it can be read.

@@ -1,4 +1,4 @@
-//! The relocations of an object, by section.
+//! The relocations of an object, by section, and by section and offset.
 
 ghost use Rattle.std.specs.Prelude.{◌≡◌, ◌++◌, ◌∷◌, [], IfOk, OnOk};
 ghost use Rattle.std.specs.List.{list_any};
@@ -13,10 +13,13 @@ use std::collections::BTreeMap;
 #[derive(Debug, Drop)]
 pub(crate) struct RelocationTable {
     by_section: BTreeMap<usize, Vec<RelocView>>,
+    /// Of several relocations of one offset the last.
+    by_offset: BTreeMap<usize, BTreeMap<u64, RelocView>>,
+    none: BTreeMap<u64, RelocView>,
 }
 
 impl RelocationTable {
-    ghost use Rattle.object_file.specs.RelocationTable.{relocations_at, AreRelocationsOf, AddsRelocations};
+    ghost use Rattle.object_file.specs.RelocationTable.{relocations_at, offsets_at, AreRelocationsOf, AddsRelocations};
 
     /// The relocations of a file.
     #[tactic(auto, unfolding(elf64::specs::Relocations::relocations_of))]
@@ -25,6 +28,8 @@ impl RelocationTable {
     {
         let mut table = RelocationTable {
             by_section: BTreeMap::new(alloc),
+            by_offset: BTreeMap::new(alloc),
+            none: BTreeMap::new(alloc),
         };
         for section in elf.relocation_sections() {
             table.add_section(&section)?;
@@ -49,7 +54,11 @@ impl RelocationTable {
         self.by_section
             .entry(target)?
             .or_default()
-            .push(relocation)?;
+            .push(relocation.clone()?)?;
+        self.by_offset
+            .entry(target)?
+            .or_default()
+            .insert(relocation.offset(), relocation)?;
         Ok(())
     }
 
@@ -58,6 +67,17 @@ impl RelocationTable {
         ensures { option_map_or (λ v. v.now.items) result [] ≡ relocations_at self.now index }
     {
         self.by_section.get(&index)
+    }
+
+    /// Those of the section of an index, by offset; of several of one offset the last.
+    pub(crate) fn by_offset(&self, index: usize) -> &BTreeMap<u64, RelocView>
+        requires { self.now.none.entries ≡ [] }
+        ensures { result.now.entries ≡ offsets_at self.now index }
+    {
+        match self.by_offset.get(&index) {
+            Some(relocations) => relocations,
+            None => &self.none,
+        }
     }
 }
 

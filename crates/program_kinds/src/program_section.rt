@@ -1,7 +1,7 @@
 //! Kinds of programs, by the names of their sections.
 
 ghost use Rattle.std.specs.Prelude.{◌≡◌, Some};
-ghost use Rattle.std.specs.Option.{option_copied};
+ghost use Rattle.std.specs.Option.{option_copied, option_map};
 ghost use Rattle.std.specs.Result.{result_ok};
 ghost use Rattle.program_kinds.specs.ProgramSection.{first_piece, second_piece, kind_of_name, kind_of_pieces, kind_by_first, unparted_kind, kind_by_second, parted_kind, plain_kinds, user_probe_kinds, sleepable_kinds, xdp_kinds, sk_skb_kinds, sk_reuseport_kinds, cgroup_skb_kinds, cgroup_kinds};
 ghost use Rattle.program_kinds.specs.declared.program_section.ProgramSection.TheVariants.{CgroupSock, CgroupSockAddr, CgroupSockopt};
@@ -129,18 +129,18 @@ impl FromStr for ProgramSection {
 
     /// Takes no memory.
     fn from_str(section: &str) -> Result<ProgramSection, InvalidSection> {
-        let (first, second) = pieces(section);
-        kind_of_pieces(first, second).ok_or(InvalidSection)
+        let (first, rest) = pieces(section);
+        kind_of_pieces(first, rest).ok_or(InvalidSection)
     }
 }
 
-/// The text up to the first `/`, and the text from there to the next, where there is a `/`.
+/// The text up to the first `/`, and the text behind it, where there is a `/`.
 fn pieces(section: &str) -> (&str, Option<&str>)
     ensures first { result.0.now ≡ first_piece section.now }
-    ensures second { option_copied result.1 ≡ second_piece section.now }
+    ensures second { option_map (λ rest. first_piece rest.now) result.1 ≡ second_piece section.now }
 {
     match section.split_once('/') {
-        Some((first, rest)) => (first, Some(up_to_slash(rest))),
+        Some((first, rest)) => (first, Some(rest)),
         None => (section, None),
     }
 }
@@ -154,12 +154,24 @@ fn up_to_slash(text: &str) -> &str
     }
 }
 
-fn kind_of_pieces(first: &str, second: Option<&str>) -> Option<ProgramSection>
-    ensures { result ≡ kind_of_pieces first.now (option_copied second.entry) }
+/// The piece that the text behind the first `/` begins with.
+fn second_piece<'n>(rest: Option<&'n str>) -> Option<&'n str>
+    ensures { option_copied result ≡ option_map (λ rest. first_piece rest.now) rest.entry }
+{
+    match rest {
+        Some(rest) => Some(up_to_slash(rest)),
+        None => None,
+    }
+}
+
+/// The kind by the first piece and the text behind it. That text, which may be long, is only read
+/// where the first piece doesn't decide.
+fn kind_of_pieces(first: &str, rest: Option<&str>) -> Option<ProgramSection>
+    ensures { result ≡ kind_of_pieces first.now (option_map (λ rest. first_piece rest.now) rest.entry) }
 {
     match unparted_kind(first) {
         Some(kind) => Some(kind),
-        None => parted_kind(first, second),
+        None => parted_kind(first, second_piece(rest)),
     }
 }
 
