@@ -422,6 +422,14 @@ impl Map {
     }
 }
 
+impl Clone for Map {
+    ghost is_clone = { λ map copy. map_view copy ≡ map_view map };
+
+    fn clone(&self) -> Result<Map, AllocError> {
+        self.try_clone()
+    }
+}
+
 fn copied(bytes: &Vec<u8>) -> Result<Vec<u8>, AllocError>
     ensures { IfOk result (λ copy. copy.items ≡ bytes.now.items) }
 {

@@ -8,6 +8,7 @@ use Rattle.std.specs.Cmp.Lexicographic.{slice_cmp}
 use Rattle.std.specs.BTreeMap.{insert_entry, is_at}
 use Rattle.std.specs.List.{AllByRecursion}
 use Rattle.std.specs.List.Sorted.{IsStrictlySortedBy}
+use Rattle.std.specs.List.{AllZip}
 use Rattle.std.specs.Map.{lookup}
 use Rattle.std.specs.Option.{option_copied, option_map}
 use Rattle.ebpf_items.specs.Maps.{MapView, map_view}
@@ -47,3 +48,13 @@ lookup-shown name (e ∷ es) = lookup-by (is_eq (slice_cmp nat_cmp name e.0.now)
 pub lent : (found : Option (Bor Map)) (copy : Option Map) → option_copied found ≡ copy → option_map (λ m. map_view m.now) found ≡ option_map map_view copy
 lent (Some m) copy e = ap (option_map map_view) e
 lent None copy e = ap (option_map map_view) e
+
+-- copies of names and maps are shown alike
+pub same_shown : (ms ns : List (Bor (List ℕ) × Map)) → AllZip (λ p q. (q.0 ≡ p.0) × (map_view q.1 ≡ map_view p.1)) ms ns → shown ns ≡ shown ms
+same_shown [] [] same = refl
+same_shown [] (n ∷ ns) same = absurd same
+same_shown (m ∷ ms) [] same = absurd same
+same_shown (m ∷ ms) (n ∷ ns) same =
+    ap (λ (key : Bor (List ℕ)). (key.now, map_view n.1) ∷ shown ns) same.0.0
+    ∙ ap (λ (v : MapView). (m.0.now, v) ∷ shown ns) same.0.1
+    ∙ ap (λ (es : List (List ℕ × MapView)). (m.0.now, map_view m.1) ∷ es) (same_shown ms ns same.1)

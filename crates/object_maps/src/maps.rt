@@ -1,6 +1,6 @@
 //! Maps by name.
 
-ghost use Rattle.std.specs.Prelude.{◌≡◌, ◌↔◌, [], length, map, IsTrue, OnOk, OnErr};
+ghost use Rattle.std.specs.Prelude.{◌≡◌, ◌↔◌, [], length, map, IfOk, IsTrue, OnOk, OnErr};
 ghost use Rattle.std.specs.BTreeMap.{is_at};
 ghost use Rattle.std.specs.Cmp.Lexicographic.{slice_cmp};
 ghost use Rattle.std.specs.List.Sorted.{IsStrictlySortedBy};
@@ -34,7 +34,8 @@ impl<'a> Model for Maps<'a> {
 }
 
 impl<'a> Maps<'a> {
-    pub(crate) fn new(alloc: Global) -> Maps<'a>
+    /// No maps.
+    pub fn new(alloc: Global) -> Maps<'a>
         ensures { result ≡ [] }
     {
         Maps {
@@ -78,5 +79,14 @@ impl<'a> Maps<'a> {
     {
         self.entries.insert(name, map)?;
         Ok(())
+    }
+
+    /// The same maps.
+    pub fn try_clone(&self) -> Result<Maps<'a>, AllocError>
+        ensures { IfOk result (λ maps. maps ≡ self.now) }
+    {
+        Ok(Maps {
+            entries: self.entries.clone()?,
+        })
     }
 }

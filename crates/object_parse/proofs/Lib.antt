@@ -1,3 +1,4 @@
+pub mod Complete
 pub mod Definitions
 pub mod Entered
 pub mod Faultless

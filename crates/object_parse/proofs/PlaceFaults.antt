@@ -11,7 +11,7 @@ use Rattle.ebpf_items.specs.declared.error.ParseError.TheVariants as error
 use Rattle.object_file.specs.Symbols.{symbols_in}
 use Rattle.object_parts.specs.Content.{FunctionContent}
 use Rattle.object_parse.proofs.Entered.{place-stands}
-use Rattle.object_parse.specs.Faults.{HasPlaceFault, HasSectionFault, PlaceFault, is_cut, is_empty, is_unknown}
+use Rattle.object_parse.specs.Faults.{HasPlaceFault, HasSectionFault, PlaceFault, is_cut, is_unknown}
 use Rattle.object_parse.specs.Places.{AreEntered, byte_count}
 use Rattle.object_parse.specs.SectionInfos.{SectionInfo}
 use Rattle.object_parse.specs.TextSections.{is_text_section, place_at}

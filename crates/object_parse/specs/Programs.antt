@@ -1,5 +1,5 @@
 -- The programs of an object, and the functions of its program sections.
-use Rattle.std.specs.Prelude.{ℕ, ◌+◌, ◌-◌, ◌/◌, ◌%◌, ◌==◌, ◌&&◌, ◌||◌, not, nat_lt, Bool, true, false, List, [], length, take, drop, fold, filter, Option, Some, None, unwrap_or, is_some, is_none, option_and_then, if◌then◌else◌}
+use Rattle.std.specs.Prelude.{ℕ, ◌+◌, ◌-◌, ◌/◌, ◌%◌, ◌==◌, ◌&&◌, ◌||◌, not, nat_lt, Bool, true, false, List, [], length, take, drop, fold, Option, Some, None, unwrap_or, is_some, is_none, option_and_then, if◌then◌else◌}
 use Rattle.std.specs.BTreeMap.{insert_entry}
 use Rattle.std.specs.Cmp.Lexicographic.{slice_cmp}
 use Rattle.std.specs.Option.{option_map_or}
@@ -12,7 +12,7 @@ use Rattle.ebpf_items.specs.Instruction.{slots_of}
 use Rattle.function_records.specs.Kept.{kept_functions, kept_lines}
 use Rattle.object_file.specs.Kinds.{kind_of}
 use Rattle.object_file.specs.Symbols.{symbols_in}
-use Rattle.object_parts.specs.Content.{ProgramContent, FunctionContent, key_cmp, key_of}
+use Rattle.object_parts.specs.Content.{ProgramContent, FunctionContent, key_cmp}
 use Rattle.object_parse.specs.SectionInfos.{SectionInfo}
 use Rattle.program_kinds.specs.ProgramSection.{kind_of_name}
 use Rattle.program_kinds.specs.declared.program_section.ProgramSection.{ProgramSection}

@@ -6,6 +6,7 @@ ghost use Rattle.elf64.specs.Symbols.{symbols_of};
 ghost use Rattle.ebpf_items.specs.declared.error.ParseError.TheVariants.{OutOfMemory};
 ghost use Rattle.object_file.specs.License.{license_of};
 ghost use Rattle.object_file.specs.Version.{version_of};
+ghost use Rattle.object_parts.specs.Content.{HaveFunctions};
 ghost use Rattle.object_parse.specs.Faults.{AreSound, HasFunctionFault, HasSectionFault, HasSoundFunctions};
 ghost use Rattle.object_parse.specs.Functions.{functions_of, programs_of, with_functions, with_section_programs};
 
@@ -73,6 +74,7 @@ fn add_sections<'a, 'e>(
 /// slots of its section, `SymbolTableConflict` for two functions of a `.text` section at one
 /// address, `UnknownSymbol` where no symbol defines the function at its beginning or behind one
 /// of its functions, `InvalidSymbol` where that function's size is 0, and `OutOfMemory`.
+#[tactic(auto, using(crate::proofs::Complete::complete_with))]
 pub fn read_code<'a, 'e>(
     alloc: Global,
     file: &ObjectFile<'a>,
@@ -80,6 +82,7 @@ pub fn read_code<'a, 'e>(
 ) -> Result<Code<'a>, ParseError>
     ensures programs { IfOk result (λ code. code.programs ≡ programs_of file.now) }
     ensures functions { IfOk result (λ code. code.functions ≡ functions_of file.now (option_copied extension.entry)) }
+    ensures complete { IfOk result (λ code. HaveFunctions code.programs code.functions) }
     ensures accepted { OnOk result (HasSoundFunctions file.now) }
     ensures refused { IfErr result (λ e. e ≢ OutOfMemory → HasFunctionFault file.now e) }
 {

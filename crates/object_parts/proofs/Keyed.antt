@@ -1,12 +1,15 @@
 -- Functions that stand under their keys.
-use Rattle.std.proofs.Common.{◌≡◌, ℕ, List, [], ◌∷◌, refl, sym}
+use Rattle.std.proofs.Common.{◌≡◌, ℕ, List, [], ◌∷◌, refl, sym, ap, ◌∙◌, cond, true, false, is_some, Bool, Option, Some, None}
 use Rattle.std.proofs.lemmas.Cmp.{ranked}
 use Rattle.std.specs.declared.cmp.Ordering.{Ordering}
 use Rattle.std.specs.declared.cmp.Ordering.TheVariants.{Less, Equal, Greater}
-use Rattle.std.specs.Ordering.{match_ordering, nat_cmp, ordering_then}
-use Rattle.std.specs.BTreeMap.{insert_entry}
-use Rattle.std.specs.Prelude.{Result, Ok, Err, OnOk, OnErr}
-use Rattle.object_parts.specs.Content.{AreKeyed, FunctionContent, key_cmp, key_of}
+use Rattle.std.specs.Ordering.{is_eq, match_ordering, nat_cmp, ordering_then}
+use Rattle.std.specs.BTreeMap.{insert_entry, is_at}
+use Rattle.std.specs.Prelude.{Result, Ok, Err, OnOk, OnErr, IfSome, IsSome}
+use Rattle.std.specs.Option.{option_copied}
+use Rattle.std.specs.Borrow.{Bor}
+use Rattle.object_parts.specs.Content.{AreKeyed, FunctionContent, Replaces, function_at, has_function, key_cmp, key_of}
+use Rattle.std.specs.Map.{keys_of}
 
 then-equal : (o p : Ordering) → ordering_then o p ≡ Equal → (o ≡ Equal) × (p ≡ Equal)
 then-equal Less p h = absurd (cc)
@@ -37,3 +40,31 @@ keyed_insert (e ∷ es) f keyed =
 pub keyed_after : {T E : Type 0} (r : Result T E) (old new : List ((ℕ × ℕ) × FunctionContent)) (f : FunctionContent) → OnOk r (new ≡ insert_entry key_cmp old (key_of f) f) → OnErr r (new ≡ old) → AreKeyed old → AreKeyed new
 keyed_after (Ok x) old new f entered same keyed = rw entered (keyed_insert old f keyed)
 keyed_after (Err e) old new f entered same keyed = rw same keyed
+
+-- a function that is entered under its key, which another has, stands in its place
+pub replaced : (old new : List ((ℕ × ℕ) × FunctionContent)) (key : ℕ × ℕ) (f : FunctionContent) (was : Option FunctionContent) → key ≡ key_of f → was ≡ function_at old key → (IsSome was → keys_of new ≡ keys_of old) → ((q : ℕ × ℕ) → function_at new q ≡ cond (is_at (key_cmp key) q) (Some f) (function_at old q)) → has_function old (key_of f) ≡ true → Replaces old new f
+replaced old new key f None k w stay at there =
+    let none : is_some (function_at old (key_of f)) ≡ false = ap is_some (sym (w ∙ ap (function_at old) k)) in
+    absurd (cc)
+replaced old new key f (Some g) k w stay at there = record { keys = stay refl; at = λ q. at q ∙ ap (λ x. cond (is_at (key_cmp x) q) (Some f) (function_at old q)) k }
+
+-- a function that is looked up has the key
+same-equal : (o : Ordering) → is_eq o ≡ true → o ≡ Equal
+same-equal Less h = absurd (cc)
+same-equal Equal h = refl
+same-equal Greater h = absurd (cc)
+
+keyed_here : (key k : ℕ × ℕ) (g f : FunctionContent) (rest : Option FunctionContent) (b : Bool) → is_eq (key_cmp key k) ≡ b → k ≡ key_of g → cond b (Some g) rest ≡ Some f → (rest ≡ Some f → key_of f ≡ key) → key_of f ≡ key
+keyed_here key k g f rest true e at h more =
+    let q : g ≡ f = cc in
+    ap key_of (sym q) ∙ sym at ∙ key-equal key k (same-equal (key_cmp key k) e)
+keyed_here key k g f rest false e at h more = more h
+
+pub keyed_at : (entries : List ((ℕ × ℕ) × FunctionContent)) (key : ℕ × ℕ) (f : FunctionContent) → AreKeyed entries → function_at entries key ≡ Some f → key_of f ≡ key
+unfolding AreKeyed
+keyed_at [] key f keyed h = absurd (cc)
+keyed_at (e ∷ es) key f keyed h = keyed_here key e.0 e.1 f (function_at es key) (is_eq (key_cmp key e.0)) refl keyed.0 h (keyed_at es key f keyed.1)
+
+pub keyed_get : (entries : List ((ℕ × ℕ) × FunctionContent)) (key : ℕ × ℕ) (r : Option (Bor FunctionContent)) → AreKeyed entries → option_copied r ≡ function_at entries key → IfSome r (λ f. key_of f.now ≡ key)
+keyed_get entries key None keyed h = tt
+keyed_get entries key (Some f) keyed h = keyed_at entries key f.now keyed (sym h)

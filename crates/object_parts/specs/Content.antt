@@ -1,5 +1,7 @@
 -- What an object is made of.
-use Rattle.std.specs.Prelude.{◌≡◌, ℕ, List, [], ◌∷◌, ⊤, Option}
+use Rattle.std.specs.Prelude.{◌≡◌, ℕ, List, [], ◌∷◌, ⊤, Bool, true, Option, Some, is_some, if◌then◌else◌}
+use Rattle.std.specs.BTreeMap.{is_at}
+use Rattle.std.specs.Map.{lookup, keys_of}
 use Rattle.std.specs.declared.cmp.Ordering.{Ordering}
 use Rattle.std.specs.Ordering.{nat_cmp, ordering_then}
 use Rattle.btf_extension.specs.declared.record.bpf_func_info.{bpf_func_info}
@@ -39,3 +41,21 @@ key_of f = (f.section_index, f.address)
 unfoldable pub AreKeyed : List ((ℕ × ℕ) × FunctionContent) → Type 0
 AreKeyed [] = ⊤
 AreKeyed (e ∷ es) = (e.0 ≡ key_of e.1) × AreKeyed es
+
+-- whether a function has this key
+abbrev pub has_function : List ((ℕ × ℕ) × FunctionContent) → ℕ × ℕ → Bool
+has_function functions key = is_some (lookup (is_at (key_cmp key)) functions)
+
+-- each program's function is there
+unfoldable pub HaveFunctions : List (List ℕ × ProgramContent) → List ((ℕ × ℕ) × FunctionContent) → Type 0
+HaveFunctions [] functions = ⊤
+HaveFunctions (e ∷ es) functions = (has_function functions (e.1.section_index, e.1.address) ≡ true) × HaveFunctions es functions
+
+-- the function of a key
+abbrev pub function_at : List ((ℕ × ℕ) × FunctionContent) → ℕ × ℕ → Option FunctionContent
+function_at functions key = lookup (is_at (key_cmp key)) functions
+
+-- a function stands in place of that of its key; all others, and the keys, are as they were
+pub record Replaces (old new : List ((ℕ × ℕ) × FunctionContent)) (f : FunctionContent) : Type 0 where
+  pub keys : keys_of new ≡ keys_of old
+  pub at : (key : ℕ × ℕ) → function_at new key ≡ (if is_at (key_cmp (key_of f)) key then Some f else function_at old key)

@@ -1,6 +1,6 @@
 //! Programs by name.
 
-ghost use Rattle.std.specs.Prelude.{◌≡◌, ◌↔◌, [], length, map, IsTrue, OnOk, OnErr};
+ghost use Rattle.std.specs.Prelude.{◌≡◌, ◌↔◌, [], length, map, IfOk, IsTrue, OnOk, OnErr};
 ghost use Rattle.std.specs.BTreeMap.{insert_entry};
 ghost use Rattle.std.specs.Cmp.Lexicographic.{slice_cmp};
 ghost use Rattle.std.specs.List.Sorted.{IsStrictlySortedBy};
@@ -68,5 +68,14 @@ impl<'a> Programs<'a> {
     {
         self.entries.insert(name, program)?;
         Ok(())
+    }
+
+    /// The same programs.
+    pub fn try_clone(&self) -> Result<Programs<'a>, AllocError>
+        ensures { IfOk result (λ programs. programs ≡ self.now) }
+    {
+        Ok(Programs {
+            entries: self.entries.clone()?,
+        })
     }
 }

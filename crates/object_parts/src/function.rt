@@ -1,9 +1,10 @@
 //! The functions of an object.
 
-ghost use Rattle.std.specs.Prelude.{◌≡◌};
+ghost use Rattle.std.specs.Prelude.{◌≡◌, IfOk};
 
 use btf_extension::{FuncSecInfo, LineSecInfo};
 use ebpf_items::Slots;
+use std::alloc::AllocError;
 use std::marker::Model;
 
 /// A function of an object.
@@ -44,5 +45,30 @@ impl<'a> Function<'a> {
         ensures { result ≡ (self.now.section_index, self.now.address) }
     {
         (self.section_index, self.address)
+    }
+
+    /// The same function. Slots and records that lie in the file stay there.
+    pub fn try_clone(&self) -> Result<Function<'a>, AllocError>
+        ensures { IfOk result (λ function. function ≡ self.now) }
+    {
+        Ok(Function {
+            address: self.address,
+            name: self.name,
+            section_index: self.section_index,
+            section_offset: self.section_offset,
+            instructions: self.instructions.try_clone()?,
+            func_info: self.func_info.try_clone()?,
+            line_info: self.line_info.try_clone()?,
+            func_info_rec_size: self.func_info_rec_size,
+            line_info_rec_size: self.line_info_rec_size,
+        })
+    }
+}
+
+impl<'a> Clone for Function<'a> {
+    ghost is_clone = { λ function copy. copy ≡ function };
+
+    fn clone(&self) -> Result<Function<'a>, AllocError> {
+        self.try_clone()
     }
 }

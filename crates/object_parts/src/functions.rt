@@ -1,10 +1,10 @@
 //! Functions by key.
 
-ghost use Rattle.std.specs.Prelude.{◌≡◌, ◌↔◌, [], length, IsTrue, OnOk, OnErr};
+ghost use Rattle.std.specs.Prelude.{◌≡◌, ◌↔◌, [], length, IfOk, IfSome, true, false, IsTrue, OnOk, OnErr};
 ghost use Rattle.std.specs.BTreeMap.{insert_entry, is_at};
 ghost use Rattle.std.specs.Map.{lookup};
 ghost use Rattle.std.specs.Option.{option_copied};
-ghost use Rattle.object_parts.specs.Content.{AreKeyed, key_cmp};
+ghost use Rattle.object_parts.specs.Content.{AreKeyed, Replaces, has_function, key_cmp, key_of};
 
 use crate::by_name::Programs;
 use crate::function::Function;
@@ -64,7 +64,8 @@ impl<'a> Functions<'a> {
 
     /// The function of a key: a section's index and an address in it.
     pub fn get(&self, key: (usize, u64)) -> Option<&Function<'a>>
-        ensures { option_copied result ≡ lookup (is_at (key_cmp key)) self.now }
+        ensures value { option_copied result ≡ lookup (is_at (key_cmp key)) self.now }
+        ensures keyed { IfSome result (λ f. key_of f.now ≡ key) }
     {
         self.entries.get(&key)
     }
@@ -77,12 +78,33 @@ impl<'a> Functions<'a> {
         self.entries.iter()
     }
 
+    /// Puts a function in place of that of its key. Takes no memory.
+    pub fn replace(&mut self, function: Function<'a>)
+        requires { has_function self.old (key_of function) ≡ true }
+        ensures { Replaces self.old self.new function.entry }
+    {
+        if self.insert(function).is_err() {
+            unreachable!();
+        }
+    }
+
     /// Enters a function under its key, in place of an earlier one of that key.
     pub fn insert(&mut self, function: Function<'a>) -> Result<(), AllocError>
         ensures ok { OnOk result (self.new ≡ insert_entry key_cmp self.old (function.entry.section_index, function.entry.address) function.entry) }
+        ensures replaced { OnOk result (has_function self.old (key_of function.entry) ≡ true → Replaces self.old self.new function.entry) }
         ensures err { OnErr result (self.new ≡ self.old) }
+        ensures absent { OnErr result (has_function self.old (key_of function.entry) ≡ false) }
     {
         self.entries.insert(function.key(), function)?;
         Ok(())
+    }
+
+    /// The same functions.
+    pub fn try_clone(&self) -> Result<Functions<'a>, AllocError>
+        ensures { IfOk result (λ functions. functions ≡ self.now) }
+    {
+        Ok(Functions {
+            entries: self.entries.clone()?,
+        })
     }
 }

@@ -1,8 +1,9 @@
 //! The programs of an object.
 
-ghost use Rattle.std.specs.Prelude.{◌≡◌};
+ghost use Rattle.std.specs.Prelude.{◌≡◌, IfOk};
 
 use ebpf_items::ProgramSection;
+use std::alloc::AllocError;
 use std::marker::Model;
 
 /// A program of an object: a function of a program section, under its name.
@@ -34,5 +35,26 @@ impl<'a> Program<'a> {
         ensures { result ≡ (self.now.section_index, self.now.address) }
     {
         (self.section_index, self.address)
+    }
+
+    /// The same program.
+    pub fn try_clone(&self) -> Result<Program<'a>, AllocError>
+        ensures { IfOk result (λ program. program ≡ self.now) }
+    {
+        Ok(Program {
+            license: self.license,
+            kernel_version: self.kernel_version,
+            section: self.section.clone()?,
+            section_index: self.section_index,
+            address: self.address,
+        })
+    }
+}
+
+impl<'a> Clone for Program<'a> {
+    ghost is_clone = { λ program copy. copy ≡ program };
+
+    fn clone(&self) -> Result<Program<'a>, AllocError> {
+        self.try_clone()
     }
 }

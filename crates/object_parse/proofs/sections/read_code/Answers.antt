@@ -1,4 +1,3 @@
-use Rattle.std.proofs.Common.{◌≡◌}
 use Rattle.elf64.specs.Symbols.{symbols_of}
 use Rattle.object_file.specs.Reading.{read_sections}
 use Rattle.object_parse.proofs.Faultless.{no-section-fault}
