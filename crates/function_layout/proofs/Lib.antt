@@ -1,0 +1,7 @@
+pub mod SameKey
+pub mod Keys
+pub mod Unique
+pub mod Reach
+pub mod Flat
+pub mod Same
+pub mod Rows

@@ -1,0 +1,140 @@
+-- Worked programs, computed: their layouts, their slots, and what their machines show.
+use Rattle.std.proofs.Common.{◌≡◌, ℕ, true, [], ◌∷◌, Some, None, refl, ℤ, pos, negsuc, eqb, cond}
+use Rattle.ebpf_items.specs.declared.instruction.bpf_insn.{bpf_insn}
+use Rattle.function_layout.specs.Layout.{Key, Table, IsLayout, linked}
+use Rattle.function_layout.specs.Machines.{Cut, Ends, Shows, FlatEvent, SourceEvent, flat_run, source_run}
+
+-- 85 10 00 00 and an immediate
+abbrev call : ℤ → bpf_insn
+call imm = record { code = 133; registers = 16; off = pos 0; imm = imm }
+
+-- 95 and zeros
+abbrev exit : bpf_insn
+exit = record { code = 149; registers = 0; off = pos 0; imm = pos 0 }
+
+-- b7 00 00 00 and an immediate
+abbrev move : ℕ → bpf_insn
+move imm = record { code = 183; registers = 0; off = pos 0; imm = pos imm }
+
+-- 18, a source register, and an immediate
+abbrev load : ℕ → ℤ → bpf_insn
+load registers imm = record { code = 24; registers = registers; off = pos 0; imm = imm }
+
+abbrev zeros : bpf_insn
+zeros = record { code = 0; registers = 0; off = pos 0; imm = pos 0 }
+
+-- f in a program section, and functions of `.text` at some slots
+abbrev f : Key
+f = (3, 0)
+
+abbrev text : ℕ → Key
+text slot = (4, slot)
+
+-- a call of a function, and an end
+abbrev add : Table
+add = record {
+  slots = λ k. cond (eqb k.0 3) (call (negsuc 0) ∷ exit ∷ []) (move 7 ∷ exit ∷ []);
+  refs = λ k. cond (eqb k.0 3) (Some (text 0) ∷ None ∷ []) (None ∷ None ∷ []);
+}
+
+call_layout : IsLayout add f (text 0 ∷ [])
+call_layout = record { order = (tt, refl); complete = refl }
+
+call_code : linked add f (text 0 ∷ []) ≡ call (pos 1) ∷ exit ∷ move 7 ∷ exit ∷ []
+call_code = refl
+
+-- two calls of one function: one copy
+abbrev twice : Table
+twice = record {
+  slots = λ k. cond (eqb k.0 3) (call (negsuc 0) ∷ call (negsuc 0) ∷ exit ∷ []) (move 7 ∷ exit ∷ []);
+  refs = λ k. cond (eqb k.0 3) (Some (text 0) ∷ Some (text 0) ∷ None ∷ []) (None ∷ None ∷ []);
+}
+
+two_calls_layout : IsLayout twice f (text 0 ∷ [])
+two_calls_layout = record { order = (tt, refl); complete = refl }
+
+two_calls_code : linked twice f (text 0 ∷ []) ≡ call (pos 2) ∷ call (pos 1) ∷ exit ∷ move 7 ∷ exit ∷ []
+two_calls_code = refl
+
+-- a function that calls itself: its own copy calls the appended one, which calls itself
+abbrev again : Table
+again = record { slots = λ k. call (negsuc 0) ∷ exit ∷ []; refs = λ k. Some f ∷ None ∷ [] }
+
+self_call_layout : IsLayout again f (f ∷ [])
+self_call_layout = record { order = (tt, refl); complete = refl }
+
+self_call_code : linked again f (f ∷ []) ≡ call (pos 1) ∷ exit ∷ call (negsuc 0) ∷ exit ∷ []
+self_call_code = refl
+
+abbrev self_call_shown : ℕ → ℤ → FlatEvent
+self_call_shown position imm = record { key = f; number = 0; position = position; slot = call imm }
+
+abbrev self_call_called : SourceEvent
+self_call_called = record { key = f; number = 0; slot = call (negsuc 0); target = Some f }
+
+self_call_flat : flat_run again f (f ∷ []) (linked again f (f ∷ [])) (true ∷ true ∷ true ∷ []) (pos 0) [] ≡ Shows (self_call_shown 0 (pos 1)) (Shows (self_call_shown 2 (negsuc 0)) (Shows (self_call_shown 2 (negsuc 0)) (Ends Cut)))
+self_call_flat = refl
+
+self_call_source : source_run again (true ∷ true ∷ true ∷ []) (record { key = f; slot = pos 0 } ∷ []) ≡ Shows self_call_called (Shows self_call_called (Shows self_call_called (Ends Cut)))
+self_call_source = refl
+
+-- a call of a function without slots, whose copy begins behind the last slot
+abbrev none : Table
+none = record {
+  slots = λ k. cond (eqb k.1 0) (call (negsuc 0) ∷ exit ∷ []) [];
+  refs = λ k. cond (eqb k.1 0) (Some (3, 16) ∷ None ∷ []) [];
+}
+
+empty_function_layout : IsLayout none f ((3, 16) ∷ [])
+empty_function_layout = record { order = (tt, refl); complete = refl }
+
+empty_function_code : linked none f ((3, 16) ∷ []) ≡ call (pos 1) ∷ exit ∷ []
+empty_function_code = refl
+
+empty_function_alone : IsLayout none (3, 16) []
+empty_function_alone = record { order = tt; complete = refl }
+
+empty_function_code_alone : linked none (3, 16) [] ≡ []
+empty_function_code_alone = refl
+
+-- f calls g, and g calls f
+abbrev two : Table
+two = record { slots = λ k. call (negsuc 0) ∷ exit ∷ []; refs = λ k. Some (cond (eqb k.0 3) (text 0) f) ∷ None ∷ [] }
+
+each_other_layout : IsLayout two f (f ∷ text 0 ∷ [])
+each_other_layout = record { order = ((tt, refl), refl); complete = refl }
+
+each_other_code : linked two f (f ∷ text 0 ∷ []) ≡ call (pos 1) ∷ exit ∷ call (pos 1) ∷ exit ∷ call (negsuc 2) ∷ exit ∷ []
+each_other_code = refl
+
+-- f calls a, then b, and a calls c: the copies are f, a, c, b
+abbrev a : Key
+a = text 0
+
+abbrev b : Key
+b = text 1
+
+abbrev c : Key
+c = text 2
+
+abbrev four : Table
+four = record {
+  slots = λ k. cond (eqb k.0 3) (call (negsuc 0) ∷ call (negsuc 0) ∷ exit ∷ []) (cond (eqb k.1 0) (call (negsuc 0) ∷ exit ∷ []) (cond (eqb k.1 1) (exit ∷ []) (move 2 ∷ exit ∷ [])));
+  refs = λ k. cond (eqb k.0 3) (Some a ∷ Some b ∷ None ∷ []) (cond (eqb k.1 0) (Some c ∷ None ∷ []) []);
+}
+
+depth_first_layout : IsLayout four f (b ∷ c ∷ a ∷ [])
+depth_first_layout = record { order = (((tt, refl), refl), refl); complete = refl }
+
+depth_first_code : linked four f (b ∷ c ∷ a ∷ []) ≡ call (pos 2) ∷ call (pos 5) ∷ exit ∷ call (pos 1) ∷ exit ∷ move 2 ∷ exit ∷ exit ∷ []
+depth_first_code = refl
+
+-- the address of a function: a load whose source register is marked
+abbrev callback : Table
+callback = record {
+  slots = λ k. cond (eqb k.0 3) (load 1 (pos 0) ∷ zeros ∷ exit ∷ []) (move 7 ∷ exit ∷ []);
+  refs = λ k. cond (eqb k.0 3) (Some (text 0) ∷ None ∷ None ∷ []) [];
+}
+
+address_code : linked callback f (text 0 ∷ []) ≡ load 65 (pos 2) ∷ zeros ∷ exit ∷ move 7 ∷ exit ∷ []
+address_code = refl

@@ -1,0 +1,5 @@
+pub mod Layout
+pub mod Machines
+pub mod Reached
+pub mod Theorems
+pub mod Walking

@@ -1,0 +1,42 @@
+//! How a program is laid out whose functions are linked to it, and what holds of such a layout.
+//!
+//! A kernel takes a program as one list of slots, so that copies of the functions that it calls stand behind its own. The
+//! definitions say which copies these are, where each begins and what becomes of the slots; two machines say which slots are
+//! visited, by functions that call each other with a stack, and by the list of slots. The functions here compute nothing:
+//! their contracts are the theorems.
+#![tactic(auto)]
+
+ghost use Rattle.function_layout.specs.Theorems.{LayoutIsUnique, ReachedAreAppended, LinkedVisitsSame};
+ghost use Rattle.function_layout.specs.Walking.{WalkLaws, OrderLaws, PlaceLaws};
+
+/// A program has at most one layout.
+pub fn layout_is_unique()
+    ensures { LayoutIsUnique }
+{}
+
+/// The copies that a layout appends are those of the functions that chains of references lead to from the program's own, each
+/// once.
+pub fn reached_are_appended()
+    ensures { ReachedAreAppended }
+{}
+
+/// For every list of decisions about branches on which the functions, run with a stack of calls, don't end outside, the linked
+/// slots are visited in the same order with the same end.
+pub fn linked_visits_same()
+    ensures { LinkedVisitsSame }
+{}
+
+/// A walk over the references, depth first, appends copies in the order of the layout.
+pub fn walk_laws()
+    ensures { WalkLaws }
+{}
+
+/// An order of copies is a beginning of the layout.
+pub fn order_laws()
+    ensures { OrderLaws }
+{}
+
+/// Copies stand one behind the other.
+pub fn place_laws()
+    ensures { PlaceLaws }
+{}

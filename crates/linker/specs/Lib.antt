@@ -1,0 +1,6 @@
+pub mod Unlinked
+pub mod Records
+pub mod Faults
+pub mod Linked
+pub mod Walks
+pub mod Installed

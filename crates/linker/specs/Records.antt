@@ -1,0 +1,56 @@
+-- The records of a linked program: those of its copies, moved with them.
+use Rattle.std.specs.Prelude.{ℕ, ◌+◌, ◌-◌, ◌==◌, ◌||◌, not, nat_lt, Bool, false, if◌then◌else◌, List, [], ◌∷◌, ◌++◌, length, map, Option, Some, None}
+use Rattle.std.specs.List.{list_any}
+use Rattle.btf_extension.specs.declared.record.bpf_func_info.{bpf_func_info}
+use Rattle.btf_extension.specs.declared.record.bpf_line_info.{bpf_line_info}
+use Rattle.object_parts.specs.Content.{FunctionContent, function_at}
+use Rattle.function_layout.specs.Layout.{Key, end_of}
+use Rattle.linker.specs.Unlinked.{Unlinked, table_of}
+
+-- a function's record stands at the slot where the copy begins, and keeps its type
+abbrev pub moved_function : ℕ → bpf_func_info → bpf_func_info
+moved_function start r = record { insn_off = start; type_id = r.type_id }
+
+-- a line's record keeps its distance from the function's first
+abbrev pub moved_line : ℕ → ℕ → bpf_line_info → bpf_line_info
+moved_line start first r = record r { insn_off = start + (r.insn_off - first) }
+
+abbrev pub moved_lines : ℕ → List bpf_line_info → List bpf_line_info
+moved_lines start [] = []
+moved_lines start (r ∷ rs) = map (moved_line start r.insn_off) (r ∷ rs)
+
+abbrev pub functions_in : Option FunctionContent → List bpf_func_info
+functions_in None = []
+functions_in (Some f) = f.func_info
+
+abbrev pub lines_in : Option FunctionContent → List bpf_line_info
+lines_in None = []
+lines_in (Some f) = f.line_info
+
+-- the records of the functions whose copies a program has, each at its copy's beginning
+abbrev pub functions_of : Unlinked → Key → List Key → List bpf_func_info
+functions_of u own [] = map (moved_function 0) (functions_in (function_at u.functions own))
+functions_of u own (k ∷ ks) =
+    functions_of u own ks ++ map (moved_function (end_of (table_of u) own ks)) (functions_in (function_at u.functions k))
+
+-- the program's own records of lines as they are, and those of the appended copies moved
+abbrev pub lines_of : Unlinked → Key → List Key → List bpf_line_info
+lines_of u own [] = lines_in (function_at u.functions own)
+lines_of u own (k ∷ ks) =
+    lines_of u own ks ++ moved_lines (end_of (table_of u) own ks) (lines_in (function_at u.functions k))
+
+-- whether a record of a line stands before the first
+abbrev pub goes_back : List bpf_line_info → Bool
+goes_back [] = false
+goes_back (first ∷ rest) = list_any (λ r. nat_lt r.insn_off first.insn_off) rest
+
+abbrev pub is_empty : List bpf_func_info → Bool
+is_empty records = length records == 0
+
+-- whether one of two functions alone has records of functions
+abbrev pub one_sided : FunctionContent → FunctionContent → Bool
+one_sided a b = if is_empty a.func_info then not (is_empty b.func_info) else is_empty b.func_info
+
+-- whether the records of a function can't be appended to those of a program's own
+abbrev pub mismatches : FunctionContent → FunctionContent → Bool
+mismatches own callee = one_sided own callee || goes_back callee.line_info

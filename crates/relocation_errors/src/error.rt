@@ -1,0 +1,150 @@
+//! Faults of relocations, and the functions at which they stand.
+
+ghost use Rattle.std.specs.Prelude.{◌≡◌, ◌≢◌, None, Some, [], unwrap_or};
+ghost use Rattle.std.specs.Option.{option_map};
+ghost use Rattle.std.specs.String.{string_bytes};
+ghost use Rattle.relocation_errors.specs.declared.error.RelocationError.TheVariants.{OutOfMemory};
+
+use std::alloc::{AllocError, AllocFailed, Global};
+use thiserror::Error;
+
+/// Why a relocation, or a call of a function, can't be resolved.
+#[derive(Debug, Drop, Error)]
+pub enum RelocationError {
+    /// The symbol table has no such symbol, or the symbol isn't one that can be referred to.
+    /// `index` counts the symbol table's entries.
+    #[error("unknown symbol, index {index}")]
+    UnknownSymbol {
+        index: usize,
+    },
+    /// No map is made of the symbol's section. `section_index` counts the section headers,
+    /// `symbol_index` the symbol table's entries.
+    #[error("no map for section {section_index} of symbol {symbol_index}, name {symbol_name:?}")]
+    SectionNotFound {
+        section_index: usize,
+        symbol_index: usize,
+        symbol_name: Option<String>,
+    },
+    /// No function begins at the address that a function refers to. The address is counted modulo
+    /// 2^64.
+    #[error("function {caller_name:?} refers to address {address:#x}, where no function begins")]
+    UnknownFunction {
+        address: u64,
+        caller_name: String,
+    },
+    /// A function's records don't fit those of the program that it is linked to: one alone has
+    /// records of functions, or a record of a line stands before the function's first.
+    #[error("the records of function {name:?} don't fit those of the program")]
+    FunctionInfoMismatch {
+        name: String,
+    },
+    /// No extern has this name.
+    #[error("no extern named {name:?}")]
+    ExternNotFound {
+        name: String,
+    },
+    /// An extern has no value that the instruction could hold.
+    #[error("extern {name:?} can't be resolved")]
+    UnresolvableSymbol {
+        name: String,
+    },
+    /// No function begins at a program's address.
+    #[error("no function of section {section_index} at address {address:#x}")]
+    UnknownProgram {
+        section_index: usize,
+        address: u64,
+    },
+    /// A relocation doesn't apply to a whole instruction, or its value doesn't fit. `offset` is in
+    /// bytes from the section's beginning, `relocation_number` counts the section's relocations in
+    /// order of offset; both are 0 for a program that is too long.
+    #[error("relocation {relocation_number} at offset {offset:#x} is invalid")]
+    InvalidRelocationOffset {
+        offset: u64,
+        relocation_number: usize,
+    },
+    /// Memory ran out.
+    #[error("out of memory")]
+    OutOfMemory,
+}
+
+impl From<AllocError> for RelocationError {
+    ghost from_gives = { λ _ e. e ≡ OutOfMemory };
+
+    fn from(_error: AllocError) -> RelocationError {
+        RelocationError::OutOfMemory
+    }
+}
+
+impl<T: Drop> From<AllocFailed<T>> for RelocationError {
+    ghost from_gives = { λ _ e. e ≡ OutOfMemory };
+
+    fn from(_error: AllocFailed<T>) -> RelocationError {
+        RelocationError::OutOfMemory
+    }
+}
+
+/// Why a relocation of a function can't be made, with the function's name.
+#[derive(Debug, Drop, Error)]
+#[error("error relocating function {:?}: {error}", function.as_deref().unwrap_or(""))]
+pub struct EbpfRelocationError {
+    function: Option<String>,
+    error: RelocationError,
+}
+
+impl EbpfRelocationError {
+    /// A fault at a function. It is want of memory where the name can't be kept.
+    pub fn new(alloc: Global, function: &str, error: RelocationError) -> EbpfRelocationError
+        ensures error { result.error ≢ OutOfMemory → result.error ≡ error }
+        ensures function { result.error ≢ OutOfMemory → option_map string_bytes result.function ≡ Some function.now }
+    {
+        match String::from_str(alloc, function) {
+            Ok(function) => EbpfRelocationError {
+                function: Some(function),
+                error,
+            },
+            Err(_) => EbpfRelocationError {
+                function: None,
+                error: RelocationError::OutOfMemory,
+            },
+        }
+    }
+
+    /// The function's name, empty where memory ran out before it was known.
+    pub fn function(&self) -> &str
+        ensures { result.now ≡ unwrap_or (option_map string_bytes self.now.function) [] }
+    {
+        match &self.function {
+            Some(function) => function.as_str(),
+            None => "",
+        }
+    }
+
+    /// The fault.
+    pub fn error(&self) -> &RelocationError
+        ensures { result.now ≡ self.now.error }
+    {
+        &self.error
+    }
+}
+
+impl From<AllocError> for EbpfRelocationError {
+    ghost from_gives = { λ _ e. e ≡ record { function = None; error = OutOfMemory } };
+
+    fn from(_error: AllocError) -> EbpfRelocationError {
+        EbpfRelocationError {
+            function: None,
+            error: RelocationError::OutOfMemory,
+        }
+    }
+}
+
+impl<T: Drop> From<AllocFailed<T>> for EbpfRelocationError {
+    ghost from_gives = { λ _ e. e ≡ record { function = None; error = OutOfMemory } };
+
+    fn from(_error: AllocFailed<T>) -> EbpfRelocationError {
+        EbpfRelocationError {
+            function: None,
+            error: RelocationError::OutOfMemory,
+        }
+    }
+}
