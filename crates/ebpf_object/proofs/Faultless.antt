@@ -1,7 +1,7 @@
 -- What was read without a fault has none.
 use Rattle.std.proofs.Common.{◌≡◌, ℕ, List, [], Option, Some, None, refl, sym, ap, inl, inr, subst, arith}
 use Rattle.std.specs.Option.{IsSomeAnd}
-use Rattle.std.specs.Prelude.{◌≢◌, ◌⊎◌, Contains, IfErr, IfSome, OnOk, Result, Ok, Err, codes}
+use Rattle.std.specs.Prelude.{◌≢◌, Contains, IfErr, IfSome, OnOk, Result, Ok, Err, codes}
 use Rattle.btf_extension.specs.Extensions.{Extension}
 use Rattle.btf_records.specs.declared.error.BtfError.{BtfError}
 use Rattle.btf_records.specs.declared.error.BtfError.TheVariants as btf
@@ -20,7 +20,7 @@ use Rattle.object_maps.specs.Faults.{MapFault, Says}
 use Rattle.object_maps.specs.Maps.{HasMapsFault, maps_faults}
 use Rattle.object_parse.specs.Faults.{HasSoundFunctions}
 use Rattle.btf_extension.specs.Faults.{ExtensionFault}
-use Rattle.ebpf_object.specs.Faults.{HasFault, HasMapFault, HasObjectFault, HasTableFault, HasTypesFault, IsFaultless, IsSound, SaysOfTypes, TableFaultOf}
+use Rattle.ebpf_object.specs.Faults.{HasFault, HasMapFault, HasObjectFault, HasTableFault, IsFaultless, IsSound, SaysOfTypes, TableFaultOf}
 use Rattle.ebpf_object.specs.Types.{HoldsRecords, HoldsRecordsIn, HoldsTypes, HoldsTypesIn, RecordsFault, TypesFault}
 
 -- a section holds one table alone

@@ -1,1 +1,2 @@
 pub mod Faultless
+pub mod Linked

@@ -1,5 +1,7 @@
+pub mod Calls
 pub mod Faults
 pub mod ParsedObject
 pub mod Places
+pub mod Rewriting
 pub mod Served
 pub mod Types

@@ -4,7 +4,7 @@ use Rattle.std.specs.Option.{option_map, option_map_or}
 use Rattle.btf_extension.specs.Extensions.{Extension}
 use Rattle.btf_tables.specs.Tables.{Table}
 use Rattle.ebpf_items.specs.Maps.{MapView}
-use Rattle.elf64.specs.Symbols.{Symbol, symbols_of}
+use Rattle.elf64.specs.Symbols.{symbols_of}
 use Rattle.object_externs.specs.Externs.{ExternsContent, externs_of, has_function}
 use Rattle.object_externs.specs.Placeholder.{with_placeholder}
 use Rattle.object_maps.specs.Maps.{maps_of}

@@ -1,12 +1,12 @@
 -- The types of an object: the table of its section `.BTF`, and what its section `.BTF.ext` says beside it.
-use Rattle.std.specs.Prelude.{◌≡◌, ℕ, List, codes, ⊤, Option, Some, None}
-use Rattle.std.specs.Option.{IsSomeAnd, option_map_or}
+use Rattle.std.specs.Prelude.{ℕ, List, codes, ⊤, Option, Some, None}
+use Rattle.std.specs.Option.{IsSomeAnd}
 use Rattle.btf_extension.specs.Extensions.{Extension, HoldsExtension}
 use Rattle.btf_extension.specs.Faults.{ExtensionFault}
 use Rattle.btf_records.specs.declared.error.BtfError.{BtfError}
 use Rattle.btf_records.specs.declared.words.Endianness.{Endianness}
 use Rattle.btf_tables.specs.Sections.{HoldsTable}
-use Rattle.btf_tables.specs.Tables.{IsTable, Table, TableFault}
+use Rattle.btf_tables.specs.Tables.{Table, TableFault}
 use Rattle.object_file.specs.ByteOrders.{file_endianness}
 use Rattle.object_file.specs.Reading.{contents_named}
 

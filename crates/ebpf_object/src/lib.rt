@@ -1,8 +1,10 @@
 //! Parsed eBPF objects.
 #![tactic(auto)]
 
+mod calls;
 mod object;
 mod places;
+mod rewriting;
 mod served;
 mod types;
 

@@ -1,6 +1,6 @@
 //! A parsed object.
 
-ghost use Rattle.std.specs.Prelude.{◌≡◌, ◌≢◌, [], ◌==◌, ◌&&◌, not, false, is_some, length, IfErr, IfOk, IfSome, OnOk};
+ghost use Rattle.std.specs.Prelude.{◌≡◌, ◌≢◌, [], ◌==◌, ◌&&◌, not, false, is_some, length, IfErr, IfOk, IfSome, OnErr, OnOk};
 ghost use Rattle.std.specs.BTreeMap.{is_at};
 ghost use Rattle.std.specs.Cmp.Lexicographic.{slice_cmp};
 ghost use Rattle.std.specs.List.{list_any};
@@ -15,28 +15,43 @@ ghost use Rattle.object_file.specs.ByteOrders.{file_endianness};
 ghost use Rattle.object_file.specs.License.{license_of, HasNoNul};
 ghost use Rattle.object_file.specs.Version.{version_of, IsKnownVersion};
 ghost use Rattle.object_maps.specs.Maps.{maps_faults, maps_of};
-ghost use Rattle.object_parts.specs.Content.{key_cmp};
+ghost use Rattle.object_parts.specs.Content.{HaveFunctions, key_cmp};
 ghost use Rattle.ebpf_object.specs.Types.{HoldsTypes};
 ghost use Rattle.btf_parts.specs.Faultless.{IsFaultless as AreFaultless};
 ghost use Rattle.ebpf_object.specs.Faults.{HasFault, HasObjectFault, IsFaultless, IsSound, SaysOfTypes};
 ghost use Rattle.ebpf_object.specs.ParsedObject.{IsParsed, completed, no_externs};
+ghost use Rattle.linker.specs.Linked.{AllCanBeLinked, AreLinked, HasFaultOf, program_keys, unlinked};
+ghost use Rattle.relocation_errors.specs.declared.error.RelocationError.TheVariants as RelocationError;
+ghost use Rattle.std.specs.String.{string_bytes};
+ghost use Rattle.ebpf_object.specs.Calls.{AreTextSections};
+ghost use Rattle.ebpf_object.specs.Served.{are_whole};
+ghost use Rattle.ebpf_object.specs.Rewriting.{CannotRewrite, IsRewritten};
+ghost use Rattle.btf_records.specs.declared.error.BtfError.TheVariants as BtfError;
 
-use crate::types::read_types;
+use crate::calls::{are_whole, text_sections};
+use crate::rewriting::rewrite;
+use crate::types::{Types, read_types};
 use btf_extension::BtfExt;
-use btf_records::Endianness;
+use btf_records::{BtfError, BtfFeature, Endianness};
+use btf_sanitizing::Answers;
 use btf_tables::Btf;
 use ebpf_items::ParseError;
+use linker::relocate_calls;
 use object_externs::{ExternDesc, Externs, read_externs};
 use object_file::{ObjectFile, ReadSymbol};
 use object_maps::{Maps, read_maps};
 use object_parse::read_code;
 use object_parts::{Function, Functions, Programs};
-use std::alloc::Global;
+use relocation_errors::EbpfRelocationError;
+use std::alloc::{AllocError, Global};
+use std::collections::BTreeSet;
 use std::marker::Model;
+use std::mem;
 
-/// An object: what a file holds before anything is relocated.
+/// An object: what a file holds before anything is relocated. Each program's function is there.
 #[derive(Debug, Drop)]
 pub struct Object<'a> {
+    alloc: Global,
     pub(crate) file: ObjectFile<'a>,
     btf: Option<Btf<'a>>,
     btf_ext: Option<BtfExt<'a>>,
@@ -47,11 +62,14 @@ pub struct Object<'a> {
 }
 
 impl<'a> Model for Object<'a> {
+    ghost use Rattle.object_parts.specs.Content.{HaveFunctions};
     ghost use Rattle.ebpf_object.specs.ParsedObject.{ObjectContent};
 
     ghost Value = { ObjectContent };
 
     ghost view = { λ o. record { file = o.file; types = o.btf; extension = o.btf_ext; maps = o.maps; programs = o.programs; functions = o.functions; externs = o.externs } };
+
+    ghost invariant = { λ o. HaveFunctions o.programs o.functions };
 }
 
 /// The maps of a file whose types are these.
@@ -152,9 +170,10 @@ impl<'a> Object<'a> {
         &self.maps
     }
 
-    /// The programs, by name.
+    /// The programs, by name. The function of each is there.
     pub fn programs(&self) -> &Programs<'a>
-        ensures { result.now ≡ self.now.programs }
+        ensures value { result.now ≡ self.now.programs }
+        ensures complete { HaveFunctions self.now.programs self.now.functions }
     {
         &self.programs
     }
@@ -227,6 +246,7 @@ impl<'a> Object<'a> {
         let maps = maps(alloc, &file, &types.table)?;
         let externs = externs(alloc, file.symbols(), &mut types.table)?;
         Ok(Object {
+            alloc,
             file,
             btf: types.table,
             btf_ext: types.extension,
@@ -235,6 +255,115 @@ impl<'a> Object<'a> {
             functions: code.functions,
             externs,
         })
+    }
+
+    /// Takes the maps away: the object has none then.
+    pub fn take_maps(&mut self) -> Maps<'a>
+        ensures taken { result ≡ self.old.maps }
+        ensures others { self.new ≡ record self.old { maps = [] } }
+    {
+        mem::replace(&mut self.maps, Maps::new(self.alloc))
+    }
+
+    /// Rewrites the table of types to the features that a kernel grants, as the predicate tells:
+    /// [`Btf::fixup_and_sanitize`] with the sizes of the sections, the offsets of the symbols and,
+    /// where a section of externs has an entry, its ids. Asks and changes nothing where the object
+    /// has no table or an empty one. Answers the features that were asked about, each once, with
+    /// their answers.
+    ///
+    /// # Errors
+    ///
+    /// Those of [`Btf::fixup_and_sanitize`]; the object is as before then.
+    pub fn fixup_and_sanitize_btf<F: FnMut(BtfFeature) -> bool>(
+        &mut self,
+        predicate: F,
+    ) -> Result<Answers, BtfError>
+        requires { F.IsAlwaysCallable predicate }
+        ensures rewritten { IfOk result (λ answers. IsRewritten F.FnMut predicate self.old.file self.old.externs.ksyms self.old.types answers.items self.new.types) }
+        ensures others { self.new ≡ record self.old { types = self.new.types } }
+        ensures refused { IfErr result (λ e. e ≢ BtfError.OutOfMemory → IsSomeAnd self.old.types (λ t. ((length t.types == 0) ≡ false) × CannotRewrite F.FnMut predicate self.old.file self.old.externs.ksyms t e)) }
+        ensures err { OnErr result (self.new ≡ self.old) }
+    {
+        let ksyms = self.externs.ksyms();
+        rewrite(self.alloc, &self.file, ksyms, &mut self.btf, predicate)
+    }
+
+    /// The indexes of the sections that functions lie in.
+    pub fn text_sections(&self) -> Result<BTreeSet<usize>, AllocError>
+        ensures { IfOk result (λ sections. AreTextSections self.now.functions sections.keys) }
+    {
+        text_sections(self.alloc, &self.functions)
+    }
+
+    /// Whether each function begins at a whole slot of its section.
+    pub fn are_functions_whole(&self) -> bool
+        ensures { result ≡ are_whole self.now.functions }
+    {
+        are_whole(&self.functions)
+    }
+
+    /// Links to each program the functions that it leads to, from the functions as they stand:
+    /// [`relocate_calls`]. `text_sections` are the indexes of the sections with functions.
+    ///
+    /// # Errors
+    ///
+    /// Those of [`relocate_calls`], with the program's name; the object is as before then.
+    #[tactic(auto, using(crate::proofs::Linked::functions_stay))]
+    pub fn relocate_calls(
+        &mut self,
+        text_sections: &BTreeSet<usize>,
+    ) -> Result<(), EbpfRelocationError>
+        ensures linked { OnOk result (AreLinked (unlinked self.old.file text_sections.now.keys self.old.functions) (program_keys self.old.programs) self.new.functions) }
+        ensures sound { OnOk result (AllCanBeLinked (unlinked self.old.file text_sections.now.keys self.old.functions) (program_keys self.old.programs)) }
+        ensures others { self.new ≡ record self.old { functions = self.new.functions } }
+        ensures fault { IfErr result (λ e. e.error ≢ RelocationError.OutOfMemory → HasFaultOf (unlinked self.old.file text_sections.now.keys self.old.functions) self.old.programs (option_map string_bytes e.function) e.error) }
+        ensures unchanged { OnErr result (self.new ≡ self.old) }
+    {
+        relocate_calls(
+            self.alloc,
+            &self.file,
+            &self.programs,
+            &mut self.functions,
+            text_sections,
+        )
+    }
+
+    /// The same object again.
+    pub fn try_clone(&self) -> Result<Object<'a>, AllocError>
+        ensures { IfOk result (λ object. object ≡ self.now) }
+    {
+        let file = self.file.try_clone()?;
+        let types = self.types()?;
+        let maps = self.maps.try_clone()?;
+        let programs = self.programs.try_clone()?;
+        let functions = self.functions.try_clone()?;
+        let externs = self.externs.try_clone()?;
+        Ok(Object {
+            alloc: self.alloc,
+            file,
+            btf: types.table,
+            btf_ext: types.extension,
+            maps,
+            programs,
+            functions,
+            externs,
+        })
+    }
+
+    /// The types, and what stands beside them, again.
+    fn types(&self) -> Result<Types<'a>, AllocError>
+        ensures table { IfOk result (λ types. types.table ≡ self.now.types) }
+        ensures extension { IfOk result (λ types. types.extension ≡ self.now.extension) }
+    {
+        let table = match &self.btf {
+            Some(table) => Some(table.try_clone()?),
+            None => None,
+        };
+        let extension = match &self.btf_ext {
+            Some(extension) => Some(extension.try_clone()?),
+            None => None,
+        };
+        Ok(Types { table, extension })
     }
 
     /// Parses an object file: [`ObjectFile::parse`], and then [`Object::from_file`].

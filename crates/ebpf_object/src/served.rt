@@ -1,57 +1,15 @@
 //! Which objects are served so far.
 
-ghost use Rattle.std.specs.Prelude.{◌≡◌, ◌==◌, true, false, length, is_none, IfSome, IfErr, OnOk, OnErr};
-ghost use Rattle.std.specs.List.{list_any, list_all};
-ghost use Rattle.elf64.specs.Symbols.{symbols_of};
-ghost use Rattle.ebpf_items.specs.Instruction.{is_pseudo_call};
+ghost use Rattle.std.specs.Prelude.{◌≡◌, true, false, is_none, not, IfSome, IfErr, OnOk, OnErr};
+ghost use Rattle.std.specs.List.{list_any};
 ghost use Rattle.object_file.specs.Reading.{read_sections};
-ghost use Rattle.ebpf_object.specs.Served.{has_call, is_served_section, asks_at, IsUnserved, is_served};
+ghost use Rattle.ebpf_object.specs.Served.{has_other_relocations, is_of_function, is_of_slot, is_served_section, asks_at, IsUnserved, is_served};
 
 use crate::places::name_at;
-use ebpf_items::{EbpfSectionKind, Slots};
-use object_file::{ObjectFile, ReadSection, ReadSymbol};
-use object_parse::{code_of, function_name};
-use std::alloc::Global;
-
-/// Whether a slot calls another function.
-fn has_pseudo_call(slots: &Slots<'_>) -> bool
-    ensures { result ≡ list_any is_pseudo_call slots.now }
-{
-    for slot in slots.iter() {
-        if slot.is_pseudo_call() {
-            return true;
-        }
-    }
-    false
-}
-
-/// Whether a symbol of a section is a function with a slot that calls another.
-fn has_call(alloc: Global, section: &ReadSection<'_>, symbol: &ReadSymbol<'_>) -> bool
-    ensures { result ≡ has_call section.now symbol.now }
-{
-    if function_name(symbol).is_none() {
-        return false;
-    }
-    let Some(code) = code_of(section, symbol) else {
-        return false;
-    };
-    match Slots::borrowed(alloc, code) {
-        Some(slots) => has_pseudo_call(&slots),
-        None => false,
-    }
-}
-
-/// Whether a function of a section calls another.
-fn any_call(alloc: Global, section: &ReadSection<'_>, symbols: &[ReadSymbol<'_>]) -> bool
-    ensures { result ≡ list_any (has_call section.now) symbols.now }
-{
-    for symbol in symbols {
-        if has_call(alloc, section, symbol) {
-            return true;
-        }
-    }
-    false
-}
+use ebpf_items::EbpfSectionKind;
+use elf64::RelocView;
+use object_file::{ObjectFile, ReadSection};
+use std::collections::BTreeSet;
 
 /// What a section has that isn't looked at yet.
 #[derive(Clone, Copy, Debug, PartialEq, Eq)]
@@ -62,12 +20,9 @@ pub enum Subject {
     Types,
     /// Variables, in a section `.data`, `.rodata` or `.bss`.
     Data,
-    /// Functions that programs call, in a section `.text` that isn't empty.
-    Functions,
-    /// Relocations of the section.
+    /// Relocations of a section that may hold functions, by symbols of sections without any, or at
+    /// no whole slot.
     Relocations,
-    /// A function that calls another, in a program section.
-    Calls,
 }
 
 /// A section that isn't served yet.
@@ -81,17 +36,86 @@ pub struct Unserved<'a> {
     pub name: &'a str,
 }
 
-/// What a section of a kind has, by the symbols that lie in it, that isn't looked at yet. A
-/// license, a version, a section that nothing is read of, and functions that call no other are
-/// served.
-#[tactic(auto, unfolding(crate::specs::Served::asks_at))]
-fn subject_of(alloc: Global, file: &ObjectFile<'_>, section: &ReadSection<'_>) -> Option<Subject>
-    ensures served { is_none result ≡ is_served_section file.now section.now }
-    ensures why { IfSome result (λ subject. asks_at file.now section.now.index subject section.now ≡ true) }
+/// Whether a relocation is by a symbol of a section with functions.
+fn is_of_function(
+    file: &ObjectFile<'_>,
+    text_sections: &BTreeSet<usize>,
+    relocation: &RelocView,
+) -> bool
+    ensures { result ≡ is_of_function file.now text_sections.now.keys relocation.now }
 {
-    if !file.relocations_of(section.index()).is_empty() {
-        return Some(Subject::Relocations);
+    let Some(index) = relocation.symbol() else {
+        return false;
+    };
+    let Some(symbol) = file.symbol_at(index) else {
+        return false;
+    };
+    match symbol.view().section_index() {
+        Some(section) => text_sections.contains(&section),
+        None => false,
     }
+}
+
+/// Whether it also stands at a whole slot of each function that holds it. `are_whole` says whether
+/// each function begins at a whole slot of its section.
+fn is_of_slot(
+    file: &ObjectFile<'_>,
+    text_sections: &BTreeSet<usize>,
+    are_whole: bool,
+    relocation: &RelocView,
+) -> bool
+    ensures { result ≡ is_of_slot file.now text_sections.now.keys are_whole relocation.now }
+{
+    is_of_function(file, text_sections, relocation) && relocation.offset() % 8 == 0 && are_whole
+}
+
+/// Whether one of some relocations is another.
+fn has_others(
+    file: &ObjectFile<'_>,
+    text_sections: &BTreeSet<usize>,
+    are_whole: bool,
+    relocations: &[RelocView],
+) -> bool
+    ensures { result ≡ list_any (λ r. not (is_of_slot file.now text_sections.now.keys are_whole r)) relocations.now }
+{
+    for relocation in relocations {
+        if !is_of_slot(file, text_sections, are_whole, relocation) {
+            return true;
+        }
+    }
+    false
+}
+
+/// Whether a section has other relocations.
+fn has_other_relocations(
+    file: &ObjectFile<'_>,
+    text_sections: &BTreeSet<usize>,
+    are_whole: bool,
+    section: &ReadSection<'_>,
+) -> bool
+    ensures { result ≡ has_other_relocations file.now text_sections.now.keys are_whole section.now }
+{
+    has_others(
+        file,
+        text_sections,
+        are_whole,
+        file.relocations_of(section.index()),
+    )
+}
+
+/// What a section of a kind has that isn't looked at yet. A license, a version, a section that
+/// nothing is read of, and functions whose relocations are at whole slots and by symbols of sections
+/// with functions are served.
+#[tactic(auto, unfolding(crate::specs::Served::asks_at))]
+fn subject_of(
+    file: &ObjectFile<'_>,
+    text_sections: &BTreeSet<usize>,
+    are_whole: bool,
+    section: &ReadSection<'_>,
+) -> Option<Subject>
+    ensures served { is_none result ≡ is_served_section file.now text_sections.now.keys are_whole section.now }
+    ensures why { IfSome result (λ subject. asks_at file.now text_sections.now.keys are_whole section.now.index subject section.now ≡ true) }
+{
     match section.kind() {
         EbpfSectionKind::License | EbpfSectionKind::Version | EbpfSectionKind::Undefined => None,
         EbpfSectionKind::Maps | EbpfSectionKind::BtfMaps => Some(Subject::Maps),
@@ -99,22 +123,28 @@ fn subject_of(alloc: Global, file: &ObjectFile<'_>, section: &ReadSection<'_>) -
         EbpfSectionKind::Data | EbpfSectionKind::Rodata | EbpfSectionKind::Bss => {
             Some(Subject::Data)
         }
-        EbpfSectionKind::Text if section.size() == 0 => None,
-        EbpfSectionKind::Text => Some(Subject::Functions),
-        EbpfSectionKind::Program if any_call(alloc, section, file.symbols_in(section.index())) => {
-            Some(Subject::Calls)
+        EbpfSectionKind::Text if has_other_relocations(file, text_sections, are_whole, section) => {
+            Some(Subject::Relocations)
         }
-        EbpfSectionKind::Program => None,
+        EbpfSectionKind::Program
+            if has_other_relocations(file, text_sections, are_whole, section) => {
+            Some(Subject::Relocations)
+        }
+        EbpfSectionKind::Text | EbpfSectionKind::Program => None,
     }
 }
 
 /// The first section that isn't served, and what it has.
-fn section_with_subject(alloc: Global, file: &ObjectFile<'_>) -> Option<(Subject, usize)>
-    ensures served { is_none result ≡ is_served file.now }
-    ensures why { IfSome result (λ found. list_any (asks_at file.now found.1 found.0) (read_sections file.now) ≡ true) }
+fn section_with_subject(
+    file: &ObjectFile<'_>,
+    text_sections: &BTreeSet<usize>,
+    are_whole: bool,
+) -> Option<(Subject, usize)>
+    ensures served { is_none result ≡ is_served file.now text_sections.now.keys are_whole }
+    ensures why { IfSome result (λ found. list_any (asks_at file.now text_sections.now.keys are_whole found.1 found.0) (read_sections file.now) ≡ true) }
 {
     for section in file.sections() {
-        if let Some(subject) = subject_of(alloc, file, section) {
+        if let Some(subject) = subject_of(file, text_sections, are_whole, section) {
             return Some((subject, section.index()));
         }
     }
@@ -122,14 +152,19 @@ fn section_with_subject(alloc: Global, file: &ObjectFile<'_>) -> Option<(Subject
 }
 
 /// Answers the first section in order of index that isn't served yet, where there is one. Served
-/// are licenses, versions, sections that nothing is read of, an empty `.text`, and program
-/// sections whose functions call no other, where none has relocations. Takes no memory.
-pub fn check_served<'a>(alloc: Global, file: &ObjectFile<'a>) -> Result<(), Unserved<'a>>
-    ensures accepted { OnOk result (is_served file.now ≡ true) }
-    ensures refused { OnErr result (is_served file.now ≡ false) }
-    ensures why { IfErr result (IsUnserved file.now) }
+/// are licenses, versions, sections that nothing is read of, and functions whose relocations are
+/// all at whole slots and by symbols of sections with functions, which `text_sections` has.
+/// `are_whole` says whether each function begins at a whole slot of its section. Takes no memory.
+pub fn check_served<'a>(
+    file: &ObjectFile<'a>,
+    text_sections: &BTreeSet<usize>,
+    are_whole: bool,
+) -> Result<(), Unserved<'a>>
+    ensures accepted { OnOk result (is_served file.now text_sections.now.keys are_whole ≡ true) }
+    ensures refused { OnErr result (is_served file.now text_sections.now.keys are_whole ≡ false) }
+    ensures why { IfErr result (IsUnserved file.now text_sections.now.keys are_whole) }
 {
-    match section_with_subject(alloc, file) {
+    match section_with_subject(file, text_sections, are_whole) {
         Some((subject, index)) => Err(Unserved {
             subject,
             index,

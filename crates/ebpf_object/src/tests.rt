@@ -1,5 +1,7 @@
 //! Objects of one program, and what is wrong with others.
 
+mod variables;
+
 use crate::Object;
 use btf_records::{BtfError, Endianness};
 use ebpf_items::{ParseError, ProgramSection, Slots};

@@ -1,4 +1,4 @@
-use Rattle.std.proofs.Common.{◌≡◌, inr, subst, sym}
+use Rattle.std.proofs.Common.{◌≡◌, inr, subst}
 use Rattle.ebpf_object.proofs.Faultless.{faultless, if-err, if-ok}
 use Rattle.ebpf_object.specs.Faults.{HasObjectFault, IsSound}
 use Rattle.ebpf_object.proofs.object.Object.parse.Goals as goal

@@ -1,0 +1,35 @@
+//! The sections of an object that have functions.
+
+ghost use Rattle.std.specs.Prelude.{◌≡◌, IfOk};
+ghost use Rattle.ebpf_object.specs.Calls.{AreTextSections};
+ghost use Rattle.ebpf_object.specs.Served.{are_whole};
+
+use object_parts::Functions;
+use std::alloc::{AllocError, Global};
+use std::collections::BTreeSet;
+
+/// The indexes of the sections that some functions lie in.
+pub(crate) fn text_sections(
+    alloc: Global,
+    functions: &Functions<'_>,
+) -> Result<BTreeSet<usize>, AllocError>
+    ensures { IfOk result (λ sections. AreTextSections functions.now sections.keys) }
+{
+    let mut sections = BTreeSet::new(alloc);
+    for (key, _function) in functions.iter() {
+        sections.insert(key.0)?;
+    }
+    Ok(sections)
+}
+
+/// Whether each of some functions begins at a whole slot of its section.
+pub(crate) fn are_whole(functions: &Functions<'_>) -> bool
+    ensures { result ≡ are_whole functions.now }
+{
+    for (_key, function) in functions.iter() {
+        if function.section_offset % 8 != 0 {
+            return false;
+        }
+    }
+    true
+}
