@@ -2,11 +2,12 @@
 use Rattle.std.specs.Prelude.{ℕ}
 use Rattle.bpf_prepare.specs.declared.error.ProgramError.{ProgramError}
 use Rattle.bpf_prepare.specs.declared.error.ProgramError.TheVariants.{Refused, Run}
-use Rattle.bpf_prepare.specs.declared.error.RunError.TheVariants.{Parse, NotYet}
+use Rattle.bpf_prepare.specs.declared.error.RunError.TheVariants.{Parse, NotYet, Relocation}
 
 -- 1 where the object is refused, else 2
 abbrev pub status_of : ProgramError → ℕ
 status_of (Run (Parse e)) = 1
 status_of (Refused e place) = 1
 status_of (Run (NotYet e)) = 1
+status_of (Run (Relocation e)) = 1
 status_of _ = 2

@@ -5,7 +5,7 @@ ghost use Rattle.bpf_prepare.specs.Run.{run_error_of};
 ghost use Rattle.bpf_prepare.specs.declared.error.ProgramError.TheVariants.{Run};
 ghost use Rattle.bpf_prepare.specs.Program.{status_of};
 
-use load_plan::{NotYet, ParseError, Place, PrepareError};
+use load_plan::{EbpfRelocationError, NotYet, ParseError, Place, PrepareError};
 use std::io;
 use thiserror::Error;
 
@@ -18,6 +18,9 @@ pub enum RunError {
     /// The object has something that isn't looked at yet.
     #[error("refused: {0}")]
     NotYet(NotYet),
+    /// A program can't be linked to the functions that it leads to.
+    #[error("refused: {0}")]
+    Relocation(EbpfRelocationError),
     /// The writer failed, or took nothing.
     #[error("the plan can't be written")]
     Output,
@@ -30,6 +33,7 @@ impl From<PrepareError> for RunError {
         match error {
             PrepareError::Parse(error) => RunError::Parse(error),
             PrepareError::NotYet(error) => RunError::NotYet(error),
+            PrepareError::Relocation(error) => RunError::Relocation(error),
             PrepareError::OutOfMemory => RunError::Parse(ParseError::OutOfMemory),
         }
     }
@@ -70,6 +74,7 @@ impl ProgramError {
     {
         match self {
             ProgramError::Run(RunError::Parse(_) | RunError::NotYet(_)) => 1,
+            ProgramError::Run(RunError::Relocation(_)) => 1,
             ProgramError::Refused { .. } => 1,
             _ => 2,
         }

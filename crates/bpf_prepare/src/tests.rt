@@ -73,7 +73,7 @@ fn is_sound(alloc: Global, object: &[u8]) -> bool {
     match text_of(alloc, object) {
         Ok(text) => are_lines(text.as_slice()),
         Err(RunError::Parse(error)) => !matches!(error, ParseError::OutOfMemory),
-        Err(RunError::NotYet(_)) => true,
+        Err(RunError::NotYet(_) | RunError::Relocation(_)) => true,
         Err(RunError::Output) => false,
     }
 }

@@ -1,10 +1,11 @@
 //! Why an object gets no plan.
 
 ghost use Rattle.std.specs.Prelude.{◌≡◌};
-ghost use Rattle.load_plan.specs.declared.error.PrepareError.TheVariants.{Parse, OutOfMemory};
+ghost use Rattle.load_plan.specs.declared.error.PrepareError.TheVariants.{Parse, OutOfMemory, Relocation};
 
 use ebpf_items::ParseError;
 use ebpf_object::Subject;
+use relocation_errors::EbpfRelocationError;
 use std::alloc::{AllocError, AllocFailed};
 use std::fmt;
 use thiserror::Error;
@@ -25,9 +26,7 @@ fn words(subject: Subject) -> &'static str {
         Subject::Maps => "maps",
         Subject::Types => "types",
         Subject::Data => "variables",
-        Subject::Functions => "functions",
         Subject::Relocations => "relocations",
-        Subject::Calls => "calls of functions",
     }
 }
 
@@ -68,6 +67,9 @@ pub enum PrepareError {
     /// The object has something that isn't looked at yet.
     #[error("{0}")]
     NotYet(NotYet),
+    /// A program can't be linked to the functions that it leads to.
+    #[error("{0}")]
+    Relocation(EbpfRelocationError),
     /// Memory ran out.
     #[error("out of memory")]
     OutOfMemory,
@@ -78,6 +80,14 @@ impl From<ParseError> for PrepareError {
 
     fn from(error: ParseError) -> PrepareError {
         PrepareError::Parse(error)
+    }
+}
+
+impl From<EbpfRelocationError> for PrepareError {
+    ghost from_gives = { λ error e. e ≡ Relocation error };
+
+    fn from(error: EbpfRelocationError) -> PrepareError {
+        PrepareError::Relocation(error)
     }
 }
 

@@ -11,6 +11,7 @@ pub use ebpf_object::{ParseError, ProgramSection, Slots, Subject, Watched, bpf_i
 pub use error::{NotYet, Place, PrepareError};
 pub use plan::{Plan, PlanProgram};
 pub use planning::{place_of, prepare};
+pub use relocation_errors::{EbpfRelocationError, RelocationError};
 
 #[cfg(test)]
 mod tests;

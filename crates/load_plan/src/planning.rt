@@ -1,8 +1,10 @@
 //! From an object's bytes to its plan.
 
-ghost use Rattle.std.specs.Prelude.{◌≡◌, List, map, IfSome, IfOk, IfErr, OnOk};
+ghost use Rattle.std.specs.Prelude.{◌≡◌, List, true, map, IfSome, IfOk, IfErr, OnOk};
+ghost use Rattle.ebpf_object.specs.Faults.{IsFaultless};
+ghost use Rattle.ebpf_object.specs.Served.{is_served};
 ghost use Rattle.load_plan.specs.Content.{AreRising};
-ghost use Rattle.load_plan.specs.Planned.{slots_at, plan_program_of, plan_of, IsPlace, IsPlanned, IsRefusal, IsPrepared};
+ghost use Rattle.load_plan.specs.Planned.{slots_at, plan_program_of, plan_of, IsLinkedObject, IsObjectRefusal, IsPlace, IsPlanned, IsRefusal, IsUnserved};
 
 use crate::error::{NotYet, Place, PrepareError};
 use crate::plan::{Plan, PlanProgram};
@@ -12,6 +14,7 @@ use ebpf_object::{
     Object, ObjectFile, Program, check_served, function_without_code, name_at, unnamed_symbol,
 };
 use std::alloc::{AllocError, Global};
+use std::collections::BTreeSet;
 
 /// The slots of the function of a key, none where there is no such function.
 fn slots_at<'a>(
@@ -113,24 +116,55 @@ pub fn place_of(alloc: Global, object: &[u8], error: &ParseError) -> Option<Plac
     }
 }
 
-/// The plan of an object file, for an object that has programs alone.
+/// Refuses an object with a section that isn't served yet, which it names. `text_sections` are the
+/// indexes of the sections with functions, and `are_whole` says whether each function begins at a
+/// whole slot.
+fn require_served(
+    alloc: Global,
+    file: &ObjectFile<'_>,
+    text_sections: &BTreeSet<usize>,
+    are_whole: bool,
+) -> Result<(), PrepareError>
+    ensures accepted { OnOk result (is_served file.now text_sections.now.keys are_whole ≡ true) }
+    ensures refused { IfErr result (IsUnserved file.now text_sections.now.keys are_whole) }
+{
+    let Err(section) = check_served(file, text_sections, are_whole) else {
+        return Ok(());
+    };
+    Err(PrepareError::NotYet(NotYet {
+        subject: section.subject,
+        index: section.index,
+        name: String::from_str(alloc, section.name)?,
+    }))
+}
+
+/// Links the programs of an object to the functions that they lead to, where all of the object is
+/// served.
+fn link(alloc: Global, object: &mut Object<'_>) -> Result<(), PrepareError>
+    ensures linked { OnOk result (IsLinkedObject object.old object.new) }
+    ensures refused { IfErr result (IsObjectRefusal object.old) }
+{
+    let text_sections = object.text_sections()?;
+    let are_whole = object.are_functions_whole();
+    require_served(alloc, object.file(), &text_sections, are_whole)?;
+    object.relocate_calls(&text_sections)?;
+    Ok(())
+}
+
+/// The plan of an object file, for an object that has programs and the functions that they call
+/// alone: each program with all functions that it leads to linked to it.
 ///
 /// # Errors
 ///
-/// [`PrepareError::Parse`] where the file isn't an object that can be parsed, and
-/// [`PrepareError::NotYet`] for an object with a section that isn't served yet, which it names.
+/// [`PrepareError::Parse`] where the file isn't an object that can be parsed,
+/// [`PrepareError::NotYet`] for an object with a section that isn't served yet, which it names, and
+/// [`PrepareError::Relocation`] where a program can't be linked.
 pub fn prepare<'a>(alloc: Global, object: &'a [u8]) -> Result<Plan<'a>, PrepareError>
     ensures value { IfOk result (λ p. IsPlanned object.entry.now p) }
-    ensures accepted { OnOk result (IsPrepared object.entry.now) }
+    ensures accepted { OnOk result (IsFaultless object.entry.now) }
     ensures refused { IfErr result (IsRefusal object.entry.now) }
 {
-    let object = Object::parse(alloc, object)?;
-    if let Err(section) = check_served(alloc, object.file()) {
-        return Err(PrepareError::NotYet(NotYet {
-            subject: section.subject,
-            index: section.index,
-            name: String::from_str(alloc, section.name)?,
-        }));
-    }
+    let mut object = Object::parse(alloc, object)?;
+    link(alloc, &mut object)?;
     Ok(plan_of(alloc, &object)?)
 }

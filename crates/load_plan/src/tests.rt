@@ -82,9 +82,8 @@ fn writers_that_fail(rt: HostRuntime) -> Result<(), Fail> {
 
 // Bytes of the names of sections, of the first slot and of the size of the license, and what is
 // refused then: what is asked for and the section, or nothing where the object is faulty.
-const CHANGES: [(&[u8], &[u8], u8, Option<(Subject, usize)>); 4] = [
+const CHANGES: [(&[u8], &[u8], u8, Option<(Subject, usize)>); 3] = [
     (b".bss\0\0", &[0xb7], 4, Some((Subject::Data, 2))),
-    (b"kprobe", &CALL, 4, Some((Subject::Calls, 2))),
     (b"kprobe", &CALL, 1, None),
     (b"kprobe", &[0xb7], 1, None),
 ];

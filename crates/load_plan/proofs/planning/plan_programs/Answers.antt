@@ -7,5 +7,5 @@ pub returns-clause-rising : goal.returns-clause-rising
 returns-clause-rising c =
     let all : c.loop-name.programs.items ≡ map (plan_program_of c.args.object.now.functions) c.args.object.now.programs = search (rules, append-nil) in
     let h = c.iter-name-items.ensures.rising in
-    let k = c.programs.ensures in
-    rw (all, names-plan_program_of c.args.object.now.functions c.args.object.now.programs, ← c.programs.ensures) h
+    let k = c.programs.ensures.value in
+    rw (all, names-plan_program_of c.args.object.now.functions c.args.object.now.programs, ← c.programs.ensures.value) h
