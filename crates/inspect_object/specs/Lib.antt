@@ -1,0 +1,4 @@
+pub mod Inspection
+pub mod Lines
+pub mod Program
+pub mod Words

@@ -1,0 +1,48 @@
+-- The lines of items.
+use Rattle.std.specs.Prelude.{ℕ, List, [], ◌∷◌, ◌++◌, codes}
+use Rattle.std.specs.Fmt.{decimal}
+use Rattle.elf64.specs.Relocations.{Relocation}
+use Rattle.elf64.specs.Sections.{Section}
+use Rattle.ebpf_items.specs.declared.maps.PinningType.{PinningType}
+use Rattle.ebpf_items.specs.declared.maps.PinningType.TheVariants as pinning
+use Rattle.object_file.specs.Kinds.{kind_of}
+use Rattle.program_kinds.specs.declared.section_kind.EbpfSectionKind.{EbpfSectionKind}
+use Rattle.program_kinds.specs.declared.section_kind.EbpfSectionKind.TheVariants as kind
+use Rattle.inspect_object.specs.Words.{number_word, text_word}
+
+-- words with a space between them, and then more
+abbrev pub words_onto : List (List ℕ) → List ℕ → List ℕ
+words_onto [] more = more
+words_onto (word ∷ []) more = word ++ more
+words_onto (word ∷ next ∷ words) more = word ++ 32 ∷ words_onto (next ∷ words) more
+
+-- words with a space between them, and a line feed
+abbrev pub line : List (List ℕ) → List ℕ
+line words = words_onto words (10 ∷ [])
+
+abbrev pub kind_name : EbpfSectionKind → List ℕ
+kind_name kind.Undefined = codes "Undefined"
+kind_name kind.Maps = codes "Maps"
+kind_name kind.BtfMaps = codes "BtfMaps"
+kind_name kind.Program = codes "Program"
+kind_name kind.Data = codes "Data"
+kind_name kind.Rodata = codes "Rodata"
+kind_name kind.Bss = codes "Bss"
+kind_name kind.Text = codes "Text"
+kind_name kind.Btf = codes "Btf"
+kind_name kind.BtfExt = codes "BtfExt"
+kind_name kind.License = codes "License"
+kind_name kind.Version = codes "Version"
+
+abbrev pub pinning_name : PinningType → List ℕ
+pinning_name pinning.None = codes "None"
+pinning_name pinning.ByName = codes "ByName"
+
+abbrev pub section_line : Section → List ℕ
+section_line s =
+    line (codes "section" ∷ decimal s.index ∷ kind_name (kind_of s) ∷ text_word s.name ∷ codes "address" ∷ decimal s.address ∷ codes "size" ∷ decimal s.size ∷ [])
+
+-- a relocation of the section of an index
+abbrev pub relocation_line : ℕ → Relocation → List ℕ
+relocation_line section r =
+    line (codes "relocation" ∷ decimal section ∷ codes "offset" ∷ decimal r.offset ∷ codes "symbol" ∷ number_word r.symbol ∷ codes "width" ∷ decimal r.width ∷ [])

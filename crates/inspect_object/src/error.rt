@@ -1,0 +1,63 @@
+//! Why the program prints no object.
+
+ghost use Rattle.std.specs.Prelude.{◌≡◌};
+ghost use Rattle.inspect_object.specs.declared.error.InspectError.TheVariants.{Refused};
+ghost use Rattle.inspect_object.specs.Program.{status_of};
+
+use ebpf_object::ParseError;
+use std::io;
+use thiserror::Error;
+
+/// Why [`inspect`](crate::inspecting::inspect) doesn't print an object whole.
+#[derive(Debug, Drop, Error)]
+pub enum InspectError {
+    /// The object can't be parsed.
+    #[error("refused: {0}")]
+    Refused(ParseError),
+    /// The writer failed.
+    #[error("the text can't be written")]
+    Output,
+}
+
+impl From<ParseError> for InspectError {
+    ghost from_gives = { λ error e. e ≡ Refused error };
+
+    fn from(error: ParseError) -> InspectError {
+        InspectError::Refused(error)
+    }
+}
+
+/// Why the program ends without having printed an object.
+#[derive(Debug, Drop, Error)]
+pub enum ProgramError {
+    /// It wasn't called with one word.
+    #[error("usage: inspect_object OBJECT")]
+    Usage,
+    /// The object's file can't be read.
+    #[error("can't read {name:?}: {error}")]
+    Read { name: String, error: io::Error },
+    /// There is no memory to begin with.
+    #[error("out of memory")]
+    OutOfMemory,
+    /// The object is refused, or can't be written.
+    #[error("{0}")]
+    Inspect(InspectError),
+}
+
+impl From<InspectError> for ProgramError {
+    fn from(error: InspectError) -> ProgramError {
+        ProgramError::Inspect(error)
+    }
+}
+
+impl ProgramError {
+    /// The status that the program ends with: 1 where the object is refused, else 2.
+    pub fn status(&self) -> u8
+        ensures { result ≡ status_of self.now }
+    {
+        match self {
+            ProgramError::Inspect(InspectError::Refused(_)) => 1,
+            _ => 2,
+        }
+    }
+}

@@ -1,0 +1,76 @@
+//! From an object's bytes to the text of what it holds.
+
+ghost use Rattle.std.specs.Prelude.{◌≡◌, ◌≢◌, IfErr, OnOk};
+ghost use Rattle.ebpf_object.specs.Faults.{IsFaultless};
+ghost use Rattle.inspect_object.specs.Inspection.{IsInspectRefusal};
+ghost use Rattle.inspect_object.specs.declared.error.InspectError.TheVariants.{Output};
+
+use crate::code::{write_functions, write_programs};
+use crate::error::InspectError;
+use crate::externs::write_externs;
+use crate::file::{write_relocations, write_sections};
+use crate::maps::write_maps;
+use crate::type_relocations::write_type_relocations;
+use crate::words::Text;
+use btf_records::Endianness;
+use ebpf_object::Object;
+use std::alloc::Global;
+use std::io;
+use std::io::Write;
+
+/// Writes what holds of the object as a whole.
+fn write_head<W: Write>(object: &Object<'_>, out: &mut W) -> io::Result<()> {
+    match object.endianness() {
+        Endianness::Little => writeln!(out, "byte-order little")?,
+        Endianness::Big => writeln!(out, "byte-order big")?,
+    }
+    writeln!(out, "license {}", Text(Some(object.license())))?;
+    match object.kernel_version() {
+        Some(version) => writeln!(out, "version {version}")?,
+        None => writeln!(out, "version any")?,
+    }
+    match object.btf() {
+        Some(table) => writeln!(out, "types {}", table.len()),
+        None => writeln!(out, "types none"),
+    }
+}
+
+/// Writes which of its relocations and externs wait for a kernel.
+fn write_wants<W: Write>(object: &Object<'_>, out: &mut W) -> io::Result<()> {
+    writeln!(out, "has-btf-relocations {}", object.has_btf_relocations())?;
+    writeln!(out, "has-typed-ksyms {}", object.has_typed_ksyms())?;
+    let has_strong = object.has_strong_typed_ksyms();
+    writeln!(out, "has-strong-typed-ksyms {has_strong}")
+}
+
+/// Writes what an object holds, one line an item.
+fn write_object<W: Write>(object: &Object<'_>, out: &mut W) -> io::Result<()> {
+    write_head(object, out)?;
+    write_sections(object.file(), out)?;
+    write_relocations(object.file(), out)?;
+    write_programs(object, out)?;
+    write_functions(object, out)?;
+    write_maps(object, out)?;
+    write_externs(object, out)?;
+    write_type_relocations(object, out)?;
+    write_wants(object, out)
+}
+
+/// Writes what the object of a file holds, or nothing where it is refused. docs/FORMATS.md has the
+/// lines.
+///
+/// # Errors
+///
+/// [`InspectError::Refused`] where the object is refused, and [`InspectError::Output`] where the
+/// writer fails.
+pub fn inspect<W: Write>(alloc: Global, bytes: &[u8], out: &mut W) -> Result<(), InspectError>
+    ensures accepted { OnOk result (IsFaultless bytes.now) }
+    ensures refused { IfErr result (IsInspectRefusal bytes.now) }
+    ensures unwritten { IfErr result (λ e. e ≢ Output → out.new ≡ out.old) }
+{
+    let object = Object::parse(alloc, bytes)?;
+    match write_object(&object, out) {
+        Ok(()) => Ok(()),
+        Err(_error) => Err(InspectError::Output),
+    }
+}

@@ -1,0 +1,60 @@
+//! Type relocations.
+
+ghost use Rattle.std.specs.Prelude.{◌≡◌};
+ghost use Rattle.std.specs.Option.{option_copied};
+ghost use Rattle.string_table.specs.Texts.{text_at};
+
+use crate::words::Text;
+use btf_extension::{SecInfo, bpf_core_relo};
+use btf_tables::Btf;
+use ebpf_object::Object;
+use std::io;
+use std::io::Write;
+
+/// The text at an offset of a table's strings.
+fn text_at<'t>(table: &'t Btf<'_>, offset: u32) -> Text<'t>
+    ensures { option_copied result.0 ≡ text_at table.now.strings offset }
+{
+    match table.string_at(offset) {
+        Ok(text) => Text::of(text),
+        Err(_error) => Text(None),
+    }
+}
+
+fn write_relocation<W: Write>(
+    table: &Btf<'_>,
+    relocation: bpf_core_relo,
+    out: &mut W,
+) -> io::Result<()> {
+    writeln!(
+        out,
+        "type-relocation offset {} type {} access {} {} kind {}",
+        relocation.insn_off,
+        relocation.type_id,
+        relocation.access_str_off,
+        text_at(table, relocation.access_str_off),
+        relocation.kind
+    )
+}
+
+fn write_group<W: Write>(table: &Btf<'_>, group: &SecInfo<'_>, out: &mut W) -> io::Result<()> {
+    let section = text_at(table, group.name_offset());
+    writeln!(out, "type-relocations {section} {}", group.num_info())?;
+    let mut index = 0;
+    while let Some(relocation) = group.get(index) {
+        write_relocation(table, relocation, out)?;
+        index += 1;
+    }
+    Ok(())
+}
+
+/// Writes the type relocations, group by group: each group is of the section of a name.
+pub fn write_type_relocations<W: Write>(object: &Object<'_>, out: &mut W) -> io::Result<()> {
+    let (Some(table), Some(extension)) = (object.btf(), object.btf_ext()) else {
+        return Ok(());
+    };
+    for group in extension.relocations() {
+        write_group(table, &group, out)?;
+    }
+    Ok(())
+}
