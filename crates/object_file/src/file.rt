@@ -1,10 +1,12 @@
 //! An object file, opened.
 
-ghost use Rattle.std.specs.Prelude.{◌≡◌, ◌≢◌, Some, false, map, slice_get, IfOk, IfErr, IfSome, OnOk};
+ghost use Rattle.std.specs.Prelude.{◌≡◌, ◌≢◌, ◌≤◌, Some, false, map, slice_get, IfOk, IfErr, IfSome, OnOk};
 ghost use Rattle.std.specs.List.{list_any};
 ghost use Rattle.std.specs.List.Sorted.{IsStrictlySortedBy};
 ghost use Rattle.std.specs.Option.{option_copied};
+ghost use Rattle.std.specs.BTreeMap.Range.{entries_between};
 ghost use Rattle.std.specs.Ordering.{nat_cmp};
+ghost use Rattle.std.specs.declared.ops.Bound.TheVariants.{Included, Excluded};
 ghost use Rattle.elf64.specs.Symbols.{symbols_of};
 ghost use Rattle.elf64.specs.Relocations.{relocations_of};
 ghost use Rattle.ebpf_items.specs.declared.error.ParseError.TheVariants.{OutOfMemory};
@@ -26,7 +28,7 @@ use btf_records::Endianness;
 use ebpf_items::ParseError;
 use elf64::{ByteOrder, ElfFile, RelocView};
 use std::alloc::{AllocError, Global};
-use std::collections::btree_map::Iter;
+use std::collections::btree_map::{Iter, Range};
 use std::marker::Model;
 
 /// An ELF file whose sections and symbols could be read, and whose license and version are sound.
@@ -233,6 +235,14 @@ impl<'a> ObjectFile<'a> {
         ensures rising { IsStrictlySortedBy nat_cmp (map (λ e. e.0) (relocations_by_offset self.now index)) }
     {
         self.relocations.by_offset(index).iter()
+    }
+
+    /// Those whose offsets lie between two, the first one included.
+    pub fn relocations_in(&self, index: usize, start: u64, end: u64) -> Range<'_, u64, RelocView>
+        requires { start ≤ end }
+        ensures { result ≡ entries_between nat_cmp (Included start) (Excluded end) (relocations_by_offset self.now index) }
+    {
+        self.relocations.by_offset(index).range(start..end)
     }
 
     /// The relocation of an offset in the section of an index: of several the last entry.
