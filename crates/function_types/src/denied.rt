@@ -1,0 +1,19 @@
+//! Kernels that take no functions.
+
+ghost use Rattle.std.specs.Prelude.{◌≡◌};
+ghost use Rattle.function_types.specs.Rewritten.{is_denied};
+
+use btf_records::BtfFeature;
+use btf_sanitizing::Answers;
+
+/// Whether the kernel was asked for functions and doesn't take them: `BTF_KIND_FUNC` was denied.
+pub fn is_denied(answers: &Answers) -> bool
+    ensures { result ≡ is_denied answers.now.items }
+{
+    for answer in answers.as_slice() {
+        if matches!(answer.0, BtfFeature::Func) {
+            return !answer.1;
+        }
+    }
+    false
+}

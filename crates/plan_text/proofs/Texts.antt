@@ -1,0 +1,137 @@
+-- Texts that are written piece by piece.
+use Rattle.std.proofs.Common.{◌≡◌, ℕ, ◌+◌, ◌<◌, List, [], ◌∷◌, ◌++◌, length, take, get_or, map, slice_get, zero, suc, None, Some, refl, ap, sym, ◌∙◌, append_assoc, append-nil, arith}
+use Rattle.std.specs.Prelude.{flat_map, codes, slice_index, ◌/◌, ◌%◌}
+use Rattle.std.specs.Fmt.{decimal}
+use Rattle.std.proofs.lemmas.Grind.{flat_map-append}
+use Rattle.std.proofs.lemmas.List.{map-append, take_more}
+use Rattle.std.proofs.lemmas.Option.{get_or_from_slice_get, slice_get_within}
+use Rattle.hex.specs.Hex.{encode_with, encode_lower, lower_digits}
+use Rattle.ebpf_items.specs.declared.instruction.bpf_insn.{bpf_insn}
+use Rattle.ebpf_items.specs.Instruction.{bytes_of}
+use Rattle.plan_text.specs.Content.{MapContent, PlanContent, ProgramContent}
+use Rattle.plan_text.specs.PlanGrammar.{hex_word, words_onto, line_onto, lines_onto, text_of_lines, slot_bytes, numbers_of, form_word, map_line, map_lines, program_line, slots_line, func_line, source_line, program_lines, first_lines, feature_line, types_line, end_line, text_of}
+use Rattle.plan_text.specs.ProgramKinds.{kind_numbers}
+
+pub encode_with-append : (digits xs ys : List ℕ) → encode_with digits (xs ++ ys) ≡ encode_with digits xs ++ encode_with digits ys
+unfolding encode_with
+encode_with-append digits [] ys = refl
+encode_with-append digits (x ∷ xs) ys =
+    ap (λ rest. slice_index digits (x / 16) ∷ slice_index digits (x % 16) ∷ rest) (encode_with-append digits xs ys)
+
+-- some words, and then more
+pub words_onto-append : (words : List (List ℕ)) (s t : List ℕ) → words_onto words s ++ t ≡ words_onto words (s ++ t)
+words_onto-append [] s t = refl
+words_onto-append (w ∷ ws) s t = ap (λ x. 32 ∷ x) (append_assoc w (words_onto ws s) t ∙ ap (λ x. w ++ x) (words_onto-append ws s t))
+
+pub words_onto-words : (xs ys : List (List ℕ)) (t : List ℕ) → words_onto (xs ++ ys) t ≡ words_onto xs (words_onto ys t)
+words_onto-words [] ys t = refl
+words_onto-words (x ∷ xs) ys t = ap (λ s. 32 ∷ x ++ s) (words_onto-words xs ys t)
+
+pub words_onto-split : (words : List (List ℕ)) (t : List ℕ) → words_onto words t ≡ words_onto words [] ++ t
+words_onto-split words t = sym (words_onto-append words [] t)
+
+pub line_onto-append : (line : List (List ℕ)) (s t : List ℕ) → line_onto line s ++ t ≡ line_onto line (s ++ t)
+line_onto-append [] s t = refl
+line_onto-append (w ∷ ws) s t = append_assoc w (words_onto ws (10 ∷ s)) t ∙ ap (λ x. w ++ x) (words_onto-append ws (10 ∷ s) t)
+
+pub lines_onto-append : (lines : List (List (List ℕ))) (s t : List ℕ) → lines_onto lines s ++ t ≡ lines_onto lines (s ++ t)
+lines_onto-append [] s t = refl
+lines_onto-append (line ∷ lines) s t = line_onto-append line (lines_onto lines s) t ∙ ap (line_onto line) (lines_onto-append lines s t)
+
+pub lines_onto-lines : (xs ys : List (List (List ℕ))) (t : List ℕ) → lines_onto (xs ++ ys) t ≡ lines_onto xs (lines_onto ys t)
+lines_onto-lines [] ys t = refl
+lines_onto-lines (x ∷ xs) ys t = ap (line_onto x) (lines_onto-lines xs ys t)
+
+-- some lines, and then others
+pub text_of_lines-append : (xs ys : List (List (List ℕ))) → text_of_lines (xs ++ ys) ≡ text_of_lines xs ++ text_of_lines ys
+text_of_lines-append xs ys = lines_onto-lines xs ys [] ∙ sym (lines_onto-append xs [] (lines_onto ys []))
+
+-- a line, and then others
+pub text_of_lines-first : (line : List (List ℕ)) (lines : List (List (List ℕ))) → text_of_lines (line ∷ lines) ≡ text_of_lines (line ∷ []) ++ text_of_lines lines
+text_of_lines-first line lines = text_of_lines-append (line ∷ []) lines
+
+-- the text of the elements before i + 1 is that of the elements before i, and then that of the element at i
+pub encode_lower-more : (bytes : List ℕ) (i : ℕ) → i < length bytes → encode_lower (take (i + 1) bytes) ≡ encode_lower (take i bytes) ++ encode_lower (get_or bytes i 0 ∷ [])
+encode_lower-more bytes i within =
+    ap encode_lower (take_more bytes i 0 within) ∙ encode_with-append lower_digits (take i bytes) (get_or bytes i 0 ∷ [])
+
+pub numbers-more : (numbers : List ℕ) (i : ℕ) → i < length numbers → words_onto (map decimal (take (i + 1) numbers)) [] ≡ words_onto (map decimal (take i numbers)) [] ++ 32 ∷ decimal (get_or numbers i 0)
+numbers-more numbers i within =
+    ap (λ some. words_onto (map decimal some) []) (take_more numbers i 0 within)
+    ∙ ap (λ words. words_onto words []) (map-append decimal (take i numbers) (get_or numbers i 0 ∷ []))
+    ∙ words_onto-words (map decimal (take i numbers)) (decimal (get_or numbers i 0) ∷ []) []
+    ∙ words_onto-split (map decimal (take i numbers)) (32 ∷ decimal (get_or numbers i 0) ++ [])
+    ∙ ap (λ last. words_onto (map decimal (take i numbers)) [] ++ 32 ∷ last) (append-nil (decimal (get_or numbers i 0)))
+
+pub each_line-more : {A : Type 0} (line : A → List (List ℕ)) (xs : List A) (i : ℕ) (x : A) → i < length xs → text_of_lines (map line (take (i + 1) xs)) ≡ text_of_lines (map line (take i xs)) ++ text_of_lines (line (get_or xs i x) ∷ [])
+each_line-more line xs i x within =
+    ap (λ some. text_of_lines (map line some)) (take_more xs i x within)
+    ∙ ap text_of_lines (map-append line (take i xs) (get_or xs i x ∷ []))
+    ∙ text_of_lines-append (map line (take i xs)) (line (get_or xs i x) ∷ [])
+
+pub each_line-next : {A : Type 0} (line : A → List (List ℕ)) (xs : List A) (i : ℕ) (x : A) → slice_get xs i ≡ Some x → text_of_lines (map line (take (i + 1) xs)) ≡ text_of_lines (map line (take i xs)) ++ text_of_lines (line x ∷ [])
+each_line-next line xs i x is =
+    each_line-more line xs i x (slice_get_within xs i x is)
+    ∙ ap (λ last. text_of_lines (map line (take i xs)) ++ text_of_lines (line last ∷ [])) (get_or_from_slice_get xs i x x is)
+
+-- all elements stand before a place where there is none
+pub take-all : {A : Type 0} (xs : List A) (i : ℕ) → slice_get xs i ≡ None → take i xs ≡ xs
+take-all [] zero none = refl
+take-all [] (suc i) none = refl
+take-all (x ∷ xs) zero none = absurd cc
+take-all (x ∷ xs) (suc i) none = ap (λ rest. x ∷ rest) (take-all xs i none)
+
+pub each_lines-more : {A : Type 0} (lines : A → List (List (List ℕ))) (xs : List A) (i : ℕ) (x : A) → i < length xs → text_of_lines (flat_map lines (take (i + 1) xs)) ≡ text_of_lines (flat_map lines (take i xs)) ++ text_of_lines (lines (get_or xs i x))
+each_lines-more lines xs i x within =
+    ap (λ some. text_of_lines (flat_map lines some)) (take_more xs i x within)
+    ∙ ap text_of_lines (flat_map-append lines (take i xs) (get_or xs i x ∷ []) ∙ ap (λ last. flat_map lines (take i xs) ++ last) (append-nil (lines (get_or xs i x))))
+    ∙ text_of_lines-append (flat_map lines (take i xs)) (lines (get_or xs i x))
+
+-- the digits of a slot, and then those of others
+pub slot_digits-first : (slot : bpf_insn) (slots : List bpf_insn) → encode_lower (slot_bytes (slot ∷ slots)) ≡ encode_lower (bytes_of slot) ++ encode_lower (slot_bytes slots)
+slot_digits-first slot slots = encode_with-append lower_digits (bytes_of slot) (slot_bytes slots)
+
+pub hex_word-some : (bytes : List ℕ) → 0 < length bytes → hex_word bytes ≡ encode_lower bytes
+hex_word-some [] some = absurd (omega (arith, some))
+hex_word-some (byte ∷ bytes) some = refl
+
+pub hex_word-slots : (slots : List bpf_insn) → 0 < length slots → hex_word (slot_bytes slots) ≡ encode_lower (slot_bytes slots)
+hex_word-slots [] some = absurd (omega (arith, some))
+hex_word-slots (slot ∷ slots) some = refl
+
+pub encode_lower-nil : encode_lower [] ≡ []
+unfolding encode_with
+encode_lower-nil = refl
+
+-- ---- lines by their words
+
+pub line-parts : (first : List ℕ) (words : List (List ℕ)) → text_of_lines ((first ∷ words) ∷ []) ≡ first ++ (words_onto words [] ++ 10 ∷ [])
+line-parts first words = ap (λ rest. first ++ rest) (words_onto-split words (10 ∷ []))
+
+pub map_line-parts : (m : MapContent) → text_of_lines (map_line m ∷ []) ≡ codes "map " ++ (hex_word m.name ++ ((32 ∷ []) ++ (decimal m.number ++ ((32 ∷ []) ++ (form_word m.is_btf ++ (words_onto (map decimal (numbers_of m.words)) [] ++ ((32 ∷ []) ++ (hex_word m.contents ++ 10 ∷ []))))))))
+map_line-parts m =
+    ap (λ rest. codes "map " ++ (hex_word m.name ++ 32 ∷ (decimal m.number ++ 32 ∷ (form_word m.is_btf ++ rest))))
+    (words_onto-words (map decimal (numbers_of m.words)) (hex_word m.contents ∷ []) (10 ∷ [])
+    ∙ words_onto-split (map decimal (numbers_of m.words)) ((32 ∷ hex_word m.contents) ++ 10 ∷ []))
+
+-- ---- programs and plans by their lines
+
+pub program_lines-parts : (p : ProgramContent) → text_of_lines (program_lines p) ≡ text_of_lines (program_line p.name (kind_numbers p.section) ∷ []) ++ (text_of_lines (slots_line p.slots ∷ []) ++ (text_of_lines (map func_line p.func_records) ++ text_of_lines (map source_line p.line_records)))
+program_lines-parts p =
+    text_of_lines-first (program_line p.name (kind_numbers p.section)) (slots_line p.slots ∷ (map func_line p.func_records ++ map source_line p.line_records))
+    ∙ ap (λ rest. text_of_lines (program_line p.name (kind_numbers p.section) ∷ []) ++ rest)
+    (text_of_lines-first (slots_line p.slots) (map func_line p.func_records ++ map source_line p.line_records)
+    ∙ ap (λ rest. text_of_lines (slots_line p.slots ∷ []) ++ rest) (text_of_lines-append (map func_line p.func_records) (map source_line p.line_records)))
+
+five_parts : (a b c d e : List (List (List ℕ))) (line : List (List ℕ)) → text_of_lines (a ++ (b ++ line ∷ (c ++ (d ++ e)))) ≡ text_of_lines a ++ (text_of_lines b ++ (text_of_lines (line ∷ []) ++ (text_of_lines c ++ (text_of_lines d ++ text_of_lines e))))
+five_parts a b c d e line =
+    text_of_lines-append a (b ++ line ∷ (c ++ (d ++ e)))
+    ∙ ap (λ rest. text_of_lines a ++ rest) (text_of_lines-append b (line ∷ (c ++ (d ++ e)))
+    ∙ ap (λ rest. text_of_lines b ++ rest) (text_of_lines-first line (c ++ (d ++ e))
+    ∙ ap (λ rest. text_of_lines (line ∷ []) ++ rest) (text_of_lines-append c (d ++ e)
+    ∙ ap (λ rest. text_of_lines c ++ rest) (text_of_lines-append d e))))
+
+pub text_of-parts : (plan : PlanContent) → text_of plan ≡ text_of_lines (first_lines plan) ++ (text_of_lines (map feature_line plan.features) ++ (text_of_lines (types_line plan.type_bytes ∷ []) ++ (text_of_lines (flat_map map_lines plan.maps) ++ (text_of_lines (flat_map program_lines plan.programs) ++ text_of_lines (end_line ∷ [])))))
+unfolding text_of
+text_of-parts plan =
+    five_parts (first_lines plan) (map feature_line plan.features) (flat_map map_lines plan.maps) (flat_map program_lines plan.programs) (end_line ∷ []) (types_line plan.type_bytes)

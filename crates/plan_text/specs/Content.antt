@@ -1,0 +1,77 @@
+-- What a load plan says.
+use Rattle.std.specs.Prelude.{◌≡◌, ℕ, ◌<◌, ◌^◌, Bool, true, false, List, length, map, Option, IfSome}
+use Rattle.std.specs.List.{All}
+use Rattle.std.specs.List.Sorted.{IsStrictlySortedBy}
+use Rattle.std.specs.Ordering.{nat_cmp}
+use Rattle.std.specs.Cmp.Lexicographic.{slice_cmp}
+use Rattle.btf_extension.specs.declared.record.bpf_func_info.{bpf_func_info}
+use Rattle.btf_extension.specs.declared.record.bpf_line_info.{bpf_line_info}
+use Rattle.btf_sanitizing.specs.Answers.{Answers, AreDistinct, features}
+use Rattle.ebpf_items.specs.declared.instruction.bpf_insn.{bpf_insn}
+use Rattle.object_file.specs.License.{HasNoNul}
+use Rattle.object_file.specs.Version.{IsKnownVersion}
+use Rattle.plan_text.specs.declared.plan.MapWords.{MapWords}
+use Rattle.program_kinds.specs.declared.program_section.ProgramSection.{ProgramSection}
+
+-- a map of the plan: its name's bytes, its number, whether types define it, its words, the bytes of
+-- its variables, and the words of the maps that it holds
+pub record MapContent : Type 0 where
+  pub name : List ℕ
+  pub number : ℕ
+  pub is_btf : Bool
+  pub words : MapWords
+  pub contents : List ℕ
+  pub inner : Option MapWords
+
+-- a program of the plan: its name's bytes, its kind, its slots, and the records of its functions and lines
+pub record ProgramContent : Type 0 where
+  pub name : List ℕ
+  pub section : ProgramSection
+  pub slots : List bpf_insn
+  pub func_records : List bpf_func_info
+  pub line_records : List bpf_line_info
+
+-- a plan: the license without its NUL, the kernel version (none stands for any), the features that
+-- were asked about, the bytes of the types where there are some, the maps and the programs
+pub record PlanContent : Type 0 where
+  pub license : List ℕ
+  pub version : Option ℕ
+  pub features : Answers
+  pub type_bytes : Option (List ℕ)
+  pub maps : List MapContent
+  pub programs : List ProgramContent
+
+abbrev pub map_names : List MapContent → List (List ℕ)
+map_names maps = map (λ m. m.name) maps
+
+abbrev pub program_names : List ProgramContent → List (List ℕ)
+program_names programs = map (λ p. p.name) programs
+
+-- names strictly rise by bytes
+abbrev pub AreRising : List (List ℕ) → Type 0
+AreRising names = IsStrictlySortedBy (slice_cmp nat_cmp) names
+
+-- the words of a map that types define have no id; those of another have no extra word and no types
+abbrev pub AreWordsOf : Bool → MapWords → Type 0
+AreWordsOf true words = words.id ≡ 0
+AreWordsOf false words = (words.map_extra ≡ 0) × (words.btf_key_type_id ≡ 0) × (words.btf_value_type_id ≡ 0)
+
+-- what each map of a plan keeps to
+pub record IsSoundMap (m : MapContent) : Type 0 where
+  pub number : m.number < 2 ^ 31
+  pub words : AreWordsOf m.is_btf m.words
+  pub inner : IfSome m.inner (AreWordsOf m.is_btf)
+
+-- bytes of types are at least one
+abbrev pub AreTypeBytes : Option (List ℕ) → Type 0
+AreTypeBytes type_bytes = IfSome type_bytes (λ bytes. 0 < length bytes)
+
+-- what each plan keeps to
+pub record IsSoundPlan (plan : PlanContent) : Type 0 where
+  pub license : HasNoNul plan.license
+  pub version : IsKnownVersion plan.version
+  pub features : AreDistinct (features plan.features)
+  pub type_bytes : AreTypeBytes plan.type_bytes
+  pub maps : All IsSoundMap plan.maps
+  pub map_names : AreRising (map_names plan.maps)
+  pub program_names : AreRising (program_names plan.programs)

@@ -1,0 +1,4 @@
+pub mod Content
+pub mod PlanGrammar
+pub mod PlanParts
+pub mod ProgramKinds

@@ -1,0 +1,18 @@
+//! Load plans, what a loader hands to one kernel, and their text.
+#![tactic(auto)]
+
+mod map_lines;
+mod plan;
+mod program_kind;
+mod program_lines;
+mod words;
+mod writing;
+
+pub use btf_extension::{FuncSecInfo, LineSecInfo, bpf_func_info, bpf_line_info};
+pub use btf_records::BtfFeature;
+pub use btf_sanitizing::Answers;
+pub use ebpf_items::{PinningType, ProgramSection, Slots, Watched, bpf_insn};
+pub use plan::{MapWords, Plan, PlanMap, PlanParts, PlanProgram};
+
+#[cfg(test)]
+mod tests;

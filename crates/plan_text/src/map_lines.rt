@@ -1,0 +1,93 @@
+//! The lines of maps, written without memory.
+
+ghost use Rattle.std.specs.Prelude.{◌≡◌, [], ◌∷◌, flat_map};
+ghost use Rattle.watched.specs.Watched.{Sends};
+ghost use Rattle.plan_text.specs.PlanGrammar.{form_word, inner_line, inner_lines, map_line, map_lines, numbers_of, pinning_number, text_of_lines};
+
+use crate::plan::{MapWords, PlanMap};
+use crate::words::{send_bytes, send_decimal, send_numbers};
+use ebpf_items::{PinningType, Watched};
+use std::io::Write;
+
+fn pinning_number(pinning: PinningType) -> u64
+    ensures { result ≡ pinning_number pinning }
+{
+    pinning as u64
+}
+
+/// The numbers that define a map, in the order of a line.
+fn numbers_of(words: MapWords) -> [u64; 10]
+    ensures { result ≡ numbers_of words }
+{
+    [
+        u64::from(words.map_type),
+        u64::from(words.key_size),
+        u64::from(words.value_size),
+        u64::from(words.max_entries),
+        u64::from(words.map_flags),
+        words.map_extra,
+        pinning_number(words.pinning),
+        u64::from(words.id),
+        u64::from(words.btf_key_type_id),
+        u64::from(words.btf_value_type_id),
+    ]
+}
+
+fn send_form<W: Write>(out: &mut Watched<W>, is_btf: bool)
+    ensures { Sends W.contents out.old out.new (form_word is_btf) }
+{
+    if is_btf {
+        out.send(b"btf");
+    } else {
+        out.send(b"legacy");
+    }
+}
+
+fn send_map_line<W: Write>(out: &mut Watched<W>, map: &PlanMap<'_>)
+    ensures { Sends W.contents out.old out.new (text_of_lines (map_line map.now ∷ [])) }
+{
+    out.send(b"map ");
+    send_bytes(out, map.name().as_bytes());
+    out.send(b" ");
+    send_decimal(out, u64::from(map.number()));
+    out.send(b" ");
+    send_form(out, map.is_btf());
+    let numbers = numbers_of(map.words());
+    send_numbers(out, &numbers);
+    out.send(b" ");
+    send_bytes(out, map.contents());
+    out.send(b"\n");
+}
+
+fn send_inner_line<W: Write>(out: &mut Watched<W>, words: MapWords)
+    ensures { Sends W.contents out.old out.new (text_of_lines (inner_line words ∷ [])) }
+{
+    out.send(b"inner");
+    let numbers = numbers_of(words);
+    send_numbers(out, &numbers);
+    out.send(b"\n");
+}
+
+fn send_inner_lines<W: Write>(out: &mut Watched<W>, inner: Option<MapWords>)
+    ensures { Sends W.contents out.old out.new (text_of_lines (inner_lines inner)) }
+{
+    if let Some(words) = inner {
+        send_inner_line(out, words);
+    }
+}
+
+fn send_map<W: Write>(out: &mut Watched<W>, map: &PlanMap<'_>)
+    ensures { Sends W.contents out.old out.new (text_of_lines (map_lines map.now)) }
+{
+    send_map_line(out, map);
+    send_inner_lines(out, map.inner());
+}
+
+/// Sends the lines of maps.
+pub(crate) fn send_maps<W: Write>(out: &mut Watched<W>, maps: &[PlanMap<'_>])
+    ensures { Sends W.contents out.old out.new (text_of_lines (flat_map map_lines maps.now)) }
+{
+    for map in maps {
+        send_map(out, map);
+    }
+}

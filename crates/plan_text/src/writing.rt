@@ -1,0 +1,122 @@
+//! A plan as text, written without memory.
+
+ghost use Rattle.std.specs.Prelude.{◌≡◌, ◌↔◌, [], ◌∷◌, map, true, OnOk, OnErr, IsErr};
+ghost use Rattle.std.specs.Io.KnownBytes.{Appends};
+ghost use Rattle.std.specs.Option.{option_map};
+ghost use Rattle.watched.specs.Watched.{watched_inner, has_failed, AppendsPart, Sends};
+ghost use Rattle.plan_text.specs.PlanGrammar.{answer_word, feature_line, feature_word, first_lines, text_of, text_of_lines, types_line, types_word, version_word};
+
+use crate::map_lines::send_maps;
+use crate::plan::Plan;
+use crate::program_lines::send_programs;
+use crate::words::{send_bytes, send_decimal};
+use btf_records::BtfFeature;
+use ebpf_items::Watched;
+use std::io;
+use std::io::{ErrorKind, Write};
+
+fn send_version<W: Write>(out: &mut Watched<W>, version: Option<u32>)
+    ensures { Sends W.contents out.old out.new (version_word version) }
+{
+    match version {
+        None => out.send(b"any"),
+        Some(version) => send_decimal(out, u64::from(version)),
+    }
+}
+
+fn send_first_lines<W: Write>(out: &mut Watched<W>, plan: &Plan<'_>)
+    ensures { Sends W.contents out.old out.new (text_of_lines (first_lines plan.now)) }
+{
+    out.send(b"bpf-plan 1\nlicense ");
+    send_bytes(out, plan.license());
+    out.send(b"\nversion ");
+    send_version(out, plan.version());
+    out.send(b"\n");
+}
+
+fn feature_word(feature: BtfFeature) -> &'static [u8]
+    ensures { result.now ≡ feature_word feature }
+{
+    match feature {
+        BtfFeature::Func => b"Func",
+        BtfFeature::FuncGlobal => b"FuncGlobal",
+        BtfFeature::DataSec => b"DataSec",
+        BtfFeature::DataSecZero => b"DataSecZero",
+        BtfFeature::Float => b"Float",
+        BtfFeature::DeclTag => b"DeclTag",
+        BtfFeature::TypeTag => b"TypeTag",
+        BtfFeature::Enum64 => b"Enum64",
+    }
+}
+
+fn answer_word(answer: bool) -> &'static [u8]
+    ensures { result.now ≡ answer_word answer }
+{
+    if answer { b"yes" } else { b"no" }
+}
+
+fn send_feature_line<W: Write>(out: &mut Watched<W>, answer: &(BtfFeature, bool))
+    ensures { Sends W.contents out.old out.new (text_of_lines (feature_line answer.now ∷ [])) }
+{
+    out.send(b"feature ");
+    out.send(feature_word(answer.0));
+    out.send(b" ");
+    out.send(answer_word(answer.1));
+    out.send(b"\n");
+}
+
+fn send_feature_lines<W: Write>(out: &mut Watched<W>, answers: &[(BtfFeature, bool)])
+    ensures { Sends W.contents out.old out.new (text_of_lines (map feature_line answers.now)) }
+{
+    for answer in answers {
+        send_feature_line(out, answer);
+    }
+}
+
+fn send_types<W: Write>(out: &mut Watched<W>, type_bytes: Option<&[u8]>)
+    ensures { Sends W.contents out.old out.new (types_word (option_map (λ bytes. bytes.now) type_bytes.entry)) }
+{
+    match type_bytes {
+        None => out.send(b"none"),
+        Some(bytes) => send_bytes(out, bytes),
+    }
+}
+
+fn send_types_line<W: Write>(out: &mut Watched<W>, plan: &Plan<'_>)
+    ensures { Sends W.contents out.old out.new (text_of_lines (types_line plan.now.type_bytes ∷ [])) }
+{
+    out.send(b"types ");
+    send_types(out, plan.type_bytes());
+    out.send(b"\n");
+}
+
+fn send_plan<W: Write>(out: &mut Watched<W>, plan: &Plan<'_>)
+    ensures { Sends W.contents out.old out.new (text_of plan.now) }
+{
+    send_first_lines(out, plan);
+    send_feature_lines(out, plan.features());
+    send_types_line(out, plan);
+    send_maps(out, plan.maps());
+    send_programs(out, plan.programs());
+    out.send(b"end\n");
+}
+
+impl<'a> Plan<'a> {
+    /// Writes the text of the plan, and takes no memory for it.
+    ///
+    /// # Errors
+    ///
+    /// Where the writer fails, or answers 0 to some bytes; a beginning of the text went out then.
+    pub fn write<W: Write>(&self, out: &mut Watched<W>) -> io::Result<()>
+        ensures ok { OnOk result (Appends (W.contents (watched_inner out.old)) (W.contents (watched_inner out.new)) (text_of self.now)) }
+        ensures part { OnErr result (AppendsPart (W.contents (watched_inner out.old)) (W.contents (watched_inner out.new)) (text_of self.now)) }
+        ensures failed { IsErr result ↔ (has_failed out.new ≡ true) }
+        ensures at_once { has_failed out.old ≡ true → out.new ≡ out.old }
+    {
+        send_plan(out, self);
+        if out.failed() {
+            return Err(io::Error::from(ErrorKind::Other));
+        }
+        Ok(())
+    }
+}

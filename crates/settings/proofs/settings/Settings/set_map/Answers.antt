@@ -1,0 +1,8 @@
+use Rattle.std.proofs.Common.{ap}
+use Rattle.settings.specs.Content.{SettingsContent}
+use Rattle.settings.specs.Names.{by_bytes}
+use Rattle.settings.proofs.ByBytes.{by_bytes-insert}
+use Rattle.settings.proofs.settings.Settings.set_map.Goals as goal
+
+pub returns-clause-ok : goal.returns-clause-ok
+returns-clause-ok c = rw (← c.self.view_is, c.in_ok-insert.ensures.entries) (ap (λ m. let s : SettingsContent = record { maps = m; globals = by_bytes c.self.inside.globals.entries } in s) (by_bytes-insert c.self.inside.maps.entries c.args.name c.args.number))

@@ -1,0 +1,88 @@
+//! Settings, by name.
+
+ghost use Rattle.std.specs.Prelude.{◌≡◌, ◌==◌, [], length, not, OnOk, OnErr};
+ghost use Rattle.std.specs.BTreeMap.{insert_entry};
+ghost use Rattle.std.specs.Cmp.Lexicographic.{slice_cmp};
+ghost use Rattle.std.specs.Ordering.{nat_cmp};
+
+use std::alloc::{AllocError, Global};
+use std::collections::BTreeMap;
+use std::marker::Model;
+
+/// The value of a global variable.
+#[derive(Debug, Drop)]
+pub struct GlobalValue<'s> {
+    /// The variable's bytes, as many as it has.
+    pub bytes: &'s [u8],
+    /// Whether an object without this variable is refused.
+    pub must_exist: bool,
+}
+
+impl<'s> Model for GlobalValue<'s> {
+    ghost use Rattle.settings.specs.Content.{GlobalContent};
+
+    ghost Value = { GlobalContent };
+
+    ghost view = { λ g. record { bytes = g.bytes.now; must_exist = g.must_exist } };
+}
+
+/// Numbers of maps and values of global variables, by the names that these have in an object.
+#[derive(Debug, Drop)]
+pub struct Settings<'s> {
+    maps: BTreeMap<&'s str, u32>,
+    globals: BTreeMap<&'s str, GlobalValue<'s>>,
+}
+
+impl<'s> Model for Settings<'s> {
+    ghost use Rattle.settings.specs.Content.{SettingsContent};
+    ghost use Rattle.settings.specs.Names.{by_bytes};
+
+    ghost Value = { SettingsContent };
+
+    ghost view = { λ s. record { maps = by_bytes s.maps.entries; globals = by_bytes s.globals.entries } };
+}
+
+impl<'s> Settings<'s> {
+    /// Nothing is set.
+    pub fn new(alloc: Global) -> Settings<'s>
+        ensures { result ≡ record { maps = []; globals = [] } }
+    {
+        Settings {
+            maps: BTreeMap::new(alloc),
+            globals: BTreeMap::new(alloc),
+        }
+    }
+
+    /// Sets the number by which programs know a map: its file descriptor, or what stands for it. Of
+    /// several numbers of one name the last one counts.
+    pub fn set_map(&mut self, name: &'s str, number: u32) -> Result<(), AllocError>
+        ensures ok { OnOk result (self.new ≡ record self.old { maps = insert_entry (slice_cmp nat_cmp) self.old.maps name.now number }) }
+        ensures err { OnErr result (self.new ≡ self.old) }
+    {
+        self.maps.insert(name, number)?;
+        Ok(())
+    }
+
+    /// Sets the bytes of a global variable. `must_exist` says whether an object that has no such
+    /// variable is refused. Of several values of one name the last one counts.
+    pub fn set_global(
+        &mut self,
+        name: &'s str,
+        bytes: &'s [u8],
+        must_exist: bool,
+    ) -> Result<(), AllocError>
+        ensures ok { OnOk result (self.new ≡ record self.old { globals = insert_entry (slice_cmp nat_cmp) self.old.globals name.now (record { bytes = bytes.now; must_exist = must_exist }) }) }
+        ensures err { OnErr result (self.new ≡ self.old) }
+    {
+        let value = GlobalValue { bytes, must_exist };
+        self.globals.insert(name, value)?;
+        Ok(())
+    }
+
+    /// Whether the value of a global variable is set.
+    pub fn has_globals(&self) -> bool
+        ensures { result ≡ not (length self.now.globals == 0) }
+    {
+        !self.globals.is_empty()
+    }
+}

@@ -1,0 +1,16 @@
+//! Which of the passes that don't exist yet have something to do with an object's functions.
+#![tactic(auto)]
+
+mod externs;
+mod function;
+mod helpers;
+mod maps;
+mod pass;
+
+pub use externs::has_extern_relocation;
+pub use helpers::has_older_helper;
+pub use maps::has_map_relocation;
+pub use pass::Pass;
+
+#[cfg(test)]
+mod tests;

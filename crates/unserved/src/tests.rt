@@ -1,0 +1,161 @@
+//! Relocations inside a function, and calls of helpers.
+
+use crate::{has_extern_relocation, has_map_relocation, has_older_helper};
+use btf_extension::{FuncSecInfo, LineSecInfo};
+use ebpf_items::Slots;
+use object_file::ObjectFile;
+use object_parts::{Function, Functions};
+use sample_objects::with_bytes;
+use std::alloc::Global;
+use std::collections::BTreeSet;
+
+/// An object with a section `kprobe` (index 2), whose function takes four slots: a wide load, a
+/// call of a function and an exit. Its one relocation (at 104: eight bytes of offset, four of type, four of
+/// symbol) is at the load, by symbol 3. Symbol 1 is the function, symbol 2 a function of `.text`
+/// (index 4), symbol 3 a variable of `.data`, and symbol 4 isn't defined.
+static OBJECT: [u8; 928] = [
+    0x7f, 0x45, 0x4c, 0x46, 2, 1, 1, 0, 0, 0, 0, 0, 0, 0, 0, 0, 1, 0, 0xf7, 0, 1, 0, 0, 0, 0, 0, 0,
+    0, 0, 0, 0, 0, 0, 0, 0, 0, 0, 0, 0, 0, 0x60, 1, 0, 0, 0, 0, 0, 0, 0, 0, 0, 0, 0x40, 0, 0, 0, 0,
+    0, 0x40, 0, 9, 0, 8, 0, 0x47, 0x50, 0x4c, 0, 0, 0, 0, 0, 0x18, 1, 0, 0, 0, 0, 0, 0, 0, 0, 0, 0,
+    0, 0, 0, 0, 0x85, 0x10, 0, 0, 0xff, 0xff, 0xff, 0xff, 0x95, 0, 0, 0, 0, 0, 0, 0, 0, 0, 0, 0, 0,
+    0, 0, 0, 1, 0, 0, 0, 3, 0, 0, 0, 0x95, 0, 0, 0, 0, 0, 0, 0, 0, 0, 0, 0, 0, 0, 0, 0, 0, 0, 0, 0,
+    0, 0, 0, 0, 0, 0, 0, 0, 0, 0, 0, 0, 0, 0, 0, 0, 0, 0, 0, 0, 1, 0, 0, 0, 0x12, 0, 2, 0, 0, 0, 0,
+    0, 0, 0, 0, 0, 0x20, 0, 0, 0, 0, 0, 0, 0, 3, 0, 0, 0, 0x12, 0, 4, 0, 0, 0, 0, 0, 0, 0, 0, 0, 8,
+    0, 0, 0, 0, 0, 0, 0, 7, 0, 0, 0, 0x11, 0, 5, 0, 0, 0, 0, 0, 0, 0, 0, 0, 8, 0, 0, 0, 0, 0, 0, 0,
+    0x0d, 0, 0, 0, 0x10, 0, 0, 0, 0, 0, 0, 0, 0, 0, 0, 0, 0, 0, 0, 0, 0, 0, 0, 0, 0, 0x66, 0, 0x61,
+    0x64, 0x64, 0, 0x76, 0x61, 0x6c, 0x75, 0x65, 0, 0x6f, 0x75, 0x74, 0x73, 0x69, 0x64, 0x65, 0, 0,
+    0, 0, 0, 0x6c, 0x69, 0x63, 0x65, 0x6e, 0x73, 0x65, 0, 0x6b, 0x70, 0x72, 0x6f, 0x62, 0x65, 0,
+    0x2e, 0x72, 0x65, 0x6c, 0x6b, 0x70, 0x72, 0x6f, 0x62, 0x65, 0, 0x2e, 0x74, 0x65, 0x78, 0x74, 0,
+    0x2e, 0x64, 0x61, 0x74, 0x61, 0, 0x2e, 0x73, 0x79, 0x6d, 0x74, 0x61, 0x62, 0, 0x2e, 0x73, 0x74,
+    0x72, 0x74, 0x61, 0x62, 0, 0x2e, 0x73, 0x68, 0x73, 0x74, 0x72, 0x74, 0x61, 0x62, 0, 0, 0, 0, 0,
+    0, 0, 0, 0, 0, 0, 0, 0, 0, 0, 0, 0, 0, 0, 0, 0, 0, 0, 0, 0, 0, 0, 0, 0, 0, 0, 0, 0, 0, 0, 0, 0,
+    0, 0, 0, 0, 0, 0, 0, 0, 0, 0, 0, 0, 0, 0, 0, 0, 0, 0, 0, 0, 0, 0, 0, 0, 0, 0, 0, 0, 0, 0, 0, 0,
+    0, 0, 0, 1, 0, 0, 0, 1, 0, 0, 0, 3, 0, 0, 0, 0, 0, 0, 0, 0, 0, 0, 0, 0, 0, 0, 0, 0x40, 0, 0, 0,
+    0, 0, 0, 0, 4, 0, 0, 0, 0, 0, 0, 0, 0, 0, 0, 0, 0, 0, 0, 0, 8, 0, 0, 0, 0, 0, 0, 0, 0, 0, 0, 0,
+    0, 0, 0, 0, 9, 0, 0, 0, 1, 0, 0, 0, 6, 0, 0, 0, 0, 0, 0, 0, 0, 0, 0, 0, 0, 0, 0, 0, 0x48, 0, 0,
+    0, 0, 0, 0, 0, 0x20, 0, 0, 0, 0, 0, 0, 0, 0, 0, 0, 0, 0, 0, 0, 0, 8, 0, 0, 0, 0, 0, 0, 0, 0, 0,
+    0, 0, 0, 0, 0, 0, 0x10, 0, 0, 0, 9, 0, 0, 0, 0, 0, 0, 0, 0, 0, 0, 0, 0, 0, 0, 0, 0, 0, 0, 0,
+    0x68, 0, 0, 0, 0, 0, 0, 0, 0x10, 0, 0, 0, 0, 0, 0, 0, 6, 0, 0, 0, 2, 0, 0, 0, 8, 0, 0, 0, 0, 0,
+    0, 0, 0, 0, 0, 0, 0, 0, 0, 0, 0x1b, 0, 0, 0, 1, 0, 0, 0, 6, 0, 0, 0, 0, 0, 0, 0, 0, 0, 0, 0, 0,
+    0, 0, 0, 0x78, 0, 0, 0, 0, 0, 0, 0, 8, 0, 0, 0, 0, 0, 0, 0, 0, 0, 0, 0, 0, 0, 0, 0, 8, 0, 0, 0,
+    0, 0, 0, 0, 0, 0, 0, 0, 0, 0, 0, 0, 0x21, 0, 0, 0, 1, 0, 0, 0, 3, 0, 0, 0, 0, 0, 0, 0, 0, 0, 0,
+    0, 0, 0, 0, 0, 0x80, 0, 0, 0, 0, 0, 0, 0, 8, 0, 0, 0, 0, 0, 0, 0, 0, 0, 0, 0, 0, 0, 0, 0, 8, 0,
+    0, 0, 0, 0, 0, 0, 0, 0, 0, 0, 0, 0, 0, 0, 0x27, 0, 0, 0, 2, 0, 0, 0, 0, 0, 0, 0, 0, 0, 0, 0, 0,
+    0, 0, 0, 0, 0, 0, 0, 0x88, 0, 0, 0, 0, 0, 0, 0, 0x78, 0, 0, 0, 0, 0, 0, 0, 7, 0, 0, 0, 0, 0, 0,
+    0, 8, 0, 0, 0, 0, 0, 0, 0, 0x18, 0, 0, 0, 0, 0, 0, 0, 0x2f, 0, 0, 0, 3, 0, 0, 0, 0, 0, 0, 0, 0,
+    0, 0, 0, 0, 0, 0, 0, 0, 0, 0, 0, 0, 1, 0, 0, 0, 0, 0, 0, 0x15, 0, 0, 0, 0, 0, 0, 0, 0, 0, 0, 0,
+    0, 0, 0, 0, 8, 0, 0, 0, 0, 0, 0, 0, 0, 0, 0, 0, 0, 0, 0, 0, 0x37, 0, 0, 0, 3, 0, 0, 0, 0, 0, 0,
+    0, 0, 0, 0, 0, 0, 0, 0, 0, 0, 0, 0, 0, 0x18, 1, 0, 0, 0, 0, 0, 0, 0x41, 0, 0, 0, 0, 0, 0, 0, 0,
+    0, 0, 0, 0, 0, 0, 0, 8, 0, 0, 0, 0, 0, 0, 0, 0, 0, 0, 0, 0, 0, 0, 0,
+];
+
+const RELOCATION_AT: usize = 104;
+
+const SYMBOL_AT: usize = RELOCATION_AT + 12;
+
+const SLOTS: &[u8] = &[
+    0x18, 0x01, 0, 0, 0, 0, 0, 0, 0, 0, 0, 0, 0, 0, 0, 0, 0x85, 0x10, 0, 0, 0xff, 0xff, 0xff, 0xff,
+    0x95, 0, 0, 0, 0, 0, 0, 0,
+];
+
+/// The last eight of the offsets of 64 bits begin here.
+const LAST_SLOT: u64 = 0xffff_ffff_ffff_fff8;
+
+/// Where a function begins, the offset and the symbol of a relocation, and whether it asks for a map
+/// and for an extern.
+type Case = (u64, u64, u8, (bool, bool));
+
+const CASES: [Case; 15] = [
+    // A variable, at each slot but the call.
+    (0, 0, 3, (true, false)),
+    (0, 16, 3, (false, false)),
+    (0, 24, 3, (true, false)),
+    // Behind the function, and before it.
+    (0, 32, 3, (false, false)),
+    (8, 0, 3, (false, false)),
+    (8, 32, 3, (true, false)),
+    // A function, at a whole slot and at none.
+    (0, 0, 2, (false, false)),
+    (0, 4, 2, (true, false)),
+    (4, 4, 2, (false, false)),
+    // An extern, at a whole slot and at none.
+    (0, 0, 4, (false, true)),
+    (0, 4, 4, (true, true)),
+    // A symbol that the object hasn't.
+    (0, 0, 9, (true, false)),
+    // Functions that reach past the offsets.
+    (LAST_SLOT, LAST_SLOT, 3, (true, false)),
+    (LAST_SLOT, LAST_SLOT + 7, 4, (true, true)),
+    (LAST_SLOT, 0, 3, (false, false)),
+];
+
+/// A function of section 2 with these slots.
+fn functions<'a>(alloc: Global, section_offset: usize, slots: &'a [u8]) -> Option<Functions<'a>> {
+    let function = Function {
+        address: 0,
+        name: "f",
+        section_index: 2,
+        section_offset,
+        instructions: Slots::borrowed(alloc, slots)?,
+        func_info: FuncSecInfo::from_records(Vec::new(alloc)),
+        line_info: LineSecInfo::from_records(Vec::new(alloc)),
+        func_info_rec_size: 0,
+        line_info_rec_size: 0,
+    };
+    let mut functions = Functions::new(alloc);
+    functions.insert(function).ok()?;
+    Some(functions)
+}
+
+/// Whether a relocation asks for a map, and whether for an extern.
+fn asks(alloc: Global, case: &Case) -> Option<(bool, bool)> {
+    let (start, offset, symbol, _) = *case;
+    let object = with_bytes(
+        &OBJECT,
+        &[
+            (RELOCATION_AT, &offset.to_le_bytes()),
+            (SYMBOL_AT, &[symbol]),
+        ],
+    );
+    let file = ObjectFile::parse(alloc, &object).ok()?;
+    let functions = functions(alloc, start as usize, SLOTS)?;
+    let mut text_sections = BTreeSet::new(alloc);
+    text_sections.insert(2).ok()?;
+    text_sections.insert(4).ok()?;
+    Some((
+        has_map_relocation(&file, &functions, &text_sections),
+        has_extern_relocation(&file, &functions),
+    ))
+}
+
+#[test]
+fn finds_relocations(rt: HostRuntime) {
+    for case in CASES.iter() {
+        assert_eq!(rt; asks(rt.alloc(), case), Some(case.3));
+    }
+}
+
+// The number of a helper, from `enum bpf_func_id` of the kernel's `bpf.h`, or what else a slot is,
+// and whether an older helper can stand in for it.
+const CALLS: [([u8; 8], bool); 9] = [
+    ([0x85, 0, 0, 0, 111, 0, 0, 0], false),
+    ([0x85, 0, 0, 0, 112, 0, 0, 0], true),
+    ([0x85, 0, 0, 0, 113, 0, 0, 0], true),
+    ([0x85, 0, 0, 0, 114, 0, 0, 0], true),
+    ([0x85, 0, 0, 0, 115, 0, 0, 0], true),
+    ([0x85, 0, 0, 0, 116, 0, 0, 0], false),
+    ([0x85, 0x10, 0, 0, 112, 0, 0, 0], false),
+    ([0x85, 0x01, 0, 0, 112, 0, 0, 0], false),
+    ([0xb7, 0, 0, 0, 112, 0, 0, 0], false),
+];
+
+#[test]
+fn finds_calls_of_newer_helpers(rt: HostRuntime) {
+    for (slot, is_newer) in CALLS.iter() {
+        let found = match functions(rt.alloc(), 0, slot) {
+            Some(functions) => Some(has_older_helper(&functions)),
+            None => None,
+        };
+        assert_eq!(rt; found, Some(*is_newer));
+    }
+}
