@@ -1,0 +1,4 @@
+pub mod Maps
+pub mod Names
+pub mod Records
+pub mod Types

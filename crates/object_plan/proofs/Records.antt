@@ -1,0 +1,108 @@
+-- The records of linked programs name functions where those of all functions do.
+use Rattle.std.proofs.Common.{◌≡◌, ℕ, List, [], ◌∷◌, ◌++◌, map, Bool, true, false, not, Some, None, refl, sym, ap, ◌∙◌, subst}
+use Rattle.std.specs.Prelude.{Option, ◌||◌, if◌then◌else◌}
+use Rattle.std.specs.BTreeMap.{is_at}
+use Rattle.std.specs.List.{list_any}
+use Rattle.std.specs.Map.{lookup}
+use Rattle.btf_extension.specs.declared.record.bpf_func_info.{bpf_func_info}
+use Rattle.btf_sanitizing.specs.Answers.{Answers}
+use Rattle.btf_tables.specs.Tables.{Table}
+use Rattle.function_layout.specs.Layout.{Key, end_of, has}
+use Rattle.function_types.specs.Named.{all_named, keeps_nameless, names_function}
+use Rattle.function_types.specs.Rewritten.{is_denied}
+use Rattle.linker.specs.Linked.{AreLinked, IsLinkedIn}
+use Rattle.linker.specs.Records.{functions_in, functions_of, moved_function}
+use Rattle.linker.specs.Unlinked.{Unlinked, table_of}
+use Rattle.object_parts.specs.Content.{FunctionContent, ProgramContent, function_at, key_cmp}
+use Rattle.program_kinds.specs.declared.program_section.ProgramSection.{ProgramSection}
+use Rattle.object_plan.specs.Laws.{RecordsName}
+use Rattle.object_plan.specs.Plans.{AllName, AllNamed, Names, plan_program_of, program_of}
+
+-- each of some records does
+abbrev AreNames : Option Table → List bpf_func_info → Type 0
+AreNames types [] = Unit {0}
+AreNames types (r ∷ rs) = (names_function types r.type_id ≡ true) × AreNames types rs
+
+not_false : (b : Bool) → not b ≡ false → b ≡ true
+not_false true h = refl
+not_false false h = absurd (cc)
+
+not_true : (b : Bool) → not b ≡ true → b ≡ false
+not_true true h = absurd (cc)
+not_true false h = refl
+
+left_false : (a b : Bool) → (a || b) ≡ false → a ≡ false
+left_false true b h = absurd (cc)
+left_false false b h = refl
+
+right_false : (a b : Bool) → (a || b) ≡ false → b ≡ false
+right_false true b h = absurd (cc)
+right_false false b h = h
+
+names_of : (types : Option Table) (rs : List bpf_func_info) → list_any (λ r. not (names_function types r.type_id)) rs ≡ false → AreNames types rs
+names_of types [] h = tt
+names_of types (r ∷ rs) h = (not_false (names_function types r.type_id) (left_false _ _ h), names_of types rs (right_false _ _ h))
+
+-- those of a function that is there
+
+found_under : (types : Option Table) (b : Bool) (here : FunctionContent) (others : Option FunctionContent) (f : FunctionContent) → (if b then Some here else others) ≡ Some f → keeps_nameless types here ≡ false → (others ≡ Some f → keeps_nameless types f ≡ false) → keeps_nameless types f ≡ false
+found_under types true here others f at h later = let same : here ≡ f = cc in ap (keeps_nameless types) (sym same) ∙ h
+found_under types false here others f at h later = later at
+
+found_named : (types : Option Table) (functions : List (Key × FunctionContent)) (key : Key) (f : FunctionContent) → list_any (λ e. keeps_nameless types e.1) functions ≡ false → function_at functions key ≡ Some f → keeps_nameless types f ≡ false
+found_named types [] key f h at = absurd (cc)
+found_named types (e ∷ es) key f h at =
+    found_under types (is_at (key_cmp key) e.0) e.1 (lookup (is_at (key_cmp key)) es) f at (left_false _ _ h) (found_named types es key f (right_false _ _ h))
+
+named_in : (types : Option Table) (functions : List (Key × FunctionContent)) (key : Key) (o : Option FunctionContent) → list_any (λ e. keeps_nameless types e.1) functions ≡ false → function_at functions key ≡ o → AreNames types (functions_in o)
+named_in types functions key None h at = tt
+named_in types functions key (Some f) h at = names_of types f.func_info (found_named types functions key f h at)
+
+-- those of copies
+moved_named : (types : Option Table) (start : ℕ) (rs : List bpf_func_info) → AreNames types rs → AreNames types (map (moved_function start) rs)
+moved_named types start [] h = tt
+moved_named types start (r ∷ rs) h = (h.0, moved_named types start rs h.1)
+
+both_named : (types : Option Table) (xs ys : List bpf_func_info) → AreNames types xs → AreNames types ys → AreNames types (xs ++ ys)
+both_named types [] ys hx hy = hy
+both_named types (x ∷ xs) ys hx hy = (hx.0, both_named types xs ys hx.1 hy)
+
+copies_named : (types : Option Table) (u : Unlinked) (own : Key) (ks : List Key) → list_any (λ e. keeps_nameless types e.1) u.functions ≡ false → AreNames types (functions_of u own ks)
+copies_named types u own [] h = moved_named types 0 _ (named_in types u.functions own (function_at u.functions own) h refl)
+copies_named types u own (k ∷ ks) h =
+    both_named types (functions_of u own ks) _ (copies_named types u own ks h) (moved_named types (end_of (table_of u) own ks) _ (named_in types u.functions k (function_at u.functions k) h refl))
+
+-- those of any function behind the linking
+linked_named : (types : Option Table) (u : Unlinked) (new : List (Key × FunctionContent)) (key : Key) → list_any (λ e. keeps_nameless types e.1) u.functions ≡ false → IsLinkedIn u new key → AreNames types (functions_in (function_at new key))
+linked_named types u new key h linked =
+    let is_there = linked.1.0 in
+    let one = linked.1.1 in
+    subst (λ o. AreNames types (functions_in o)) (sym is_there)
+    (subst (λ rs. AreNames types rs) (sym (ap (λ g. g.func_info) one.content)) (copies_named types u key one.keys h))
+
+after_named : (types : Option Table) (u : Unlinked) (keys : List Key) (new : List (Key × FunctionContent)) (key : Key) (b : Bool) → has keys key ≡ b → list_any (λ e. keeps_nameless types e.1) u.functions ≡ false → AreLinked u keys new → AreNames types (functions_in (function_at new key))
+after_named types u keys new key true e h linked = linked_named types u new key h (linked.programs key e)
+after_named types u keys new key false e h linked =
+    subst (λ o. AreNames types (functions_in o)) (sym (linked.others key e)) (named_in types u.functions key (function_at u.functions key) h refl)
+
+-- records that name functions of the object's table name those of the plan's
+each_names : (types : Option Table) (bytes : Option (List ℕ)) (rs : List bpf_func_info) → ((id : ℕ) → names_function types id ≡ true → Names types bytes id) → AreNames types rs → AllName types bytes rs
+each_names types bytes [] carry h = tt
+each_names types bytes (r ∷ rs) carry h = (carry r.type_id h.0, each_names types bytes rs carry h.1)
+
+kept_names : (types : Option Table) (bytes : Option (List ℕ)) (denied b : Bool) (rs : List bpf_func_info) → denied ≡ b → (denied ≡ false → (id : ℕ) → names_function types id ≡ true → Names types bytes id) → AreNames types rs → AllName types bytes (if b then [] else rs)
+kept_names types bytes denied true rs e carry h = tt
+kept_names types bytes denied false rs e carry h = each_names types bytes rs (carry e) h
+
+program_names : (types : Option Table) (bytes : Option (List ℕ)) (answers : Answers) (has_types : Bool) (name : List ℕ) (section : ProgramSection) (o : Option FunctionContent) → (is_denied answers ≡ false → (id : ℕ) → names_function types id ≡ true → Names types bytes id) → AreNames types (functions_in o) → AllName types bytes (program_of answers has_types name section o).func_records
+program_names types bytes answers has_types name section None carry h = tt
+program_names types bytes answers has_types name section (Some f) carry h = kept_names types bytes (is_denied answers) (is_denied answers) f.func_info refl carry h
+
+programs_name : (types : Option Table) (bytes : Option (List ℕ)) (answers : Answers) (has_types : Bool) (u : Unlinked) (keys : List Key) (new : List (Key × FunctionContent)) (programs : List (List ℕ × ProgramContent)) → all_named types u.functions ≡ true → AreLinked u keys new → (is_denied answers ≡ false → (id : ℕ) → names_function types id ≡ true → Names types bytes id) → AllNamed types bytes (map (plan_program_of answers has_types new) programs)
+programs_name types bytes answers has_types u keys new [] h linked carry = tt
+programs_name types bytes answers has_types u keys new (e ∷ es) h linked carry =
+    let key : Key = (e.1.section_index, e.1.address) in
+    (program_names types bytes answers has_types e.0 e.1.section (function_at new key) carry (after_named types u keys new key (has keys key) refl (not_true _ h) linked), programs_name types bytes answers has_types u keys new es h linked carry)
+
+pub records_name : RecordsName
+records_name = record { each = programs_name }

@@ -1,0 +1,121 @@
+//! From an object to its plan.
+
+ghost use Rattle.std.specs.Prelude.{◌≡◌, map, IfOk};
+ghost use Rattle.std.specs.Option.{option_copied, option_map};
+ghost use Rattle.btf_sanitizing.specs.Answers.{AreDistinct, features};
+ghost use Rattle.object_plan.specs.Plans.{HoldsTypeBytes, func_records_of, line_records_of, plan_of, plan_program_of, program_of, type_bytes};
+ghost use Rattle.plan_text.specs.Content.{AreRising, AreTypeBytes, program_names};
+
+use btf_extension::{FuncSecInfo, LineSecInfo};
+use btf_sanitizing::Answers;
+use btf_tables::Btf;
+use ebpf_items::{ProgramSection, Slots};
+use ebpf_object::{Function, Object};
+use function_types::is_denied;
+use plan_text::{Plan, PlanParts, PlanProgram};
+use std::alloc::{AllocError, Global};
+
+/// The section as which an object's types are written: none where it has no type.
+fn type_bytes(table: Option<&Btf<'_>>) -> Result<Option<Vec<u8>>, AllocError>
+    ensures value { IfOk result (λ bytes. option_map (λ b. b.items) bytes ≡ type_bytes (option_copied table.entry)) }
+    ensures holds { IfOk result (λ bytes. HoldsTypeBytes (option_copied table.entry) (option_map (λ b. b.items) bytes)) }
+    ensures some { IfOk result (λ bytes. AreTypeBytes (option_map (λ b. b.items) bytes)) }
+{
+    match table {
+        Some(table) if !table.is_empty() => Ok(Some(table.to_bytes()?)),
+        _ => Ok(None),
+    }
+}
+
+/// The records of functions of a program, which a kernel that takes no functions doesn't get.
+fn func_records<'a>(
+    alloc: Global,
+    answers: &Answers,
+    function: &Function<'a>,
+) -> Result<FuncSecInfo<'a>, AllocError>
+    ensures { IfOk result (λ records. records ≡ func_records_of answers.now.items function.now) }
+{
+    if is_denied(answers) {
+        return Ok(FuncSecInfo::from_records(Vec::new(alloc)));
+    }
+    function.func_info.try_clone()
+}
+
+/// The records of lines of a program, which go with its types.
+fn line_records<'a>(
+    alloc: Global,
+    answers: &Answers,
+    has_types: bool,
+    function: &Function<'a>,
+) -> Result<LineSecInfo<'a>, AllocError>
+    ensures { IfOk result (λ records. records ≡ line_records_of answers.now.items has_types function.now) }
+{
+    if is_denied(answers) || !has_types {
+        return Ok(LineSecInfo::from_records(Vec::new(alloc)));
+    }
+    function.line_info.try_clone()
+}
+
+/// A program with the slots and the records of its function.
+fn program_of<'a>(
+    alloc: Global,
+    answers: &Answers,
+    has_types: bool,
+    name: &'a str,
+    section: ProgramSection,
+    function: Option<&Function<'a>>,
+) -> Result<PlanProgram<'a>, AllocError>
+    ensures { IfOk result (λ p. p ≡ program_of answers.now.items has_types name.now section (option_copied function.entry)) }
+{
+    let Some(function) = function else {
+        let slots = Slots::owned(Vec::new(alloc));
+        let functions = FuncSecInfo::from_records(Vec::new(alloc));
+        let lines = LineSecInfo::from_records(Vec::new(alloc));
+        return Ok(PlanProgram::new(name, section, slots, functions, lines));
+    };
+    let slots = function.instructions.try_clone()?;
+    let functions = func_records(alloc, answers, function)?;
+    let lines = line_records(alloc, answers, has_types, function)?;
+    Ok(PlanProgram::new(name, section, slots, functions, lines))
+}
+
+/// The programs of a plan, by name.
+fn plan_programs<'a>(
+    alloc: Global,
+    object: &Object<'a>,
+    answers: &Answers,
+    has_types: bool,
+) -> Result<Vec<PlanProgram<'a>>, AllocError>
+    ensures value { IfOk result (λ list. list.items ≡ map (plan_program_of answers.now.items has_types object.now.functions) object.now.programs) }
+    ensures rising { IfOk result (λ list. AreRising (program_names list.items)) }
+{
+    let mut programs = Vec::new(alloc);
+    for (name, program) in object.programs().iter() {
+        let function = object.function(program.function_key());
+        let section = program.section.clone()?;
+        programs.push(program_of(alloc, answers, has_types, name, section, function)?)?;
+    }
+    Ok(programs)
+}
+
+/// The plan of an object without maps, under these answers about a kernel's features.
+pub fn plan_of<'a>(
+    alloc: Global,
+    object: &Object<'a>,
+    answers: Answers,
+) -> Result<Plan<'a>, AllocError>
+    requires { AreDistinct (features answers.items) }
+    ensures value { IfOk result (λ p. p ≡ plan_of answers.items object.now) }
+    ensures holds { IfOk result (λ p. HoldsTypeBytes object.now.types p.type_bytes) }
+{
+    let type_bytes = type_bytes(object.btf())?;
+    let programs = plan_programs(alloc, object, &answers, type_bytes.is_some())?;
+    Ok(Plan::new(PlanParts {
+        license: object.license(),
+        version: object.kernel_version(),
+        features: answers,
+        type_bytes,
+        maps: Vec::new(alloc),
+        programs,
+    }))
+}
