@@ -5,5 +5,5 @@ use Rattle.ebpf_items.specs.Instruction.{calls_newer_helper}
 use Rattle.object_parts.specs.Content.{FunctionContent}
 
 -- whether some slot of a function calls a helper that an older one can stand in for
-abbrev pub has_older_helper : List ((ℕ × ℕ) × FunctionContent) → Bool
-has_older_helper functions = list_any (λ e. list_any calls_newer_helper e.1.instructions) functions
+abbrev pub has_newer_helper : List ((ℕ × ℕ) × FunctionContent) → Bool
+has_newer_helper functions = list_any (λ e. list_any calls_newer_helper e.1.instructions) functions

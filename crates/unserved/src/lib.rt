@@ -8,7 +8,7 @@ mod maps;
 mod pass;
 
 pub use externs::has_extern_relocation;
-pub use helpers::has_older_helper;
+pub use helpers::has_newer_helper;
 pub use maps::has_map_relocation;
 pub use pass::Pass;
 

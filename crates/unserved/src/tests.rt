@@ -1,6 +1,6 @@
 //! Relocations inside a function, and calls of helpers.
 
-use crate::{has_extern_relocation, has_map_relocation, has_older_helper};
+use crate::{has_extern_relocation, has_map_relocation, has_newer_helper};
 use btf_extension::{FuncSecInfo, LineSecInfo};
 use ebpf_items::Slots;
 use object_file::ObjectFile;
@@ -153,7 +153,7 @@ const CALLS: [([u8; 8], bool); 9] = [
 fn finds_calls_of_newer_helpers(rt: HostRuntime) {
     for (slot, is_newer) in CALLS.iter() {
         let found = match functions(rt.alloc(), 0, slot) {
-            Some(functions) => Some(has_older_helper(&functions)),
+            Some(functions) => Some(has_newer_helper(&functions)),
             None => None,
         };
         assert_eq!(rt; found, Some(*is_newer));
