@@ -1,5 +1,5 @@
 -- Functions that stand under their keys.
-use Rattle.std.proofs.Common.{◌≡◌, ℕ, List, [], ◌∷◌, refl, sym, ap, ◌∙◌, cond, true, false, is_some, Bool, Option, Some, None}
+use Rattle.std.proofs.Common.{◌≡◌, ℕ, List, [], ◌∷◌, map, refl, sym, ap, ◌∙◌, cond, true, false, is_some, Bool, Option, Some, None}
 use Rattle.std.proofs.lemmas.Cmp.{ranked}
 use Rattle.std.specs.declared.cmp.Ordering.{Ordering}
 use Rattle.std.specs.declared.cmp.Ordering.TheVariants.{Less, Equal, Greater}
@@ -68,3 +68,9 @@ keyed_at (e ∷ es) key f keyed h = keyed_here key e.0 e.1 f (function_at es key
 pub keyed_get : (entries : List ((ℕ × ℕ) × FunctionContent)) (key : ℕ × ℕ) (r : Option (Bor FunctionContent)) → AreKeyed entries → option_copied r ≡ function_at entries key → IfSome r (λ f. key_of f.now ≡ key)
 keyed_get entries key None keyed h = tt
 keyed_get entries key (Some f) keyed h = keyed_at entries key f.now keyed (sym h)
+
+-- what is written into functions without a change of their keys
+pub keyed_map : (g : FunctionContent → FunctionContent) (entries : List ((ℕ × ℕ) × FunctionContent)) → ((f : FunctionContent) → key_of (g f) ≡ key_of f) → AreKeyed entries → AreKeyed (map (λ e. (e.0, g e.1)) entries)
+unfolding AreKeyed
+keyed_map g [] stays keyed = keyed
+keyed_map g (e ∷ es) stays keyed = (keyed.0 ∙ sym (stays e.1), keyed_map g es stays keyed.1)

@@ -1,11 +1,13 @@
 -- What an object is made of.
-use Rattle.std.specs.Prelude.{◌≡◌, ℕ, List, [], ◌∷◌, ⊤, Bool, true, Option, Some, is_some, if◌then◌else◌}
+use Rattle.std.specs.Prelude.{◌≡◌, ℕ, List, [], ◌∷◌, map, ⊤, Bool, true, Option, Some, is_some, if◌then◌else◌}
 use Rattle.std.specs.BTreeMap.{is_at}
+use Rattle.std.specs.List.{list_any}
 use Rattle.std.specs.Map.{lookup, keys_of}
 use Rattle.std.specs.declared.cmp.Ordering.{Ordering}
 use Rattle.std.specs.Ordering.{nat_cmp, ordering_then}
 use Rattle.btf_extension.specs.declared.record.bpf_func_info.{bpf_func_info}
 use Rattle.btf_extension.specs.declared.record.bpf_line_info.{bpf_line_info}
+use Rattle.ebpf_items.specs.Instruction.{calls_newer_helper, with_older_helper}
 use Rattle.ebpf_items.specs.declared.instruction.bpf_insn.{bpf_insn}
 use Rattle.program_kinds.specs.declared.program_section.ProgramSection.{ProgramSection}
 
@@ -54,6 +56,14 @@ HaveFunctions (e ∷ es) functions = (has_function functions (e.1.section_index,
 -- the function of a key
 abbrev pub function_at : List ((ℕ × ℕ) × FunctionContent) → ℕ × ℕ → Option FunctionContent
 function_at functions key = lookup (is_at (key_cmp key)) functions
+
+-- whether some slot of a function calls a helper that an older one can stand in for
+abbrev pub has_newer_helper : List ((ℕ × ℕ) × FunctionContent) → Bool
+has_newer_helper functions = list_any (λ e. list_any calls_newer_helper e.1.instructions) functions
+
+-- a function with the older helper in each slot that calls a newer one
+abbrev pub with_older_helpers : FunctionContent → FunctionContent
+with_older_helpers f = record f { instructions = map with_older_helper f.instructions }
 
 -- a function stands in place of that of its key; all others, and the keys, are as they were
 pub record Replaces (old new : List ((ℕ × ℕ) × FunctionContent)) (f : FunctionContent) : Type 0 where

@@ -1,13 +1,16 @@
 //! Functions by key.
 
-ghost use Rattle.std.specs.Prelude.{◌≡◌, ◌↔◌, [], length, IfOk, IfSome, true, false, IsTrue, OnOk, OnErr};
+ghost use Rattle.std.specs.Prelude.{◌≡◌, ◌↔◌, [], length, map, IfOk, IfSome, true, false, IsTrue, OnOk, OnErr};
 ghost use Rattle.std.specs.BTreeMap.{insert_entry, is_at};
+ghost use Rattle.std.specs.List.{list_any};
 ghost use Rattle.std.specs.Map.{lookup};
 ghost use Rattle.std.specs.Option.{option_copied};
-ghost use Rattle.object_parts.specs.Content.{AreKeyed, Replaces, has_function, key_cmp, key_of};
+ghost use Rattle.ebpf_items.specs.Instruction.{calls_newer_helper};
+ghost use Rattle.object_parts.specs.Content.{AreKeyed, Replaces, has_function, has_newer_helper, key_cmp, key_of, with_older_helpers};
 
 use crate::by_name::Programs;
 use crate::function::Function;
+use ebpf_items::Slots;
 use std::alloc::{AllocError, Global};
 use std::collections::BTreeMap;
 use std::collections::btree_map::Iter;
@@ -17,6 +20,13 @@ use std::marker::Model;
 #[derive(Debug, Drop)]
 pub struct Functions<'a> {
     entries: BTreeMap<(usize, u64), Function<'a>>,
+}
+
+/// Whether some slot calls a helper that an older one can stand in for.
+fn calls_newer_helper(slots: &Slots<'_>) -> bool
+    ensures { result ≡ list_any calls_newer_helper slots.now }
+{
+    slots.iter().any(|slot| slot.calls_newer_helper())
 }
 
 /// The programs and the functions of an object.
@@ -86,6 +96,27 @@ impl<'a> Functions<'a> {
         if self.insert(function).is_err() {
             unreachable!();
         }
+    }
+
+    /// Whether some slot of a function calls a helper that an older one can stand in for: number
+    /// 112, 113, 114 or 115.
+    pub fn has_newer_helper(&self) -> bool
+        ensures { result ≡ has_newer_helper self.now }
+    {
+        self.entries
+            .iter()
+            .any(|(_, function)| calls_newer_helper(&function.instructions))
+    }
+
+    /// Puts the older helper into each slot that calls a newer one. Takes no memory: slots that stand
+    /// in the file stay there.
+    pub fn rename_helpers(&mut self)
+        ensures { self.new ≡ map (λ e. (e.0, with_older_helpers e.1)) self.old }
+    {
+        self.entries.retain(|_key, function| {
+            function.instructions.rename_helpers();
+            true
+        });
     }
 
     /// Enters a function under its key, in place of an earlier one of that key.

@@ -1,2 +1,1 @@
-pub mod Helpers
 pub mod Relocations

@@ -3,12 +3,10 @@
 
 mod externs;
 mod function;
-mod helpers;
 mod maps;
 mod pass;
 
 pub use externs::has_extern_relocation;
-pub use helpers::has_newer_helper;
 pub use maps::has_map_relocation;
 pub use pass::Pass;
 

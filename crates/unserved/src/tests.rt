@@ -1,6 +1,6 @@
-//! Relocations inside a function, and calls of helpers.
+//! Relocations inside a function.
 
-use crate::{has_extern_relocation, has_map_relocation, has_newer_helper};
+use crate::{has_extern_relocation, has_map_relocation};
 use btf_extension::{FuncSecInfo, LineSecInfo};
 use ebpf_items::Slots;
 use object_file::ObjectFile;
@@ -132,30 +132,5 @@ fn asks(alloc: Global, case: &Case) -> Option<(bool, bool)> {
 fn finds_relocations(rt: HostRuntime) {
     for case in CASES.iter() {
         assert_eq!(rt; asks(rt.alloc(), case), Some(case.3));
-    }
-}
-
-// The number of a helper, from `enum bpf_func_id` of the kernel's `bpf.h`, or what else a slot is,
-// and whether an older helper can stand in for it.
-const CALLS: [([u8; 8], bool); 9] = [
-    ([0x85, 0, 0, 0, 111, 0, 0, 0], false),
-    ([0x85, 0, 0, 0, 112, 0, 0, 0], true),
-    ([0x85, 0, 0, 0, 113, 0, 0, 0], true),
-    ([0x85, 0, 0, 0, 114, 0, 0, 0], true),
-    ([0x85, 0, 0, 0, 115, 0, 0, 0], true),
-    ([0x85, 0, 0, 0, 116, 0, 0, 0], false),
-    ([0x85, 0x10, 0, 0, 112, 0, 0, 0], false),
-    ([0x85, 0x01, 0, 0, 112, 0, 0, 0], false),
-    ([0xb7, 0, 0, 0, 112, 0, 0, 0], false),
-];
-
-#[test]
-fn finds_calls_of_newer_helpers(rt: HostRuntime) {
-    for (slot, is_newer) in CALLS.iter() {
-        let found = match functions(rt.alloc(), 0, slot) {
-            Some(functions) => Some(has_newer_helper(&functions)),
-            None => None,
-        };
-        assert_eq!(rt; found, Some(*is_newer));
     }
 }
