@@ -1,27 +1,14 @@
-//! Makes so many requests for memory as its first word says, parses the objects of the files that the others
-//! name, and prints how much each holds. Ends with status 3 where memory is refused.
-//!
-//! Of a run in which the request of a number is refused, the first word decides which request of the parses
-//! that is.
+//! Makes as many requests for memory as its first word says, parses the objects of the files that the others
+//! name, prints how much each holds, and makes two more requests. Ends with status 3 where memory is refused.
 #![tactic(auto)]
 
 mod error;
 
 use ebpf_object::Object;
 use error::RunError;
-use std::alloc::Global;
+use spent_requests::requests;
 use std::process::ExitCode;
 use std::{env, fs};
-
-/// Makes requests for memory: one for a list, and then so many for what it holds.
-fn requests(alloc: Global, count: u16) -> Result<Vec<Vec<u8>>, RunError> {
-    let mut made = Vec::with_capacity(alloc, usize::from(count))?;
-    for _ in 0..count {
-        let one = Vec::with_capacity(alloc, 1)?;
-        made.push(one)?;
-    }
-    Ok(made)
-}
 
 /// Parses the object of a file, and prints how much it holds.
 fn print_object(rt: &HostRuntime, name: &str) -> Result<(), RunError> {
@@ -51,6 +38,7 @@ fn print_objects(rt: &HostRuntime) -> Result<(), RunError> {
     for name in words {
         print_object(rt, name.as_str())?;
     }
+    let _last = requests(rt.alloc(), 1)?;
     Ok(())
 }
 

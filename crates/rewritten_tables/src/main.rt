@@ -1,10 +1,13 @@
 //! Rewrites a table by both calls that do, and prints what becomes of it: where memory is refused, that it
-//! is as it was.
+//! is as it was. Before that it makes as many requests for memory as its first word says, and behind it two more: where
+//! one of these is refused, it ends with status 2.
 #![tactic(auto)]
 
 use btf::{Btf, BtfError, Endianness};
+use spent_requests::requests;
 use std::alloc::Global;
 use std::collections::BTreeMap;
+use std::env;
 use std::process::ExitCode;
 
 /// An integer of 8 bytes, the extern variable `v` of it, and the section `.ksyms` with that variable.
@@ -79,8 +82,22 @@ fn print(rt: &HostRuntime, what: &str, outcome: Result<&'static str, BtfError>) 
     }
 }
 
+/// Makes the requests that the first word asks for.
+fn first_requests(rt: &HostRuntime) -> Option<Vec<Vec<u8>>> {
+    let mut words = env::args(rt).ok()?;
+    let _program = words.next();
+    let count = words.next()?.parse().ok()?;
+    requests(rt.alloc(), count).ok()
+}
+
 fn main(rt: HostRuntime) -> ExitCode {
+    let Some(_made) = first_requests(&rt) else {
+        return ExitCode::from(2);
+    };
     print(&rt, "step", step(rt.alloc()));
     print(&rt, "rewriting", rewriting(rt.alloc()));
-    ExitCode::SUCCESS
+    match requests(rt.alloc(), 1) {
+        Ok(_) => ExitCode::SUCCESS,
+        Err(_) => ExitCode::from(2),
+    }
 }

@@ -1,7 +1,11 @@
-//! Parses a table of 1,000 structs, adds a type, and prints how many types it has and how many bytes.
+//! Parses a table of 1,000 structs, adds a type, and prints how many types it has and how many bytes. Before that it
+//! makes as many requests for memory as its first word says, and behind it two more: where one of these is refused, it
+//! ends with status 2.
 #![tactic(auto)]
 
 use btf::{Btf, BtfError, BtfType, Endianness, Int, IntEncoding};
+use spent_requests::requests;
+use std::env;
 use std::process::ExitCode;
 
 const HEADER: [u8; 24] = [
@@ -43,13 +47,25 @@ fn print(rt: &HostRuntime, section: &[u8]) -> Result<(), BtfError> {
     Ok(())
 }
 
+/// Makes the requests that the first word asks for.
+fn first_requests(rt: &HostRuntime) -> Option<Vec<Vec<u8>>> {
+    let mut words = env::args(rt).ok()?;
+    let _program = words.next();
+    let count = words.next()?.parse().ok()?;
+    requests(rt.alloc(), count).ok()
+}
+
 fn main(rt: HostRuntime) -> ExitCode {
+    let Some(_made) = first_requests(&rt) else {
+        return ExitCode::from(2);
+    };
     let mut section = [0; LEN];
     for at in 0..LEN {
         section[at] = section_byte(at);
     }
     match print(&rt, &section) {
-        Ok(()) => ExitCode::SUCCESS,
+        Ok(()) if requests(rt.alloc(), 1).is_ok() => ExitCode::SUCCESS,
+        Ok(()) => ExitCode::from(2),
         Err(error) => {
             let _ = println!(rt; "{error}");
             ExitCode::FAILURE
