@@ -1,29 +1,24 @@
--- What a run says of the object's bytes.
-use Rattle.std.specs.Prelude.{ℕ, List}
-use Rattle.ebpf_items.specs.declared.error.ParseError.TheVariants as error
-use Rattle.load_plan.specs.Content.{PlanContent}
-use Rattle.load_plan.specs.Planned.{IsPlanned, IsRefusal}
-use Rattle.load_plan.specs.PlanGrammar as grammar
-use Rattle.load_plan.specs.declared.error.PrepareError.{PrepareError}
-use Rattle.load_plan.specs.declared.error.PrepareError.TheVariants as prepare
+-- What a run says of the object's bytes, with nothing set.
+use Rattle.std.specs.Prelude.{ℕ, List, [], Bool}
+use Rattle.std.specs.Fn.{Mut}
+use Rattle.btf_records.specs.declared.feature.BtfFeature.{BtfFeature}
+use Rattle.plan_text.specs.Content.{PlanContent}
+use Rattle.plan_text.specs.PlanGrammar as grammar
+use Rattle.load_plan.specs.Planned.{Inputs, IsPlanned, IsRefusal}
 use Rattle.bpf_prepare.specs.declared.error.RunError.{RunError}
-use Rattle.bpf_prepare.specs.declared.error.RunError.TheVariants.{Parse, NotYet, Relocation, Output}
+use Rattle.bpf_prepare.specs.declared.error.RunError.TheVariants.{Output, Refused}
 
-abbrev pub run_error_of : PrepareError → RunError
-run_error_of (prepare.Parse e) = Parse e
-run_error_of (prepare.NotYet e) = NotYet e
-run_error_of (prepare.Relocation e) = Relocation e
-run_error_of prepare.OutOfMemory = Parse error.OutOfMemory
+-- the object, and no settings
+abbrev pub inputs_of : List ℕ → Inputs
+inputs_of file = record { file = file; settings = record { maps = []; globals = [] } }
 
--- something holds of the text of the plan of an object
-pub record HoldsOfText (file : List ℕ) (Holds : List ℕ → Type 0) : Type 0 where
+-- something holds of the text of the plan of an object, for a kernel of which the predicate tells
+pub record HoldsOfText {F : Type 0} (predicate : Mut F (BtfFeature × Unit {0}) Bool) (before : F) (file : List ℕ) (Holds : List ℕ → Type 0) : Type 0 where
   pub plan : PlanContent
-  pub planned : IsPlanned file plan
+  pub planned : IsPlanned predicate before (inputs_of file) plan
   pub holds : Holds (grammar.text_of plan)
 
 -- what an error says of the object's bytes
-abbrev pub IsRunRefusal : List ℕ → RunError → Type 0
-IsRunRefusal file (Parse e) = IsRefusal file (prepare.Parse e)
-IsRunRefusal file (NotYet e) = IsRefusal file (prepare.NotYet e)
-IsRunRefusal file (Relocation e) = IsRefusal file (prepare.Relocation e)
-IsRunRefusal file Output = Unit {0}
+abbrev pub IsRunRefusal : {F : Type 0} → Mut F (BtfFeature × Unit {0}) Bool → F → List ℕ → RunError → Type 0
+IsRunRefusal predicate before file (Refused e) = IsRefusal predicate before (inputs_of file) e
+IsRunRefusal predicate before file Output = Unit {0}

@@ -1,41 +1,30 @@
 //! Why the program prints no plan.
 
 ghost use Rattle.std.specs.Prelude.{◌≡◌};
-ghost use Rattle.bpf_prepare.specs.Run.{run_error_of};
 ghost use Rattle.bpf_prepare.specs.declared.error.ProgramError.TheVariants.{Run};
+ghost use Rattle.bpf_prepare.specs.declared.error.RunError.TheVariants.{Refused};
 ghost use Rattle.bpf_prepare.specs.Program.{status_of};
 
-use load_plan::{EbpfRelocationError, NotYet, ParseError, Place, PrepareError};
+use load_plan::{ParseError, Place, PrepareError};
 use std::io;
 use thiserror::Error;
 
 /// Why [`run`](crate::running::run) writes no plan.
 #[derive(Debug, Drop, Error)]
 pub enum RunError {
-    /// The object can't be parsed.
+    /// The object gets no plan.
     #[error("refused: {0}")]
-    Parse(ParseError),
-    /// The object has something that isn't looked at yet.
-    #[error("refused: {0}")]
-    NotYet(NotYet),
-    /// A program can't be linked to the functions that it leads to.
-    #[error("refused: {0}")]
-    Relocation(EbpfRelocationError),
+    Refused(PrepareError),
     /// The writer failed, or took nothing.
     #[error("the plan can't be written")]
     Output,
 }
 
 impl From<PrepareError> for RunError {
-    ghost from_gives = { λ error e. e ≡ run_error_of error };
+    ghost from_gives = { λ error e. e ≡ Refused error };
 
     fn from(error: PrepareError) -> RunError {
-        match error {
-            PrepareError::Parse(error) => RunError::Parse(error),
-            PrepareError::NotYet(error) => RunError::NotYet(error),
-            PrepareError::Relocation(error) => RunError::Relocation(error),
-            PrepareError::OutOfMemory => RunError::Parse(ParseError::OutOfMemory),
-        }
+        RunError::Refused(error)
     }
 }
 
@@ -56,7 +45,7 @@ pub enum ProgramError {
     Run(RunError),
     /// The object can't be parsed, and this is where the fault stands.
     #[error("refused: {error}: {place}")]
-    Refused { error: ParseError, place: Place },
+    Located { error: ParseError, place: Place },
 }
 
 impl From<RunError> for ProgramError {
@@ -73,9 +62,8 @@ impl ProgramError {
         ensures { result ≡ status_of self.now }
     {
         match self {
-            ProgramError::Run(RunError::Parse(_) | RunError::NotYet(_)) => 1,
-            ProgramError::Run(RunError::Relocation(_)) => 1,
-            ProgramError::Refused { .. } => 1,
+            ProgramError::Run(RunError::Refused(_)) => 1,
+            ProgramError::Located { .. } => 1,
             _ => 2,
         }
     }

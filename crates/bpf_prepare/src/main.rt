@@ -7,7 +7,7 @@ mod running;
 mod tests;
 
 use error::{ProgramError, RunError};
-use load_plan::{Watched, place_of};
+use load_plan::{PrepareError, Watched, place_of};
 use running::run;
 use std::alloc::Global;
 use std::io::{BufWriter, Write};
@@ -29,12 +29,12 @@ fn object_name(rt: &HostRuntime) -> Result<String, ProgramError> {
 /// The error of a run, with the place of the fault where the object isn't parsed and its error
 /// doesn't say it.
 fn located(alloc: Global, object: &[u8], error: RunError) -> ProgramError {
-    let RunError::Parse(error) = error else {
+    let RunError::Refused(PrepareError::Parse(error)) = error else {
         return ProgramError::Run(error);
     };
     match place_of(alloc, object, &error) {
-        Some(place) => ProgramError::Refused { error, place },
-        None => ProgramError::Run(RunError::Parse(error)),
+        Some(place) => ProgramError::Located { error, place },
+        None => ProgramError::Run(RunError::Refused(PrepareError::Parse(error))),
     }
 }
 
@@ -49,7 +49,7 @@ fn print_plan(rt: &HostRuntime) -> Result<(), ProgramError> {
         return Err(ProgramError::OutOfMemory);
     };
     let mut out = Watched::new(writer);
-    if let Err(error) = run(rt.alloc(), object.as_slice(), &mut out) {
+    if let Err(error) = run(rt.alloc(), object.as_slice(), |_feature| true, &mut out) {
         return Err(located(rt.alloc(), object.as_slice(), error));
     }
     match out.into_inner().flush() {

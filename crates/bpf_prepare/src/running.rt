@@ -1,40 +1,71 @@
 //! From an object's bytes to its plan's text.
 
-ghost use Rattle.std.specs.Prelude.{◌≡◌, ◌≢◌, true, false, IfErr, OnOk, Err};
+ghost use Rattle.std.specs.Prelude.{◌≡◌, ◌≢◌, true, false, IfErr, IfOk, OnOk, Err};
 ghost use Rattle.std.specs.Io.KnownBytes.{Appends};
 ghost use Rattle.watched.specs.Watched.{watched_inner, has_failed, AppendsPart};
-ghost use Rattle.ebpf_object.specs.Faults.{IsFaultless};
-ghost use Rattle.bpf_prepare.specs.Run.{HoldsOfText, IsRunRefusal};
+ghost use Rattle.load_plan.specs.Planned.{IsPlanned, IsRefusal};
+ghost use Rattle.bpf_prepare.specs.Run.{inputs_of, HoldsOfText, IsRunRefusal};
 ghost use Rattle.bpf_prepare.specs.declared.error.RunError.TheVariants.{Output};
 
 use crate::error::RunError;
-use load_plan::{Watched, prepare};
+use load_plan::{BtfFeature, Order, Plan, PrepareError, Settings, Watched, prepare};
 use std::alloc::Global;
+use std::io;
 use std::io::Write;
 
-/// Writes the text of an object's plan, or nothing where the object is refused.
+/// The plan of an object, without kernel types, symbols and settings.
+fn plan_of<'a, F: FnMut(BtfFeature) -> bool>(
+    alloc: Global,
+    object: &'a [u8],
+    predicate: F,
+) -> Result<Plan<'a>, PrepareError>
+    requires { F.IsAlwaysCallable predicate }
+    ensures planned { IfOk result (IsPlanned F.FnMut predicate (inputs_of object.entry.now)) }
+    ensures refused { IfErr result (IsRefusal F.FnMut predicate (inputs_of object.entry.now)) }
+{
+    let settings = Settings::new(alloc);
+    let mut symbols = io::empty();
+    prepare(
+        alloc,
+        object,
+        &[],
+        &mut symbols,
+        &settings,
+        Order::RelocateFirst,
+        predicate,
+        || true,
+    )
+}
+
+/// Writes the text of an object's plan, or nothing where the object is refused. `predicate` says
+/// which features of types the kernel grants.
 ///
 /// # Errors
 ///
-/// [`RunError::Parse`], [`RunError::NotYet`] and [`RunError::Relocation`] where the object is
-/// refused, and [`RunError::Output`] where the writer fails or takes nothing; a beginning of the
-/// text went out then.
-pub fn run<W: Write>(alloc: Global, object: &[u8], out: &mut Watched<W>) -> Result<(), RunError>
+/// [`RunError::Refused`] where the object gets no plan, and [`RunError::Output`] where the writer
+/// fails or takes nothing; a beginning of the text went out then.
+pub fn run<F: FnMut(BtfFeature) -> bool, W: Write>(
+    alloc: Global,
+    object: &[u8],
+    predicate: F,
+    out: &mut Watched<W>,
+) -> Result<(), RunError>
+    requires { F.IsAlwaysCallable predicate }
+
     // Exactly the text of the plan went out, of an object in which no fault stands.
     ensures well { OnOk result (has_failed out.new ≡ false) }
-    ensures prepared { OnOk result (IsFaultless object.now) }
-    ensures written { OnOk result (HoldsOfText object.now (λ text. Appends (W.contents (watched_inner out.old)) (W.contents (watched_inner out.new)) text)) }
+    ensures written { OnOk result (HoldsOfText F.FnMut predicate object.now (λ text. Appends (W.contents (watched_inner out.old)) (W.contents (watched_inner out.new)) text)) }
 
     // A refusal names a fault that stands, and writes nothing.
-    ensures refused { IfErr result (IsRunRefusal object.now) }
+    ensures refused { IfErr result (IsRunRefusal F.FnMut predicate object.now) }
     ensures unwritten { IfErr result (λ e. e ≢ Output → out.new ≡ out.old) }
 
     // Of an object that isn't refused, a beginning of the text went out, and the writer failed.
-    ensures part { result ≡ Err Output → IsFaultless object.now × HoldsOfText object.now (λ text. AppendsPart (W.contents (watched_inner out.old)) (W.contents (watched_inner out.new)) text) }
+    ensures part { result ≡ Err Output → HoldsOfText F.FnMut predicate object.now (λ text. AppendsPart (W.contents (watched_inner out.old)) (W.contents (watched_inner out.new)) text) }
     ensures failed { result ≡ Err Output → has_failed out.new ≡ true }
     ensures at_once { has_failed out.old ≡ true → out.new ≡ out.old }
 {
-    let plan = prepare(alloc, object)?;
+    let plan = plan_of(alloc, object, predicate)?;
     match plan.write(out) {
         Ok(()) => Ok(()),
         Err(_) => Err(RunError::Output),

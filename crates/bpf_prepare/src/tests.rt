@@ -2,7 +2,7 @@
 
 use crate::error::RunError;
 use crate::running::run;
-use load_plan::{ParseError, Watched};
+use load_plan::{ParseError, PrepareError, Watched};
 use sample_objects::{ONE_PROGRAM, ONE_PROGRAM_PLAN, with_bytes};
 use std::alloc::Global;
 use std::test::Fail;
@@ -10,7 +10,7 @@ use std::test::Fail;
 /// What a run writes, where it isn't refused.
 fn text_of(alloc: Global, object: &[u8]) -> Result<Vec<u8>, RunError> {
     let mut out = Watched::new(Vec::new(alloc));
-    run(alloc, object, &mut out)?;
+    run(alloc, object, |_feature| true, &mut out)?;
     Ok(out.into_inner())
 }
 
@@ -64,7 +64,7 @@ fn one_program(rt: HostRuntime) -> Result<(), Fail> {
 fn fronts(rt: HostRuntime) {
     for len in 0..ONE_PROGRAM.len() {
         let result = text_of(rt.alloc(), &ONE_PROGRAM[..len]);
-        assert!(rt; matches!(result, Err(RunError::Parse(ParseError::ElfError(_)))));
+        assert!(rt; matches!(result, Err(RunError::Refused(PrepareError::Parse(ParseError::ElfError(_))))));
     }
 }
 
@@ -72,8 +72,9 @@ fn fronts(rt: HostRuntime) {
 fn is_sound(alloc: Global, object: &[u8]) -> bool {
     match text_of(alloc, object) {
         Ok(text) => are_lines(text.as_slice()),
-        Err(RunError::Parse(error)) => !matches!(error, ParseError::OutOfMemory),
-        Err(RunError::NotYet(_) | RunError::Relocation(_)) => true,
+        Err(RunError::Refused(PrepareError::Parse(ParseError::OutOfMemory))) => false,
+        Err(RunError::Refused(PrepareError::OutOfMemory)) => false,
+        Err(RunError::Refused(_)) => true,
         Err(RunError::Output) => false,
     }
 }

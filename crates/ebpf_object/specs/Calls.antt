@@ -2,7 +2,7 @@
 use Rattle.std.specs.Prelude.{◌≡◌, ℕ, List, ◌==◌}
 use Rattle.std.specs.List.{list_any}
 use Rattle.object_parts.specs.Content.{FunctionContent}
-use Rattle.ebpf_object.specs.Served.{has_functions}
+use Rattle.unserved.specs.Relocations.{has_functions}
 
 -- these are the indexes of the sections that functions lie in
 pub record AreTextSections (functions : List ((ℕ × ℕ) × FunctionContent)) (text_sections : List ℕ) : Type 0 where

@@ -3,5 +3,5 @@ pub mod Faults
 pub mod ParsedObject
 pub mod Places
 pub mod Rewriting
-pub mod Served
 pub mod Types
+pub mod Unserved

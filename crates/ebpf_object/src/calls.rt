@@ -2,7 +2,6 @@
 
 ghost use Rattle.std.specs.Prelude.{◌≡◌, IfOk};
 ghost use Rattle.ebpf_object.specs.Calls.{AreTextSections};
-ghost use Rattle.ebpf_object.specs.Served.{are_whole};
 
 use object_parts::Functions;
 use std::alloc::{AllocError, Global};
@@ -20,16 +19,4 @@ pub(crate) fn text_sections(
         sections.insert(key.0)?;
     }
     Ok(sections)
-}
-
-/// Whether each of some functions begins at a whole slot of its section.
-pub(crate) fn are_whole(functions: &Functions<'_>) -> bool
-    ensures { result ≡ are_whole functions.now }
-{
-    for (_key, function) in functions.iter() {
-        if function.section_offset % 8 != 0 {
-            return false;
-        }
-    }
-    true
 }

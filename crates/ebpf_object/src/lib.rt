@@ -3,9 +3,9 @@
 
 mod calls;
 mod object;
+mod passes;
 mod places;
 mod rewriting;
-mod served;
 mod types;
 
 pub use ebpf_items::{
@@ -22,7 +22,7 @@ pub use object_file::{ObjectFile, ReadSection, ReadSymbol, unnamed_symbol};
 pub use object_maps::Maps;
 pub use object_parts::{Function, Functions, Program, Programs};
 pub use places::{function_without_code, name_at};
-pub use served::{Subject, Unserved, check_served};
+pub use unserved::Pass;
 
 #[cfg(test)]
 mod tests;

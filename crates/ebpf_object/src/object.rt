@@ -24,11 +24,10 @@ ghost use Rattle.linker.specs.Linked.{AllCanBeLinked, AreLinked, HasFaultOf, pro
 ghost use Rattle.relocation_errors.specs.declared.error.RelocationError.TheVariants as RelocationError;
 ghost use Rattle.std.specs.String.{string_bytes};
 ghost use Rattle.ebpf_object.specs.Calls.{AreTextSections};
-ghost use Rattle.ebpf_object.specs.Served.{are_whole};
 ghost use Rattle.ebpf_object.specs.Rewriting.{CannotRewrite, IsRewritten};
 ghost use Rattle.btf_records.specs.declared.error.BtfError.TheVariants as BtfError;
 
-use crate::calls::{are_whole, text_sections};
+use crate::calls::text_sections;
 use crate::rewriting::rewrite;
 use crate::types::{Types, read_types};
 use btf_extension::BtfExt;
@@ -293,13 +292,6 @@ impl<'a> Object<'a> {
         ensures { IfOk result (λ sections. AreTextSections self.now.functions sections.keys) }
     {
         text_sections(self.alloc, &self.functions)
-    }
-
-    /// Whether each function begins at a whole slot of its section.
-    pub fn are_functions_whole(&self) -> bool
-        ensures { result ≡ are_whole self.now.functions }
-    {
-        are_whole(&self.functions)
     }
 
     /// Links to each program the functions that it leads to, from the functions as they stand:

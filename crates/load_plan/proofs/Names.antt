@@ -1,9 +1,76 @@
--- The names of plan_program_of programs.
-use Rattle.std.proofs.Common.{◌≡◌, ℕ, List, [], ◌∷◌, map, refl, ap}
-use Rattle.object_parts.specs.Content as object
-use Rattle.load_plan.specs.Planned.{plan_program_of}
+-- The records of a plan's functions name those that they name in the object.
+use Rattle.std.proofs.Common.{◌≡◌, ℕ, ◌-◌, ◌==◌, List, [], ◌∷◌, Bool, true, false, Some, None, length, refl, sym, ap, ◌∙◌, subst, arith}
+use Rattle.std.proofs.lemmas.Bool.Decides.{nat_tests}
+use Rattle.std.specs.Fn.{Mut}
+use Rattle.std.specs.Option.{option_map_or}
+use Rattle.std.specs.Prelude.{Option, if◌then◌else◌, is_some, slice_get}
+use Rattle.btf_records.specs.declared.feature.BtfFeature.{BtfFeature}
+use Rattle.btf_records.specs.declared.types.BtfType.{BtfType}
+use Rattle.btf_records.specs.declared.types.BtfType.TheVariants as types
+use Rattle.btf_sanitizing.specs.Answers.{Answers}
+use Rattle.btf_tables.specs.Sanitizing.{stepped}
+use Rattle.btf_tables.specs.Tables.{Table}
+use Rattle.ebpf_object.specs.ParsedObject.{ObjectContent}
+use Rattle.ebpf_object.specs.Rewriting.{IsRewritten, IsRewrittenIf, IsRewrittenTable}
+use Rattle.function_types.specs.Named.{all_named, is_named_function, names_function, names_function_in}
+use Rattle.function_types.specs.Rewritten.{is_denied}
+use Rattle.linker.specs.Linked.{program_keys, unlinked}
+use Rattle.object_plan.specs.Laws.{NamesAreCarried, RecordsName}
+use Rattle.object_plan.specs.Plans.{AllNamed, HoldsTypeBytes, Names, plan_of, type_bytes, type_bytes_of}
+use Rattle.plan_text.specs.Content.{PlanContent}
+use Rattle.settings.specs.Content.{SettingsContent}
+use Rattle.load_plan.specs.Made.{IsMade, IsMadeOf}
+use Rattle.load_plan.specs.Planned.{IsPlanOf}
 
--- they are those of the object's programs
-pub names-plan_program_of : (functions : List ((ℕ × ℕ) × object.FunctionContent)) (programs : List (List ℕ × object.ProgramContent)) → map (λ p. p.name) (map (plan_program_of functions) programs) ≡ map (λ e. e.0) programs
-names-plan_program_of functions [] = refl
-names-plan_program_of functions (e ∷ es) = ap (λ (rest : List (List ℕ)). e.0 ∷ rest) (names-plan_program_of functions es)
+-- no id names a function of a table without types
+not_empty : {A : Type 0} (x : A) (xs : List A) → (length (x ∷ xs) == 0) ≡ false
+not_empty x xs = grind (arith, nat_tests)
+
+none_named : (strings : List ℕ) (ts : List BtfType) (i : ℕ) (b : Bool) → (length ts == 0) ≡ true → option_map_or (is_named_function strings) (if b then Some types.Unknown else slice_get ts i) false ≡ true → ⊥
+none_named strings [] i true e named = absurd (cc)
+none_named strings [] i false e named = absurd (cc)
+none_named strings (t ∷ ts) i b e named = let filled = not_empty t ts in absurd (cc)
+
+same_order : (ksyms : Option (ℕ × Option ℕ)) (table : Table) → (stepped ksyms table).order ≡ table.order
+same_order None table = refl
+same_order (Some ids) table = refl
+
+-- what names a function in an object's types names it in the bytes of the rewritten ones
+carried_in : NamesAreCarried → {F : Type 0} (predicate : Mut F (BtfFeature × Unit {0}) Bool) (before : F) (file : List ℕ) (ksyms : Option (ℕ × Option ℕ)) (table : Table) (answers : Answers) (new : Table) (bytes : Option (List ℕ)) (b : Bool) → (length table.types == 0) ≡ b → IsRewrittenIf b predicate before file ksyms table answers new → bytes ≡ type_bytes_of new → HoldsTypeBytes (Some new) bytes → is_denied answers ≡ false → (id : ℕ) → names_function_in id table ≡ true → Names (Some table) bytes id
+carried_in law predicate before file ksyms table answers new bytes true e h is holds denied id named =
+    absurd (none_named table.strings table.types (id - 1) (id == 0) e named)
+carried_in law predicate before file ksyms table answers new bytes false e h is holds denied id named =
+    law.each answers h.sizes h.offsets ksyms table new bytes id
+    (record { asked = h.asked.questions; step = h.step; keeps = h.keeps; texts = h.texts })
+    (ap (λ t. t.order) h.table_is ∙ same_order ksyms table) is holds denied named
+
+carried : NamesAreCarried → {F : Type 0} (predicate : Mut F (BtfFeature × Unit {0}) Bool) (before : F) (file : List ℕ) (ksyms : Option (ℕ × Option ℕ)) (old : Option Table) (answers : Answers) (new : Option Table) (bytes : Option (List ℕ)) → IsRewritten predicate before file ksyms old answers new → bytes ≡ type_bytes new → HoldsTypeBytes new bytes → is_denied answers ≡ false → (id : ℕ) → names_function old id ≡ true → Names old bytes id
+carried law predicate before file ksyms None answers new bytes h is holds denied id named = absurd (cc)
+carried law predicate before file ksyms (Some table) answers None bytes h is holds denied id named = absurd h
+carried law predicate before file ksyms (Some table) answers (Some new) bytes h is holds denied id named =
+    carried_in law predicate before file ksyms table answers new bytes (length table.types == 0) refl h is holds denied id named
+
+names : RecordsName → NamesAreCarried → {F : Type 0} (predicate : Mut F (BtfFeature × Unit {0}) Bool) (before : F) (object : ObjectContent) (text_sections : List ℕ) (answers : Answers) (made : ObjectContent) → all_named object.types object.functions ≡ true → IsMade predicate before object text_sections answers made → HoldsTypeBytes made.types (type_bytes made.types) → AllNamed object.types (type_bytes made.types) (plan_of answers made).programs
+names records carry predicate before object text_sections answers made named h holds =
+    let same_types = ap (λ (o : ObjectContent). o.types) h.calls.others in
+    records.each object.types (type_bytes made.types) answers (is_some (type_bytes made.types))
+    (unlinked h.rewritten.file text_sections h.rewritten.functions) (program_keys h.rewritten.programs) made.functions made.programs
+    (ap (λ (o : ObjectContent). all_named object.types o.functions) h.types.others ∙ named) h.calls.programs
+    (carried carry predicate before object.file object.externs.ksyms object.types answers h.rewritten.types (type_bytes made.types) h.types.types
+    (ap type_bytes same_types) (subst (λ t. HoldsTypeBytes t (type_bytes made.types)) same_types holds))
+
+plan_is : RecordsName → NamesAreCarried → {F : Type 0} (predicate : Mut F (BtfFeature × Unit {0}) Bool) (before : F) (settings : SettingsContent) (object : ObjectContent) (answers : Answers) (made : ObjectContent) → IsMadeOf predicate before settings object answers made → HoldsTypeBytes made.types (type_bytes made.types) → IsPlanOf predicate before settings object (plan_of answers made)
+plan_is records carry predicate before settings object answers made h holds = record {
+  made = made;
+  making = h;
+  is = refl;
+  holds = holds;
+  names = names records carry predicate before object h.text_sections answers made h.served.named h.making holds;
+}
+
+-- the plan of what the passes make of an object
+pub planned : RecordsName → NamesAreCarried → {F : Type 0} (predicate : Mut F (BtfFeature × Unit {0}) Bool) (before : F) (settings : SettingsContent) (object : ObjectContent) (answers : Answers) (made : ObjectContent) (plan : PlanContent) → IsMadeOf predicate before settings object answers made → plan ≡ plan_of answers made → HoldsTypeBytes made.types plan.type_bytes → IsPlanOf predicate before settings object plan
+planned records carry predicate before settings object answers made plan h is holds =
+    subst (λ p. IsPlanOf predicate before settings object p) (sym is)
+    (plan_is records carry predicate before settings object answers made h
+    (subst (λ bytes. HoldsTypeBytes made.types bytes) (ap (λ (p : PlanContent). p.type_bytes) is) holds))

@@ -1,4 +1,4 @@
-pub mod Content
-pub mod PlanGrammar
+pub mod Made
+pub mod Places
 pub mod Planned
-pub mod ProgramKinds
+pub mod Refusals

@@ -1,109 +1,59 @@
--- The plan of an object, and what is refused.
-use Rattle.std.specs.Prelude.{◌≡◌, ◌≢◌, ℕ, List, [], map, Some, Bool, true, false}
-use Rattle.std.specs.BTreeMap.{is_at}
-use Rattle.std.specs.Map.{lookup}
-use Rattle.std.specs.Option.{option_map, option_map_or}
-use Rattle.std.specs.String.{string_bytes}
-use Rattle.btf_records.specs.declared.error.BtfError.TheVariants as btf
-use Rattle.ebpf_items.specs.declared.error.ParseError.{ParseError}
+-- The plan of a file under settings, and what is refused.
+use Rattle.std.specs.Prelude.{◌≡◌, ◌≢◌, ℕ, List, Bool}
+use Rattle.std.specs.Fn.{Mut}
+use Rattle.btf_records.specs.declared.feature.BtfFeature.{BtfFeature}
 use Rattle.ebpf_items.specs.declared.error.ParseError.TheVariants as error
-use Rattle.ebpf_items.specs.declared.instruction.bpf_insn.{bpf_insn}
-use Rattle.ebpf_object.specs.Calls.{AreTextSections}
 use Rattle.ebpf_object.specs.Faults.{HasFault, IsFaultless}
 use Rattle.ebpf_object.specs.ParsedObject.{IsParsed, ObjectContent}
-use Rattle.ebpf_object.specs.Places.{name_at, place_without_code}
-use Rattle.ebpf_object.specs.Served.{are_whole, is_served, AsksFor}
-use Rattle.object_file.specs.License.{license_of}
-use Rattle.object_file.specs.Symbols.{unnamed_symbol}
-use Rattle.object_file.specs.Version.{version_of}
-use Rattle.object_parts.specs.Content as object
-use Rattle.object_parts.specs.Content.{key_cmp}
-use Rattle.linker.specs.Linked.{AllCanBeLinked, AreLinked, HasFaultOf, program_keys, unlinked}
-use Rattle.relocation_errors.specs.declared.error.EbpfRelocationError.{EbpfRelocationError}
-use Rattle.relocation_errors.specs.declared.error.RelocationError.TheVariants as relocation
-use Rattle.load_plan.specs.Content.{PlanContent, ProgramContent}
+use Rattle.object_plan.specs.Plans.{AllNamed, HoldsTypeBytes, plan_of}
+use Rattle.plan_text.specs.Content.{PlanContent}
+use Rattle.settings.specs.Content.{SettingsContent}
+use Rattle.load_plan.specs.Made.{IsMadeOf}
+use Rattle.load_plan.specs.Refusals.{IsObjectRefusal}
 use Rattle.load_plan.specs.declared.error.PrepareError.{PrepareError}
-use Rattle.load_plan.specs.declared.error.PrepareError.TheVariants.{Parse, NotYet, Relocation, OutOfMemory}
-use Rattle.load_plan.specs.declared.error.Place.{Place}
-use Rattle.load_plan.specs.declared.error.Place.TheVariants.{Function, Symbol}
+use Rattle.load_plan.specs.declared.error.PrepareError.TheVariants.{FunctionRecordType, NotYet, OutOfMemory, Parse, Relocation, Types}
 
--- the slots of the function of a key
-abbrev pub slots_at : List ((ℕ × ℕ) × object.FunctionContent) → ℕ × ℕ → List bpf_insn
-slots_at functions key = option_map_or (λ f. f.instructions) (lookup (is_at (key_cmp key)) functions) []
+-- what a plan is made of: the object's file and the settings
+pub record Inputs : Type 0 where
+  pub file : List ℕ
+  pub settings : SettingsContent
 
--- a program with the slots of its function
-abbrev pub plan_program_of : List ((ℕ × ℕ) × object.FunctionContent) → (List ℕ × object.ProgramContent) → ProgramContent
-plan_program_of functions e = record {
-  name = e.0;
-  section = e.1.section;
-  slots = slots_at functions (e.1.section_index, e.1.address);
-}
-
--- the plan of an object: its programs, by name
-abbrev pub plan_of : ObjectContent → PlanContent
-plan_of o = record { license = license_of o.file; version = version_of o.file; programs = map (plan_program_of o.functions) o.programs }
-
--- an object whose programs are linked to the functions that they lead to, where all of it is served
-pub record IsLinkedObject (object linked : ObjectContent) : Type 0 where
-  pub text_sections : List ℕ
-  pub sections : AreTextSections object.functions text_sections
-  pub served : is_served object.file text_sections (are_whole object.functions) ≡ true
-  pub programs : AreLinked (unlinked object.file text_sections object.functions) (program_keys object.programs) linked.functions
-  pub sound : AllCanBeLinked (unlinked object.file text_sections object.functions) (program_keys object.programs)
-  pub others : linked ≡ record object { functions = linked.functions }
-
--- a plan is that of the object that a file holds, with its programs linked
-pub record IsPlanned (file : List ℕ) (plan : PlanContent) : Type 0 where
-  pub object : ObjectContent
-  pub parsed : IsParsed file object
-  pub linked : ObjectContent
-  pub calls : IsLinkedObject object linked
-  pub is : plan ≡ plan_of linked
-
--- where a fault of a file stands
-abbrev pub IsPlace : List ℕ → ParseError → Place → Type 0
-IsPlace file error.InvalidProgramCode (Function index section name) =
-    (place_without_code file ≡ Some (index, string_bytes name)) × (string_bytes section ≡ name_at file index)
-IsPlace file (error.BtfError btf.InvalidSymbolName) (Symbol index) = unnamed_symbol file ≡ Some index
-IsPlace file _ _ = ⊥
-
--- a section of a file that isn't served is named
-abbrev pub IsUnserved : List ℕ → List ℕ → Bool → PrepareError → Type 0
-IsUnserved file text_sections whole (NotYet n) =
-    (is_served file text_sections whole ≡ false) × AsksFor file text_sections whole n.subject n.index × (string_bytes n.name ≡ name_at file n.index)
-IsUnserved file text_sections whole OutOfMemory = Unit {0}
-IsUnserved file text_sections whole _ = ⊥
-
-pub record IsNotYet (object : ObjectContent) (e : PrepareError) : Type 0 where
-  pub text_sections : List ℕ
-  pub sections : AreTextSections object.functions text_sections
-  pub unserved : IsUnserved object.file text_sections (are_whole object.functions) e
-
--- a program that can't be linked is named
-pub record CannotLink (object : ObjectContent) (e : EbpfRelocationError) : Type 0 where
-  pub text_sections : List ℕ
-  pub sections : AreTextSections object.functions text_sections
-  pub served : is_served object.file text_sections (are_whole object.functions) ≡ true
-  pub fault : HasFaultOf (unlinked object.file text_sections object.functions) object.programs (option_map string_bytes e.function) e.error
-
--- what a refusal says of an object that was parsed
-abbrev pub IsObjectRefusal : ObjectContent → PrepareError → Type 0
-IsObjectRefusal object (NotYet n) = IsNotYet object (NotYet n)
-IsObjectRefusal object (Relocation e) = e.error ≢ relocation.OutOfMemory → CannotLink object e
-IsObjectRefusal object OutOfMemory = Unit {0}
-IsObjectRefusal object (Parse e) = ⊥
-
--- it is of the object that a file without a fault holds
-pub record IsRefusedObject (file : List ℕ) (e : PrepareError) : Type 0 where
+-- the object that a file without a fault holds
+pub record IsWholeObject (file : List ℕ) (object : ObjectContent) : Type 0 where
   pub faultless : IsFaultless file
-  pub object : ObjectContent
   pub parsed : IsParsed file object
-  pub refusal : IsObjectRefusal object e
 
--- What a refusal says of a file, memory apart: a fault of it, or what is refused of its object: that it isn't served, or else
--- that a program can't be linked.
-abbrev pub IsRefusal : List ℕ → PrepareError → Type 0
-IsRefusal file (Parse e) = e ≢ error.OutOfMemory → HasFault file e
-IsRefusal file (NotYet n) = IsRefusedObject file (NotYet n)
-IsRefusal file (Relocation e) = IsRefusedObject file (Relocation e)
-IsRefusal file OutOfMemory = Unit {0}
+-- The plan of an object is that of what the passes make of it. Its bytes of types hold the rewritten table, in which each record
+-- of a function names one of the name that it has in the object's.
+pub record IsPlanOf {F : Type 0} (predicate : Mut F (BtfFeature × Unit {0}) Bool) (before : F) (settings : SettingsContent) (object : ObjectContent) (plan : PlanContent) : Type 0 where
+  pub made : ObjectContent
+  pub making : IsMadeOf predicate before settings object plan.features made
+  pub is : plan ≡ plan_of plan.features made
+  pub holds : HoldsTypeBytes made.types plan.type_bytes
+  pub names : AllNamed object.types plan.type_bytes plan.programs
+
+-- the plan of the object that a file holds
+pub record IsPlanned {F : Type 0} (predicate : Mut F (BtfFeature × Unit {0}) Bool) (before : F) (inputs : Inputs) (plan : PlanContent) : Type 0 where
+  pub object : ObjectContent
+  pub whole : IsWholeObject inputs.file object
+  pub planned : IsPlanOf predicate before inputs.settings object plan
+
+-- a fault of the file
+abbrev pub IsParseRefusal : List ℕ → PrepareError → Type 0
+IsParseRefusal file (Parse e) = e ≢ error.OutOfMemory → HasFault file e
+IsParseRefusal file _ = ⊥
+
+-- what is refused of the object of a file without a fault
+pub record IsRefusedObject {F : Type 0} (predicate : Mut F (BtfFeature × Unit {0}) Bool) (before : F) (inputs : Inputs) (e : PrepareError) : Type 0 where
+  pub object : ObjectContent
+  pub whole : IsWholeObject inputs.file object
+  pub refusal : IsObjectRefusal predicate before inputs.settings object e
+
+-- What a refusal says, memory apart: a fault of the file, or of the object that a file without a fault holds.
+abbrev pub IsRefusal : {F : Type 0} → Mut F (BtfFeature × Unit {0}) Bool → F → Inputs → PrepareError → Type 0
+IsRefusal predicate before inputs (Parse e) = IsParseRefusal inputs.file (Parse e)
+IsRefusal predicate before inputs (FunctionRecordType function id) = IsRefusedObject predicate before inputs (FunctionRecordType function id)
+IsRefusal predicate before inputs (NotYet pass) = IsRefusedObject predicate before inputs (NotYet pass)
+IsRefusal predicate before inputs (Types e) = IsRefusedObject predicate before inputs (Types e)
+IsRefusal predicate before inputs (Relocation e) = IsRefusedObject predicate before inputs (Relocation e)
+IsRefusal predicate before inputs OutOfMemory = Unit {0}

@@ -1,62 +1,14 @@
 //! Why an object gets no plan.
 
 ghost use Rattle.std.specs.Prelude.{◌≡◌};
-ghost use Rattle.load_plan.specs.declared.error.PrepareError.TheVariants.{Parse, OutOfMemory, Relocation};
+ghost use Rattle.load_plan.specs.declared.error.PrepareError.TheVariants.{Parse, OutOfMemory, Relocation, Types};
 
+use btf_records::BtfError;
 use ebpf_items::ParseError;
-use ebpf_object::Subject;
+use ebpf_object::Pass;
 use relocation_errors::EbpfRelocationError;
 use std::alloc::{AllocError, AllocFailed};
-use std::fmt;
 use thiserror::Error;
-
-/// What a section of an object has that isn't looked at yet.
-#[derive(Debug, Drop, Error)]
-#[error("not yet: {} in section {index} {name:?}", words(*subject))]
-pub struct NotYet {
-    pub subject: Subject,
-    /// The section's index in the section header table.
-    pub index: usize,
-    /// The section's name.
-    pub name: String,
-}
-
-fn words(subject: Subject) -> &'static str {
-    match subject {
-        Subject::Maps => "maps",
-        Subject::Types => "types",
-        Subject::Data => "variables",
-        Subject::Relocations => "relocations",
-    }
-}
-
-/// Where a fault stands whose error doesn't say it.
-#[derive(Debug, Drop)]
-pub enum Place {
-    /// In a function of the section of an index.
-    Function {
-        index: usize,
-        section: String,
-        name: String,
-    },
-    /// In the symbol of an index.
-    Symbol {
-        index: usize,
-    },
-}
-
-impl fmt::Display for Place {
-    fn fmt<W: fmt::Write>(&self, f: &mut fmt::Formatter<W>) -> fmt::Result {
-        match self {
-            Place::Function {
-                index,
-                section,
-                name,
-            } => write!(f, "function {name:?} of section {index} {section:?}"),
-            Place::Symbol { index } => write!(f, "symbol {index}"),
-        }
-    }
-}
 
 /// Why an object gets no plan.
 #[derive(Debug, Drop, Error)]
@@ -64,9 +16,22 @@ pub enum PrepareError {
     /// The object can't be parsed.
     #[error("{0}")]
     Parse(ParseError),
-    /// The object has something that isn't looked at yet.
+    /// A record of a function names a type that is no function with a name.
+    #[error("function {function:?} has a record of type {type_id}, which is no function with a name")]
+    FunctionRecordType {
+        /// The function's own name.
+        function: String,
+        /// The record's type.
+        type_id: u32,
+    },
+    /// A pass that doesn't exist yet has something to do with the object or the settings.
+    #[error("not yet: {}", subject(*pass))]
+    NotYet {
+        pass: Pass,
+    },
+    /// The object's types can't be rewritten to the kernel's features.
     #[error("{0}")]
-    NotYet(NotYet),
+    Types(BtfError),
     /// A program can't be linked to the functions that it leads to.
     #[error("{0}")]
     Relocation(EbpfRelocationError),
@@ -75,11 +40,32 @@ pub enum PrepareError {
     OutOfMemory,
 }
 
+/// What a pass has to do with.
+fn subject(pass: Pass) -> &'static str {
+    match pass {
+        Pass::MapNumbers => "maps",
+        Pass::Globals => "values of global variables",
+        Pass::TypeRelocations => "type relocations",
+        Pass::Externs => "externs",
+        Pass::MapRelocations => "relocations for maps",
+        Pass::ExternRelocations => "relocations for externs",
+        Pass::HelperCalls => "calls of helpers that older kernels lack",
+    }
+}
+
 impl From<ParseError> for PrepareError {
     ghost from_gives = { λ error e. e ≡ Parse error };
 
     fn from(error: ParseError) -> PrepareError {
         PrepareError::Parse(error)
+    }
+}
+
+impl From<BtfError> for PrepareError {
+    ghost from_gives = { λ error e. e ≡ Types error };
+
+    fn from(error: BtfError) -> PrepareError {
+        PrepareError::Types(error)
     }
 }
 

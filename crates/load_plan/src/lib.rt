@@ -1,17 +1,24 @@
-//! Load plans: what a loader hands to one kernel, and their text.
+//! From an eBPF object to its load plan, what a loader hands to one kernel.
 #![tactic(auto)]
 
 mod error;
-mod plan;
+mod making;
+mod order;
+mod places;
 mod planning;
-mod program_kind;
-mod writing;
 
-pub use ebpf_object::{ParseError, ProgramSection, Slots, Subject, Watched, bpf_insn};
-pub use error::{NotYet, Place, PrepareError};
-pub use plan::{Plan, PlanProgram};
-pub use planning::{place_of, prepare};
+pub use btf_records::{BtfError, BtfFeature};
+pub use btf_tables::Btf;
+pub use ebpf_object::{ParseError, Pass, ProgramSection, Slots, Watched, bpf_insn};
+pub use error::PrepareError;
+pub use order::Order;
+pub use places::{Place, place_of};
+pub use plan_text::{Answers, Plan, PlanProgram};
+pub use planning::prepare;
 pub use relocation_errors::{EbpfRelocationError, RelocationError};
+pub use settings::Settings;
 
+#[cfg(test)]
+mod objects;
 #[cfg(test)]
 mod tests;

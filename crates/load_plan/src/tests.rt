@@ -1,99 +1,123 @@
-//! Plans of small objects, and writers that fail.
+//! Plans of small objects, for kernels that lack features, and refusals.
 
-use crate::{PrepareError, Subject, prepare};
-use ebpf_items::{ParseError, ProgramSection, Watched};
+use crate::objects::{FLOATS, RECORDS};
+use crate::{BtfFeature, Order, ParseError, Pass, Plan, PrepareError, Settings, Watched, prepare};
 use sample_objects::{ONE_PROGRAM, ONE_PROGRAM_PLAN, with_bytes};
 use std::alloc::Global;
 use std::io;
-use std::io::{ErrorKind, Write};
 use std::test::Fail;
 
-/// Where fields of the object lie.
+/// The plan of an object without symbols and kernel types, for a kernel that lacks these features.
+fn planned<'a>(
+    alloc: Global,
+    object: &'a [u8],
+    settings: &Settings<'_>,
+    order: Order,
+    lacking: &[BtfFeature],
+) -> Result<Plan<'a>, PrepareError> {
+    let mut symbols = io::empty();
+    let grants = |feature: BtfFeature| !lacking.contains(&feature);
+    prepare(
+        alloc,
+        object,
+        &[],
+        &mut symbols,
+        settings,
+        order,
+        grants,
+        || true,
+    )
+}
+
+// Features that a kernel lacks, an object, and its plan's text.
+const PLANS: [(&[BtfFeature], &[u8], &[u8]); 5] = [
+    (&[], &ONE_PROGRAM, ONE_PROGRAM_PLAN),
+    (
+        &[BtfFeature::Float],
+        &FLOATS,
+        b"bpf-plan 1\nlicense 47504c\nversion any\nfeature Float no\n\
+        types 9feb010018000000000000001800000018000000050000000000000000000004040000000000000000000004080000000066006400\n\
+        end\n",
+    ),
+    (
+        &[],
+        &RECORDS,
+        b"bpf-plan 1\nlicense 47504c\nversion any\nfeature Func yes\nfeature FuncGlobal yes\n\
+        types 9feb0100180000000000000040000000400000001800000001000000000000010400000020000000000000000000000d00000000050000000100000c02000000000000000000000d00000000070000000000000c0400000000696e74006600616464006b70726f6265002e7465787400\n\
+        program 66 1 0 0\nslots 85100000010000009500000000000000b7000000070000009500000000000000\nfunc 0 3\nfunc 2 5\nend\n",
+    ),
+    (
+        &[BtfFeature::FuncGlobal],
+        &RECORDS,
+        b"bpf-plan 1\nlicense 47504c\nversion any\nfeature Func yes\nfeature FuncGlobal no\n\
+        types 9feb0100180000000000000040000000400000001800000001000000000000010400000020000000000000000000000d00000000050000000000000c02000000000000000000000d00000000070000000000000c0400000000696e74006600616464006b70726f6265002e7465787400\n\
+        program 66 1 0 0\nslots 85100000010000009500000000000000b7000000070000009500000000000000\nfunc 0 3\nfunc 2 5\nend\n",
+    ),
+    (
+        &[BtfFeature::Func, BtfFeature::FuncGlobal],
+        &RECORDS,
+        b"bpf-plan 1\nlicense 47504c\nversion any\nfeature Func no\n\
+        types 9feb010018000000000000004000000040000000180000000100000000000001040000002000000000000000000000060400000005000000000000080200000000000000000000060400000007000000000000080400000000696e74006600616464006b70726f6265002e7465787400\n\
+        program 66 1 0 0\nslots 85100000010000009500000000000000b7000000070000009500000000000000\nend\n",
+    ),
+];
+
+#[test]
+fn plans(rt: HostRuntime) -> Result<(), Fail> {
+    let settings = Settings::new(rt.alloc());
+    for (lacking, object, text) in PLANS.iter() {
+        for order in [Order::RelocateFirst, Order::RewriteFirst] {
+            let plan = planned(rt.alloc(), object, &settings, order, lacking)
+                .map_err(|_| "refused")?;
+            let mut out = Watched::new(Vec::new(rt.alloc()));
+            plan.write(&mut out)?;
+            assert_eq!(rt; out.into_inner().as_slice(), *text);
+        }
+    }
+    Ok(())
+}
+
+#[test]
+fn slots_stay_in_the_file(rt: HostRuntime) -> Result<(), Fail> {
+    let settings = Settings::new(rt.alloc());
+    let plan = planned(rt.alloc(), &ONE_PROGRAM, &settings, Order::RelocateFirst, &[])
+        .map_err(|_| "refused")?;
+    assert_eq!(rt; plan.programs().len(), 1);
+    for program in plan.programs() {
+        assert!(rt; program.slots().is_borrowed());
+    }
+    Ok(())
+}
+
+/// Where fields of the object with one program lie.
 const SLOTS: usize = 72;
 
 const SECTION_NAMES: usize = 141;
 
 const LICENSE_SIZE: usize = 280;
 
-/// Takes so many bytes, one at a time, and then fails or takes nothing.
-#[derive(Drop)]
-struct Short {
-    taken: Vec<u8>,
-    left: usize,
-    is_failing: bool,
-}
+/// A call of the helper of number 112.
+const NEWER_HELPER: [u8; 8] = [0x85, 0, 0, 0, 112, 0, 0, 0];
 
-impl Write for Short {
-    fn write(&mut self, buf: &[u8]) -> io::Result<usize> {
-        let Some(byte) = buf.first() else {
-            return Ok(0);
-        };
-        if self.left == 0 {
-            if self.is_failing {
-                return Err(io::Error::from(ErrorKind::Other));
-            }
-            return Ok(0);
-        }
-        self.left -= 1;
-        self.taken.push(*byte)?;
-        Ok(1)
-    }
-
-    fn flush(&mut self) -> io::Result<()> {
-        Ok(())
-    }
-}
-
-#[test]
-fn one_program(rt: HostRuntime) -> Result<(), Fail> {
-    let plan = prepare(rt.alloc(), &ONE_PROGRAM).map_err(|_| "refused")?;
-    assert_eq!(rt; plan.license(), b"GPL".as_slice());
-    assert_eq!(rt; plan.version(), None);
-    for program in plan.programs() {
-        assert!(rt; program.name() == "foo");
-        assert!(rt; matches!(program.section(), ProgramSection::KProbe));
-        assert!(rt; program.slots().is_borrowed());
-    }
-    let mut out = Watched::new(Vec::new(rt.alloc()));
-    plan.write(&mut out)?;
-    assert_eq!(rt; out.into_inner().as_slice(), ONE_PROGRAM_PLAN);
-    Ok(())
-}
-
-#[test]
-fn writers_that_fail(rt: HostRuntime) -> Result<(), Fail> {
-    let plan = prepare(rt.alloc(), &ONE_PROGRAM).map_err(|_| "refused")?;
-    let text = ONE_PROGRAM_PLAN;
-    for left in 0..=text.len() {
-        for is_failing in [false, true] {
-            let mut out = Watched::new(Short {
-                taken: Vec::new(rt.alloc()),
-                left,
-                is_failing,
-            });
-            let is_written = plan.write(&mut out).is_ok();
-            assert_eq!(rt; is_written, left == text.len());
-            assert_eq!(rt; out.failed(), !is_written);
-            assert_eq!(rt; out.into_inner().taken.as_slice(), &text[..left]);
-        }
-    }
-    Ok(())
-}
-
-// Bytes of the names of sections, of the first slot and of the size of the license, and what is
-// refused then: what is asked for and the section, or nothing where the object is faulty.
-const CHANGES: [(&[u8], &[u8], u8, Option<(Subject, usize)>); 3] = [
-    (b".bss\0\0", &[0xb7], 4, Some((Subject::Data, 2))),
-    (b"kprobe", &CALL, 1, None),
-    (b"kprobe", &[0xb7], 1, None),
+// Bytes of the names of sections, of the first slot and of the size of the license, whether the value
+// of a variable is set, and for which pass an object so changed is refused, none where it is faulty.
+const CHANGES: [(&[u8], &[u8], u8, bool, Option<Pass>); 6] = [
+    (b".bss\0\0", &[0xb7], 4, false, Some(Pass::MapNumbers)),
+    (b".bss\0\0", &[0xb7], 4, true, Some(Pass::MapNumbers)),
+    (b"kprobe", &[0xb7], 4, true, Some(Pass::Globals)),
+    (b"kprobe", &NEWER_HELPER, 4, false, Some(Pass::HelperCalls)),
+    (b"kprobe", &NEWER_HELPER, 4, true, Some(Pass::Globals)),
+    (b"kprobe", &NEWER_HELPER, 1, true, None),
 ];
 
-const CALL: [u8; 8] = [0x85, 0x10, 0, 0, 0xff, 0xff, 0xff, 0xff];
-
-// What an object is refused for as not yet looked at, and in which section.
-fn not_yet(alloc: Global, object: &[u8]) -> Result<Option<(Subject, usize)>, Fail> {
-    match prepare(alloc, object) {
-        Err(PrepareError::NotYet(error)) => Ok(Some((error.subject, error.index))),
+/// For which pass an object is refused, none where it is faulty.
+fn not_yet(
+    alloc: Global,
+    object: &[u8],
+    settings: &Settings<'_>,
+) -> Result<Option<Pass>, Fail> {
+    match planned(alloc, object, settings, Order::RelocateFirst, &[]) {
+        Err(PrepareError::NotYet { pass }) => Ok(Some(pass)),
         Err(PrepareError::Parse(ParseError::InvalidLicense { bytes: _ })) => Ok(None),
         _ => Err(Fail::from("another answer")),
     }
@@ -101,14 +125,18 @@ fn not_yet(alloc: Global, object: &[u8]) -> Result<Option<(Subject, usize)>, Fai
 
 #[test]
 fn objects_that_are_not_served(rt: HostRuntime) -> Result<(), Fail> {
-    for (name, slot, license, wanted) in CHANGES {
+    for (name, slot, license, has_global, wanted) in CHANGES {
+        let mut settings = Settings::new(rt.alloc());
+        if has_global {
+            settings.set_global("limit", &[1], false)?;
+        }
         let changes = [
             (SECTION_NAMES + 9, name),
             (SLOTS, slot),
             (LICENSE_SIZE, &[license]),
         ];
         let object = with_bytes(&ONE_PROGRAM, &changes);
-        assert_eq!(rt; not_yet(rt.alloc(), &object)?, wanted);
+        assert_eq!(rt; not_yet(rt.alloc(), &object, &settings)?, wanted);
     }
     Ok(())
 }

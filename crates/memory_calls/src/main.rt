@@ -7,9 +7,10 @@ use btf::{
     types_are_compatible,
 };
 use ebpf_items::{Slots, bpf_insn};
-use load_plan::{ParseError, PrepareError, prepare};
+use load_plan::{Order, ParseError, PrepareError, Settings, prepare};
 use sample_objects::ONE_PROGRAM;
 use std::alloc::{AllocError, Global};
+use std::io;
 use std::process::ExitCode;
 use string_table::LongTexts;
 
@@ -95,7 +96,19 @@ fn written(alloc: Global) -> Result<i32, AllocError> {
 
 /// The number of programs of an object's plan.
 fn programs(alloc: Global) -> Result<usize, PrepareError> {
-    Ok(prepare(alloc, &ONE_PROGRAM)?.programs().len())
+    let settings = Settings::new(alloc);
+    let mut symbols = io::empty();
+    let plan = prepare(
+        alloc,
+        &ONE_PROGRAM,
+        &[],
+        &mut symbols,
+        &settings,
+        Order::RelocateFirst,
+        |_feature| true,
+        || true,
+    )?;
+    Ok(plan.programs().len())
 }
 
 /// Prints what the calls over types give: whether memory was there.

@@ -1,7 +1,7 @@
 use Rattle.std.proofs.Common.{◌≡◌, ℕ, ◌==◌}
 use Rattle.std.specs.Prelude.{◌||◌}
 use Rattle.std.specs.List.{list_any}
-use Rattle.ebpf_object.specs.Served.{has_functions}
+use Rattle.unserved.specs.Relocations.{has_functions}
 use Rattle.ebpf_object.proofs.calls.text_sections.Given as goal
 
 -- with what is left, the sections of all functions

@@ -1,8 +1,0 @@
-use Rattle.std.proofs.Common.{◌≡◌, ◌++◌, map}
-use Rattle.object_parts.specs.Names.{by_bytes}
-use Rattle.load_plan.specs.Planned.{plan_program_of}
-use Rattle.load_plan.proofs.planning.plan_programs.Given as goal
-
-abbrev pub invariant-loop-name : goal.invariant-loop-name
-invariant-loop-name l =
-    l.programs.items ++ map (plan_program_of l.object.functions) (by_bytes l.name-iterator) ≡ map (plan_program_of l.object.functions) l.object.programs

@@ -1,8 +1,0 @@
-use Rattle.std.proofs.Common.{take}
-use Rattle.std.specs.Prelude.{flat_map}
-use Rattle.watched.specs.Watched.{Sends}
-use Rattle.load_plan.specs.PlanGrammar.{program_lines, text_of_lines}
-use Rattle.load_plan.proofs.writing.send_programs.Given as goal
-
-abbrev pub invariant-loop-program : goal.invariant-loop-program
-invariant-loop-program g l = Sends g.W.Write.contents l.fn.out l.out (text_of_lines (flat_map program_lines (take l.program-index l.programs)))
