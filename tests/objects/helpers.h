@@ -24,3 +24,4 @@ static u64 (*const ktime_get_ns)(void) = (void *)5;
 static long (*const tail_call)(void *context, void *table, u32 index) = (void *)12;
 static u64 (*const get_current_task)(void) = (void *)35;
 static long (*const probe_read_kernel)(void *to, u32 size, const void *from) = (void *)113;
+static long (*const loop)(u32 count, void *callback, void *context, u64 flags) = (void *)181;
