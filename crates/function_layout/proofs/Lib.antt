@@ -4,4 +4,5 @@ pub mod Unique
 pub mod Reach
 pub mod Flat
 pub mod Same
+pub mod Lengths
 pub mod Rows

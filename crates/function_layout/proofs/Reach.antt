@@ -92,7 +92,7 @@ chained t own ks l k zero c = referred t own ks own k l (is_own own ks) c
 chained t own ks l k (suc n) c =
     referred t own ks c.0 k l (has_of own ks c.0 (chained t own ks l c.0 n c.1.0)) c.1.1
 
-distinct : (t : Table) (own : Key) (ks : List Key) → IsOrder t own ks → AreDistinct ks
+pub distinct : (t : Table) (own : Key) (ks : List Key) → IsOrder t own ks → AreDistinct ks
 distinct t own [] o = tt
 distinct t own (k ∷ ks) o = (name_new t ks (path t own ks) k o.1, distinct t own ks o.0)
 

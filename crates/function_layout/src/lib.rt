@@ -6,7 +6,7 @@
 //! their contracts are the theorems.
 #![tactic(auto)]
 
-ghost use Rattle.function_layout.specs.Theorems.{LayoutIsUnique, ReachedAreAppended, LinkedVisitsSame};
+ghost use Rattle.function_layout.specs.Theorems.{CopiesAreFew, LayoutIsUnique, LengthsAdd, LinkedVisitsSame, ReachedAreAppended};
 ghost use Rattle.function_layout.specs.Walking.{WalkLaws, OrderLaws, PlaceLaws};
 
 /// A program has at most one layout.
@@ -24,6 +24,16 @@ pub fn reached_are_appended()
 /// slots are visited in the same order with the same end.
 pub fn linked_visits_same()
     ensures { LinkedVisitsSame }
+{}
+
+/// A program's own function has at most two copies, and each other function at most one.
+pub fn copies_are_few()
+    ensures { CopiesAreFew }
+{}
+
+/// A program is as long as its own function and the functions of its appended copies together.
+pub fn lengths_add()
+    ensures { LengthsAdd }
 {}
 
 /// A walk over the references, depth first, appends copies in the order of the layout.
