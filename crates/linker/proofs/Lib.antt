@@ -2,6 +2,7 @@ pub mod Alone
 pub mod Gets
 pub mod Opens
 pub mod Walk
+pub mod Short
 pub mod Emit
 pub mod Sound
 pub mod Installs

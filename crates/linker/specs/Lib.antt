@@ -4,3 +4,4 @@ pub mod Faults
 pub mod Linked
 pub mod Walks
 pub mod Installed
+pub mod Lengths

@@ -4,10 +4,12 @@
 //! once, depth first in the order in which slots refer to them, and the references are aimed at the copies.
 #![tactic(auto)]
 
+mod lengths;
 mod linking;
 mod order;
 mod records;
 mod source;
 mod writing;
 
+pub use lengths::programs_are_short;
 pub use linking::relocate_calls;

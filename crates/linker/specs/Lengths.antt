@@ -1,0 +1,15 @@
+-- How long linked programs are.
+use Rattle.std.specs.Prelude.{ℕ, ◌+◌, ◌≤◌, List, [], ◌∷◌, length}
+use Rattle.object_parts.specs.Content.{FunctionContent}
+use Rattle.function_layout.specs.Layout.{Key}
+use Rattle.linker.specs.Unlinked.{Unlinked}
+use Rattle.linker.specs.Linked.{IsLinked}
+
+-- the slots of all functions together
+abbrev pub slot_total : List (Key × FunctionContent) → ℕ
+slot_total [] = 0
+slot_total (f ∷ fs) = length f.1.instructions + slot_total fs
+
+-- a linked program is at most as long as its own function and all functions together
+pub record ProgramsAreShort : Type 0 where
+  pub each : (u : Unlinked) (own : Key) (g : FunctionContent) (l : IsLinked u own g) → length g.instructions ≤ length l.function.instructions + slot_total u.functions
