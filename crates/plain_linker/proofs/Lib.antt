@@ -1,0 +1,3 @@
+pub mod Opens
+pub mod Copies
+pub mod References
