@@ -2,6 +2,10 @@
 #![tactic(auto)]
 
 #[cfg(test)]
+mod comparing;
+#[cfg(test)]
+mod graphs;
+#[cfg(test)]
 mod linking;
 #[cfg(test)]
 mod objects;

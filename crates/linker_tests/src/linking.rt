@@ -60,7 +60,7 @@ const ROWS: [(&[u8], &str, &[[u8; 8]]); 9] = [
 ];
 
 /// Whether each program's function is there.
-fn have_functions(programs: &Programs<'_>, functions: &Functions<'_>) -> bool
+pub(crate) fn have_functions(programs: &Programs<'_>, functions: &Functions<'_>) -> bool
     ensures { result ≡ true → HaveFunctions programs.now functions.now }
 {
     for (_, program) in programs.iter() {
@@ -72,7 +72,7 @@ fn have_functions(programs: &Programs<'_>, functions: &Functions<'_>) -> bool
 }
 
 /// The indexes of the sections with functions.
-fn text_sections(alloc: Global, functions: &Functions<'_>) -> Option<BTreeSet<usize>> {
+pub(crate) fn text_sections(alloc: Global, functions: &Functions<'_>) -> Option<BTreeSet<usize>> {
     let mut sections = BTreeSet::new(alloc);
     for (key, _) in functions.iter() {
         sections.insert(key.0).ok()?;
