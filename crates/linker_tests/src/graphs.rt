@@ -41,14 +41,14 @@ const MOVE: [u8; 4] = [0xb7, 0, 0, 0];
 const EXIT: [u8; 4] = [0x95, 0, 0, 0];
 
 /// What stands before the programs: the file's header, and the section `license`.
-static HEAD: [u8; 72] = [
+static HEAD: &[u8] = &[
     0x7f, 0x45, 0x4c, 0x46, 2, 1, 1, 0, 0, 0, 0, 0, 0, 0, 0, 0, 1, 0, 0xf7, 0, 1, 0, 0, 0, 0, 0, 0,
     0, 0, 0, 0, 0, 0, 0, 0, 0, 0, 0, 0, 0, 0xa8, 0x0b, 0, 0, 0, 0, 0, 0, 0, 0, 0, 0, 0x40, 0, 0, 0,
     0, 0, 0x40, 0, 9, 0, 8, 0, 0x47, 0x50, 0x4c, 0, 0, 0, 0, 0,
 ];
 
 /// What stands behind the symbols: their names, the relocations, the sections' names and headers.
-static TAIL: [u8; 1008] = [
+static TAIL: &[u8] = &[
     0, 0x66, 0, 0x67, 0, 0x68, 0, 0, 0, 0, 0, 0, 0, 0, 0, 0, 0x0a, 0, 0, 0, 1, 0, 0, 0, 8, 0, 0, 0,
     0, 0, 0, 0, 0x0a, 0, 0, 0, 1, 0, 0, 0, 0x10, 0, 0, 0, 0, 0, 0, 0, 0x0a, 0, 0, 0, 1, 0, 0, 0,
     0x18, 0, 0, 0, 0, 0, 0, 0, 0x0a, 0, 0, 0, 1, 0, 0, 0, 0x20, 0, 0, 0, 0, 0, 0, 0, 0x0a, 0, 0, 0,
@@ -234,11 +234,11 @@ fn push_symbols(bytes: &mut Vec<u8>, starts: &[u32]) -> Option<()> {
 pub(crate) fn random_object(alloc: Global, numbers: &mut Numbers) -> Option<Vec<u8>> {
     let starts = random_starts(alloc, numbers)?;
     let mut bytes = Vec::new(alloc);
-    bytes.extend_from_slice(&HEAD).ok()?;
+    bytes.extend_from_slice(HEAD).ok()?;
     push_program(&mut bytes, 0, numbers, starts.as_slice())?;
     push_program(&mut bytes, PROGRAM_SIZE / 8, numbers, starts.as_slice())?;
     push_functions(&mut bytes, numbers, starts.as_slice())?;
     push_symbols(&mut bytes, starts.as_slice())?;
-    bytes.extend_from_slice(&TAIL).ok()?;
+    bytes.extend_from_slice(TAIL).ok()?;
     Some(bytes)
 }

@@ -10,7 +10,7 @@ use linker::relocate_calls;
 use object_file::ObjectFile;
 use object_parse::read_code;
 use object_parts::{Code, Functions, Programs};
-use relocation_errors::RelocationError;
+use relocation_errors::{EbpfRelocationError, RelocationError};
 use std::alloc::Global;
 use std::collections::BTreeSet;
 
@@ -132,17 +132,39 @@ fn links_worked_programs(rt: HostRuntime) {
     }
 }
 
-// Where the call of the object that calls itself stands.
-const SELF_CALL_AT: usize = 72;
+// Where the immediate of the call stands in the object that calls itself.
+const SELF_CALL_IMMEDIATE: usize = 76;
+
+/// The object that calls itself, whose call has another immediate.
+fn with_immediate(alloc: Global, immediate: [u8; 4]) -> Option<Vec<u8>> {
+    let mut object = Vec::new(alloc);
+    object
+        .extend_from_slice(SELF_CALL.get(..SELF_CALL_IMMEDIATE)?)
+        .ok()?;
+    object.extend_from_slice(&immediate).ok()?;
+    object
+        .extend_from_slice(SELF_CALL.get(SELF_CALL_IMMEDIATE + 4..)?)
+        .ok()?;
+    Some(object)
+}
+
+/// The address at which no function begins, of an error that names the function `f` as the program
+/// and as the caller.
+fn unknown_address(fault: &EbpfRelocationError) -> Option<u64> {
+    match fault.error() {
+        RelocationError::UnknownFunction {
+            address,
+            caller_name,
+        } if fault.function() == "f" && caller_name.as_str() == "f" => Some(*address),
+        _ => None,
+    }
+}
 
 /// The address at which no function begins, as the object that calls itself is refused where its
 /// call has another immediate. The function must then be as it was.
 fn refused(alloc: Global, immediate: [u8; 4]) -> Option<u64> {
-    let mut object = SELF_CALL;
-    for index in 0..4 {
-        object[SELF_CALL_AT + 4 + index] = immediate[index];
-    }
-    let file = ObjectFile::parse(alloc, &object).ok()?;
+    let object = with_immediate(alloc, immediate)?;
+    let file = ObjectFile::parse(alloc, object.as_slice()).ok()?;
     let Code {
         programs,
         mut functions,
@@ -151,10 +173,7 @@ fn refused(alloc: Global, immediate: [u8; 4]) -> Option<u64> {
     if !have_functions(&programs, &functions) {
         return None;
     }
-    let answer = relocate_calls(alloc, &file, &programs, &mut functions, &text_sections);
-    let Err(fault) = answer else {
-        return None;
-    };
+    let fault = relocate_calls(alloc, &file, &programs, &mut functions, &text_sections).err()?;
     let code = Code {
         programs,
         functions,
@@ -167,13 +186,7 @@ fn refused(alloc: Global, immediate: [u8; 4]) -> Option<u64> {
     ) {
         return None;
     }
-    match fault.error() {
-        RelocationError::UnknownFunction {
-            address,
-            caller_name,
-        } if fault.function() == "f" && caller_name.as_str() == "f" => Some(*address),
-        _ => None,
-    }
+    unknown_address(&fault)
 }
 
 #[test]
