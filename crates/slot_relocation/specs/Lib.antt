@@ -1,0 +1,4 @@
+pub mod Writes
+pub mod Maps
+pub mod Laws
+pub mod Walks

@@ -1,0 +1,20 @@
+//! What holds of functions after the relocations by maps inside them. The functions here compute
+//! nothing: their contracts are the theorems.
+
+ghost use Rattle.slot_relocation.specs.Laws.{LengthsStay, OthersStay, SlotsCarryNumbers};
+
+/// The slot at which a relocation by a map, or by a variable of it, writes carries the map's number
+/// after all relocations, whatever the others write.
+pub fn slots_carry_numbers()
+    ensures { SlotsCarryNumbers }
+{}
+
+/// A slot that no relocation writes stays as it was.
+pub fn others_stay()
+    ensures { OthersStay }
+{}
+
+/// A function keeps its number of slots.
+pub fn lengths_stay()
+    ensures { LengthsStay }
+{}
