@@ -5,4 +5,5 @@ pub mod Reach
 pub mod Flat
 pub mod Same
 pub mod Lengths
+pub mod Renamed
 pub mod Rows

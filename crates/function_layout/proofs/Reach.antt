@@ -83,7 +83,8 @@ some_ref : (o : Option (Option Key)) (key : Key) → flat_option o ≡ Some key 
 some_ref None key e = cc
 some_ref (Some r) key e = ap Some e
 
-referred : (t : Table) (own : Key) (ks : List Key) (x k : Key) → IsLayout t own ks → IsOf own ks x → Refers t x k → has ks k ≡ true
+-- a function to which a copy refers is appended
+pub referred : (t : Table) (own : Key) (ks : List Key) (x k : Key) → IsLayout t own ks → IsOf own ks x → Refers t x k → has ks k ≡ true
 referred t own ks x k l h r =
     closed_ref ks (t.refs x) r.0 k (all_closed t own ks x l h).none (some_ref (slice_get (t.refs x) r.0) k r.1)
 

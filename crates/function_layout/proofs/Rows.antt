@@ -1,8 +1,11 @@
 -- Worked programs, computed: their layouts, their slots, and what their machines show.
-use Rattle.std.proofs.Common.{◌≡◌, ℕ, true, [], ◌∷◌, Some, None, refl, ℤ, pos, negsuc, eqb, cond}
+use Rattle.std.proofs.Common.{◌≡◌, ℕ, true, List, [], ◌∷◌, Some, None, refl, ℤ, pos, negsuc, eqb, cond}
+use Rattle.std.specs.Prelude.{map}
 use Rattle.ebpf_items.specs.declared.instruction.bpf_insn.{bpf_insn}
+use Rattle.ebpf_items.specs.Instruction.{with_older_helper}
 use Rattle.function_layout.specs.Layout.{Key, Table, IsLayout, linked}
-use Rattle.function_layout.specs.Machines.{Cut, Ends, Shows, FlatEvent, SourceEvent, flat_run, source_run}
+use Rattle.function_layout.specs.Renamed.{renamed_table}
+use Rattle.function_layout.specs.Machines.{Cut, Done, Ends, Shows, FlatEvent, SourceEvent, flat_run, source_run}
 
 -- 85 10 00 00 and an immediate
 abbrev call : ℤ → bpf_insn
@@ -138,3 +141,58 @@ callback = record {
 
 address_code : linked callback f (text 0 ∷ []) ≡ load 65 (pos 2) ∷ zeros ∷ exit ∷ move 7 ∷ exit ∷ []
 address_code = refl
+
+-- Helpers by number, as in the kernel's uapi/linux/bpf.h: 4 bpf_probe_read, 45 bpf_probe_read_str, 113 bpf_probe_read_kernel,
+-- 115 bpf_probe_read_kernel_str.
+
+-- 85 and an immediate
+abbrev helper : ℕ → bpf_insn
+helper imm = record { code = 133; registers = 0; off = pos 0; imm = pos imm }
+
+-- f calls a function and a newer helper, and the function another one
+abbrev newer : Table
+newer = record {
+  slots = λ k. cond (eqb k.0 3) (call (negsuc 0) ∷ helper 113 ∷ exit ∷ []) (helper 115 ∷ exit ∷ []);
+  refs = λ k. cond (eqb k.0 3) (Some (text 0) ∷ None ∷ None ∷ []) (None ∷ None ∷ []);
+}
+
+newer_layout : IsLayout newer f (text 0 ∷ [])
+newer_layout = record { order = (tt, refl); complete = refl }
+
+newer_code : linked newer f (text 0 ∷ []) ≡ call (pos 2) ∷ helper 113 ∷ exit ∷ helper 115 ∷ exit ∷ []
+newer_code = refl
+
+abbrev older_code : List bpf_insn
+older_code = call (pos 2) ∷ helper 4 ∷ exit ∷ helper 45 ∷ exit ∷ []
+
+renamed_code : map with_older_helper (linked newer f (text 0 ∷ [])) ≡ older_code
+renamed_code = refl
+
+renamed_functions_code : linked (renamed_table newer) f (text 0 ∷ []) ≡ older_code
+renamed_functions_code = refl
+
+abbrev older_shown : Key → ℕ → ℕ → bpf_insn → FlatEvent
+older_shown key number position slot = record { key = key; number = number; position = position; slot = slot }
+
+renamed_flat : flat_run newer f (text 0 ∷ []) older_code (true ∷ true ∷ true ∷ true ∷ true ∷ []) (pos 0) [] ≡ Shows (older_shown f 0 0 (call (pos 2))) (Shows (older_shown (text 0) 0 3 (helper 45)) (Shows (older_shown (text 0) 1 4 exit) (Shows (older_shown f 1 1 (helper 4)) (Shows (older_shown f 2 2 exit) (Ends Done)))))
+renamed_flat = refl
+
+-- a slot that refers to a function is no call of a helper once it is linked, whatever it was before
+abbrev referring : Table
+referring = record {
+  slots = λ k. cond (eqb k.0 3) (helper 113 ∷ exit ∷ []) (move 7 ∷ exit ∷ []);
+  refs = λ k. cond (eqb k.0 3) (Some (text 0) ∷ None ∷ []) (None ∷ None ∷ []);
+}
+
+-- 85 40 00 00 and an immediate
+abbrev marked_call : ℕ → bpf_insn
+marked_call imm = record { code = 133; registers = 64; off = pos 0; imm = pos imm }
+
+referring_layout : IsLayout referring f (text 0 ∷ [])
+referring_layout = record { order = (tt, refl); complete = refl }
+
+referring_code : map with_older_helper (linked referring f (text 0 ∷ [])) ≡ marked_call 1 ∷ exit ∷ move 7 ∷ exit ∷ []
+referring_code = refl
+
+referring_functions_code : linked (renamed_table referring) f (text 0 ∷ []) ≡ marked_call 1 ∷ exit ∷ move 7 ∷ exit ∷ []
+referring_functions_code = refl

@@ -1,5 +1,6 @@
 pub mod Layout
 pub mod Machines
 pub mod Reached
+pub mod Renamed
 pub mod Theorems
 pub mod Walking

@@ -6,6 +6,7 @@
 //! their contracts are the theorems.
 #![tactic(auto)]
 
+ghost use Rattle.function_layout.specs.Renamed.{RenamedVisitsSame};
 ghost use Rattle.function_layout.specs.Theorems.{CopiesAreFew, LayoutIsUnique, LengthsAdd, LinkedVisitsSame, ReachedAreAppended};
 ghost use Rattle.function_layout.specs.Walking.{WalkLaws, OrderLaws, PlaceLaws};
 
@@ -24,6 +25,13 @@ pub fn reached_are_appended()
 /// slots are visited in the same order with the same end.
 pub fn linked_visits_same()
     ensures { LinkedVisitsSame }
+{}
+
+/// A program in which older helpers take the place of newer ones after it was linked has the slots that its layout gives for
+/// functions with older helpers in their slots that refer to no function. For every list of decisions about branches on which
+/// these functions, run with a stack of calls, don't end outside, its slots are visited in the same order with the same end.
+pub fn renamed_visits_same()
+    ensures { RenamedVisitsSame }
 {}
 
 /// A program's own function has at most two copies, and each other function at most one.
