@@ -4,3 +4,4 @@ pub mod Names
 pub mod Sayings
 pub mod Shown
 pub mod Unreadable
+pub mod Overwriting

@@ -7,3 +7,4 @@ pub mod LegacyMaps
 pub mod Maps
 pub mod NamedSymbols
 pub mod SectionIndexes
+pub mod Overwritten

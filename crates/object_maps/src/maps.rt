@@ -1,6 +1,6 @@
 //! Maps by name.
 
-ghost use Rattle.std.specs.Prelude.{◌≡◌, ◌↔◌, [], length, map, IfOk, IsTrue, OnOk, OnErr};
+ghost use Rattle.std.specs.Prelude.{◌≡◌, ◌≤◌, ◌+◌, ◌↔◌, [], length, map, IfOk, IsTrue, OnOk, OnErr};
 ghost use Rattle.std.specs.BTreeMap.{is_at};
 ghost use Rattle.std.specs.Cmp.Lexicographic.{slice_cmp};
 ghost use Rattle.std.specs.List.Sorted.{IsStrictlySortedBy};
@@ -10,12 +10,22 @@ ghost use Rattle.std.specs.Ordering.{nat_cmp};
 ghost use Rattle.ebpf_items.specs.Maps.{map_view};
 ghost use Rattle.object_maps.specs.Found.{with_map};
 ghost use Rattle.object_maps.specs.Maps.{shown};
+ghost use Rattle.object_maps.specs.Overwritten.{HasRange, map_overwritten, with_bytes};
 
 use ebpf_items::Map;
 use std::alloc::{AllocError, Global};
 use std::collections::BTreeMap;
 use std::collections::btree_map::Iter;
 use std::marker::Model;
+
+/// Puts bytes over those of a map, from a place on.
+fn overwrite(map: &mut Map, start: usize, bytes: &[u8])
+    requires { start + length bytes.now ≤ length (map_view map.old).contents }
+    ensures { map_view map.new ≡ map_overwritten start bytes.now (map_view map.old) }
+{
+    let contents = map.data_mut().as_mut_slice();
+    contents[start..start + bytes.len()].copy_from_slice(bytes);
+}
 
 /// The maps of an object, by name.
 #[derive(Debug, Drop)]
@@ -79,6 +89,17 @@ impl<'a> Maps<'a> {
     {
         self.entries.insert(name, map)?;
         Ok(())
+    }
+
+    /// Puts bytes over those of the map of a name, from a place on. The map is there, and has so many
+    /// bytes there.
+    pub fn overwrite(&mut self, name: &str, start: usize, bytes: &[u8])
+        requires { HasRange self.old name.now start (length bytes.now) }
+        ensures { self.new ≡ with_bytes self.old name.now start bytes.now }
+    {
+        if let Some(map) = self.entries.get_mut(name) {
+            overwrite(map, start, bytes);
+        }
     }
 
     /// The same maps.

@@ -1,11 +1,14 @@
 -- An entry of a map whose keys are names.
-use Rattle.std.proofs.Common.{◌≡◌, ℕ, List, [], ◌∷◌, refl, ap, ◌∙◌}
+use Rattle.std.proofs.Common.{◌≡◌, ℕ, Bool, true, false, cond, List, [], ◌∷◌, map, Option, Some, refl, ap, ◌∙◌}
 use Rattle.std.specs.Borrow.{Bor}
 use Rattle.std.specs.declared.cmp.Ordering.{Ordering}
 use Rattle.std.specs.declared.cmp.Ordering.TheVariants.{Less, Equal, Greater}
-use Rattle.std.specs.Ordering.{nat_cmp, match_ordering}
+use Rattle.std.specs.Ordering.{nat_cmp, match_ordering, is_eq}
 use Rattle.std.specs.Cmp.Lexicographic.{slice_cmp}
-use Rattle.std.specs.BTreeMap.{insert_entry}
+use Rattle.std.specs.BTreeMap.{insert_entry, is_at}
+use Rattle.std.specs.List.{AllByRecursion}
+use Rattle.std.specs.List.Sorted.{IsStrictlySortedBy}
+use Rattle.std.specs.Map.{lookup}
 use Rattle.settings.specs.Names.{by_bytes}
 
 by_bytes-match : {V : Type 0} (o : Ordering) (a b c : List (Bor (List ℕ) × V)) → by_bytes (match_ordering o a b c) ≡ match_ordering o (by_bytes a) (by_bytes b) (by_bytes c)
@@ -18,3 +21,22 @@ by_bytes-insert [] name value = refl
 by_bytes-insert {V} (e ∷ es) name value =
     by_bytes-match (slice_cmp nat_cmp name.now e.0.now) ((name, value) ∷ e ∷ es) ((e.0, value) ∷ es) (e ∷ insert_entry (λ x y. slice_cmp nat_cmp x.now y.now) es name value)
     ∙ ap (λ (rest : List (List ℕ × V)). match_ordering (slice_cmp nat_cmp name.now e.0.now) ((name.now, value) ∷ (e.0.now, e.1) ∷ by_bytes es) ((e.0.now, value) ∷ by_bytes es) ((e.0.now, e.1) ∷ rest)) (by_bytes-insert es name value)
+
+-- each name is below those after it
+below : {V : Type 0} (name : List ℕ) (entries : List (Bor (List ℕ) × V)) → AllByRecursion (λ y. slice_cmp nat_cmp name y.now ≡ Less) (map (λ e. e.0) entries) → AllByRecursion (λ y. slice_cmp nat_cmp name y ≡ Less) (map (λ e. e.0) (by_bytes entries))
+below name [] h = h
+below name (e ∷ es) h = (h.0, below name es h.1)
+
+pub by_bytes-rising : {V : Type 0} (entries : List (Bor (List ℕ) × V)) → IsStrictlySortedBy (λ x y. slice_cmp nat_cmp x.now y.now) (map (λ e. e.0) entries) → IsStrictlySortedBy (slice_cmp nat_cmp) (map (λ e. e.0) (by_bytes entries))
+unfolding IsStrictlySortedBy
+by_bytes-rising [] rising = rising
+by_bytes-rising (e ∷ es) rising = (below e.0.now es rising.0, by_bytes-rising es rising.1)
+
+chosen : {V : Type 0} (test : Bool) (v : V) (a b : Option V) → a ≡ b → cond test (Some v) a ≡ cond test (Some v) b
+chosen true v a b same = refl
+chosen false v a b same = same
+
+-- what stands under a name
+pub by_bytes-lookup : {V : Type 0} (name : List ℕ) (entries : List (Bor (List ℕ) × V)) → lookup (is_at (λ key. slice_cmp nat_cmp name key.now)) entries ≡ lookup (is_at (slice_cmp nat_cmp name)) (by_bytes entries)
+by_bytes-lookup name [] = refl
+by_bytes-lookup {V} name (e ∷ es) = chosen (is_eq (slice_cmp nat_cmp name e.0.now)) e.1 (lookup (is_at (λ key. slice_cmp nat_cmp name key.now)) es) (lookup (is_at (slice_cmp nat_cmp name)) (by_bytes es)) (by_bytes-lookup name es)

@@ -1,5 +1,8 @@
 -- What a loader sets: numbers of maps and values of global variables, by name, names rising by bytes.
-use Rattle.std.specs.Prelude.{ℕ, Bool, List}
+use Rattle.std.specs.Prelude.{ℕ, ◌<◌, ◌^◌, Bool, List}
+use Rattle.std.specs.Borrow.{Bor}
+use Rattle.std.specs.List.{All}
+use Rattle.std.specs.Map.{values_of}
 
 -- a variable's value, and whether the object must have the variable
 pub record GlobalContent : Type 0 where
@@ -9,3 +12,7 @@ pub record GlobalContent : Type 0 where
 pub record SettingsContent : Type 0 where
   pub maps : List (List ℕ × ℕ)
   pub globals : List (List ℕ × GlobalContent)
+
+-- file descriptors, which a program holds in 32 signed bits
+abbrev pub AreMapNumbers : List (Bor (List ℕ) × ℕ) → Type 0
+AreMapNumbers maps = All (λ number. number < 2 ^ 31) (values_of maps)

@@ -1,12 +1,16 @@
 //! Settings, by name.
 
-ghost use Rattle.std.specs.Prelude.{◌≡◌, ◌==◌, [], length, not, OnOk, OnErr};
-ghost use Rattle.std.specs.BTreeMap.{insert_entry};
+ghost use Rattle.std.specs.Prelude.{◌≡◌, ◌<◌, ◌^◌, ◌==◌, [], length, map, not, is_some, IfSome, OnOk, OnErr};
+ghost use Rattle.std.specs.BTreeMap.{insert_entry, is_at};
 ghost use Rattle.std.specs.Cmp.Lexicographic.{slice_cmp};
+ghost use Rattle.std.specs.List.Sorted.{IsStrictlySortedBy};
+ghost use Rattle.std.specs.Map.{lookup};
 ghost use Rattle.std.specs.Ordering.{nat_cmp};
+ghost use Rattle.settings.specs.Names.{by_bytes};
 
 use std::alloc::{AllocError, Global};
 use std::collections::BTreeMap;
+use std::collections::btree_map::Iter;
 use std::marker::Model;
 
 /// The value of a global variable.
@@ -34,12 +38,14 @@ pub struct Settings<'s> {
 }
 
 impl<'s> Model for Settings<'s> {
-    ghost use Rattle.settings.specs.Content.{SettingsContent};
+    ghost use Rattle.settings.specs.Content.{SettingsContent, AreMapNumbers};
     ghost use Rattle.settings.specs.Names.{by_bytes};
 
     ghost Value = { SettingsContent };
 
     ghost view = { λ s. record { maps = by_bytes s.maps.entries; globals = by_bytes s.globals.entries } };
+
+    ghost invariant = { λ s. AreMapNumbers s.maps.entries };
 }
 
 impl<'s> Settings<'s> {
@@ -53,9 +59,10 @@ impl<'s> Settings<'s> {
         }
     }
 
-    /// Sets the number by which programs know a map: its file descriptor, or what stands for it. Of
-    /// several numbers of one name the last one counts.
+    /// Sets the number by which programs know a map: its file descriptor, or what stands for it. It
+    /// must be below 2^31, as file descriptors are. Of several numbers of one name the last one counts.
     pub fn set_map(&mut self, name: &'s str, number: u32) -> Result<(), AllocError>
+        requires { number < 2 ^ 31 }
         ensures ok { OnOk result (self.new ≡ record self.old { maps = insert_entry (slice_cmp nat_cmp) self.old.maps name.now number }) }
         ensures err { OnErr result (self.new ≡ self.old) }
     {
@@ -77,6 +84,29 @@ impl<'s> Settings<'s> {
         let value = GlobalValue { bytes, must_exist };
         self.globals.insert(name, value)?;
         Ok(())
+    }
+
+    /// The number that is set for a map, which is below 2^31.
+    pub fn map_number(&self, name: &str) -> Option<u32>
+        ensures value { result ≡ lookup (is_at (slice_cmp nat_cmp name.now)) self.now.maps }
+        ensures small { IfSome result (λ number. number < 2 ^ 31) }
+    {
+        self.maps.get(name).copied()
+    }
+
+    /// The names and values of the global variables, the names strictly rising by bytes.
+    pub fn globals(&self) -> Iter<'_, &'s str, GlobalValue<'s>>
+        ensures value { by_bytes result ≡ self.now.globals }
+        ensures rising { IsStrictlySortedBy (slice_cmp nat_cmp) (map (λ e. e.0) self.now.globals) }
+    {
+        self.globals.iter()
+    }
+
+    /// Whether the value of the global variable of a name is set.
+    pub fn has_global(&self, name: &str) -> bool
+        ensures { result ≡ is_some (lookup (is_at (slice_cmp nat_cmp name.now)) self.now.globals) }
+    {
+        self.globals.contains_key(name)
     }
 
     /// Whether the value of a global variable is set.

@@ -1,0 +1,27 @@
+use Rattle.std.proofs.Common.{sym, ap, ◌∙◌, subst, List, fold}
+use Rattle.global_data.specs.GlobalData.{Write, written}
+use Rattle.global_data.specs.Writes.{Fit}
+use Rattle.global_data.proofs.Fitting.{found-fit}
+use Rattle.global_data.proofs.Steps.{none_set, nothing_patched, nothing_wrong}
+use Rattle.global_data.proofs.Written.{patched-of}
+use Rattle.global_data.proofs.patching.patch_map_data.Goals as goal
+
+pub write_all-requires : goal.write_all-requires
+write_all-requires c =
+    let P : List Write → Type 0 = λ ws. Fit c.args.maps.now ws in
+    subst P (sym (c.deref.ensures.value ∙ c.in_ok-writes.ensures.value))
+    (found-fit c.args.file.now c.args.maps.now c.args.settings.now.globals c.in_ok-writes.ensures.rising c.in_ok-writes.ensures.sound)
+
+pub returns-then-not-has_globals-clause-patched : goal.returns-then-not-has_globals-clause-patched
+returns-then-not-has_globals-clause-patched c =
+    nothing_patched c.args.file.now c.args.maps.now c.args.settings.now.globals (none_set c.args.settings.now.globals (sym c.has_globals.ensures ∙ c.if-not-has_globals.true))
+
+pub returns-then-not-has_globals-clause-sound : goal.returns-then-not-has_globals-clause-sound
+returns-then-not-has_globals-clause-sound c =
+    nothing_wrong c.args.file.now c.args.maps.now c.args.settings.now.globals (none_set c.args.settings.now.globals (sym c.has_globals.ensures ∙ c.if-not-has_globals.true))
+
+pub returns-clause-patched : goal.returns-clause-patched
+returns-clause-patched c =
+    c.write_all.ensures
+    ∙ ap (fold written c.args.maps.now) (c.deref.ensures.value ∙ c.in_ok-writes.ensures.value)
+    ∙ patched-of c.args.file.now c.args.maps.now c.args.settings.now.globals

@@ -1,0 +1,4 @@
+pub mod DataMaps
+pub mod GlobalData
+pub mod GlobalSymbols
+pub mod Writes

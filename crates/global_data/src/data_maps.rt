@@ -1,0 +1,85 @@
+//! The maps of sections.
+
+ghost use Rattle.std.specs.Prelude.{◌≡◌, map, IfOk, OnOk};
+ghost use Rattle.std.specs.Cmp.Lexicographic.{slice_cmp};
+ghost use Rattle.std.specs.List.Sorted.{IsStrictlySortedBy};
+ghost use Rattle.std.specs.Option.{option_copied, option_map};
+ghost use Rattle.std.specs.Ordering.{nat_cmp};
+ghost use Rattle.global_data.specs.DataMaps.{Enters, extent_of};
+ghost use Rattle.global_data.specs.GlobalData.{map_of};
+
+use object_maps::Maps;
+use std::alloc::{AllocError, Global};
+use std::collections::BTreeMap;
+use std::marker::Model;
+
+/// A map's name, and how many bytes it has.
+#[derive(Drop)]
+pub(crate) struct MapExtent<'a> {
+    pub(crate) name: &'a str,
+    pub(crate) size: usize,
+}
+
+impl<'a> Model for MapExtent<'a> {
+    ghost use Rattle.global_data.specs.DataMaps.{Extent};
+
+    ghost Value = { Extent };
+
+    ghost view = { λ e. record { name = e.name.now; size = e.size } };
+}
+
+/// The maps of sections, by the section's index; of several of a section the first by name.
+#[derive(Drop)]
+pub(crate) struct DataMaps<'m, 'a> {
+    maps: &'m Maps<'a>,
+    by_section: BTreeMap<usize, MapExtent<'a>>,
+}
+
+impl<'m, 'a> Model for DataMaps<'m, 'a> {
+    ghost use Rattle.std.specs.Prelude.{ℕ, List};
+    ghost use Rattle.ebpf_items.specs.Maps.{MapView};
+    ghost use Rattle.global_data.specs.DataMaps.{AreExtents};
+
+    ghost Value = { List (List ℕ × MapView) };
+
+    ghost view = { λ m. m.maps.now };
+
+    ghost invariant = { λ m. AreExtents m.maps.now m.by_section };
+}
+
+/// Enters a map of a section, unless the section has one.
+fn enter<'a>(
+    by_section: &mut BTreeMap<usize, MapExtent<'a>>,
+    section: usize,
+    extent: MapExtent<'a>,
+) -> Result<(), AllocError>
+    ensures { OnOk result (Enters by_section.old by_section.new section extent.entry) }
+{
+    by_section.entry(section)?.or_insert(extent);
+    Ok(())
+}
+
+impl<'m, 'a> DataMaps<'m, 'a> {
+    /// Those of some maps.
+    pub(crate) fn new(alloc: Global, maps: &'m Maps<'a>) -> Result<DataMaps<'m, 'a>, AllocError>
+        ensures value { IfOk result (λ found. found ≡ maps.now) }
+        ensures rising { OnOk result (IsStrictlySortedBy (slice_cmp nat_cmp) (map (λ e. e.0) maps.now)) }
+    {
+        let mut by_section = BTreeMap::new(alloc);
+        for (name, map) in maps.iter() {
+            let extent = MapExtent {
+                name: *name,
+                size: map.data().len(),
+            };
+            enter(&mut by_section, map.section_index(), extent)?;
+        }
+        Ok(DataMaps { maps, by_section })
+    }
+
+    /// The map of a section, if there is a section.
+    pub(crate) fn of_section(&self, index: Option<usize>) -> Option<&MapExtent<'a>>
+        ensures { option_copied result ≡ option_map extent_of (map_of self.now index) }
+    {
+        self.by_section.get(&index?)
+    }
+}

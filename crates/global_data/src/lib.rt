@@ -1,0 +1,12 @@
+//! Values of global variables, put into the maps of an object.
+#![tactic(auto)]
+
+mod data_maps;
+mod patching;
+mod symbols;
+mod writes;
+
+pub use patching::patch_map_data;
+
+#[cfg(test)]
+mod tests;

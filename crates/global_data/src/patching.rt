@@ -1,0 +1,53 @@
+//! Values put into maps.
+
+ghost use Rattle.std.specs.Prelude.{◌≡◌, ◌≢◌, None, IfErr, OnOk, OnErr, fold};
+ghost use Rattle.ebpf_items.specs.declared.error.ParseError.TheVariants.{OutOfMemory};
+ghost use Rattle.global_data.specs.GlobalData.{Says, first_fault, patched, written};
+ghost use Rattle.global_data.specs.Writes.{Fit};
+
+use crate::writes::{MapWrite, writes_of};
+use ebpf_items::ParseError;
+use object_file::ObjectFile;
+use object_maps::Maps;
+use settings::Settings;
+use std::alloc::Global;
+
+/// Writes bytes into maps, one after the other.
+fn write_all(maps: &mut Maps<'_>, writes: &[MapWrite<'_, '_>])
+    requires { Fit maps.old writes.now }
+    ensures { maps.new ≡ fold written maps.old writes.now }
+{
+    for write in writes {
+        maps.overwrite(write.map, write.start, write.bytes);
+    }
+}
+
+/// Puts the values of global variables into the maps of an object, as `settings` has them: over the
+/// bytes of the map of the symbol's section, of several maps of a section the first by name, from
+/// the symbol's address (`st_value`) on. The symbol is the one of the variable's name, of several the
+/// one of the greatest index. All other bytes stay, and so do all maps where a value is refused.
+///
+/// # Errors
+///
+/// That of the first variable by name: `SymbolNotFound` where no symbol has the name and one must;
+/// `InvalidGlobalData` where the value isn't as long as the symbol's size (`st_size`), or the symbol's
+/// bytes lie outside the map's; `MapNotFound` where no map is made of the symbol's section, with the
+/// section's index or 0; and `OutOfMemory`.
+pub fn patch_map_data(
+    alloc: Global,
+    file: &ObjectFile<'_>,
+    maps: &mut Maps<'_>,
+    settings: &Settings<'_>,
+) -> Result<(), ParseError>
+    ensures patched { OnOk result (maps.new ≡ patched file.now maps.old settings.now.globals) }
+    ensures sound { OnOk result (first_fault file.now maps.old settings.now.globals ≡ None) }
+    ensures fault { IfErr result (λ e. e ≢ OutOfMemory → Says (first_fault file.now maps.old settings.now.globals) e) }
+    ensures unchanged { OnErr result (maps.new ≡ maps.old) }
+{
+    if !settings.has_globals() {
+        return Ok(());
+    }
+    let writes = writes_of(alloc, file, maps, settings)?;
+    write_all(maps, &writes);
+    Ok(())
+}

@@ -1,0 +1,45 @@
+//! The symbols of global variables.
+
+ghost use Rattle.std.specs.Prelude.{◌≡◌, IfOk};
+ghost use Rattle.std.specs.Option.{option_copied};
+ghost use Rattle.global_data.specs.GlobalSymbols.{AreGlobalSymbols, symbol_under};
+
+use object_file::ReadSymbol;
+use settings::Settings;
+use std::alloc::{AllocError, Global};
+use std::collections::BTreeMap;
+
+/// The symbols that have the names of global variables whose values are set, by name; of several of
+/// a name the one of the greatest index.
+#[derive(Drop)]
+pub(crate) struct GlobalSymbols<'f, 'a> {
+    by_name: BTreeMap<&'a str, &'f ReadSymbol<'a>>,
+}
+
+impl<'f, 'a> GlobalSymbols<'f, 'a> {
+    /// Looks through symbols in order of index. A name that isn't set is compared with those that
+    /// are and never kept, so it may be long.
+    pub(crate) fn new(
+        alloc: Global,
+        symbols: &'f [ReadSymbol<'a>],
+        settings: &Settings<'_>,
+    ) -> Result<GlobalSymbols<'f, 'a>, AllocError>
+        ensures { IfOk result (λ found. AreGlobalSymbols settings.now.globals symbols.now found.by_name) }
+    {
+        let mut by_name = BTreeMap::new(alloc);
+        for symbol in symbols {
+            if !settings.has_global(symbol.name()) {
+                continue;
+            }
+            by_name.insert(symbol.name(), symbol)?;
+        }
+        Ok(GlobalSymbols { by_name })
+    }
+
+    /// The symbol of a name.
+    pub(crate) fn named(&self, name: &str) -> Option<&'f ReadSymbol<'a>>
+        ensures { option_copied result ≡ symbol_under self.now.by_name name.now }
+    {
+        self.by_name.get(name).copied()
+    }
+}
