@@ -12,10 +12,10 @@ use Rattle.bpf_prepare.specs.declared.error.RunError.TheVariants.{Output, Refuse
 abbrev pub inputs_of : List ℕ → Inputs
 inputs_of file = record { file = file; settings = record { maps = []; globals = [] } }
 
--- something holds of the text of the plan of an object, for a kernel of which the predicate tells
-pub record HoldsOfText {F : Type 0} (predicate : Mut F (BtfFeature × Unit {0}) Bool) (before : F) (file : List ℕ) (Holds : List ℕ → Type 0) : Type 0 where
+-- something holds of the text of the plan of an object, for a kernel of which the predicate and an answer of the probe tell
+pub record HoldsOfText {F : Type 0} (predicate : Mut F (BtfFeature × Unit {0}) Bool) (before : F) (Says : Bool → Type 0) (file : List ℕ) (Holds : List ℕ → Type 0) : Type 0 where
   pub plan : PlanContent
-  pub planned : IsPlanned predicate before (inputs_of file) plan
+  pub planned : IsPlanned predicate before Says (inputs_of file) plan
   pub holds : Holds (grammar.text_of plan)
 
 -- what an error says of the object's bytes

@@ -49,7 +49,14 @@ fn print_plan(rt: &HostRuntime) -> Result<(), ProgramError> {
         return Err(ProgramError::OutOfMemory);
     };
     let mut out = Watched::new(writer);
-    if let Err(error) = run(rt.alloc(), object.as_slice(), |_feature| true, &mut out) {
+    let written = run(
+        rt.alloc(),
+        object.as_slice(),
+        |_feature| true,
+        || true,
+        &mut out,
+    );
+    if let Err(error) = written {
         return Err(located(rt.alloc(), object.as_slice(), error));
     }
     match out.into_inner().flush() {

@@ -10,7 +10,7 @@ use std::test::Fail;
 /// What a run writes, where it isn't refused.
 fn text_of(alloc: Global, object: &[u8]) -> Result<Vec<u8>, RunError> {
     let mut out = Watched::new(Vec::new(alloc));
-    run(alloc, object, |_feature| true, &mut out)?;
+    run(alloc, object, |_feature| true, || true, &mut out)?;
     Ok(out.into_inner())
 }
 
@@ -64,7 +64,12 @@ fn one_program(rt: HostRuntime) -> Result<(), Fail> {
 fn fronts(rt: HostRuntime) {
     for len in 0..ONE_PROGRAM.len() {
         let result = text_of(rt.alloc(), &ONE_PROGRAM[..len]);
-        assert!(rt; matches!(result, Err(RunError::Refused(PrepareError::Parse(ParseError::ElfError(_))))));
+        assert!(rt;
+            matches!(
+                result,
+                Err(RunError::Refused(PrepareError::Parse(ParseError::ElfError(_))))
+            )
+        );
     }
 }
 

@@ -2,7 +2,7 @@
 use Rattle.std.specs.Prelude.{ℕ, ◌==◌, not, Bool, false, if◌then◌else◌, List, length, Option, Some, None}
 use Rattle.std.specs.Option.{option_map_or}
 use Rattle.btf_extension.specs.Extensions.{Extension}
-use Rattle.object_parts.specs.Content.{FunctionContent, has_newer_helper}
+use Rattle.object_parts.specs.Content.{FunctionContent}
 use Rattle.unserved.specs.Relocations.{has_extern_relocation, has_map_relocation}
 use Rattle.unserved.specs.declared.pass.Pass.{Pass}
 use Rattle.unserved.specs.declared.pass.Pass.TheVariants as pass
@@ -16,8 +16,7 @@ has_type_relocations extension = option_map_or (λ x. not (length x.relocations 
 abbrev pub unserved_by_functions : List ℕ → List ℕ → List ((ℕ × ℕ) × FunctionContent) → Option Pass
 unserved_by_functions file text_sections functions =
     if has_map_relocation file text_sections functions then Some pass.MapRelocations
-    else (if has_extern_relocation file functions then Some pass.ExternRelocations
-    else (if has_newer_helper functions then Some pass.HelperCalls else None))
+    else (if has_extern_relocation file functions then Some pass.ExternRelocations else None)
 
 -- the first that has something to do with the object
 abbrev pub unserved : ObjectContent → List ℕ → Option Pass

@@ -6,6 +6,7 @@ mod object;
 mod passes;
 mod places;
 mod rewriting;
+mod slots;
 mod types;
 
 pub use ebpf_items::{
@@ -22,6 +23,7 @@ pub use object_file::{ObjectFile, ReadSection, ReadSymbol, unnamed_symbol};
 pub use object_maps::Maps;
 pub use object_parts::{Function, Functions, Program, Programs};
 pub use places::{function_without_code, name_at};
+pub use slot_relocation::NumberedMap;
 pub use unserved::Pass;
 
 #[cfg(test)]

@@ -50,13 +50,13 @@ use std::mem;
 /// An object: what a file holds before anything is relocated. Each program's function is there.
 #[derive(Debug, Drop)]
 pub struct Object<'a> {
-    alloc: Global,
+    pub(crate) alloc: Global,
     pub(crate) file: ObjectFile<'a>,
     btf: Option<Btf<'a>>,
     btf_ext: Option<BtfExt<'a>>,
     maps: Maps<'a>,
     programs: Programs<'a>,
-    functions: Functions<'a>,
+    pub(crate) functions: Functions<'a>,
     externs: Externs<'a>,
 }
 

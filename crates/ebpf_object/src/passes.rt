@@ -23,9 +23,6 @@ fn unserved_by_functions(
     if has_extern_relocation(file, functions) {
         return Some(Pass::ExternRelocations);
     }
-    if functions.has_newer_helper() {
-        return Some(Pass::HelperCalls);
-    }
     None
 }
 

@@ -1,5 +1,5 @@
 -- The records of a plan's functions name those that they name in the object.
-use Rattle.std.proofs.Common.{◌≡◌, ℕ, ◌-◌, ◌==◌, List, [], ◌∷◌, Bool, true, false, Some, None, length, refl, sym, ap, ◌∙◌, subst, arith}
+use Rattle.std.proofs.Common.{◌≡◌, ℕ, ◌-◌, ◌==◌, List, [], ◌∷◌, map, Bool, true, false, Some, None, length, refl, sym, ap, ◌∙◌, subst, arith}
 use Rattle.std.proofs.lemmas.Bool.Decides.{nat_tests}
 use Rattle.std.specs.Fn.{Mut}
 use Rattle.std.specs.Option.{option_map_or}
@@ -11,12 +11,14 @@ use Rattle.btf_sanitizing.specs.Answers.{Answers}
 use Rattle.btf_tables.specs.Sanitizing.{stepped}
 use Rattle.btf_tables.specs.Tables.{Table}
 use Rattle.ebpf_object.specs.ParsedObject.{ObjectContent}
-use Rattle.ebpf_object.specs.Rewriting.{IsRewritten, IsRewrittenIf, IsRewrittenTable}
+use Rattle.ebpf_object.specs.Rewriting.{IsRewritten, IsRewrittenIf}
+use Rattle.function_layout.specs.Layout.{Key}
 use Rattle.function_types.specs.Named.{all_named, is_named_function, names_function, names_function_in}
 use Rattle.function_types.specs.Rewritten.{is_denied}
 use Rattle.linker.specs.Linked.{program_keys, unlinked}
 use Rattle.object_plan.specs.Laws.{NamesAreCarried, RecordsName}
-use Rattle.object_plan.specs.Plans.{AllNamed, HoldsTypeBytes, Names, plan_of, type_bytes, type_bytes_of}
+use Rattle.object_parts.specs.Content.{FunctionContent}
+use Rattle.object_plan.specs.Plans.{AllNamed, HoldsTypeBytes, Names, plan_of, plan_program_of, type_bytes, type_bytes_of}
 use Rattle.plan_text.specs.Content.{PlanContent}
 use Rattle.settings.specs.Content.{SettingsContent}
 use Rattle.load_plan.specs.Made.{IsMade, IsMadeOf}
@@ -50,27 +52,29 @@ carried law predicate before file ksyms (Some table) answers None bytes h is hol
 carried law predicate before file ksyms (Some table) answers (Some new) bytes h is holds denied id named =
     carried_in law predicate before file ksyms table answers new bytes (length table.types == 0) refl h is holds denied id named
 
-names : RecordsName → NamesAreCarried → {F : Type 0} (predicate : Mut F (BtfFeature × Unit {0}) Bool) (before : F) (object : ObjectContent) (text_sections : List ℕ) (answers : Answers) (made : ObjectContent) → all_named object.types object.functions ≡ true → IsMade predicate before object text_sections answers made → HoldsTypeBytes made.types (type_bytes made.types) → AllNamed object.types (type_bytes made.types) (plan_of answers made).programs
-names records carry predicate before object text_sections answers made named h holds =
-    let same_types = ap (λ (o : ObjectContent). o.types) h.calls.others in
-    records.each object.types (type_bytes made.types) answers (is_some (type_bytes made.types))
-    (unlinked h.rewritten.file text_sections h.rewritten.functions) (program_keys h.rewritten.programs) made.functions made.programs
-    (ap (λ (o : ObjectContent). all_named object.types o.functions) h.types.others ∙ named) h.calls.programs
-    (carried carry predicate before object.file object.externs.ksyms object.types answers h.rewritten.types (type_bytes made.types) h.types.types
-    (ap type_bytes same_types) (subst (λ t. HoldsTypeBytes t (type_bytes made.types)) same_types holds))
+names : RecordsName → NamesAreCarried → {F : Type 0} (predicate : Mut F (BtfFeature × Unit {0}) Bool) (before : F) (Says : Bool → Type 0) (object : ObjectContent) (text_sections : List ℕ) (answers : Answers) (made : ObjectContent) → all_named object.types object.functions ≡ true → IsMade predicate before Says object text_sections answers made → HoldsTypeBytes made.types (type_bytes made.types) → AllNamed object.types (type_bytes made.types) (plan_of answers made).programs
+names records carry predicate before Says object text_sections answers made named h holds =
+    let b = h.built in
+    let same_types = ap (λ (o : ObjectContent). o.types) h.others ∙ ap (λ (o : ObjectContent). o.types) b.calls.others in
+    subst (λ (fs : List (Key × FunctionContent)). AllNamed object.types (type_bytes made.types) (map (plan_program_of answers (is_some (type_bytes made.types)) fs) made.programs)) (sym h.helpers)
+    (records.each object.types (type_bytes made.types) answers (is_some (type_bytes made.types)) h.has_helpers
+    (unlinked b.rewritten.file text_sections b.rewritten.functions) (program_keys b.rewritten.programs) h.linked.functions made.programs
+    (ap (λ (o : ObjectContent). all_named object.types o.functions) b.types.others ∙ named) b.calls.programs
+    (carried carry predicate before object.file object.externs.ksyms object.types answers b.rewritten.types (type_bytes made.types) b.types.types
+    (ap type_bytes same_types) (subst (λ t. HoldsTypeBytes t (type_bytes made.types)) same_types holds)))
 
-plan_is : RecordsName → NamesAreCarried → {F : Type 0} (predicate : Mut F (BtfFeature × Unit {0}) Bool) (before : F) (settings : SettingsContent) (object : ObjectContent) (answers : Answers) (made : ObjectContent) → IsMadeOf predicate before settings object answers made → HoldsTypeBytes made.types (type_bytes made.types) → IsPlanOf predicate before settings object (plan_of answers made)
-plan_is records carry predicate before settings object answers made h holds = record {
+plan_is : RecordsName → NamesAreCarried → {F : Type 0} (predicate : Mut F (BtfFeature × Unit {0}) Bool) (before : F) (Says : Bool → Type 0) (settings : SettingsContent) (object : ObjectContent) (answers : Answers) (made : ObjectContent) → IsMadeOf predicate before Says settings object answers made → HoldsTypeBytes made.types (type_bytes made.types) → IsPlanOf predicate before Says settings object (plan_of answers made)
+plan_is records carry predicate before Says settings object answers made h holds = record {
   made = made;
   making = h;
   is = refl;
   holds = holds;
-  names = names records carry predicate before object h.text_sections answers made h.served.named h.making holds;
+  names = names records carry predicate before Says object h.text_sections answers made h.served.named h.making holds;
 }
 
 -- the plan of what the passes make of an object
-pub planned : RecordsName → NamesAreCarried → {F : Type 0} (predicate : Mut F (BtfFeature × Unit {0}) Bool) (before : F) (settings : SettingsContent) (object : ObjectContent) (answers : Answers) (made : ObjectContent) (plan : PlanContent) → IsMadeOf predicate before settings object answers made → plan ≡ plan_of answers made → HoldsTypeBytes made.types plan.type_bytes → IsPlanOf predicate before settings object plan
-planned records carry predicate before settings object answers made plan h is holds =
-    subst (λ p. IsPlanOf predicate before settings object p) (sym is)
-    (plan_is records carry predicate before settings object answers made h
+pub planned : RecordsName → NamesAreCarried → {F : Type 0} (predicate : Mut F (BtfFeature × Unit {0}) Bool) (before : F) (Says : Bool → Type 0) (settings : SettingsContent) (object : ObjectContent) (answers : Answers) (made : ObjectContent) (plan : PlanContent) → IsMadeOf predicate before Says settings object answers made → plan ≡ plan_of answers made → HoldsTypeBytes made.types plan.type_bytes → IsPlanOf predicate before Says settings object plan
+planned records carry predicate before Says settings object answers made plan h is holds =
+    subst (λ p. IsPlanOf predicate before Says settings object p) (sym is)
+    (plan_is records carry predicate before Says settings object answers made h
     (subst (λ bytes. HoldsTypeBytes made.types bytes) (ap (λ (p : PlanContent). p.type_bytes) is) holds))

@@ -25,18 +25,18 @@ pub record IsWholeObject (file : List ℕ) (object : ObjectContent) : Type 0 whe
 
 -- The plan of an object is that of what the passes make of it. Its bytes of types hold the rewritten table, in which each record
 -- of a function names one of the name that it has in the object's.
-pub record IsPlanOf {F : Type 0} (predicate : Mut F (BtfFeature × Unit {0}) Bool) (before : F) (settings : SettingsContent) (object : ObjectContent) (plan : PlanContent) : Type 0 where
+pub record IsPlanOf {F : Type 0} (predicate : Mut F (BtfFeature × Unit {0}) Bool) (before : F) (Says : Bool → Type 0) (settings : SettingsContent) (object : ObjectContent) (plan : PlanContent) : Type 0 where
   pub made : ObjectContent
-  pub making : IsMadeOf predicate before settings object plan.features made
+  pub making : IsMadeOf predicate before Says settings object plan.features made
   pub is : plan ≡ plan_of plan.features made
   pub holds : HoldsTypeBytes made.types plan.type_bytes
   pub names : AllNamed object.types plan.type_bytes plan.programs
 
--- the plan of the object that a file holds
-pub record IsPlanned {F : Type 0} (predicate : Mut F (BtfFeature × Unit {0}) Bool) (before : F) (inputs : Inputs) (plan : PlanContent) : Type 0 where
+-- the plan of the object that a file holds, for a kernel of which the predicate and an answer of the probe tell
+pub record IsPlanned {F : Type 0} (predicate : Mut F (BtfFeature × Unit {0}) Bool) (before : F) (Says : Bool → Type 0) (inputs : Inputs) (plan : PlanContent) : Type 0 where
   pub object : ObjectContent
   pub whole : IsWholeObject inputs.file object
-  pub planned : IsPlanOf predicate before inputs.settings object plan
+  pub planned : IsPlanOf predicate before Says inputs.settings object plan
 
 -- a fault of the file
 abbrev pub IsParseRefusal : List ℕ → PrepareError → Type 0

@@ -1,5 +1,5 @@
 -- What a refusal says, by the pass that refuses: the passes before it accept.
-use Rattle.std.specs.Prelude.{◌≡◌, ◌≢◌, ◌==◌, ℕ, length, true, false, Bool, List, Option, Some}
+use Rattle.std.specs.Prelude.{◌≡◌, ◌≢◌, ◌==◌, ℕ, length, true, false, Bool, List, Some}
 use Rattle.std.specs.Fn.{Mut}
 use Rattle.std.specs.Option.{IsSomeAnd, option_map}
 use Rattle.std.specs.String.{string_bytes}

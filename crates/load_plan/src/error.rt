@@ -49,7 +49,6 @@ fn subject(pass: Pass) -> &'static str {
         Pass::Externs => "externs",
         Pass::MapRelocations => "relocations for maps",
         Pass::ExternRelocations => "relocations for externs",
-        Pass::HelperCalls => "calls of helpers that older kernels lack",
     }
 }
 

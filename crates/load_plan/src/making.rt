@@ -2,12 +2,13 @@
 
 ghost use Rattle.std.specs.Prelude.{◌≡◌, true, IfErr, IfOk, None, OnOk};
 ghost use Rattle.function_types.specs.Named.{all_named};
-ghost use Rattle.load_plan.specs.Made.{first_pass, not_yet, IsMade, IsMadeOf, IsServed};
+ghost use Rattle.load_plan.specs.Made.{first_pass, not_yet, IsBuilt, IsMadeOf, IsServed};
 ghost use Rattle.load_plan.specs.Refusals.{IsMakingRefusal, IsNamelessRefusal, IsNotYetRefusal, IsObjectRefusal, IsServedRefusal};
 
 use crate::error::PrepareError;
 use btf_records::BtfFeature;
 use ebpf_object::{Object, Pass};
+use function_layout::renamed_visits_same;
 use function_types::nameless_record;
 use plan_text::Answers;
 use settings::Settings;
@@ -78,7 +79,7 @@ fn rewrite_and_link<F: FnMut(BtfFeature) -> bool>(
     predicate: F,
 ) -> Result<Answers, PrepareError>
     requires { F.IsAlwaysCallable predicate }
-    ensures made { IfOk result (λ answers. IsMade F.FnMut predicate object.old text_sections.now.keys answers.items object.new) }
+    ensures built { IfOk result (λ answers. IsBuilt F.FnMut predicate object.old text_sections.now.keys answers.items object.new) }
     ensures refused { IfErr result (IsMakingRefusal F.FnMut predicate object.old text_sections.now.keys) }
 {
     let answers = object.fixup_and_sanitize_btf(predicate)?;
@@ -87,16 +88,21 @@ fn rewrite_and_link<F: FnMut(BtfFeature) -> bool>(
 }
 
 /// Makes of an object what its plan is made of, with the answers about the kernel's features.
-pub(crate) fn make<F: FnMut(BtfFeature) -> bool>(
+pub(crate) fn make<F: FnMut(BtfFeature) -> bool, P: FnOnce() -> bool>(
     alloc: Global,
     settings: &Settings<'_>,
     object: &mut Object<'_>,
     predicate: F,
+    probe: P,
 ) -> Result<Answers, PrepareError>
-    requires { F.IsAlwaysCallable predicate }
-    ensures made { IfOk result (λ answers. IsMadeOf F.FnMut predicate settings.now object.old answers.items object.new) }
+    requires predicate { F.IsAlwaysCallable predicate }
+    requires probe { P.pre probe }
+    ensures made { IfOk result (λ answers. IsMadeOf F.FnMut predicate (P.post probe) settings.now object.old answers.items object.new) }
     ensures refused { IfErr result (IsObjectRefusal F.FnMut predicate settings.now object.old) }
 {
+    renamed_visits_same();
     let text_sections = served_sections(alloc, settings, object)?;
-    rewrite_and_link(object, &text_sections, predicate)
+    let answers = rewrite_and_link(object, &text_sections, predicate)?;
+    object.sanitize_functions(probe);
+    Ok(answers)
 }

@@ -1,6 +1,6 @@
 //! From an object's bytes to its plan.
 
-ghost use Rattle.std.specs.Prelude.{IfErr, IfOk, OnOk};
+ghost use Rattle.std.specs.Prelude.{◌≡◌, IfErr, IfOk};
 ghost use Rattle.load_plan.specs.Planned.{Inputs, IsParseRefusal, IsPlanOf, IsPlanned, IsRefusal, IsWholeObject};
 ghost use Rattle.load_plan.specs.Refusals.{IsObjectRefusal};
 
@@ -9,7 +9,7 @@ use crate::making::make;
 use crate::order::Order;
 use btf_records::BtfFeature;
 use btf_tables::Btf;
-use ebpf_object::Object;
+use ebpf_object::{Object, Watched};
 use object_plan::{names_are_carried, plan_of, records_name};
 use plan_text::Plan;
 use settings::Settings;
@@ -25,35 +25,39 @@ fn parse<'a>(alloc: Global, file: &'a [u8]) -> Result<Object<'a>, PrepareError>
 }
 
 /// The plan of an object, of which all is made that the plan is made of.
-fn plan_object<'a, F: FnMut(BtfFeature) -> bool>(
+fn plan_object<'a, F: FnMut(BtfFeature) -> bool, P: FnOnce() -> bool>(
     alloc: Global,
     settings: &Settings<'_>,
     object: &mut Object<'a>,
     predicate: F,
+    probe: P,
 ) -> Result<Plan<'a>, PrepareError>
-    requires { F.IsAlwaysCallable predicate }
-    ensures planned { IfOk result (IsPlanOf F.FnMut predicate settings.now object.old) }
+    requires predicate { F.IsAlwaysCallable predicate }
+    requires probe { P.pre probe }
+    ensures planned { IfOk result (IsPlanOf F.FnMut predicate (P.post probe) settings.now object.old) }
     ensures refused { IfErr result (IsObjectRefusal F.FnMut predicate settings.now object.old) }
 {
     records_name();
     names_are_carried();
-    let answers = make(alloc, settings, object, predicate)?;
+    let answers = make(alloc, settings, object, predicate, probe)?;
     Ok(plan_of(alloc, object, answers)?)
 }
 
 /// The plan of the object that a file holds.
-fn plan_file<'a, F: FnMut(BtfFeature) -> bool>(
+fn plan_file<'a, F: FnMut(BtfFeature) -> bool, P: FnOnce() -> bool>(
     alloc: Global,
     settings: &Settings<'_>,
     file: &'a [u8],
     predicate: F,
+    probe: P,
 ) -> Result<Plan<'a>, PrepareError>
-    requires { F.IsAlwaysCallable predicate }
-    ensures planned { IfOk result (IsPlanned F.FnMut predicate (record { file = file.entry.now; settings = settings.now })) }
+    requires predicate { F.IsAlwaysCallable predicate }
+    requires probe { P.pre probe }
+    ensures planned { IfOk result (IsPlanned F.FnMut predicate (P.post probe) (record { file = file.entry.now; settings = settings.now })) }
     ensures refused { IfErr result (IsRefusal F.FnMut predicate (record { file = file.entry.now; settings = settings.now })) }
 {
     let mut object = parse(alloc, file)?;
-    plan_object(alloc, settings, &mut object, predicate)
+    plan_object(alloc, settings, &mut object, predicate, probe)
 }
 
 /// The load plan of an object file for one kernel: with its types rewritten to the features that the
@@ -61,8 +65,9 @@ fn plan_file<'a, F: FnMut(BtfFeature) -> bool>(
 ///
 /// `kernel_types` are the kernel's types, `symbols` its symbols as `/proc/kallsyms` lists them,
 /// `predicate` says whether it takes a feature of types, and `probe` whether it has the newer helpers
-/// that read memory. The passes that look at kernel types, symbols, the order and the probe don't
-/// exist yet: an object with which they have something to do is refused.
+/// that read memory, in place of which older ones are called else. The passes that look at kernel
+/// types, symbols and the order don't exist yet: an object with which they have something to do is
+/// refused.
 ///
 /// # Errors
 ///
@@ -75,15 +80,18 @@ pub fn prepare<'a, R: BufRead, F: FnMut(BtfFeature) -> bool, P: FnOnce() -> bool
     alloc: Global,
     object: &'a [u8],
     _kernel_types: &[Btf<'_>],
-    _symbols: &mut R,
+    symbols: &mut Watched<R>,
     settings: &Settings<'_>,
     _order: Order,
     predicate: F,
-    _probe: P,
+    probe: P,
 ) -> Result<Plan<'a>, PrepareError>
-    requires { F.IsAlwaysCallable predicate }
-    ensures planned { IfOk result (IsPlanned F.FnMut predicate (record { file = object.entry.now; settings = settings.now })) }
+    requires predicate { F.IsAlwaysCallable predicate }
+    requires probe { P.pre probe }
+    ensures planned { IfOk result (IsPlanned F.FnMut predicate (P.post probe) (record { file = object.entry.now; settings = settings.now })) }
     ensures refused { IfErr result (IsRefusal F.FnMut predicate (record { file = object.entry.now; settings = settings.now })) }
+    ensures unread { symbols.new ≡ symbols.old }
 {
-    plan_file(alloc, settings, object, predicate)
+    let _ = symbols;
+    plan_file(alloc, settings, object, predicate, probe)
 }

@@ -7,7 +7,8 @@ use std::alloc::Global;
 use std::io;
 use std::test::Fail;
 
-/// The plan of an object without symbols and kernel types, for a kernel that lacks these features.
+/// The plan of an object without symbols and kernel types, for a kernel that has the newer helpers and
+/// lacks these features.
 fn planned<'a>(
     alloc: Global,
     object: &'a [u8],
@@ -15,7 +16,7 @@ fn planned<'a>(
     order: Order,
     lacking: &[BtfFeature],
 ) -> Result<Plan<'a>, PrepareError> {
-    let mut symbols = io::empty();
+    let mut symbols = Watched::new(io::empty());
     let grants = |feature: BtfFeature| !lacking.contains(&feature);
     prepare(
         alloc,
@@ -67,8 +68,9 @@ fn plans(rt: HostRuntime) -> Result<(), Fail> {
     let settings = Settings::new(rt.alloc());
     for (lacking, object, text) in PLANS.iter() {
         for order in [Order::RelocateFirst, Order::RewriteFirst] {
-            let plan = planned(rt.alloc(), object, &settings, order, lacking)
-                .map_err(|_| "refused")?;
+            let plan = planned(rt.alloc(), object, &settings, order, lacking).map_err(
+                |_| "refused",
+            )?;
             let mut out = Watched::new(Vec::new(rt.alloc()));
             plan.write(&mut out)?;
             assert_eq!(rt; out.into_inner().as_slice(), *text);
@@ -80,8 +82,14 @@ fn plans(rt: HostRuntime) -> Result<(), Fail> {
 #[test]
 fn slots_stay_in_the_file(rt: HostRuntime) -> Result<(), Fail> {
     let settings = Settings::new(rt.alloc());
-    let plan = planned(rt.alloc(), &ONE_PROGRAM, &settings, Order::RelocateFirst, &[])
-        .map_err(|_| "refused")?;
+    let plan = planned(
+        rt.alloc(),
+        &ONE_PROGRAM,
+        &settings,
+        Order::RelocateFirst,
+        &[],
+    )
+    .map_err(|_| "refused")?;
     assert_eq!(rt; plan.programs().len(), 1);
     for program in plan.programs() {
         assert!(rt; program.slots().is_borrowed());
@@ -101,21 +109,16 @@ const NEWER_HELPER: [u8; 8] = [0x85, 0, 0, 0, 112, 0, 0, 0];
 
 // Bytes of the names of sections, of the first slot and of the size of the license, whether the value
 // of a variable is set, and for which pass an object so changed is refused, none where it is faulty.
-const CHANGES: [(&[u8], &[u8], u8, bool, Option<Pass>); 6] = [
+const CHANGES: [(&[u8], &[u8], u8, bool, Option<Pass>); 5] = [
     (b".bss\0\0", &[0xb7], 4, false, Some(Pass::MapNumbers)),
     (b".bss\0\0", &[0xb7], 4, true, Some(Pass::MapNumbers)),
     (b"kprobe", &[0xb7], 4, true, Some(Pass::Globals)),
-    (b"kprobe", &NEWER_HELPER, 4, false, Some(Pass::HelperCalls)),
     (b"kprobe", &NEWER_HELPER, 4, true, Some(Pass::Globals)),
     (b"kprobe", &NEWER_HELPER, 1, true, None),
 ];
 
 /// For which pass an object is refused, none where it is faulty.
-fn not_yet(
-    alloc: Global,
-    object: &[u8],
-    settings: &Settings<'_>,
-) -> Result<Option<Pass>, Fail> {
+fn not_yet(alloc: Global, object: &[u8], settings: &Settings<'_>) -> Result<Option<Pass>, Fail> {
     match planned(alloc, object, settings, Order::RelocateFirst, &[]) {
         Err(PrepareError::NotYet { pass }) => Ok(Some(pass)),
         Err(PrepareError::Parse(ParseError::InvalidLicense { bytes: _ })) => Ok(None),
@@ -137,6 +140,57 @@ fn objects_that_are_not_served(rt: HostRuntime) -> Result<(), Fail> {
         ];
         let object = with_bytes(&ONE_PROGRAM, &changes);
         assert_eq!(rt; not_yet(rt.alloc(), &object, &settings)?, wanted);
+    }
+    Ok(())
+}
+
+/// The first slot of the object with one program, where it is changed to one, for a kernel that has
+/// or lacks the newer helpers, and how often the kernel is asked.
+fn probed(alloc: Global, slot: &[u8], has_helpers: bool) -> Result<([u8; 8], u32), Fail> {
+    let object = with_bytes(&ONE_PROGRAM, &[(SLOTS, slot)]);
+    let settings = Settings::new(alloc);
+    let mut symbols = Watched::new(io::empty());
+    let mut asked = 0u32;
+    let plan = prepare(
+        alloc,
+        &object,
+        &[],
+        &mut symbols,
+        &settings,
+        Order::RelocateFirst,
+        |_feature| true,
+        || {
+            asked = asked.saturating_add(1);
+            has_helpers
+        },
+    );
+    let plan = plan.map_err(|_| "refused")?;
+    let program = plan.programs().first().ok_or("no program")?;
+    let slot = program.slots().get(0).ok_or("no slot")?;
+    Ok((slot.to_bytes(), asked))
+}
+
+// A slot, the one for a kernel that lacks the newer helpers, and how often a kernel is asked.
+const PROBES: [([u8; 8], [u8; 8], u32); 4] = [
+    (NEWER_HELPER, [0x85, 0, 0, 0, 4, 0, 0, 0], 1),
+    (
+        [0x85, 0, 0, 0, 115, 0, 0, 0],
+        [0x85, 0, 0, 0, 45, 0, 0, 0],
+        1,
+    ),
+    (
+        [0x85, 0, 0, 0, 111, 0, 0, 0],
+        [0x85, 0, 0, 0, 111, 0, 0, 0],
+        0,
+    ),
+    ([0xb7, 0, 0, 0, 0, 0, 0, 0], [0xb7, 0, 0, 0, 0, 0, 0, 0], 0),
+];
+
+#[test]
+fn older_helpers(rt: HostRuntime) -> Result<(), Fail> {
+    for (slot, older, asked) in PROBES {
+        assert_eq!(rt; probed(rt.alloc(), &slot, true)?, (slot, asked));
+        assert_eq!(rt; probed(rt.alloc(), &slot, false)?, (older, asked));
     }
     Ok(())
 }

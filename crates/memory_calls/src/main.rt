@@ -7,7 +7,7 @@ use btf::{
     types_are_compatible,
 };
 use ebpf_items::{Slots, bpf_insn};
-use load_plan::{Order, ParseError, PrepareError, Settings, prepare};
+use load_plan::{Order, ParseError, PrepareError, Settings, Watched, prepare};
 use sample_objects::ONE_PROGRAM;
 use std::alloc::{AllocError, Global};
 use std::io;
@@ -97,7 +97,7 @@ fn written(alloc: Global) -> Result<i32, AllocError> {
 /// The number of programs of an object's plan.
 fn programs(alloc: Global) -> Result<usize, PrepareError> {
     let settings = Settings::new(alloc);
-    let mut symbols = io::empty();
+    let mut symbols = Watched::new(io::empty());
     let plan = prepare(
         alloc,
         &ONE_PROGRAM,

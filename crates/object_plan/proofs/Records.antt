@@ -4,6 +4,8 @@ use Rattle.std.specs.Prelude.{Option, ◌||◌, if◌then◌else◌}
 use Rattle.std.specs.BTreeMap.{is_at}
 use Rattle.std.specs.List.{list_any}
 use Rattle.std.specs.Map.{lookup}
+use Rattle.std.specs.Option.{option_map}
+use Rattle.std.proofs.lemmas.Map.Made.{lookup-map_values}
 use Rattle.btf_extension.specs.declared.record.bpf_func_info.{bpf_func_info}
 use Rattle.btf_sanitizing.specs.Answers.{Answers}
 use Rattle.btf_tables.specs.Tables.{Table}
@@ -13,7 +15,8 @@ use Rattle.function_types.specs.Rewritten.{is_denied}
 use Rattle.linker.specs.Linked.{AreLinked, IsLinkedIn}
 use Rattle.linker.specs.Records.{functions_in, functions_of, moved_function}
 use Rattle.linker.specs.Unlinked.{Unlinked, table_of}
-use Rattle.object_parts.specs.Content.{FunctionContent, ProgramContent, function_at, key_cmp}
+use Rattle.object_parts.specs.Content.{FunctionContent, ProgramContent, function_at, key_cmp, with_older_helpers}
+use Rattle.ebpf_object.specs.Helpers.{for_kernel}
 use Rattle.program_kinds.specs.declared.program_section.ProgramSection.{ProgramSection}
 use Rattle.object_plan.specs.Laws.{RecordsName}
 use Rattle.object_plan.specs.Plans.{AllName, AllNamed, Names, plan_program_of, program_of}
@@ -98,11 +101,25 @@ program_names : (types : Option Table) (bytes : Option (List ℕ)) (answers : An
 program_names types bytes answers has_types name section None carry h = tt
 program_names types bytes answers has_types name section (Some f) carry h = kept_names types bytes (is_denied answers) (is_denied answers) f.func_info refl carry h
 
-programs_name : (types : Option Table) (bytes : Option (List ℕ)) (answers : Answers) (has_types : Bool) (u : Unlinked) (keys : List Key) (new : List (Key × FunctionContent)) (programs : List (List ℕ × ProgramContent)) → all_named types u.functions ≡ true → AreLinked u keys new → (is_denied answers ≡ false → (id : ℕ) → names_function types id ≡ true → Names types bytes id) → AllNamed types bytes (map (plan_program_of answers has_types new) programs)
-programs_name types bytes answers has_types u keys new [] h linked carry = tt
-programs_name types bytes answers has_types u keys new (e ∷ es) h linked carry =
-    let key : Key = (e.1.section_index, e.1.address) in
-    (program_names types bytes answers has_types e.0 e.1.section (function_at new key) carry (after_named types u keys new key (has keys key) refl (not_true _ h) linked), programs_name types bytes answers has_types u keys new es h linked carry)
+-- they are the same for a kernel that lacks newer helpers
+renamed_functions : (o : Option FunctionContent) → functions_in (option_map with_older_helpers o) ≡ functions_in o
+renamed_functions None = refl
+renamed_functions (Some f) = refl
+
+for_kernel_named : (types : Option Table) (has_helpers : Bool) (new : List (Key × FunctionContent)) (key : Key) → AreNames types (functions_in (function_at new key)) → AreNames types (functions_in (function_at (for_kernel has_helpers new) key))
+for_kernel_named types true new key h = h
+for_kernel_named types false new key h =
+    subst (λ rs. AreNames types rs)
+    (sym (ap functions_in (lookup-map_values with_older_helpers (is_at (key_cmp key)) new) ∙ renamed_functions (function_at new key))) h
+
+programs_name : (types : Option Table) (bytes : Option (List ℕ)) (answers : Answers) (has_types has_helpers : Bool) (u : Unlinked) (keys : List Key) (new : List (Key × FunctionContent)) (programs : List (List ℕ × ProgramContent)) → all_named types u.functions ≡ true → AreLinked u keys new → (is_denied answers ≡ false → (id : ℕ) → names_function types id ≡ true → Names types bytes id) → AllNamed types bytes (map (plan_program_of answers has_types (for_kernel has_helpers new)) programs)
+programs_name types bytes answers has_types has_helpers u keys new [] h linked carry = tt
+programs_name types bytes answers has_types has_helpers u keys new (e ∷ es) h linked carry =
+    let key : Key = (e.1.section_index, e.1.address) in (
+      program_names types bytes answers has_types e.0 e.1.section (function_at (for_kernel has_helpers new) key) carry
+          (for_kernel_named types has_helpers new key (after_named types u keys new key (has keys key) refl (not_true _ h) linked)),
+      programs_name types bytes answers has_types has_helpers u keys new es h linked carry,
+    )
 
 pub records_name : RecordsName
 records_name = record { each = programs_name }

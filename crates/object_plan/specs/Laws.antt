@@ -2,6 +2,7 @@
 use Rattle.std.specs.Prelude.{◌≡◌, ℕ, List, map, Bool, true, false, Option, Some}
 use Rattle.btf_sanitizing.specs.Answers.{Answers}
 use Rattle.btf_tables.specs.Tables.{Table}
+use Rattle.ebpf_object.specs.Helpers.{for_kernel}
 use Rattle.function_layout.specs.Layout.{Key}
 use Rattle.function_types.specs.Named.{all_named, names_function, names_function_in}
 use Rattle.function_types.specs.Rewritten.{IsRewrittenUnder, is_denied}
@@ -11,9 +12,9 @@ use Rattle.object_parts.specs.Content.{FunctionContent, ProgramContent}
 use Rattle.object_plan.specs.Plans.{AllNamed, HoldsTypeBytes, Names, plan_program_of, type_bytes_of}
 
 -- Where each record of an object's functions names a function, and these names are carried to the bytes of a plan's types, each
--- record of the plan's programs does, which are linked.
+-- record of the plan's programs does, which are linked, and whose helpers a kernel has.
 pub record RecordsName : Type 0 where
-  pub each : (types : Option Table) (bytes : Option (List ℕ)) (answers : Answers) (has_types : Bool) (u : Unlinked) (keys : List Key) (new : List (Key × FunctionContent)) (programs : List (List ℕ × ProgramContent)) → all_named types u.functions ≡ true → AreLinked u keys new → (is_denied answers ≡ false → (id : ℕ) → names_function types id ≡ true → Names types bytes id) → AllNamed types bytes (map (plan_program_of answers has_types new) programs)
+  pub each : (types : Option Table) (bytes : Option (List ℕ)) (answers : Answers) (has_types has_helpers : Bool) (u : Unlinked) (keys : List Key) (new : List (Key × FunctionContent)) (programs : List (List ℕ × ProgramContent)) → all_named types u.functions ≡ true → AreLinked u keys new → (is_denied answers ≡ false → (id : ℕ) → names_function types id ≡ true → Names types bytes id) → AllNamed types bytes (map (plan_program_of answers has_types (for_kernel has_helpers new)) programs)
 
 -- where types are rewritten under answers that don't deny functions, what names a function in the old ones does in the bytes of
 -- the new ones

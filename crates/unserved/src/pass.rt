@@ -15,6 +15,4 @@ pub enum Pass {
     MapRelocations,
     /// Slots get what the externs are that relocations name.
     ExternRelocations,
-    /// Older helpers are called in place of newer ones.
-    HelperCalls,
 }
