@@ -43,7 +43,7 @@ fn has_slots(object: &Object<'_>, key: (usize, u64), slots: &[bpf_insn]) -> bool
 }
 
 /// The counts of an object whose programs have these slots, one list for each.
-fn counts(object: &Object<'_>, programs: &[Vec<bpf_insn>]) -> Option<Counts> {
+fn count_alike(object: &Object<'_>, programs: &[Vec<bpf_insn>]) -> Option<Counts> {
     let mut counts = Counts {
         programs: 0,
         slots: 0,
@@ -64,7 +64,7 @@ fn compared(alloc: Global, bytes: &[u8]) -> Option<Counts> {
     let text_sections = object.text_sections().ok()?;
     let programs = plain_programs(alloc, &object, &text_sections)?;
     object.relocate_calls(&text_sections).ok()?;
-    counts(&object, &programs)
+    count_alike(&object, &programs)
 }
 
 /// Prints the counts of each object that the command line names.
