@@ -7,10 +7,7 @@ use btf::{
     types_are_compatible,
 };
 use ebpf_items::{Slots, bpf_insn};
-use load_plan::{Order, ParseError, PrepareError, Settings, Watched, prepare};
-use sample_objects::ONE_PROGRAM;
 use std::alloc::{AllocError, Global};
-use std::io;
 use std::process::ExitCode;
 use string_table::LongTexts;
 
@@ -94,23 +91,6 @@ fn written(alloc: Global) -> Result<i32, AllocError> {
     Ok(copy.get(1).map_or(0, |slot| slot.imm))
 }
 
-/// The number of programs of an object's plan.
-fn programs(alloc: Global) -> Result<usize, PrepareError> {
-    let settings = Settings::new(alloc);
-    let mut symbols = Watched::new(io::empty());
-    let plan = prepare(
-        alloc,
-        &ONE_PROGRAM,
-        &[],
-        &mut symbols,
-        &settings,
-        Order::RelocateFirst,
-        |_feature| true,
-        || true,
-    )?;
-    Ok(plan.programs().len())
-}
-
 /// Prints what the calls over types give: whether memory was there.
 fn print_types(rt: &HostRuntime) -> Result<(), BtfError> {
     let section = section(rt.alloc())?;
@@ -123,11 +103,10 @@ fn print_types(rt: &HostRuntime) -> Result<(), BtfError> {
 }
 
 /// Prints what the other calls give.
-fn print_others(rt: &HostRuntime) -> Result<(), PrepareError> {
+fn print_others(rt: &HostRuntime) -> Result<(), AllocError> {
     let length = long_text(rt.alloc())?;
     let immediate = written(rt.alloc())?;
-    let programs = programs(rt.alloc())?;
-    let _ = println!(rt; "{length} bytes, {immediate} written, {programs} program");
+    let _ = println!(rt; "{length} bytes, {immediate} written");
     Ok(())
 }
 
@@ -135,14 +114,8 @@ fn print_others(rt: &HostRuntime) -> Result<(), PrepareError> {
 const REFUSED: u8 = 3;
 
 fn main(rt: HostRuntime) -> ExitCode {
-    match print_others(&rt) {
-        Ok(()) => (),
-        Err(PrepareError::OutOfMemory | PrepareError::Parse(ParseError::OutOfMemory)) => {
-            return ExitCode::from(REFUSED);
-        }
-        Err(error) => {
-            let _ = println!(rt; "{error}");
-        }
+    if print_others(&rt).is_err() {
+        return ExitCode::from(REFUSED);
     }
     match print_types(&rt) {
         Ok(()) => (),
