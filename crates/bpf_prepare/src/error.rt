@@ -1,11 +1,12 @@
 //! Why the program prints no plan.
 
 ghost use Rattle.std.specs.Prelude.{◌≡◌};
-ghost use Rattle.bpf_prepare.specs.declared.error.ProgramError.TheVariants.{Run};
+ghost use Rattle.bpf_prepare.specs.declared.error.ProgramError.TheVariants.{OutOfMemory, Run};
 ghost use Rattle.bpf_prepare.specs.declared.error.RunError.TheVariants.{Refused};
 ghost use Rattle.bpf_prepare.specs.Program.{status_of};
 
 use load_plan::{ParseError, Place, PrepareError};
+use std::alloc::{AllocError, AllocFailed};
 use std::io;
 use thiserror::Error;
 
@@ -31,13 +32,15 @@ impl From<PrepareError> for RunError {
 /// Why the program ends without a plan.
 #[derive(Debug, Drop, Error)]
 pub enum ProgramError {
-    /// It wasn't called with one word.
-    #[error("usage: bpf_prepare OBJECT")]
+    /// It was called with other words.
+    #[error(
+        "usage: bpf_prepare OBJECT [--map NAME=NUMBER].. [--global NAME=HEX].. [--older-helpers]"
+    )]
     Usage,
     /// The object's file can't be read.
     #[error("can't read {name:?}: {error}")]
     Read { name: String, error: io::Error },
-    /// There is no memory to begin with.
+    /// There is no memory for the words, or for writing.
     #[error("out of memory")]
     OutOfMemory,
     /// There is no plan, or it can't be written.
@@ -53,6 +56,22 @@ impl From<RunError> for ProgramError {
 
     fn from(error: RunError) -> ProgramError {
         ProgramError::Run(error)
+    }
+}
+
+impl From<AllocError> for ProgramError {
+    ghost from_gives = { λ _ e. e ≡ OutOfMemory };
+
+    fn from(_error: AllocError) -> ProgramError {
+        ProgramError::OutOfMemory
+    }
+}
+
+impl<T: Drop> From<AllocFailed<T>> for ProgramError {
+    ghost from_gives = { λ _ e. e ≡ OutOfMemory };
+
+    fn from(_error: AllocFailed<T>) -> ProgramError {
+        ProgramError::OutOfMemory
     }
 }
 

@@ -5,6 +5,7 @@ mod error;
 mod running;
 #[cfg(test)]
 mod tests;
+mod words;
 
 use error::{ProgramError, RunError};
 use load_plan::{PrepareError, Watched, place_of};
@@ -13,17 +14,19 @@ use std::alloc::Global;
 use std::io::{BufWriter, Write};
 use std::process::ExitCode;
 use std::{env, fs, io};
+use words::Words;
 
-/// The one word that the program is called with: the object's file name.
-fn object_name(rt: &HostRuntime) -> Result<String, ProgramError> {
-    let Ok(mut words) = env::args(rt) else {
+/// The words behind the program's name.
+fn words_of(rt: &HostRuntime) -> Result<Vec<String>, ProgramError> {
+    let Ok(mut rest) = env::args(rt) else {
         return Err(ProgramError::Usage);
     };
-    let _program = words.next();
-    match (words.next(), words.next()) {
-        (Some(name), None) => Ok(name),
-        _ => Err(ProgramError::Usage),
+    let _program = rest.next();
+    let mut words = Vec::new(rt.alloc());
+    for word in rest {
+        words.push(word)?;
     }
+    Ok(words)
 }
 
 /// The error of a run, with the place of the fault where the object isn't parsed and its error
@@ -38,13 +41,23 @@ fn located(alloc: Global, object: &[u8], error: RunError) -> ProgramError {
     }
 }
 
+/// The bytes of the file of a name.
+fn read(rt: &HostRuntime, name: &str) -> Result<Vec<u8>, ProgramError> {
+    match fs::read(rt, name) {
+        Ok(bytes) => Ok(bytes),
+        Err(error) => Err(ProgramError::Read {
+            name: String::from_str(rt.alloc(), name)?,
+            error,
+        }),
+    }
+}
+
 /// Prints the plan of the object that the command line names.
 fn print_plan(rt: &HostRuntime) -> Result<(), ProgramError> {
-    let name = object_name(rt)?;
-    let object = match fs::read(rt, name.as_str()) {
-        Ok(object) => object,
-        Err(error) => return Err(ProgramError::Read { name, error }),
-    };
+    let words = words_of(rt)?;
+    let words = Words::read(rt.alloc(), &words)?;
+    let settings = words.settings(rt.alloc())?;
+    let object = read(rt, words.object)?;
     let Ok(writer) = BufWriter::new(rt.alloc(), io::writer(rt)) else {
         return Err(ProgramError::OutOfMemory);
     };
@@ -52,8 +65,9 @@ fn print_plan(rt: &HostRuntime) -> Result<(), ProgramError> {
     let written = run(
         rt.alloc(),
         object.as_slice(),
+        &settings,
         |_feature| true,
-        || true,
+        || words.has_newer_helpers,
         &mut out,
     );
     if let Err(error) = written {

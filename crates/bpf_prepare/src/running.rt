@@ -13,35 +13,35 @@ use std::alloc::Global;
 use std::io;
 use std::io::Write;
 
-/// The plan of an object, without kernel types, symbols and settings.
+/// The plan of an object, without kernel types and symbols.
 fn plan_of<'a, F: FnMut(BtfFeature) -> bool, P: FnOnce() -> bool>(
     alloc: Global,
     object: &'a [u8],
+    settings: &Settings<'_>,
     predicate: F,
     probe: P,
 ) -> Result<Plan<'a>, PrepareError>
     requires predicate { F.IsAlwaysCallable predicate }
     requires probe { P.pre probe }
-    ensures planned { IfOk result (IsPlanned F.FnMut predicate (P.post probe) (inputs_of object.entry.now)) }
-    ensures refused { IfErr result (IsRefusal F.FnMut predicate (inputs_of object.entry.now)) }
+    ensures planned { IfOk result (IsPlanned F.FnMut predicate (P.post probe) (inputs_of object.entry.now settings.now)) }
+    ensures refused { IfErr result (IsRefusal F.FnMut predicate (inputs_of object.entry.now settings.now)) }
 {
-    let settings = Settings::new(alloc);
     let mut symbols = Watched::new(io::empty());
     prepare(
         alloc,
         object,
         &[],
         &mut symbols,
-        &settings,
+        settings,
         Order::RelocateFirst,
         predicate,
         probe,
     )
 }
 
-/// Writes the text of an object's plan, or nothing where the object is refused. `predicate` says
-/// which features of types the kernel grants, and `probe` whether it has the newer helpers that read
-/// memory.
+/// Writes the text of an object's plan under settings, or nothing where the object is refused.
+/// `predicate` says which features of types the kernel grants, and `probe` whether it has the newer
+/// helpers that read memory.
 ///
 /// # Errors
 ///
@@ -50,6 +50,7 @@ fn plan_of<'a, F: FnMut(BtfFeature) -> bool, P: FnOnce() -> bool>(
 pub fn run<F: FnMut(BtfFeature) -> bool, P: FnOnce() -> bool, W: Write>(
     alloc: Global,
     object: &[u8],
+    settings: &Settings<'_>,
     predicate: F,
     probe: P,
     out: &mut Watched<W>,
@@ -59,18 +60,18 @@ pub fn run<F: FnMut(BtfFeature) -> bool, P: FnOnce() -> bool, W: Write>(
 
     // Exactly the text of the plan went out, of an object in which no fault stands.
     ensures well { OnOk result (has_failed out.new ≡ false) }
-    ensures written { OnOk result (HoldsOfText F.FnMut predicate (P.post probe) object.now (λ text. Appends (W.contents (watched_inner out.old)) (W.contents (watched_inner out.new)) text)) }
+    ensures written { OnOk result (HoldsOfText F.FnMut predicate (P.post probe) (inputs_of object.now settings.now) (λ text. Appends (W.contents (watched_inner out.old)) (W.contents (watched_inner out.new)) text)) }
 
     // A refusal names a fault that stands, and writes nothing.
-    ensures refused { IfErr result (IsRunRefusal F.FnMut predicate object.now) }
+    ensures refused { IfErr result (IsRunRefusal F.FnMut predicate (inputs_of object.now settings.now)) }
     ensures unwritten { IfErr result (λ e. e ≢ Output → out.new ≡ out.old) }
 
     // Of an object that isn't refused, a beginning of the text went out, and the writer failed.
-    ensures part { result ≡ Err Output → HoldsOfText F.FnMut predicate (P.post probe) object.now (λ text. AppendsPart (W.contents (watched_inner out.old)) (W.contents (watched_inner out.new)) text) }
+    ensures part { result ≡ Err Output → HoldsOfText F.FnMut predicate (P.post probe) (inputs_of object.now settings.now) (λ text. AppendsPart (W.contents (watched_inner out.old)) (W.contents (watched_inner out.new)) text) }
     ensures failed { result ≡ Err Output → has_failed out.new ≡ true }
     ensures at_once { has_failed out.old ≡ true → out.new ≡ out.old }
 {
-    let plan = plan_of(alloc, object, predicate, probe)?;
+    let plan = plan_of(alloc, object, settings, predicate, probe)?;
     match plan.write(out) {
         Ok(()) => Ok(()),
         Err(_) => Err(RunError::Output),

@@ -2,15 +2,16 @@
 
 use crate::error::RunError;
 use crate::running::run;
-use load_plan::{ParseError, PrepareError, Watched};
+use load_plan::{ParseError, PrepareError, Settings, Watched};
 use sample_objects::{ONE_PROGRAM, ONE_PROGRAM_PLAN, with_bytes};
 use std::alloc::Global;
 use std::test::Fail;
 
 /// What a run writes, where it isn't refused.
 fn text_of(alloc: Global, object: &[u8]) -> Result<Vec<u8>, RunError> {
+    let settings = Settings::new(alloc);
     let mut out = Watched::new(Vec::new(alloc));
-    run(alloc, object, |_feature| true, || true, &mut out)?;
+    run(alloc, object, &settings, |_feature| true, || true, &mut out)?;
     Ok(out.into_inner())
 }
 

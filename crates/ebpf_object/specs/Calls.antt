@@ -1,9 +1,14 @@
 -- The sections of an object that have functions.
-use Rattle.std.specs.Prelude.{◌≡◌, ℕ, List, ◌==◌}
+use Rattle.std.specs.Prelude.{◌≡◌, ℕ, List, Bool, ◌==◌}
+use Rattle.std.specs.BTreeMap.{is_at}
 use Rattle.std.specs.List.{list_any}
+use Rattle.std.specs.Ordering.{nat_cmp}
 use Rattle.object_parts.specs.Content.{FunctionContent}
-use Rattle.unserved.specs.Relocations.{has_functions}
+
+-- whether the section of an index is one of these
+abbrev pub has_section : List ℕ → ℕ → Bool
+has_section sections index = list_any (is_at (nat_cmp index)) sections
 
 -- these are the indexes of the sections that functions lie in
 pub record AreTextSections (functions : List ((ℕ × ℕ) × FunctionContent)) (text_sections : List ℕ) : Type 0 where
-  pub at : (index : ℕ) → has_functions text_sections index ≡ list_any (λ e. e.0.0 == index) functions
+  pub at : (index : ℕ) → has_section text_sections index ≡ list_any (λ e. e.0.0 == index) functions

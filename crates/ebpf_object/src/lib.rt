@@ -2,6 +2,7 @@
 #![tactic(auto)]
 
 mod calls;
+mod globals;
 mod object;
 mod passes;
 mod places;

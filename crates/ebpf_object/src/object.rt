@@ -54,7 +54,7 @@ pub struct Object<'a> {
     pub(crate) file: ObjectFile<'a>,
     btf: Option<Btf<'a>>,
     btf_ext: Option<BtfExt<'a>>,
-    maps: Maps<'a>,
+    pub(crate) maps: Maps<'a>,
     programs: Programs<'a>,
     pub(crate) functions: Functions<'a>,
     externs: Externs<'a>,

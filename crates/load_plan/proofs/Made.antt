@@ -7,17 +7,21 @@ use Rattle.std.specs.Option.{option_map}
 use Rattle.btf_records.specs.declared.feature.BtfFeature.{BtfFeature}
 use Rattle.btf_sanitizing.specs.Answers.{Answers}
 use Rattle.ebpf_items.specs.Instruction.{with_older_helper}
+use Rattle.ebpf_items.specs.Maps.{MapView}
 use Rattle.ebpf_items.specs.declared.instruction.bpf_insn.{bpf_insn}
 use Rattle.ebpf_object.specs.Helpers.{IsSanitized, IsSanitizedIf, for_kernel}
 use Rattle.ebpf_object.specs.ParsedObject.{ObjectContent}
-use Rattle.function_layout.specs.Layout.{Key}
+use Rattle.function_layout.specs.Layout.{Key, Table, has}
 use Rattle.function_layout.specs.Machines.{VisitsSame}
 use Rattle.function_layout.specs.Renamed.{RenamedVisitsSame, renamed_table}
-use Rattle.linker.specs.Linked.{IsLinkedIn}
+use Rattle.linker.specs.Linked.{IsLinkedIn, program_keys, unlinked}
 use Rattle.linker.specs.Unlinked.{Unlinked, table_of}
 use Rattle.object_parts.specs.Content.{FunctionContent, function_at, has_newer_helper, key_cmp, with_older_helpers}
 use Rattle.settings.specs.Content.{SettingsContent}
-use Rattle.load_plan.specs.Made.{IsBuilt, IsMadeOf, IsRun, IsServed, source_for}
+use Rattle.slot_relocation.specs.Laws.{OthersStay, SlotsCarryNumbers}
+use Rattle.slot_relocation.specs.Maps.{MapsGiven, map_rule}
+use Rattle.slot_relocation.specs.Writes.{AreRelocated, relocated}
+use Rattle.load_plan.specs.Made.{ArePatchedMaps, AreWithNumbers, IsBuilt, IsLinkedObject, IsMade, IsRun, IsServed, maps_given, source_for, without_maps}
 
 abbrev Keyed : Type 0
 Keyed = List (Key × FunctionContent)
@@ -45,19 +49,48 @@ run_of law u false old new own is one =
       };
     }
 
-pub made_of : RenamedVisitsSame → {F : Type 0} (predicate : Mut F (BtfFeature × Unit {0}) Bool) (before : F) (Says : Bool → Type 0) (settings : SettingsContent) (object : ObjectContent) (text_sections : List ℕ) (answers : Answers) (linked made : ObjectContent) → IsServed settings object text_sections → IsBuilt predicate before object text_sections answers linked → IsSanitized Says linked.functions made.functions → made ≡ record linked { functions = made.functions } → IsMadeOf predicate before Says settings object answers made
-made_of law predicate before Says settings object text_sections answers linked made served built sanitized others =
+-- relocated functions have numbers in their slots
+with_numbers : SlotsCarryNumbers → OthersStay → (g : MapsGiven) (old new : Keyed) → AreRelocated (map_rule g) g.file old new → AreWithNumbers g old new
+with_numbers carry stay g old new are key f at = (
+    relocated (map_rule g) g.file f,
+    are.at key ∙ ap (option_map (relocated (map_rule g) g.file)) at,
+    record { numbers = carry.each g f; others = stay.each g f },
+)
+
+-- what holds of a rewritten object's functions holds of the object's
+numbers_of : SlotsCarryNumbers → OthersStay → (settings : SettingsContent) (maps : List (List ℕ × MapView)) (object rewritten : ObjectContent) (text_sections : List ℕ) (new : Keyed) → rewritten ≡ record object { types = rewritten.types } → AreRelocated (map_rule (maps_given settings maps rewritten text_sections)) rewritten.file rewritten.functions new → AreWithNumbers (maps_given settings maps object text_sections) object.functions new
+numbers_of carry stay settings maps object rewritten text_sections new others are =
+    subst (λ (o : ObjectContent). AreWithNumbers (maps_given settings maps o text_sections) o.functions new) others
+    (with_numbers carry stay (maps_given settings maps rewritten text_sections) rewritten.functions new are)
+
+-- the programs of an object with this file, and with these programs, run as these functions do
+abbrev AreRun : ObjectContent → (List ℕ → Table) → Keyed → Type 0
+AreRun object table_for functions = (key : Key) → has (program_keys object.programs) key ≡ true → IsRun (table_for object.file) functions key
+
+linked_run : RenamedVisitsSame → (text_sections : List ℕ) (h : Bool) (relocated linked : ObjectContent) (functions : Keyed) → functions ≡ for_kernel h linked.functions → IsLinkedObject relocated text_sections linked → AreRun relocated (λ file. source_for h (table_of (unlinked file text_sections relocated.functions))) functions
+linked_run law text_sections h relocated linked functions is calls key is_program =
+    run_of law _ h linked.functions functions key is (calls.programs.programs key is_program)
+
+programs_of : RenamedVisitsSame → {F : Type 0} (predicate : Mut F (BtfFeature × Unit {0}) Bool) (before : F) (settings : SettingsContent) (maps : List (List ℕ × MapView)) (object : ObjectContent) (answers : Answers) (linked : ObjectContent) (built : IsBuilt predicate before settings maps object answers linked) (h : Bool) (functions : Keyed) → functions ≡ for_kernel h linked.functions → AreRun object (λ file. source_for h (table_of (unlinked file built.text_sections built.slots.relocated.functions))) functions
+programs_of law predicate before settings maps object answers linked built h functions is =
+    let slots = built.slots in
+    let run : List ℕ → Table = λ file. source_for h (table_of (unlinked file built.text_sections slots.relocated.functions)) in
+    subst (λ (o : ObjectContent). AreRun o run functions) built.types.others
+    (subst (λ (o : ObjectContent). AreRun o run functions) slots.numbers.others
+    (linked_run law built.text_sections h slots.relocated linked functions is slots.calls))
+
+pub made_of : RenamedVisitsSame → SlotsCarryNumbers → OthersStay → {F : Type 0} (predicate : Mut F (BtfFeature × Unit {0}) Bool) (before : F) (Says : Bool → Type 0) (settings : SettingsContent) (object : ObjectContent) (answers : Answers) (maps : List (List ℕ × MapView)) (linked made : ObjectContent) → IsServed settings object → ArePatchedMaps settings object maps → IsBuilt predicate before settings maps (without_maps object) answers linked → IsSanitized Says linked.functions made.functions → made ≡ record linked { functions = made.functions } → IsMade predicate before Says settings object answers maps made
+made_of law carry stay predicate before Says settings object answers maps linked made served patched built sanitized others =
     let kernel = kernel_of Says (has_newer_helper linked.functions) linked.functions made.functions sanitized in
     record {
-      text_sections = text_sections;
       served = served;
-      making = record {
-        linked = linked;
-        built = built;
-        sanitized = sanitized;
-        others = others;
-        has_helpers = kernel.0;
-        helpers = kernel.1;
-        programs = λ key is_program. run_of law _ kernel.0 linked.functions made.functions key kernel.1 (built.calls.programs.programs key is_program);
-      };
+      patched = patched;
+      linked = linked;
+      built = built;
+      sanitized = sanitized;
+      others = others;
+      has_helpers = kernel.0;
+      helpers = kernel.1;
+      numbers = numbers_of carry stay settings maps (without_maps object) built.rewritten built.text_sections built.slots.relocated.functions built.types.others built.slots.numbers.functions;
+      programs = programs_of law predicate before settings maps (without_maps object) answers linked built kernel.0 made.functions kernel.1;
     }

@@ -1,46 +1,69 @@
 -- What the passes make of an object.
-use Rattle.std.specs.Prelude.{◌≡◌, ◌==◌, not, ℕ, length, List, Option, None, Some, Bool, true, false}
+use Rattle.std.specs.Prelude.{◌≡◌, ℕ, List, [], map, slice_get, Option, None, Some, Bool, true, false}
 use Rattle.std.specs.Fn.{Mut}
 use Rattle.btf_records.specs.declared.feature.BtfFeature.{BtfFeature}
 use Rattle.btf_sanitizing.specs.Answers.{Answers}
+use Rattle.ebpf_items.specs.Maps.{MapView}
 use Rattle.ebpf_items.specs.declared.instruction.bpf_insn.{bpf_insn}
 use Rattle.ebpf_object.specs.Calls.{AreTextSections}
 use Rattle.ebpf_object.specs.Helpers.{IsSanitized, for_kernel}
 use Rattle.ebpf_object.specs.ParsedObject.{ObjectContent}
 use Rattle.ebpf_object.specs.Rewriting.{IsRewritten}
 use Rattle.ebpf_object.specs.Unserved.{unserved}
+use Rattle.elf64.specs.Relocations.{Relocation}
 use Rattle.function_layout.specs.Layout.{IsLayout, Key, Table, has}
 use Rattle.function_layout.specs.Machines.{VisitsSame}
 use Rattle.function_layout.specs.Renamed.{renamed_table}
 use Rattle.function_types.specs.Named.{all_named}
+use Rattle.global_data.specs.GlobalData.{first_fault, patched}
 use Rattle.linker.specs.Linked.{AllCanBeLinked, AreLinked, program_keys, unlinked}
 use Rattle.linker.specs.Unlinked.{table_of}
 use Rattle.object_parts.specs.Content.{FunctionContent, function_at}
+use Rattle.plan_maps.specs.Numbers.{are_numbered, numbered}
 use Rattle.settings.specs.Content.{SettingsContent}
-use Rattle.unserved.specs.declared.pass.Pass.{Pass}
-use Rattle.unserved.specs.declared.pass.Pass.TheVariants as pass
+use Rattle.slot_relocation.specs.Laws.{CarriesNumber, Writes, WritesAt, place_in}
+use Rattle.slot_relocation.specs.Maps.{MapsGiven, given, map_rule}
+use Rattle.slot_relocation.specs.Writes.{AreRelocated, CanBeRelocated}
+use Rattle.slot_relocation.specs.declared.outcome.Write.{Write}
 
--- the first pass that doesn't exist yet: that on globals comes behind map numbers and before all others
-abbrev pub first_pass : Bool → Option Pass → Option Pass
-first_pass has_globals (Some pass.MapNumbers) = Some pass.MapNumbers
-first_pass true of_object = Some pass.Globals
-first_pass false of_object = of_object
-
--- the first that has something to do with an object or its settings
-abbrev pub not_yet : SettingsContent → ObjectContent → List ℕ → Option Pass
-not_yet settings object text_sections = first_pass (not (length settings.globals == 0)) (unserved object text_sections)
-
--- An object that is served so far: each record that a function keeps names a function, and no pass that doesn't exist yet has
--- something to do with it or its settings.
-pub record IsServed (settings : SettingsContent) (object : ObjectContent) (text_sections : List ℕ) : Type 0 where
+-- An object that is served so far: each record that a function keeps names a function, no pass that doesn't exist yet has something
+-- to do with it, and each of its maps has a number.
+pub record IsServed (settings : SettingsContent) (object : ObjectContent) : Type 0 where
   pub named : all_named object.types object.functions ≡ true
-  pub sections : AreTextSections object.functions text_sections
-  pub served : not_yet settings object text_sections ≡ None
+  pub served : unserved object ≡ None
+  pub numbered : are_numbered settings object.maps ≡ true
+
+-- the maps of an object with the values of its global variables, each of which fits
+pub record ArePatchedMaps (settings : SettingsContent) (object : ObjectContent) (maps : List (List ℕ × MapView)) : Type 0 where
+  pub patched : maps ≡ patched object.file object.maps settings.globals
+  pub sound : first_fault object.file object.maps settings.globals ≡ None
+
+-- the object whose maps were taken
+abbrev pub without_maps : ObjectContent → ObjectContent
+without_maps object = record object { maps = [] }
 
 -- the object with its types rewritten under these answers of the predicate
 pub record IsRewrittenObject {F : Type 0} (predicate : Mut F (BtfFeature × Unit {0}) Bool) (before : F) (object : ObjectContent) (answers : Answers) (rewritten : ObjectContent) : Type 0 where
   pub types : IsRewritten predicate before object.file object.externs.ksyms object.types answers rewritten.types
   pub others : rewritten ≡ record object { types = rewritten.types }
+
+-- what a loader gives the relocations for an object's maps
+abbrev pub maps_given : SettingsContent → List (List ℕ × MapView) → ObjectContent → List ℕ → MapsGiven
+maps_given settings maps object text_sections = given object.file text_sections (map (numbered settings) maps)
+
+-- In a function's slots, that at which a relocation writes carries the number of its map, and one at which none writes is as before.
+pub record HasNumbers (g : MapsGiven) (old new : FunctionContent) : Type 0 where
+  pub numbers : (r : ℕ × Relocation) (w : Write) → Writes g old r w → (s : bpf_insn) × (slice_get new.instructions (place_in old r) ≡ Some s) × CarriesNumber g r.1 s
+  pub others : (place : ℕ) → (WritesAt g old place → ⊥) → slice_get new.instructions place ≡ slice_get old.instructions place
+
+abbrev pub AreWithNumbers : MapsGiven → List (Key × FunctionContent) → List (Key × FunctionContent) → Type 0
+AreWithNumbers g old new = (key : Key) (f : FunctionContent) → function_at old key ≡ Some f → (h : FunctionContent) × (function_at new key ≡ Some h) × HasNumbers g f h
+
+-- the object with the numbers of these maps in its slots
+pub record IsRelocatedObject (g : MapsGiven) (object relocated : ObjectContent) : Type 0 where
+  pub functions : AreRelocated (map_rule g) object.file object.functions relocated.functions
+  pub sound : CanBeRelocated (map_rule g) object.file object.functions
+  pub others : relocated ≡ record object { functions = relocated.functions }
 
 -- the object with each program linked to the functions that it leads to
 pub record IsLinkedObject (object : ObjectContent) (text_sections : List ℕ) (linked : ObjectContent) : Type 0 where
@@ -48,11 +71,19 @@ pub record IsLinkedObject (object : ObjectContent) (text_sections : List ℕ) (l
   pub sound : AllCanBeLinked (unlinked object.file text_sections object.functions) (program_keys object.programs)
   pub others : linked ≡ record object { functions = linked.functions }
 
--- first rewritten, then linked
-pub record IsBuilt {F : Type 0} (predicate : Mut F (BtfFeature × Unit {0}) Bool) (before : F) (object : ObjectContent) (text_sections : List ℕ) (answers : Answers) (linked : ObjectContent) : Type 0 where
+-- first with numbers, then linked
+pub record AreSlotsWritten (settings : SettingsContent) (maps : List (List ℕ × MapView)) (object : ObjectContent) (text_sections : List ℕ) (linked : ObjectContent) : Type 0 where
+  pub relocated : ObjectContent
+  pub numbers : IsRelocatedObject (maps_given settings maps object text_sections) object relocated
+  pub calls : IsLinkedObject relocated text_sections linked
+
+-- The object with its types rewritten first, and then its slots written with the numbers of these maps.
+pub record IsBuilt {F : Type 0} (predicate : Mut F (BtfFeature × Unit {0}) Bool) (before : F) (settings : SettingsContent) (maps : List (List ℕ × MapView)) (object : ObjectContent) (answers : Answers) (linked : ObjectContent) : Type 0 where
+  pub text_sections : List ℕ
+  pub sections : AreTextSections object.functions text_sections
   pub rewritten : ObjectContent
   pub types : IsRewrittenObject predicate before object answers rewritten
-  pub calls : IsLinkedObject rewritten text_sections linked
+  pub slots : AreSlotsWritten settings maps rewritten text_sections linked
 
 -- the functions that a program's slots are copies of, for a kernel that has the newer helpers, or lacks them
 abbrev pub source_for : Bool → Table → Table
@@ -71,19 +102,17 @@ pub record IsRun (t : Table) (functions : List (Key × FunctionContent)) (own : 
   pub here : function_at functions own ≡ Some function
   pub runs : RunsAs t own function.instructions
 
--- The object that the passes make: built, and with older helpers where the probe says that the kernel lacks the newer ones.
--- Each program runs as its functions do.
-pub record IsMade {F : Type 0} (predicate : Mut F (BtfFeature × Unit {0}) Bool) (before : F) (Says : Bool → Type 0) (object : ObjectContent) (text_sections : List ℕ) (answers : Answers) (made : ObjectContent) : Type 0 where
+-- What the passes make of an object that is served: the maps with values, and the object built, and with older helpers where the
+-- probe says that the kernel lacks the newer ones. Each program runs as its functions do, in which a slot at which a relocation for
+-- a map writes carries that map's number.
+pub record IsMade {F : Type 0} (predicate : Mut F (BtfFeature × Unit {0}) Bool) (before : F) (Says : Bool → Type 0) (settings : SettingsContent) (object : ObjectContent) (answers : Answers) (maps : List (List ℕ × MapView)) (made : ObjectContent) : Type 0 where
+  pub served : IsServed settings object
+  pub patched : ArePatchedMaps settings object maps
   pub linked : ObjectContent
-  pub built : IsBuilt predicate before object text_sections answers linked
+  pub built : IsBuilt predicate before settings maps (without_maps object) answers linked
   pub sanitized : IsSanitized Says linked.functions made.functions
   pub others : made ≡ record linked { functions = made.functions }
   pub has_helpers : Bool
   pub helpers : made.functions ≡ for_kernel has_helpers linked.functions
-  pub programs : (key : Key) → has (program_keys built.rewritten.programs) key ≡ true → IsRun (source_for has_helpers (table_of (unlinked built.rewritten.file text_sections built.rewritten.functions))) made.functions key
-
--- the same of an object that is served
-pub record IsMadeOf {F : Type 0} (predicate : Mut F (BtfFeature × Unit {0}) Bool) (before : F) (Says : Bool → Type 0) (settings : SettingsContent) (object : ObjectContent) (answers : Answers) (made : ObjectContent) : Type 0 where
-  pub text_sections : List ℕ
-  pub served : IsServed settings object text_sections
-  pub making : IsMade predicate before Says object text_sections answers made
+  pub numbers : AreWithNumbers (maps_given settings maps object built.text_sections) object.functions built.slots.relocated.functions
+  pub programs : (key : Key) → has (program_keys object.programs) key ≡ true → IsRun (source_for has_helpers (table_of (unlinked object.file built.text_sections built.slots.relocated.functions))) made.functions key

@@ -1,17 +1,19 @@
 -- The plan of a file under settings, and what is refused.
-use Rattle.std.specs.Prelude.{◌≡◌, ◌≢◌, ℕ, List, Bool}
+use Rattle.std.specs.Prelude.{◌≡◌, ◌≢◌, ◌⊎◌, ℕ, List, Bool, map}
 use Rattle.std.specs.Fn.{Mut}
 use Rattle.btf_records.specs.declared.feature.BtfFeature.{BtfFeature}
+use Rattle.ebpf_items.specs.Maps.{MapView}
 use Rattle.ebpf_items.specs.declared.error.ParseError.TheVariants as error
 use Rattle.ebpf_object.specs.Faults.{HasFault, IsFaultless}
 use Rattle.ebpf_object.specs.ParsedObject.{IsParsed, ObjectContent}
 use Rattle.object_plan.specs.Plans.{AllNamed, HoldsTypeBytes, plan_of}
+use Rattle.plan_maps.specs.PlanMaps.{plan_map}
 use Rattle.plan_text.specs.Content.{PlanContent}
 use Rattle.settings.specs.Content.{SettingsContent}
-use Rattle.load_plan.specs.Made.{IsMadeOf}
+use Rattle.load_plan.specs.Made.{IsMade}
 use Rattle.load_plan.specs.Refusals.{IsObjectRefusal}
 use Rattle.load_plan.specs.declared.error.PrepareError.{PrepareError}
-use Rattle.load_plan.specs.declared.error.PrepareError.TheVariants.{FunctionRecordType, NotYet, OutOfMemory, Parse, Relocation, Types}
+use Rattle.load_plan.specs.declared.error.PrepareError.TheVariants.{Parse}
 
 -- what a plan is made of: the object's file and the settings
 pub record Inputs : Type 0 where
@@ -23,12 +25,13 @@ pub record IsWholeObject (file : List ℕ) (object : ObjectContent) : Type 0 whe
   pub faultless : IsFaultless file
   pub parsed : IsParsed file object
 
--- The plan of an object is that of what the passes make of it. Its bytes of types hold the rewritten table, in which each record
--- of a function names one of the name that it has in the object's.
+-- The plan of an object is that of what the passes make of it, with its maps by their numbers. Its bytes of types hold the rewritten
+-- table, in which each record of a function names one of the name that it has in the object's.
 pub record IsPlanOf {F : Type 0} (predicate : Mut F (BtfFeature × Unit {0}) Bool) (before : F) (Says : Bool → Type 0) (settings : SettingsContent) (object : ObjectContent) (plan : PlanContent) : Type 0 where
+  pub maps : List (List ℕ × MapView)
   pub made : ObjectContent
-  pub making : IsMadeOf predicate before Says settings object plan.features made
-  pub is : plan ≡ plan_of plan.features made
+  pub making : IsMade predicate before Says settings object plan.features maps made
+  pub is : plan ≡ plan_of plan.features (map (plan_map settings) maps) made
   pub holds : HoldsTypeBytes made.types plan.type_bytes
   pub names : AllNamed object.types plan.type_bytes plan.programs
 
@@ -51,9 +54,4 @@ pub record IsRefusedObject {F : Type 0} (predicate : Mut F (BtfFeature × Unit {
 
 -- What a refusal says, memory apart: a fault of the file, or of the object that a file without a fault holds.
 abbrev pub IsRefusal : {F : Type 0} → Mut F (BtfFeature × Unit {0}) Bool → F → Inputs → PrepareError → Type 0
-IsRefusal predicate before inputs (Parse e) = IsParseRefusal inputs.file (Parse e)
-IsRefusal predicate before inputs (FunctionRecordType function id) = IsRefusedObject predicate before inputs (FunctionRecordType function id)
-IsRefusal predicate before inputs (NotYet pass) = IsRefusedObject predicate before inputs (NotYet pass)
-IsRefusal predicate before inputs (Types e) = IsRefusedObject predicate before inputs (Types e)
-IsRefusal predicate before inputs (Relocation e) = IsRefusedObject predicate before inputs (Relocation e)
-IsRefusal predicate before inputs OutOfMemory = Unit {0}
+IsRefusal predicate before inputs e = IsParseRefusal inputs.file e ⊎ IsRefusedObject predicate before inputs e

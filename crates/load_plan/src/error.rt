@@ -13,7 +13,7 @@ use thiserror::Error;
 /// Why an object gets no plan.
 #[derive(Debug, Drop, Error)]
 pub enum PrepareError {
-    /// The object can't be parsed.
+    /// The object can't be parsed, or a value of a global variable can't be put into its maps.
     #[error("{0}")]
     Parse(ParseError),
     /// A record of a function names a type that is no function with a name.
@@ -24,15 +24,22 @@ pub enum PrepareError {
         /// The record's type.
         type_id: u32,
     },
-    /// A pass that doesn't exist yet has something to do with the object or the settings.
+    /// A pass that doesn't exist yet has something to do with the object.
     #[error("not yet: {}", subject(*pass))]
     NotYet {
         pass: Pass,
     },
+    /// No number is set for a map.
+    #[error("map {name:?} has no number")]
+    MapNumberMissing {
+        /// The map's name.
+        name: String,
+    },
     /// The object's types can't be rewritten to the kernel's features.
     #[error("{0}")]
     Types(BtfError),
-    /// A program can't be linked to the functions that it leads to.
+    /// A slot can't get a map's number, or a program can't be linked to the functions that it leads
+    /// to.
     #[error("{0}")]
     Relocation(EbpfRelocationError),
     /// Memory ran out.
@@ -43,11 +50,8 @@ pub enum PrepareError {
 /// What a pass has to do with.
 fn subject(pass: Pass) -> &'static str {
     match pass {
-        Pass::MapNumbers => "maps",
-        Pass::Globals => "values of global variables",
         Pass::TypeRelocations => "type relocations",
         Pass::Externs => "externs",
-        Pass::MapRelocations => "relocations for maps",
         Pass::ExternRelocations => "relocations for externs",
     }
 }

@@ -1,17 +1,21 @@
 //! The passes over a parsed object.
 
-ghost use Rattle.std.specs.Prelude.{◌≡◌, true, IfErr, IfOk, None, OnOk};
+ghost use Rattle.std.specs.Prelude.{◌≡◌, [], None, true, IfErr, IfOk, OnOk};
+ghost use Rattle.ebpf_object.specs.Unserved.{unserved};
 ghost use Rattle.function_types.specs.Named.{all_named};
-ghost use Rattle.load_plan.specs.Made.{first_pass, not_yet, IsBuilt, IsMadeOf, IsServed};
-ghost use Rattle.load_plan.specs.Refusals.{IsMakingRefusal, IsNamelessRefusal, IsNotYetRefusal, IsObjectRefusal, IsServedRefusal};
+ghost use Rattle.load_plan.specs.Made.{ArePatchedMaps, AreSlotsWritten, IsBuilt, IsMade, IsRelocatedObject, IsServed, maps_given, without_maps};
+ghost use Rattle.load_plan.specs.Refusals.{IsBuildingRefusal, IsGlobalsRefusal, IsNamelessRefusal, IsNotYetRefusal, IsNumberRefusal, IsObjectRefusal, IsServedRefusal, IsSlotsRefusal};
+ghost use Rattle.plan_maps.specs.Numbers.{are_numbered};
 
 use crate::error::PrepareError;
 use btf_records::BtfFeature;
-use ebpf_object::{Object, Pass};
+use ebpf_object::{Maps, Object};
 use function_layout::renamed_visits_same;
 use function_types::nameless_record;
+use plan_maps::{numbered_maps, unnumbered_map};
 use plan_text::Answers;
 use settings::Settings;
+use slot_relocation::{others_stay, slots_carry_numbers};
 use std::alloc::Global;
 use std::collections::BTreeSet;
 
@@ -29,80 +33,124 @@ fn require_named(alloc: Global, object: &Object<'_>) -> Result<(), PrepareError>
     }
 }
 
-/// The first pass that doesn't exist yet and has something to do with settings or an object, by
-/// whether values of globals are set and the first that has with the object.
-fn first_pass(has_globals: bool, of_object: Option<Pass>) -> Option<Pass>
-    ensures { result ≡ first_pass has_globals of_object }
+/// Refuses an object with which a pass that doesn't exist yet has something to do.
+fn require_served(object: &Object<'_>) -> Result<(), PrepareError>
+    ensures accepted { OnOk result (unserved object.now ≡ None) }
+    ensures refused { IfErr result (IsNotYetRefusal object.now) }
 {
-    match of_object {
-        Some(Pass::MapNumbers) => Some(Pass::MapNumbers),
-        _ if has_globals => Some(Pass::Globals),
-        _ => of_object,
-    }
-}
-
-/// Refuses settings and an object with which a pass that doesn't exist yet has something to do.
-fn require_served(
-    settings: &Settings<'_>,
-    object: &Object<'_>,
-    text_sections: &BTreeSet<usize>,
-) -> Result<(), PrepareError>
-    ensures accepted { OnOk result (not_yet settings.now object.now text_sections.now.keys ≡ None) }
-    ensures refused { IfErr result (IsNotYetRefusal settings.now object.now text_sections.now.keys) }
-{
-    match first_pass(settings.has_globals(), object.unserved(text_sections)) {
+    match object.unserved() {
         Some(pass) => Err(PrepareError::NotYet { pass }),
         None => Ok(()),
     }
 }
 
-/// The indexes of the sections with functions of an object that is served: each record that a
-/// function keeps names a function, and no pass that doesn't exist yet has something to do.
-fn served_sections(
+/// Refuses an object with a map for which no number is set.
+fn require_numbered(
     alloc: Global,
     settings: &Settings<'_>,
     object: &Object<'_>,
-) -> Result<BTreeSet<usize>, PrepareError>
-    ensures served { IfOk result (λ sections. IsServed settings.now object.now sections.keys) }
+) -> Result<(), PrepareError>
+    ensures accepted { OnOk result (are_numbered settings.now object.now.maps ≡ true) }
+    ensures refused { IfErr result (IsNumberRefusal settings.now object.now) }
+{
+    match unnumbered_map(object.maps(), settings) {
+        Some(name) => Err(PrepareError::MapNumberMissing {
+            name: String::from_str(alloc, name)?,
+        }),
+        None => Ok(()),
+    }
+}
+
+/// Refuses an object on which the passes can't be made.
+fn require_ready(
+    alloc: Global,
+    settings: &Settings<'_>,
+    object: &Object<'_>,
+) -> Result<(), PrepareError>
+    ensures served { OnOk result (IsServed settings.now object.now) }
     ensures refused { IfErr result (IsServedRefusal settings.now object.now) }
 {
     require_named(alloc, object)?;
-    let text_sections = object.text_sections()?;
-    require_served(settings, object, &text_sections)?;
-    Ok(text_sections)
+    require_served(object)?;
+    require_numbered(alloc, settings, object)
 }
 
-/// Rewrites the types of an object to the features that a kernel grants, and links its programs.
-fn rewrite_and_link<F: FnMut(BtfFeature) -> bool>(
+/// Takes an object's maps, with the values of its global variables.
+fn take_patched_maps<'a>(
+    settings: &Settings<'_>,
+    object: &mut Object<'a>,
+) -> Result<Maps<'a>, PrepareError>
+    ensures patched { IfOk result (ArePatchedMaps settings.now object.old) }
+    ensures taken { OnOk result (object.new ≡ without_maps object.old) }
+    ensures refused { IfErr result (IsGlobalsRefusal settings.now object.old) }
+{
+    object.patch_map_data(settings)?;
+    Ok(object.take_maps())
+}
+
+/// Writes the numbers of maps into an object's slots, and links its programs.
+fn write_slots(
+    alloc: Global,
+    settings: &Settings<'_>,
+    maps: &Maps<'_>,
     object: &mut Object<'_>,
     text_sections: &BTreeSet<usize>,
+) -> Result<(), PrepareError>
+    ensures written { OnOk result (AreSlotsWritten settings.now maps.now object.old text_sections.now.keys object.new) }
+    ensures refused { IfErr result (IsSlotsRefusal settings.now maps.now object.old text_sections.now.keys) }
+{
+    let numbered = numbered_maps(alloc, maps, settings)?;
+    object.relocate_maps(&numbered, text_sections)?;
+    object.relocate_calls(text_sections)?;
+    Ok(())
+}
+
+/// Rewrites the types of an object to the features that a kernel grants, and writes its slots.
+fn build<F: FnMut(BtfFeature) -> bool>(
+    alloc: Global,
+    settings: &Settings<'_>,
+    maps: &Maps<'_>,
+    object: &mut Object<'_>,
     predicate: F,
 ) -> Result<Answers, PrepareError>
     requires { F.IsAlwaysCallable predicate }
-    ensures built { IfOk result (λ answers. IsBuilt F.FnMut predicate object.old text_sections.now.keys answers.items object.new) }
-    ensures refused { IfErr result (IsMakingRefusal F.FnMut predicate object.old text_sections.now.keys) }
+    ensures built { IfOk result (λ answers. IsBuilt F.FnMut predicate settings.now maps.now object.old answers.items object.new) }
+    ensures refused { IfErr result (IsBuildingRefusal F.FnMut predicate settings.now maps.now object.old) }
 {
+    let text_sections = object.text_sections()?;
     let answers = object.fixup_and_sanitize_btf(predicate)?;
-    object.relocate_calls(text_sections)?;
+    write_slots(alloc, settings, maps, object, &text_sections)?;
     Ok(answers)
 }
 
-/// Makes of an object what its plan is made of, with the answers about the kernel's features.
-pub(crate) fn make<F: FnMut(BtfFeature) -> bool, P: FnOnce() -> bool>(
+/// What the passes make of an object, beside what becomes of it.
+#[derive(Drop)]
+pub(crate) struct Made<'a> {
+    /// The answers about the kernel's features.
+    pub(crate) answers: Answers,
+    /// The object's maps, with the values of its global variables.
+    pub(crate) maps: Maps<'a>,
+}
+
+/// Makes of an object what its plan is made of.
+pub(crate) fn make<'a, F: FnMut(BtfFeature) -> bool, P: FnOnce() -> bool>(
     alloc: Global,
     settings: &Settings<'_>,
-    object: &mut Object<'_>,
+    object: &mut Object<'a>,
     predicate: F,
     probe: P,
-) -> Result<Answers, PrepareError>
+) -> Result<Made<'a>, PrepareError>
     requires predicate { F.IsAlwaysCallable predicate }
     requires probe { P.pre probe }
-    ensures made { IfOk result (λ answers. IsMadeOf F.FnMut predicate (P.post probe) settings.now object.old answers.items object.new) }
+    ensures made { IfOk result (λ made. IsMade F.FnMut predicate (P.post probe) settings.now object.old made.answers.items made.maps object.new) }
     ensures refused { IfErr result (IsObjectRefusal F.FnMut predicate settings.now object.old) }
 {
     renamed_visits_same();
-    let text_sections = served_sections(alloc, settings, object)?;
-    let answers = rewrite_and_link(object, &text_sections, predicate)?;
+    slots_carry_numbers();
+    others_stay();
+    require_ready(alloc, settings, object)?;
+    let maps = take_patched_maps(settings, object)?;
+    let answers = build(alloc, settings, &maps, object, predicate)?;
     object.sanitize_functions(probe);
-    Ok(answers)
+    Ok(Made { answers, maps })
 }

@@ -11,6 +11,7 @@ use btf_records::BtfFeature;
 use btf_tables::Btf;
 use ebpf_object::{Object, Watched};
 use object_plan::{names_are_carried, plan_of, records_name};
+use plan_maps::plan_maps;
 use plan_text::Plan;
 use settings::Settings;
 use std::alloc::Global;
@@ -39,8 +40,9 @@ fn plan_object<'a, F: FnMut(BtfFeature) -> bool, P: FnOnce() -> bool>(
 {
     records_name();
     names_are_carried();
-    let answers = make(alloc, settings, object, predicate, probe)?;
-    Ok(plan_of(alloc, object, answers)?)
+    let made = make(alloc, settings, object, predicate, probe)?;
+    let maps = plan_maps(alloc, &made.maps, settings)?;
+    Ok(plan_of(alloc, object, made.answers, maps)?)
 }
 
 /// The plan of the object that a file holds.
@@ -60,22 +62,26 @@ fn plan_file<'a, F: FnMut(BtfFeature) -> bool, P: FnOnce() -> bool>(
     plan_object(alloc, settings, &mut object, predicate, probe)
 }
 
-/// The load plan of an object file for one kernel: with its types rewritten to the features that the
-/// kernel grants, and each program linked to the functions that it leads to.
+/// The load plan of an object file for one kernel: its maps under the numbers that `settings` give
+/// them, with the values of its global variables; its types rewritten to the features that the kernel
+/// grants; and its programs, whose slots name the maps by these numbers, each linked to the functions
+/// that it leads to.
 ///
 /// `kernel_types` are the kernel's types, `symbols` its symbols as `/proc/kallsyms` lists them,
 /// `predicate` says whether it takes a feature of types, and `probe` whether it has the newer helpers
 /// that read memory, in place of which older ones are called else. The passes that look at kernel
 /// types, symbols and the order don't exist yet: an object with which they have something to do is
-/// refused.
+/// refused. A number that is set for a map that the object hasn't is ignored.
 ///
 /// # Errors
 ///
 /// The earliest pass that refuses: [`PrepareError::Parse`] where the file isn't an object that can
 /// be parsed, [`PrepareError::FunctionRecordType`] where a record of a function names none,
 /// [`PrepareError::NotYet`] where a pass that doesn't exist yet has something to do,
-/// [`PrepareError::Types`] where the types can't be rewritten, and [`PrepareError::Relocation`]
-/// where a program can't be linked.
+/// [`PrepareError::MapNumberMissing`] where no number is set for a map, [`PrepareError::Parse`] where
+/// a value of a global variable can't be put into the maps, [`PrepareError::Types`] where the types
+/// can't be rewritten, and [`PrepareError::Relocation`] where a slot can't get a map's number or a
+/// program can't be linked.
 pub fn prepare<'a, R: BufRead, F: FnMut(BtfFeature) -> bool, P: FnOnce() -> bool>(
     alloc: Global,
     object: &'a [u8],

@@ -1,4 +1,3 @@
-pub mod Maps
 pub mod Names
 pub mod Records
 pub mod Types

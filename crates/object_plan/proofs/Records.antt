@@ -18,7 +18,7 @@ use Rattle.linker.specs.Unlinked.{Unlinked, table_of}
 use Rattle.object_parts.specs.Content.{FunctionContent, ProgramContent, function_at, key_cmp, with_older_helpers}
 use Rattle.ebpf_object.specs.Helpers.{for_kernel}
 use Rattle.program_kinds.specs.declared.program_section.ProgramSection.{ProgramSection}
-use Rattle.object_plan.specs.Laws.{RecordsName}
+use Rattle.object_plan.specs.Laws.{HaveRecordsOf, RecordsName}
 use Rattle.object_plan.specs.Plans.{AllName, AllNamed, Names, plan_program_of, program_of}
 
 -- each of some records does
@@ -70,23 +70,28 @@ both_named : (types : Option Table) (xs ys : List bpf_func_info) → AreNames ty
 both_named types [] ys hx hy = hy
 both_named types (x ∷ xs) ys hx hy = (hx.0, both_named types xs ys hx.1 hy)
 
-copies_named : (types : Option Table) (u : Unlinked) (own : Key) (ks : List Key) → list_any (λ e. keeps_nameless types e.1) u.functions ≡ false → AreNames types (functions_of u own ks)
-copies_named types u own [] h = moved_named types 0 _ (named_in types u.functions own (function_at u.functions own) h refl)
-copies_named types u own (k ∷ ks) h =
-    both_named types (functions_of u own ks) _ (copies_named types u own ks h) (moved_named types (end_of (table_of u) own ks) _ (named_in types u.functions k (function_at u.functions k) h refl))
+-- those of functions that have the records of others
+under_key : (types : Option Table) (functions : List (Key × FunctionContent)) (u : Unlinked) (key : Key) → list_any (λ e. keeps_nameless types e.1) functions ≡ false → HaveRecordsOf functions u.functions → AreNames types (functions_in (function_at u.functions key))
+under_key types functions u key h same =
+    subst (λ rs. AreNames types rs) (sym (same.at key)) (named_in types functions key (function_at functions key) h refl)
+
+copies_named : (types : Option Table) (functions : List (Key × FunctionContent)) (u : Unlinked) (own : Key) (ks : List Key) → list_any (λ e. keeps_nameless types e.1) functions ≡ false → HaveRecordsOf functions u.functions → AreNames types (functions_of u own ks)
+copies_named types functions u own [] h same = moved_named types 0 _ (under_key types functions u own h same)
+copies_named types functions u own (k ∷ ks) h same =
+    both_named types (functions_of u own ks) _ (copies_named types functions u own ks h same) (moved_named types (end_of (table_of u) own ks) _ (under_key types functions u k h same))
 
 -- those of any function behind the linking
-linked_named : (types : Option Table) (u : Unlinked) (new : List (Key × FunctionContent)) (key : Key) → list_any (λ e. keeps_nameless types e.1) u.functions ≡ false → IsLinkedIn u new key → AreNames types (functions_in (function_at new key))
-linked_named types u new key h linked =
+linked_named : (types : Option Table) (functions : List (Key × FunctionContent)) (u : Unlinked) (new : List (Key × FunctionContent)) (key : Key) → list_any (λ e. keeps_nameless types e.1) functions ≡ false → HaveRecordsOf functions u.functions → IsLinkedIn u new key → AreNames types (functions_in (function_at new key))
+linked_named types functions u new key h same linked =
     let is_there = linked.1.0 in
     let one = linked.1.1 in
     subst (λ o. AreNames types (functions_in o)) (sym is_there)
-    (subst (λ rs. AreNames types rs) (sym (ap (λ g. g.func_info) one.content)) (copies_named types u key one.keys h))
+    (subst (λ rs. AreNames types rs) (sym (ap (λ g. g.func_info) one.content)) (copies_named types functions u key one.keys h same))
 
-after_named : (types : Option Table) (u : Unlinked) (keys : List Key) (new : List (Key × FunctionContent)) (key : Key) (b : Bool) → has keys key ≡ b → list_any (λ e. keeps_nameless types e.1) u.functions ≡ false → AreLinked u keys new → AreNames types (functions_in (function_at new key))
-after_named types u keys new key true e h linked = linked_named types u new key h (linked.programs key e)
-after_named types u keys new key false e h linked =
-    subst (λ o. AreNames types (functions_in o)) (sym (linked.others key e)) (named_in types u.functions key (function_at u.functions key) h refl)
+after_named : (types : Option Table) (functions : List (Key × FunctionContent)) (u : Unlinked) (keys : List Key) (new : List (Key × FunctionContent)) (key : Key) (b : Bool) → has keys key ≡ b → list_any (λ e. keeps_nameless types e.1) functions ≡ false → HaveRecordsOf functions u.functions → AreLinked u keys new → AreNames types (functions_in (function_at new key))
+after_named types functions u keys new key true e h same linked = linked_named types functions u new key h same (linked.programs key e)
+after_named types functions u keys new key false e h same linked =
+    subst (λ o. AreNames types (functions_in o)) (sym (linked.others key e)) (under_key types functions u key h same)
 
 -- records that name functions of the object's table name those of the plan's
 each_names : (types : Option Table) (bytes : Option (List ℕ)) (rs : List bpf_func_info) → ((id : ℕ) → names_function types id ≡ true → Names types bytes id) → AreNames types rs → AllName types bytes rs
@@ -112,13 +117,13 @@ for_kernel_named types false new key h =
     subst (λ rs. AreNames types rs)
     (sym (ap functions_in (lookup-map_values with_older_helpers (is_at (key_cmp key)) new) ∙ renamed_functions (function_at new key))) h
 
-programs_name : (types : Option Table) (bytes : Option (List ℕ)) (answers : Answers) (has_types has_helpers : Bool) (u : Unlinked) (keys : List Key) (new : List (Key × FunctionContent)) (programs : List (List ℕ × ProgramContent)) → all_named types u.functions ≡ true → AreLinked u keys new → (is_denied answers ≡ false → (id : ℕ) → names_function types id ≡ true → Names types bytes id) → AllNamed types bytes (map (plan_program_of answers has_types (for_kernel has_helpers new)) programs)
-programs_name types bytes answers has_types has_helpers u keys new [] h linked carry = tt
-programs_name types bytes answers has_types has_helpers u keys new (e ∷ es) h linked carry =
+programs_name : (types : Option Table) (bytes : Option (List ℕ)) (answers : Answers) (has_types has_helpers : Bool) (functions : List (Key × FunctionContent)) (u : Unlinked) (keys : List Key) (new : List (Key × FunctionContent)) (programs : List (List ℕ × ProgramContent)) → all_named types functions ≡ true → HaveRecordsOf functions u.functions → AreLinked u keys new → (is_denied answers ≡ false → (id : ℕ) → names_function types id ≡ true → Names types bytes id) → AllNamed types bytes (map (plan_program_of answers has_types (for_kernel has_helpers new)) programs)
+programs_name types bytes answers has_types has_helpers functions u keys new [] h same linked carry = tt
+programs_name types bytes answers has_types has_helpers functions u keys new (e ∷ es) h same linked carry =
     let key : Key = (e.1.section_index, e.1.address) in (
       program_names types bytes answers has_types e.0 e.1.section (function_at (for_kernel has_helpers new) key) carry
-          (for_kernel_named types has_helpers new key (after_named types u keys new key (has keys key) refl (not_true _ h) linked)),
-      programs_name types bytes answers has_types has_helpers u keys new es h linked carry,
+          (for_kernel_named types has_helpers new key (after_named types functions u keys new key (has keys key) refl (not_true _ h) same linked)),
+      programs_name types bytes answers has_types has_helpers functions u keys new es h same linked carry,
     )
 
 pub records_name : RecordsName

@@ -1,4 +1,4 @@
--- The plan of an object without maps, under answers about the features of a kernel.
+-- The plan of an object, with its maps, under answers about the features of a kernel.
 use Rattle.std.specs.Prelude.{◌==◌, ◌||◌, not, ℕ, length, List, [], ◌∷◌, map, Option, Some, None, is_some, Bool, if◌then◌else◌}
 use Rattle.btf_extension.specs.declared.record.bpf_func_info.{bpf_func_info}
 use Rattle.btf_extension.specs.declared.record.bpf_line_info.{bpf_line_info}
@@ -38,14 +38,14 @@ program_of answers has_types name section (Some f) =
 abbrev pub plan_program_of : Answers → Bool → List ((ℕ × ℕ) × FunctionContent) → List ℕ × ProgramContent → plan.ProgramContent
 plan_program_of answers has_types functions e = program_of answers has_types e.0 e.1.section (function_at functions (e.1.section_index, e.1.address))
 
--- the plan of an object without maps, under these answers
-abbrev pub plan_of : Answers → ObjectContent → PlanContent
-plan_of answers o = record {
+-- the plan of an object, under these answers, with maps of the plan
+abbrev pub plan_of : Answers → List plan.MapContent → ObjectContent → PlanContent
+plan_of answers maps o = record {
   license = license_of o.file;
   version = version_of o.file;
   features = answers;
   type_bytes = type_bytes o.types;
-  maps = [];
+  maps = maps;
   programs = map (plan_program_of answers (is_some (type_bytes o.types)) o.functions) o.programs;
 }
 

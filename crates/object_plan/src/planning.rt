@@ -1,10 +1,11 @@
 //! From an object to its plan.
 
 ghost use Rattle.std.specs.Prelude.{◌≡◌, map, IfOk};
+ghost use Rattle.std.specs.List.{All};
 ghost use Rattle.std.specs.Option.{option_copied, option_map};
 ghost use Rattle.btf_sanitizing.specs.Answers.{AreDistinct, features};
 ghost use Rattle.object_plan.specs.Plans.{HoldsTypeBytes, func_records_of, line_records_of, plan_of, plan_program_of, program_of, type_bytes};
-ghost use Rattle.plan_text.specs.Content.{AreRising, AreTypeBytes, program_names};
+ghost use Rattle.plan_text.specs.Content.{AreRising, AreTypeBytes, IsSoundMap, map_names, program_names};
 
 use btf_extension::{FuncSecInfo, LineSecInfo};
 use btf_sanitizing::Answers;
@@ -12,7 +13,7 @@ use btf_tables::Btf;
 use ebpf_items::{ProgramSection, Slots};
 use ebpf_object::{Function, Object};
 use function_types::is_denied;
-use plan_text::{Plan, PlanParts, PlanProgram};
+use plan_text::{Plan, PlanMap, PlanParts, PlanProgram};
 use std::alloc::{AllocError, Global};
 
 /// The section as which an object's types are written: none where it has no type.
@@ -98,14 +99,18 @@ fn plan_programs<'a>(
     Ok(programs)
 }
 
-/// The plan of an object without maps, under these answers about a kernel's features.
+/// The plan of an object with these maps, names rising by bytes, under these answers about a kernel's
+/// features. Maps of the object itself aren't looked at.
 pub fn plan_of<'a>(
     alloc: Global,
     object: &Object<'a>,
     answers: Answers,
+    maps: Vec<PlanMap<'a>>,
 ) -> Result<Plan<'a>, AllocError>
-    requires { AreDistinct (features answers.items) }
-    ensures value { IfOk result (λ p. p ≡ plan_of answers.items object.now) }
+    requires answers { AreDistinct (features answers.items) }
+    requires maps { All IsSoundMap maps.items }
+    requires rising { AreRising (map_names maps.items) }
+    ensures value { IfOk result (λ p. p ≡ plan_of answers.items maps.entry.items object.now) }
     ensures holds { IfOk result (λ p. HoldsTypeBytes object.now.types p.type_bytes) }
 {
     let type_bytes = type_bytes(object.btf())?;
@@ -115,7 +120,7 @@ pub fn plan_of<'a>(
         version: object.kernel_version(),
         features: answers,
         type_bytes,
-        maps: Vec::new(alloc),
+        maps,
         programs,
     }))
 }

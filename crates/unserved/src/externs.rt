@@ -5,7 +5,7 @@ ghost use Rattle.std.specs.List.{list_any};
 ghost use Rattle.object_file.specs.Relocations.{relocations_by_offset};
 ghost use Rattle.unserved.specs.Relocations.{asks_for_extern, has_extern_relocation, is_by_extern, needs_extern};
 
-use crate::function::{end_of, is_inside, symbol_by};
+use crate::function::{end_of, is_at_slot, symbol_by};
 use elf64::RelocView;
 use object_externs::is_extern_symbol;
 use object_file::ObjectFile;
@@ -21,7 +21,7 @@ fn is_by_extern(file: &ObjectFile<'_>, relocation: &RelocView) -> bool
     }
 }
 
-/// Whether a relocation at an offset lies inside a function and is by the symbol of an extern.
+/// Whether a relocation at an offset stands at a slot of a function and is by the symbol of an extern.
 fn asks_for_extern(
     file: &ObjectFile<'_>,
     function: &Function<'_>,
@@ -30,10 +30,10 @@ fn asks_for_extern(
 ) -> bool
     ensures { result ≡ asks_for_extern file.now function.now (offset, relocation.now) }
 {
-    is_inside(function, offset) && is_by_extern(file, relocation)
+    is_at_slot(function, offset) && is_by_extern(file, relocation)
 }
 
-/// Whether a relocation inside a function is by the symbol of an extern.
+/// Whether a relocation at a slot of a function is by the symbol of an extern.
 fn needs_extern(file: &ObjectFile<'_>, function: &Function<'_>) -> bool
     ensures { result ≡ needs_extern file.now function.now }
 {
@@ -48,8 +48,7 @@ fn needs_extern(file: &ObjectFile<'_>, function: &Function<'_>) -> bool
         .any(|(at, r)| asks_for_extern(file, function, *at, r))
 }
 
-/// Whether some relocation inside a function is by the symbol of an extern, at a whole slot or not.
-/// Takes no memory.
+/// Whether some relocation at a slot of a function is by the symbol of an extern. Takes no memory.
 pub fn has_extern_relocation(file: &ObjectFile<'_>, functions: &Functions<'_>) -> bool
     ensures { result ≡ has_extern_relocation file.now functions.now }
 {

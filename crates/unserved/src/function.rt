@@ -1,10 +1,9 @@
-//! The relocations inside a function, and its slots.
+//! The relocations inside a function.
 
-ghost use Rattle.std.specs.Prelude.{◌≡◌, ◌+◌, ◌*◌, ◌≤◌, length};
+ghost use Rattle.std.specs.Prelude.{◌≡◌, ◌≤◌};
 ghost use Rattle.std.specs.Option.{option_copied};
-ghost use Rattle.unserved.specs.Relocations.{end_of, is_inside, slot_at, symbol_by};
+ghost use Rattle.unserved.specs.Relocations.{end_of, is_at_slot, symbol_by};
 
-use ebpf_items::bpf_insn;
 use elf64::{RelocView, SymbolView};
 use object_file::ObjectFile;
 use object_parts::Function;
@@ -20,23 +19,12 @@ pub(crate) fn end_of(function: &Function<'_>) -> u128
     function.section_offset as u128 + SLOT_SIZE as u128 * function.instructions.len() as u128
 }
 
-/// Whether an offset of its section lies inside a function.
-pub(crate) fn is_inside(function: &Function<'_>, offset: u64) -> bool
-    ensures { result ≡ is_inside function.now offset }
+/// Whether a slot of a function begins at an offset of its section.
+pub(crate) fn is_at_slot(function: &Function<'_>, offset: u64) -> bool
+    ensures { result ≡ is_at_slot function.now offset }
 {
-    function.section_offset as u64 <= offset && (offset as u128) < end_of(function)
-}
-
-/// The slot of a function that begins at an offset of its section, no less than the function's.
-pub(crate) fn slot_at(function: &Function<'_>, offset: u64) -> Option<bpf_insn>
-    requires { function.now.section_offset ≤ offset }
-    ensures { result ≡ slot_at function.now offset }
-{
-    let distance = offset - function.section_offset as u64;
-    if distance % SLOT_SIZE != 0 {
-        return None;
-    }
-    function.instructions.get((distance / SLOT_SIZE) as usize)
+    let start = function.section_offset as u64;
+    start <= offset && (offset as u128) < end_of(function) && (offset - start) % SLOT_SIZE == 0
 }
 
 /// The symbol that a relocation is by, where it is known.

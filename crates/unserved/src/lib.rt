@@ -3,11 +3,9 @@
 
 mod externs;
 mod function;
-mod maps;
 mod pass;
 
 pub use externs::has_extern_relocation;
-pub use maps::has_map_relocation;
 pub use pass::Pass;
 
 #[cfg(test)]

@@ -1,13 +1,12 @@
 //! Relocations inside a function.
 
-use crate::{has_extern_relocation, has_map_relocation};
+use crate::has_extern_relocation;
 use btf_extension::{FuncSecInfo, LineSecInfo};
 use ebpf_items::Slots;
 use object_file::ObjectFile;
 use object_parts::{Function, Functions};
 use sample_objects::with_bytes;
 use std::alloc::Global;
-use std::collections::BTreeSet;
 
 /// An object with a section `kprobe` (index 2), whose function takes four slots: a wide load, a
 /// call of a function and an exit. Its one relocation (at 104: eight bytes of offset, four of type, four of
@@ -61,32 +60,28 @@ const SLOTS: &[u8] = &[
 /// The last eight of the offsets of 64 bits begin here.
 const LAST_SLOT: u64 = 0xffff_ffff_ffff_fff8;
 
-/// Where a function begins, the offset and the symbol of a relocation, and whether it asks for a map
-/// and for an extern.
-type Case = (u64, u64, u8, (bool, bool));
+/// Where a function begins, the offset and the symbol of a relocation, and whether it asks for an
+/// extern.
+type Case = (u64, u64, u8, bool);
 
-const CASES: [Case; 15] = [
-    // A variable, at each slot but the call.
-    (0, 0, 3, (true, false)),
-    (0, 16, 3, (false, false)),
-    (0, 24, 3, (true, false)),
-    // Behind the function, and before it.
-    (0, 32, 3, (false, false)),
-    (8, 0, 3, (false, false)),
-    (8, 32, 3, (true, false)),
-    // A function, at a whole slot and at none.
-    (0, 0, 2, (false, false)),
-    (0, 4, 2, (true, false)),
-    (4, 4, 2, (false, false)),
-    // An extern, at a whole slot and at none.
-    (0, 0, 4, (false, true)),
-    (0, 4, 4, (true, true)),
+const CASES: [Case; 12] = [
+    // A variable, and a function.
+    (0, 0, 3, false),
+    (0, 0, 2, false),
+    // An extern at the first slot and at the last, before the function and behind it.
+    (0, 0, 4, true),
+    (0, 24, 4, true),
+    (8, 0, 4, false),
+    (0, 32, 4, false),
+    // At no slot, and at one of a function that begins at none of its section's.
+    (0, 4, 4, false),
+    (4, 12, 4, true),
     // A symbol that the object hasn't.
-    (0, 0, 9, (true, false)),
+    (0, 0, 9, false),
     // Functions that reach past the offsets.
-    (LAST_SLOT, LAST_SLOT, 3, (true, false)),
-    (LAST_SLOT, LAST_SLOT + 7, 4, (true, true)),
-    (LAST_SLOT, 0, 3, (false, false)),
+    (LAST_SLOT, LAST_SLOT, 4, true),
+    (LAST_SLOT, LAST_SLOT + 7, 4, false),
+    (LAST_SLOT, 0, 4, false),
 ];
 
 /// A function of section 2 with these slots.
@@ -107,8 +102,8 @@ fn functions<'a>(alloc: Global, section_offset: usize, slots: &'a [u8]) -> Optio
     Some(functions)
 }
 
-/// Whether a relocation asks for a map, and whether for an extern.
-fn asks(alloc: Global, case: &Case) -> Option<(bool, bool)> {
+/// Whether a relocation asks for an extern.
+fn asks(alloc: Global, case: &Case) -> Option<bool> {
     let (start, offset, symbol, _) = *case;
     let object = with_bytes(
         &OBJECT,
@@ -119,13 +114,7 @@ fn asks(alloc: Global, case: &Case) -> Option<(bool, bool)> {
     );
     let file = ObjectFile::parse(alloc, &object).ok()?;
     let functions = functions(alloc, start as usize, SLOTS)?;
-    let mut text_sections = BTreeSet::new(alloc);
-    text_sections.insert(2).ok()?;
-    text_sections.insert(4).ok()?;
-    Some((
-        has_map_relocation(&file, &functions, &text_sections),
-        has_extern_relocation(&file, &functions),
-    ))
+    Some(has_extern_relocation(&file, &functions))
 }
 
 #[test]

@@ -1,0 +1,101 @@
+//! The words that the program is called with.
+
+ghost use Rattle.std.specs.Prelude.{◌<◌, ◌^◌, IfSome};
+
+use crate::error::ProgramError;
+use hex::FromHexError;
+use load_plan::Settings;
+use std::alloc::Global;
+
+/// A global variable's name and bytes.
+#[derive(Drop)]
+struct GlobalWord<'w> {
+    name: &'w str,
+    bytes: Vec<u8>,
+}
+
+/// What the words ask for.
+#[derive(Drop)]
+pub struct Words<'w> {
+    /// The object's file name.
+    pub object: &'w str,
+    /// Whether the kernel has the newer helpers that read memory.
+    pub has_newer_helpers: bool,
+    maps: Vec<&'w str>,
+    globals: Vec<GlobalWord<'w>>,
+}
+
+/// The name and the number of a map from `NAME=NUMBER`, a number in decimal digits below 2^31.
+fn map_number(word: &str) -> Option<(&str, u32)>
+    ensures { IfSome result (λ map. map.1 < 2 ^ 31) }
+{
+    let (name, number) = word.rsplit_once('=')?;
+    let number: u32 = number.parse().ok()?;
+    if number > i32::MAX as u32 {
+        return None;
+    }
+    Some((name, number))
+}
+
+/// The name and the bytes of a global variable from `NAME=HEX`.
+fn global_value(alloc: Global, word: &str) -> Result<GlobalWord<'_>, ProgramError> {
+    let Some((name, digits)) = word.rsplit_once('=') else {
+        return Err(ProgramError::Usage);
+    };
+    match hex::decode(alloc, digits.as_bytes()) {
+        Ok(bytes) => Ok(GlobalWord { name, bytes }),
+        Err(FromHexError::OutOfMemory) => Err(ProgramError::OutOfMemory),
+        Err(_) => Err(ProgramError::Usage),
+    }
+}
+
+impl<'w> Words<'w> {
+    /// Reads the words behind the program's name: the object's file name once, and options.
+    ///
+    /// # Errors
+    ///
+    /// `Usage` where they are others, and `OutOfMemory`. Whether the number of a map is one is
+    /// looked at by [`Words::settings`].
+    pub fn read(alloc: Global, words: &'w [String]) -> Result<Words<'w>, ProgramError> {
+        let mut object = None;
+        let mut has_newer_helpers = true;
+        let mut maps = Vec::new(alloc);
+        let mut globals = Vec::new(alloc);
+        let mut rest = words.iter();
+        while let Some(word) = rest.next() {
+            match word.as_str() {
+                "--map" => maps.push(rest.next().ok_or(ProgramError::Usage)?.as_str())?,
+                "--global" => {
+                    let value = rest.next().ok_or(ProgramError::Usage)?;
+                    globals.push(global_value(alloc, value)?)?;
+                }
+                "--older-helpers" => has_newer_helpers = false,
+                name if object.is_none() && !name.starts_with("--") => object = Some(name),
+                _ => return Err(ProgramError::Usage),
+            }
+        }
+        Ok(Words {
+            object: object.ok_or(ProgramError::Usage)?,
+            has_newer_helpers,
+            maps,
+            globals,
+        })
+    }
+
+    /// The numbers of maps and the values of global variables.
+    ///
+    /// # Errors
+    ///
+    /// `Usage` where the number of a map isn't one, and `OutOfMemory`.
+    pub fn settings(&self, alloc: Global) -> Result<Settings<'_>, ProgramError> {
+        let mut settings = Settings::new(alloc);
+        for word in &self.maps {
+            let (name, number) = map_number(word).ok_or(ProgramError::Usage)?;
+            settings.set_map(name, number)?;
+        }
+        for global in &self.globals {
+            settings.set_global(global.name, &global.bytes, true)?;
+        }
+        Ok(settings)
+    }
+}

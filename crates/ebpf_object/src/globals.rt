@@ -1,0 +1,27 @@
+//! Values of global variables.
+
+ghost use Rattle.std.specs.Prelude.{◌≡◌, ◌≢◌, None, IfErr, OnErr, OnOk};
+ghost use Rattle.ebpf_items.specs.declared.error.ParseError.TheVariants.{OutOfMemory};
+ghost use Rattle.global_data.specs.GlobalData.{Says, first_fault, patched};
+
+use crate::object::Object;
+use ebpf_items::ParseError;
+use global_data::patch_map_data;
+use settings::Settings;
+
+impl<'a> Object<'a> {
+    /// Puts the values of global variables into the maps: [`patch_map_data`].
+    ///
+    /// # Errors
+    ///
+    /// Those of [`patch_map_data`]; the object is as before then.
+    pub fn patch_map_data(&mut self, settings: &Settings<'_>) -> Result<(), ParseError>
+        ensures patched { OnOk result (self.new.maps ≡ patched self.old.file self.old.maps settings.now.globals) }
+        ensures sound { OnOk result (first_fault self.old.file self.old.maps settings.now.globals ≡ None) }
+        ensures others { self.new ≡ record self.old { maps = self.new.maps } }
+        ensures fault { IfErr result (λ e. e ≢ OutOfMemory → Says (first_fault self.old.file self.old.maps settings.now.globals) e) }
+        ensures unchanged { OnErr result (self.new ≡ self.old) }
+    {
+        patch_map_data(self.alloc, &self.file, &mut self.maps, settings)
+    }
+}
