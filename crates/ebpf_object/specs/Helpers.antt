@@ -7,7 +7,7 @@ abbrev pub for_kernel : Bool → List ((ℕ × ℕ) × FunctionContent) → List
 for_kernel true functions = functions
 for_kernel false functions = map (λ e. (e.0, with_older_helpers e.1)) functions
 
--- the functions are for a kernel of which an answer tells
+-- the functions are for a kernel of which an answer that was given tells
 pub record IsAnswered (Says : Bool → Type 0) (old new : List ((ℕ × ℕ) × FunctionContent)) : Type 0 where
   pub answer : Bool
   pub said : Says answer
@@ -17,6 +17,6 @@ abbrev pub IsSanitizedIf : Bool → (Bool → Type 0) → List ((ℕ × ℕ) × 
 IsSanitizedIf false Says old new = new ≡ old
 IsSanitizedIf true Says old new = IsAnswered Says old new
 
--- the question is asked where a slot calls a newer helper
+-- the question is asked where, and only where, a slot calls a newer helper
 abbrev pub IsSanitized : (Bool → Type 0) → List ((ℕ × ℕ) × FunctionContent) → List ((ℕ × ℕ) × FunctionContent) → Type 0
 IsSanitized Says old new = IsSanitizedIf (has_newer_helper old) Says old new

@@ -1,9 +1,10 @@
 //! What passes write into the slots of an object's functions.
 
-ghost use Rattle.std.specs.Prelude.{◌≡◌, ◌≢◌, IfErr, OnErr, OnOk};
+ghost use Rattle.std.specs.Prelude.{◌≡◌, ◌≢◌, true, IfErr, OnErr, OnOk};
 ghost use Rattle.std.specs.Option.{option_map};
 ghost use Rattle.std.specs.String.{string_bytes};
 ghost use Rattle.ebpf_object.specs.Helpers.{IsSanitized};
+ghost use Rattle.object_parts.specs.Content.{has_newer_helper};
 ghost use Rattle.relocation_errors.specs.declared.error.RelocationError.TheVariants as RelocationError;
 ghost use Rattle.slot_relocation.specs.Maps.{given, map_rule};
 ghost use Rattle.slot_relocation.specs.Writes.{AreRelocated, CanBeRelocated, HasErrorIn};
@@ -46,7 +47,7 @@ impl<'a> Object<'a> {
     /// slot calls one. Takes no memory.
     #[tactic(auto, using(crate::proofs::Linked::functions_stay_renamed))]
     pub fn sanitize_functions<P: FnOnce() -> bool>(&mut self, probe: P)
-        requires { P.pre probe }
+        requires { has_newer_helper self.old.functions ≡ true → P.pre probe }
         ensures sanitized { IsSanitized (P.post probe) self.old.functions self.new.functions }
         ensures others { self.new ≡ record self.old { functions = self.new.functions } }
     {

@@ -18,10 +18,10 @@ use Rattle.linker.specs.Linked.{IsLinkedIn, program_keys, unlinked}
 use Rattle.linker.specs.Unlinked.{Unlinked, table_of}
 use Rattle.object_parts.specs.Content.{FunctionContent, function_at, has_newer_helper, key_cmp, with_older_helpers}
 use Rattle.settings.specs.Content.{SettingsContent}
-use Rattle.slot_relocation.specs.Laws.{OthersStay, SlotsCarryNumbers}
-use Rattle.slot_relocation.specs.Maps.{MapsGiven, map_rule}
-use Rattle.slot_relocation.specs.Writes.{AreRelocated, relocated}
-use Rattle.load_plan.specs.Made.{ArePatchedMaps, AreWithNumbers, IsBuilt, IsLinkedObject, IsMade, IsRun, IsServed, maps_given, source_for, without_maps}
+use Rattle.slot_relocation.specs.Laws.{HaveNumbers, NumbersAreWritten}
+use Rattle.slot_relocation.specs.Maps.{map_rule}
+use Rattle.slot_relocation.specs.Writes.{AreRelocated}
+use Rattle.load_plan.specs.Made.{ArePatchedMaps, IsBuilt, IsLinkedObject, IsMade, IsRun, IsServed, maps_given, source_for, without_maps}
 
 abbrev Keyed : Type 0
 Keyed = List (Key × FunctionContent)
@@ -49,19 +49,11 @@ run_of law u false old new own is one =
       };
     }
 
--- relocated functions have numbers in their slots
-with_numbers : SlotsCarryNumbers → OthersStay → (g : MapsGiven) (old new : Keyed) → AreRelocated (map_rule g) g.file old new → AreWithNumbers g old new
-with_numbers carry stay g old new are key f at = (
-    relocated (map_rule g) g.file f,
-    are.at key ∙ ap (option_map (relocated (map_rule g) g.file)) at,
-    record { numbers = carry.each g f; others = stay.each g f },
-)
-
 -- what holds of a rewritten object's functions holds of the object's
-numbers_of : SlotsCarryNumbers → OthersStay → (settings : SettingsContent) (maps : List (List ℕ × MapView)) (object rewritten : ObjectContent) (text_sections : List ℕ) (new : Keyed) → rewritten ≡ record object { types = rewritten.types } → AreRelocated (map_rule (maps_given settings maps rewritten text_sections)) rewritten.file rewritten.functions new → AreWithNumbers (maps_given settings maps object text_sections) object.functions new
-numbers_of carry stay settings maps object rewritten text_sections new others are =
-    subst (λ (o : ObjectContent). AreWithNumbers (maps_given settings maps o text_sections) o.functions new) others
-    (with_numbers carry stay (maps_given settings maps rewritten text_sections) rewritten.functions new are)
+numbers_of : NumbersAreWritten → (settings : SettingsContent) (maps : List (List ℕ × MapView)) (object rewritten : ObjectContent) (text_sections : List ℕ) (new : Keyed) → rewritten ≡ record object { types = rewritten.types } → AreRelocated (map_rule (maps_given settings maps rewritten text_sections)) rewritten.file rewritten.functions new → HaveNumbers (maps_given settings maps object text_sections) object.functions new
+numbers_of law settings maps object rewritten text_sections new others are =
+    subst (λ (o : ObjectContent). HaveNumbers (maps_given settings maps o text_sections) o.functions new) others
+    (law.each (maps_given settings maps rewritten text_sections) rewritten.functions new are)
 
 -- the programs of an object with this file, and with these programs, run as these functions do
 abbrev AreRun : ObjectContent → (List ℕ → Table) → Keyed → Type 0
@@ -79,8 +71,8 @@ programs_of law predicate before settings maps object answers linked built h fun
     (subst (λ (o : ObjectContent). AreRun o run functions) slots.numbers.others
     (linked_run law built.text_sections h slots.relocated linked functions is slots.calls))
 
-pub made_of : RenamedVisitsSame → SlotsCarryNumbers → OthersStay → {F : Type 0} (predicate : Mut F (BtfFeature × Unit {0}) Bool) (before : F) (Says : Bool → Type 0) (settings : SettingsContent) (object : ObjectContent) (answers : Answers) (maps : List (List ℕ × MapView)) (linked made : ObjectContent) → IsServed settings object → ArePatchedMaps settings object maps → IsBuilt predicate before settings maps (without_maps object) answers linked → IsSanitized Says linked.functions made.functions → made ≡ record linked { functions = made.functions } → IsMade predicate before Says settings object answers maps made
-made_of law carry stay predicate before Says settings object answers maps linked made served patched built sanitized others =
+pub made_of : RenamedVisitsSame → NumbersAreWritten → {F : Type 0} (predicate : Mut F (BtfFeature × Unit {0}) Bool) (before : F) (Says : Bool → Type 0) (settings : SettingsContent) (object : ObjectContent) (answers : Answers) (maps : List (List ℕ × MapView)) (linked made : ObjectContent) → IsServed settings object → ArePatchedMaps settings object maps → IsBuilt predicate before settings maps (without_maps object) answers linked → IsSanitized Says linked.functions made.functions → made ≡ record linked { functions = made.functions } → IsMade predicate before Says settings object answers maps made
+made_of law written predicate before Says settings object answers maps linked made served patched built sanitized others =
     let kernel = kernel_of Says (has_newer_helper linked.functions) linked.functions made.functions sanitized in
     record {
       served = served;
@@ -91,6 +83,6 @@ made_of law carry stay predicate before Says settings object answers maps linked
       others = others;
       has_helpers = kernel.0;
       helpers = kernel.1;
-      numbers = numbers_of carry stay settings maps (without_maps object) built.rewritten built.text_sections built.slots.relocated.functions built.types.others built.slots.numbers.functions;
+      numbers = numbers_of written settings maps (without_maps object) built.rewritten built.text_sections built.slots.relocated.functions built.types.others built.slots.numbers.functions;
       programs = programs_of law predicate before settings maps (without_maps object) answers linked built kernel.0 made.functions kernel.1;
     }

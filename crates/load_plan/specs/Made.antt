@@ -1,5 +1,5 @@
 -- What the passes make of an object.
-use Rattle.std.specs.Prelude.{◌≡◌, ℕ, List, [], map, slice_get, Option, None, Some, Bool, true, false}
+use Rattle.std.specs.Prelude.{◌≡◌, ℕ, List, [], map, None, Some, Bool, true, false}
 use Rattle.std.specs.Fn.{Mut}
 use Rattle.btf_records.specs.declared.feature.BtfFeature.{BtfFeature}
 use Rattle.btf_sanitizing.specs.Answers.{Answers}
@@ -10,7 +10,6 @@ use Rattle.ebpf_object.specs.Helpers.{IsSanitized, for_kernel}
 use Rattle.ebpf_object.specs.ParsedObject.{ObjectContent}
 use Rattle.ebpf_object.specs.Rewriting.{IsRewritten}
 use Rattle.ebpf_object.specs.Unserved.{unserved}
-use Rattle.elf64.specs.Relocations.{Relocation}
 use Rattle.function_layout.specs.Layout.{IsLayout, Key, Table, has}
 use Rattle.function_layout.specs.Machines.{VisitsSame}
 use Rattle.function_layout.specs.Renamed.{renamed_table}
@@ -21,10 +20,9 @@ use Rattle.linker.specs.Unlinked.{table_of}
 use Rattle.object_parts.specs.Content.{FunctionContent, function_at}
 use Rattle.plan_maps.specs.Numbers.{are_numbered, numbered}
 use Rattle.settings.specs.Content.{SettingsContent}
-use Rattle.slot_relocation.specs.Laws.{CarriesNumber, Writes, WritesAt, place_in}
+use Rattle.slot_relocation.specs.Laws.{HaveNumbers}
 use Rattle.slot_relocation.specs.Maps.{MapsGiven, given, map_rule}
 use Rattle.slot_relocation.specs.Writes.{AreRelocated, CanBeRelocated}
-use Rattle.slot_relocation.specs.declared.outcome.Write.{Write}
 
 -- An object that is served so far: each record that a function keeps names a function, no pass that doesn't exist yet has something
 -- to do with it, and each of its maps has a number.
@@ -50,14 +48,6 @@ pub record IsRewrittenObject {F : Type 0} (predicate : Mut F (BtfFeature × Unit
 -- what a loader gives the relocations for an object's maps
 abbrev pub maps_given : SettingsContent → List (List ℕ × MapView) → ObjectContent → List ℕ → MapsGiven
 maps_given settings maps object text_sections = given object.file text_sections (map (numbered settings) maps)
-
--- In a function's slots, that at which a relocation writes carries the number of its map, and one at which none writes is as before.
-pub record HasNumbers (g : MapsGiven) (old new : FunctionContent) : Type 0 where
-  pub numbers : (r : ℕ × Relocation) (w : Write) → Writes g old r w → (s : bpf_insn) × (slice_get new.instructions (place_in old r) ≡ Some s) × CarriesNumber g r.1 s
-  pub others : (place : ℕ) → (WritesAt g old place → ⊥) → slice_get new.instructions place ≡ slice_get old.instructions place
-
-abbrev pub AreWithNumbers : MapsGiven → List (Key × FunctionContent) → List (Key × FunctionContent) → Type 0
-AreWithNumbers g old new = (key : Key) (f : FunctionContent) → function_at old key ≡ Some f → (h : FunctionContent) × (function_at new key ≡ Some h) × HasNumbers g f h
 
 -- the object with the numbers of these maps in its slots
 pub record IsRelocatedObject (g : MapsGiven) (object relocated : ObjectContent) : Type 0 where
@@ -103,8 +93,8 @@ pub record IsRun (t : Table) (functions : List (Key × FunctionContent)) (own : 
   pub runs : RunsAs t own function.instructions
 
 -- What the passes make of an object that is served: the maps with values, and the object built, and with older helpers where the
--- probe says that the kernel lacks the newer ones. Each program runs as its functions do, in which a slot at which a relocation for
--- a map writes carries that map's number.
+-- probe says that the kernel lacks the newer ones. Each program runs as its functions do, in which the slots at which relocations for
+-- maps stand carry these maps' numbers.
 pub record IsMade {F : Type 0} (predicate : Mut F (BtfFeature × Unit {0}) Bool) (before : F) (Says : Bool → Type 0) (settings : SettingsContent) (object : ObjectContent) (answers : Answers) (maps : List (List ℕ × MapView)) (made : ObjectContent) : Type 0 where
   pub served : IsServed settings object
   pub patched : ArePatchedMaps settings object maps
@@ -114,5 +104,5 @@ pub record IsMade {F : Type 0} (predicate : Mut F (BtfFeature × Unit {0}) Bool)
   pub others : made ≡ record linked { functions = made.functions }
   pub has_helpers : Bool
   pub helpers : made.functions ≡ for_kernel has_helpers linked.functions
-  pub numbers : AreWithNumbers (maps_given settings maps object built.text_sections) object.functions built.slots.relocated.functions
+  pub numbers : HaveNumbers (maps_given settings maps object built.text_sections) object.functions built.slots.relocated.functions
   pub programs : (key : Key) → has (program_keys object.programs) key ≡ true → IsRun (source_for has_helpers (table_of (unlinked object.file built.text_sections built.slots.relocated.functions))) made.functions key

@@ -15,7 +15,7 @@ use function_types::nameless_record;
 use plan_maps::{numbered_maps, unnumbered_map};
 use plan_text::Answers;
 use settings::Settings;
-use slot_relocation::{others_stay, slots_carry_numbers};
+use slot_relocation::numbers_are_written;
 use std::alloc::Global;
 use std::collections::BTreeSet;
 
@@ -146,8 +146,7 @@ pub(crate) fn make<'a, F: FnMut(BtfFeature) -> bool, P: FnOnce() -> bool>(
     ensures refused { IfErr result (IsObjectRefusal F.FnMut predicate settings.now object.old) }
 {
     renamed_visits_same();
-    slots_carry_numbers();
-    others_stay();
+    numbers_are_written();
     require_ready(alloc, settings, object)?;
     let maps = take_patched_maps(settings, object)?;
     let answers = build(alloc, settings, &maps, object, predicate)?;

@@ -1,7 +1,7 @@
 //! Plans of small objects, for kernels that lack features, and refusals.
 
 use crate::objects::{FLOATS, RECORDS};
-use crate::{BtfFeature, Order, ParseError, Pass, Plan, PrepareError, Settings, Watched, prepare};
+use crate::{BtfFeature, Order, ParseError, Plan, PrepareError, Settings, Watched, prepare};
 use sample_objects::{ONE_PROGRAM, ONE_PROGRAM_PLAN, with_bytes};
 use std::alloc::Global;
 use std::io;
@@ -104,48 +104,82 @@ const SECTION_NAMES: usize = 141;
 
 const LICENSE_SIZE: usize = 280;
 
-/// A call of the helper of number 112.
-const NEWER_HELPER: [u8; 8] = [0x85, 0, 0, 0, 112, 0, 0, 0];
+/// Why an object is refused.
+#[derive(Clone, Copy, Debug, PartialEq, Eq)]
+enum Refusal {
+    License,
+    MapNumber,
+    Symbol,
+    Value,
+    Map,
+}
 
-// Bytes of the names of sections, of the first slot and of the size of the license, whether the value
-// of a variable is set, and for which pass an object so changed is refused, none where it is faulty.
-const CHANGES: [(&[u8], &[u8], u8, bool, Option<Pass>); 5] = [
-    (b".bss\0\0", &[0xb7], 4, false, Some(Pass::MapNumbers)),
-    (b".bss\0\0", &[0xb7], 4, true, Some(Pass::MapNumbers)),
-    (b"kprobe", &[0xb7], 4, true, Some(Pass::Globals)),
-    (b"kprobe", &NEWER_HELPER, 4, true, Some(Pass::Globals)),
-    (b"kprobe", &NEWER_HELPER, 1, true, None),
+/// The name of the program's section, and one of zeros in its place.
+const KPROBE: &[u8] = b"kprobe";
+
+const ZEROS: &[u8] = b".bss\0\0";
+
+// The name of the section of the one function, the size of the license, whether the map `.bss` has a
+// number, a global variable with its bytes and whether it must exist, and why the object is refused.
+type Change = (
+    &'static [u8],
+    u8,
+    bool,
+    Option<(&'static str, &'static [u8], bool)>,
+    Option<Refusal>,
+);
+
+const CHANGES: [Change; 10] = [
+    (KPROBE, 4, false, None, None),
+    (KPROBE, 4, true, Some(("limit", &[1], false)), None),
+    (ZEROS, 4, true, None, None),
+    (ZEROS, 4, true, Some(("foo", &[1; 16], true)), None),
+    (ZEROS, 4, false, Some(("limit", &[1], true)), Some(Refusal::MapNumber)),
+    (ZEROS, 4, true, Some(("limit", &[1], true)), Some(Refusal::Symbol)),
+    (ZEROS, 4, true, Some(("limit", &[1], false)), None),
+    (ZEROS, 4, true, Some(("foo", &[1; 15], true)), Some(Refusal::Value)),
+    (KPROBE, 4, true, Some(("foo", &[1; 16], false)), Some(Refusal::Map)),
+    (ZEROS, 1, false, Some(("limit", &[1], true)), Some(Refusal::License)),
 ];
 
-/// For which pass an object is refused, none where it is faulty.
-fn not_yet(alloc: Global, object: &[u8], settings: &Settings<'_>) -> Result<Option<Pass>, Fail> {
-    match planned(alloc, object, settings, Order::RelocateFirst, &[]) {
-        Err(PrepareError::NotYet { pass }) => Ok(Some(pass)),
-        Err(PrepareError::Parse(ParseError::InvalidLicense { bytes: _ })) => Ok(None),
-        _ => Err(Fail::from("another answer")),
+/// Why a change is refused.
+fn refusal(alloc: Global, change: &Change) -> Result<Option<Refusal>, Fail> {
+    let (name, license, has_number, global, _) = *change;
+    let object = with_bytes(
+        &ONE_PROGRAM,
+        &[(SECTION_NAMES + 9, name), (LICENSE_SIZE, &[license])],
+    );
+    let mut settings = Settings::new(alloc);
+    if has_number {
+        settings.set_map(".bss", 7)?;
+    }
+    if let Some((name, bytes, must_exist)) = global {
+        settings.set_global(name, bytes, must_exist)?;
+    }
+    match planned(alloc, &object, &settings, Order::RelocateFirst, &[]) {
+        Ok(_) => Ok(None),
+        Err(PrepareError::MapNumberMissing { name: _ }) => Ok(Some(Refusal::MapNumber)),
+        Err(PrepareError::Parse(error)) => match error {
+            ParseError::InvalidLicense { bytes: _ } => Ok(Some(Refusal::License)),
+            ParseError::SymbolNotFound { name: _ } => Ok(Some(Refusal::Symbol)),
+            ParseError::InvalidGlobalData { .. } => Ok(Some(Refusal::Value)),
+            ParseError::MapNotFound { index: 2 } => Ok(Some(Refusal::Map)),
+            _ => Err(Fail::from("another fault")),
+        },
+        Err(_) => Err(Fail::from("another refusal")),
     }
 }
 
 #[test]
-fn objects_that_are_not_served(rt: HostRuntime) -> Result<(), Fail> {
-    for (name, slot, license, has_global, wanted) in CHANGES {
-        let mut settings = Settings::new(rt.alloc());
-        if has_global {
-            settings.set_global("limit", &[1], false)?;
-        }
-        let changes = [
-            (SECTION_NAMES + 9, name),
-            (SLOTS, slot),
-            (LICENSE_SIZE, &[license]),
-        ];
-        let object = with_bytes(&ONE_PROGRAM, &changes);
-        assert_eq!(rt; not_yet(rt.alloc(), &object, &settings)?, wanted);
+fn maps_and_globals(rt: HostRuntime) -> Result<(), Fail> {
+    for change in CHANGES.iter() {
+        assert_eq!(rt; refusal(rt.alloc(), change)?, change.4);
     }
     Ok(())
 }
 
 /// The first slot of the object with one program, where it is changed to one, for a kernel that has
-/// or lacks the newer helpers, and how often the kernel is asked.
+/// or lacks the newer helpers, and how often the kernel is asked. The slots stay in the file.
 fn probed(alloc: Global, slot: &[u8], has_helpers: bool) -> Result<([u8; 8], u32), Fail> {
     let object = with_bytes(&ONE_PROGRAM, &[(SLOTS, slot)]);
     let settings = Settings::new(alloc);
@@ -166,13 +200,20 @@ fn probed(alloc: Global, slot: &[u8], has_helpers: bool) -> Result<([u8; 8], u32
     );
     let plan = plan.map_err(|_| "refused")?;
     let program = plan.programs().first().ok_or("no program")?;
+    if !program.slots().is_borrowed() {
+        return Err(Fail::from("copied"));
+    }
     let slot = program.slots().get(0).ok_or("no slot")?;
     Ok((slot.to_bytes(), asked))
 }
 
 // A slot, the one for a kernel that lacks the newer helpers, and how often a kernel is asked.
 const PROBES: [([u8; 8], [u8; 8], u32); 4] = [
-    (NEWER_HELPER, [0x85, 0, 0, 0, 4, 0, 0, 0], 1),
+    (
+        [0x85, 0, 0, 0, 112, 0, 0, 0],
+        [0x85, 0, 0, 0, 4, 0, 0, 0],
+        1,
+    ),
     (
         [0x85, 0, 0, 0, 115, 0, 0, 0],
         [0x85, 0, 0, 0, 45, 0, 0, 0],

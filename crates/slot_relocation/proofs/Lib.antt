@@ -6,3 +6,4 @@ pub mod Numbers
 pub mod Rising
 pub mod Walk
 pub mod Writing
+pub mod Written

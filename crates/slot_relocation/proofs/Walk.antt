@@ -13,7 +13,7 @@ use Rattle.slot_relocation.specs.declared.outcome.Outcome.TheVariants.{Refused}
 use Rattle.slot_relocation.specs.declared.function.Refusal.{Refusal}
 use Rattle.slot_relocation.specs.declared.function.Refusal.TheVariants as refusal
 use Rattle.slot_relocation.specs.declared.pass.FaultAt.{FaultAt}
-use Rattle.slot_relocation.specs.Writes.{CanBeRelocated, HasErrorIn, HasFault, IsErrorOf, Rule, after_all, after_one, is_inside, outcome_at, relocated, relocations_inside}
+use Rattle.slot_relocation.specs.Writes.{CanBeRelocated, HasErrorIn, HasFault, HasFaultIn, IsErrorOf, Rule, after_all, after_one, is_inside, outcome_at, relocated, relocations_inside}
 use Rattle.slot_relocation.specs.Walks.{AllSound, AreWalked, IsFaultAt, IsFaultIn, IsRefusal, IsRefusalOf, are_sound, first_of, is_before, is_refused, is_sound}
 
 abbrev pub Placed : Type 0
@@ -82,13 +82,13 @@ no_fault : (rule : Rule) (file : List ℕ) (f : FunctionContent) (offset : ℕ) 
 no_fault rule file f offset cause h stands =
     no_refusal rule f f.instructions stands.0 stands.1 stands.2 cause (ap (are_sound rule f f.instructions) stands.3 ∙ h) stands.5
 
-no_error : (rule : Rule) (file : List ℕ) (es : List Entry) (name : Option (List ℕ)) (e : RelocationError) → AllSound rule file es → HasErrorIn rule file es name e → ⊥
-no_error rule file [] name e h stands = stands
-no_error rule file (g ∷ gs) name e h (inl stands) = no_fault rule file g.1 stands.0 stands.1 h.0 stands.2
-no_error rule file (g ∷ gs) name e h (inr stands) = no_error rule file gs name e h.1 stands
+none_in : (rule : Rule) (file : List ℕ) (es : List Entry) → AllSound rule file es → HasFaultIn rule file es → ⊥
+none_in rule file [] h stands = stands
+none_in rule file (g ∷ gs) h (inl stands) = no_fault rule file g.1 stands.0 stands.1 h.0 stands.2
+none_in rule file (g ∷ gs) h (inr stands) = none_in rule file gs h.1 stands
 
 pub can_be : (rule : Rule) (file : List ℕ) (es : List Entry) → AllSound rule file es → CanBeRelocated rule file es
-can_be rule file es h = record { none = λ name e stands. no_error rule file es name e h stands }
+can_be rule file es h = record { none = none_in rule file es h }
 
 -- the functions one after the other
 sound_all : (rule : Rule) (file : List ℕ) (done : List Entry) (e : Entry) → AllSound rule file done → is_sound rule file e.1 ≡ true → AllSound rule file (done ++ (e ∷ []))

@@ -5,10 +5,10 @@ use Rattle.ebpf_items.specs.declared.instruction.bpf_insn.{bpf_insn}
 use Rattle.elf64.specs.Relocations.{Relocation}
 use Rattle.elf64.specs.Symbols.{Symbol}
 use Rattle.object_file.specs.Symbols.{symbol_at}
-use Rattle.object_parts.specs.Content.{FunctionContent}
+use Rattle.object_parts.specs.Content.{FunctionContent, function_at}
 use Rattle.slot_relocation.specs.declared.outcome.Outcome.TheVariants.{Written}
 use Rattle.slot_relocation.specs.declared.outcome.Write.{Write}
-use Rattle.slot_relocation.specs.Writes.{after_all, distance, outcome_at, relocated, relocations_inside}
+use Rattle.slot_relocation.specs.Writes.{AreRelocated, after_all, distance, outcome_at, relocated, relocations_inside}
 use Rattle.slot_relocation.specs.Maps.{MapsGiven, NumberedMap, map_for, map_rule, symbol_index}
 
 -- the place of the slot at which a relocation stands
@@ -26,7 +26,7 @@ pub record Writes (g : MapsGiven) (f : FunctionContent) (r : ℕ × Relocation) 
   pub split : before ++ (r ∷ rest) ≡ relocations_inside g.file f
   pub outcome : outcome_at (map_rule g) f (after_all (map_rule g) f before) r ≡ Written w
 
--- the map that a symbol names, and that a relocation names
+-- the map that a symbol names, and that a relocation names where it isn't skipped
 abbrev pub map_by : MapsGiven → ℕ → Symbol → Option NumberedMap
 map_by g index s = option_and_then (map_for g.maps index) s.section_index
 
@@ -45,7 +45,7 @@ pub record CarriesNumber (g : MapsGiven) (r : Relocation) (s : bpf_insn) : Type 
   pub number : s.imm ≡ map.number
   pub source : src_reg_of s ≡ mark_of map.map.contents
 
--- after all relocations the slot at which one of them writes carries the number of its map, whatever the others write
+-- after all relocations the slot at which one of them stands that writes carries the number of its map, whatever the others write
 pub record SlotsCarryNumbers : Type 0 where
   pub each : (g : MapsGiven) (f : FunctionContent) (r : ℕ × Relocation) (w : Write) → Writes g f r w → (s : bpf_insn) × (slice_get (slots_after g f) (place_in f r) ≡ Some s) × CarriesNumber g r.1 s
 
@@ -63,3 +63,17 @@ pub record OthersStay : Type 0 where
 -- a function keeps its number of slots
 pub record LengthsStay : Type 0 where
   pub each : (g : MapsGiven) (f : FunctionContent) → length (slots_after g f) ≡ length f.instructions
+
+-- what holds of a function's slots after all relocations
+pub record HasNumbers (g : MapsGiven) (old new : FunctionContent) : Type 0 where
+  pub numbers : (r : ℕ × Relocation) (w : Write) → Writes g old r w → (s : bpf_insn) × (slice_get new.instructions (place_in old r) ≡ Some s) × CarriesNumber g r.1 s
+  pub others : (place : ℕ) → (WritesAt g old place → ⊥) → slice_get new.instructions place ≡ slice_get old.instructions place
+  pub as_many : length new.instructions ≡ length old.instructions
+
+-- of the function of each key
+abbrev pub HaveNumbers : MapsGiven → List ((ℕ × ℕ) × FunctionContent) → List ((ℕ × ℕ) × FunctionContent) → Type 0
+HaveNumbers g old new = (key : ℕ × ℕ) (f : FunctionContent) → function_at old key ≡ Some f → (h : FunctionContent) × (function_at new key ≡ Some h) × HasNumbers g f h
+
+-- it holds of relocated functions
+pub record NumbersAreWritten : Type 0 where
+  pub each : (g : MapsGiven) (old new : List ((ℕ × ℕ) × FunctionContent)) → AreRelocated (map_rule g) g.file old new → HaveNumbers g old new

@@ -100,6 +100,11 @@ abbrev pub HasErrorIn : Rule → List ℕ → List ((ℕ × ℕ) × FunctionCont
 HasErrorIn rule file [] name e = ⊥
 HasErrorIn rule file (g ∷ gs) name e = HasError rule file g.1 name e ⊎ HasErrorIn rule file gs name e
 
--- no relocation inside these functions has a fault
+-- some relocation inside these functions has a fault
+abbrev pub HasFaultIn : Rule → List ℕ → List ((ℕ × ℕ) × FunctionContent) → Type 0
+HasFaultIn rule file [] = ⊥
+HasFaultIn rule file (g ∷ gs) = ((offset : ℕ) × (cause : Fault) × HasFault rule file g.1 offset cause) ⊎ HasFaultIn rule file gs
+
+-- none has
 pub record CanBeRelocated (rule : Rule) (file : List ℕ) (functions : List ((ℕ × ℕ) × FunctionContent)) : Type 0 where
-  pub none : (name : Option (List ℕ)) (e : RelocationError) → HasErrorIn rule file functions name e → ⊥
+  pub none : HasFaultIn rule file functions → ⊥

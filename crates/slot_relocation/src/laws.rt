@@ -1,10 +1,10 @@
 //! What holds of functions after the relocations by maps inside them. The functions here compute
 //! nothing: their contracts are the theorems.
 
-ghost use Rattle.slot_relocation.specs.Laws.{LengthsStay, OthersStay, SlotsCarryNumbers};
+ghost use Rattle.slot_relocation.specs.Laws.{LengthsStay, NumbersAreWritten, OthersStay, SlotsCarryNumbers};
 
-/// The slot at which a relocation by a map, or by a variable of it, writes carries the map's number
-/// after all relocations, whatever the others write.
+/// The slot at which a relocation by a map, or by a variable of it, stands that writes carries the
+/// map's number after all relocations, whatever the others write.
 pub fn slots_carry_numbers()
     ensures { SlotsCarryNumbers }
 {}
@@ -18,3 +18,13 @@ pub fn others_stay()
 pub fn lengths_stay()
     ensures { LengthsStay }
 {}
+
+/// All three hold of the functions of an object that were relocated.
+#[tactic(auto, using(crate::proofs::Written::numbers_are_written))]
+pub fn numbers_are_written()
+    ensures { NumbersAreWritten }
+{
+    slots_carry_numbers();
+    others_stay();
+    lengths_stay();
+}

@@ -11,7 +11,7 @@ mod map_rule;
 mod outcome;
 mod pass;
 
-pub use laws::{lengths_stay, others_stay, slots_carry_numbers};
+pub use laws::{lengths_stay, numbers_are_written, others_stay, slots_carry_numbers};
 pub use map_index::NumberedMap;
 pub use pass::relocate_maps;
 

@@ -26,7 +26,7 @@ pub(crate) enum Fault {
     UnknownSymbol {
         index: usize,
     },
-    /// No map is made of a symbol's section.
+    /// No map is given for a symbol or its section.
     NoMap {
         section_index: usize,
         symbol_index: usize,

@@ -1,7 +1,7 @@
 use Rattle.object_plan.proofs.planning.plan_of.Goals as goal
 
-pub new-requires-2 : goal.new-requires-2
-new-requires-2 c = record {
+pub new-requires : goal.new-requires
+new-requires c = record {
   license = c.license.ensures.text;
   version = c.kernel_version.ensures.known;
   features = c.requires.answers;
