@@ -33,9 +33,7 @@ impl From<PrepareError> for RunError {
 #[derive(Debug, Drop, Error)]
 pub enum ProgramError {
     /// It was called with other words.
-    #[error(
-        "usage: bpf_prepare OBJECT [--map NAME=NUMBER].. [--global NAME=HEX].. [--older-helpers]"
-    )]
+    #[error("usage: bpf_prepare OBJECT [--map NAME=NUMBER].. [--global NAME=HEX].. [--older-helpers]")]
     Usage,
     /// The object's file can't be read.
     #[error("can't read {name:?}: {error}")]

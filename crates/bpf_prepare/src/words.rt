@@ -29,8 +29,12 @@ pub struct Words<'w> {
 fn map_number(word: &str) -> Option<(&str, u32)>
     ensures { IfSome result (λ map. map.1 < 2 ^ 31) }
 {
-    let (name, number) = word.rsplit_once('=')?;
-    let number: u32 = number.parse().ok()?;
+    let (name, digits) = word.rsplit_once('=')?;
+    // A sign would be read too.
+    if !digits.bytes().all(|digit| digit.is_ascii_digit()) {
+        return None;
+    }
+    let number: u32 = digits.parse().ok()?;
     if number > i32::MAX as u32 {
         return None;
     }

@@ -22,7 +22,6 @@ use Rattle.relocation_errors.specs.declared.error.RelocationError.TheVariants as
 use Rattle.settings.specs.Content.{SettingsContent}
 use Rattle.slot_relocation.specs.Maps.{MapsGiven, map_rule}
 use Rattle.slot_relocation.specs.Writes.{HasErrorIn}
-use Rattle.unserved.specs.declared.pass.Pass.{Pass}
 use Rattle.load_plan.specs.Made.{ArePatchedMaps, IsRelocatedObject, IsRewrittenObject, IsServed, maps_given, without_maps}
 use Rattle.load_plan.specs.declared.error.PrepareError.{PrepareError}
 use Rattle.load_plan.specs.declared.error.PrepareError.TheVariants.{FunctionRecordType, MapNumberMissing, NotYet, OutOfMemory, Parse, Relocation, Types}
