@@ -4,6 +4,9 @@ use Rattle.std.specs.Prelude.{find, bytes_eq, ◌==◌, option_and_then}
 use Rattle.std.specs.Ordering.{nat_cmp, is_eq}
 use Rattle.std.specs.Cmp.Lexicographic.{slice_cmp}
 use Rattle.std.specs.BTreeMap.{is_at}
+use Rattle.std.specs.declared.cmp.Ordering.TheVariants.{Less}
+use Rattle.std.specs.List.{AllByRecursion}
+use Rattle.std.specs.List.Sorted.{IsStrictlySortedBy}
 use Rattle.std.specs.Map.{lookup}
 use Rattle.std.specs.Option.{IsSomeAnd, option_map, option_map_or}
 use Rattle.std.proofs.lemmas.Grind.{common_steps}
@@ -14,7 +17,7 @@ use Rattle.elf64.specs.Symbols.{Symbol, symbols_of}
 use Rattle.object_maps.specs.BtfMaps.{symbol_named}
 use Rattle.object_maps.specs.Overwritten.{HasRange, entry_overwritten, map_overwritten, overwritten, with_bytes}
 use Rattle.settings.specs.Content.{GlobalContent}
-use Rattle.global_data.specs.GlobalData.{Write, map_of, patched, patched_one, write_of, write_over, written}
+use Rattle.global_data.specs.GlobalData.{Write, extent_of, extents, map_of, patched, patched_one, write_of, write_over, written}
 use Rattle.global_data.specs.Writes.{Fit, write_list, writes_of}
 
 -- ---- ranges stay
@@ -69,6 +72,47 @@ range-kept name q start place size bytes maps false is own h =
 fit-kept : (maps : List (List ℕ × MapView)) (w : Write) (ws : List Write) → HasRange maps w.map w.start (length w.bytes) → Fit maps ws → Fit (written maps w) ws
 fit-kept maps w [] own fit = tt
 fit-kept maps w (x ∷ xs) own fit = (range-kept w.map x.map w.start x.start (length x.bytes) w.bytes maps (bytes_eq w.map x.map) refl own fit.0, fit-kept maps w xs own fit.1)
+
+-- ---- names and numbers of bytes stay
+
+-- all maps have greater names
+none-named : (name : List ℕ) (start : ℕ) (bytes : List ℕ) (maps : List (List ℕ × MapView)) → AllByRecursion (λ y. slice_cmp nat_cmp name y ≡ Less) (map (λ e. e.0) maps) → map (entry_overwritten name start bytes) maps ≡ maps
+none-named name start bytes [] below = refl
+none-named name start bytes (m ∷ ms) below =
+    let other : bytes_eq name m.0 ≡ false = sym (is_eq-slice_cmp name m.0) ∙ ap is_eq below.0 in
+    ap (λ (t : Bool). cond t (m.0, map_overwritten start bytes m.1) m ∷ map (entry_overwritten name start bytes) ms) other
+    ∙ ap (λ xs. m ∷ xs) (none-named name start bytes ms below.1)
+
+extents-step : (name : List ℕ) (start : ℕ) (bytes : List ℕ) (m : List ℕ × MapView) (ms : List (List ℕ × MapView)) (test : Bool) → bytes_eq name m.0 ≡ test → AllByRecursion (λ y. slice_cmp nat_cmp m.0 y ≡ Less) (map (λ e. e.0) ms) → IsSomeAnd (cond test (Some m.1) (lookup (is_at (slice_cmp nat_cmp name)) ms)) (λ x. start + length bytes ≤ length x.contents) → (HasRange ms name start (length bytes) → extents (map (entry_overwritten name start bytes) ms) ≡ extents ms) → extent_of (cond test (m.0, map_overwritten start bytes m.1) m) ∷ extents (map (entry_overwritten name start bytes) ms) ≡ extent_of m ∷ extents ms
+extents-step name start bytes m ms true is below own rest =
+    let P : List ℕ → Type 0 = λ n. AllByRecursion (λ y. slice_cmp nat_cmp n y ≡ Less) (map (λ e. e.0) ms) in
+    let same : name ≡ m.0 = (bytes_eq-Decides name m.0).0 is in
+    rw (same-length m.1.contents bytes start own, none-named name start bytes ms (subst P (sym same) below)) refl
+extents-step name start bytes m ms false is below own rest = ap (λ xs. extent_of m ∷ xs) (rest own)
+
+-- since names rise, no map but the one that is found has the name
+extents-kept : (name : List ℕ) (start : ℕ) (bytes : List ℕ) (maps : List (List ℕ × MapView)) → IsStrictlySortedBy (slice_cmp nat_cmp) (map (λ e. e.0) maps) → HasRange maps name start (length bytes) → extents (with_bytes maps name start bytes) ≡ extents maps
+unfolding with_bytes IsStrictlySortedBy
+extents-kept name start bytes [] rising own = refl
+extents-kept name start bytes (m ∷ ms) rising own =
+    let P : Bool → Type 0 = λ t. IsSomeAnd (cond t (Some m.1) (lookup (is_at (slice_cmp nat_cmp name)) ms)) (λ x. start + length bytes ≤ length x.contents) in
+    extents-step name start bytes m ms (bytes_eq name m.0) refl rising.0 (subst P (is_eq-slice_cmp name m.0) own) (extents-kept name start bytes ms rising.1)
+
+names-kept : (name : List ℕ) (start : ℕ) (bytes : List ℕ) (maps : List (List ℕ × MapView)) → map (λ e. e.0) (with_bytes maps name start bytes) ≡ map (λ e. e.0) maps
+unfolding with_bytes
+names-kept name start bytes [] = refl
+names-kept name start bytes (m ∷ ms) =
+    ap (λ (n : List ℕ). n ∷ map (λ e. e.0) (map (entry_overwritten name start bytes) ms)) (entry-name (bytes_eq name m.0) m (map_overwritten start bytes m.1))
+    ∙ ap (λ (ns : List (List ℕ)). m.0 ∷ ns) (names-kept name start bytes ms)
+
+pub extents-written : (maps : List (List ℕ × MapView)) (ws : List Write) → IsStrictlySortedBy (slice_cmp nat_cmp) (map (λ e. e.0) maps) → Fit maps ws → extents (fold written maps ws) ≡ extents maps
+extents-written maps [] rising fit = refl
+extents-written maps (w ∷ ws) rising fit =
+    let P : List (List ℕ) → Type 0 = λ names. IsStrictlySortedBy (slice_cmp nat_cmp) names in
+    extents-written (written maps w) ws (subst P (sym (names-kept w.map w.start w.bytes maps)) rising) (fit-kept maps w ws fit.0 fit.1)
+    ∙ extents-kept w.map w.start w.bytes maps rising fit.0
+
+-- ---- one write after the other
 
 next : (ws : List Write) (i : ℕ) (w : Write) → i < length ws → w ≡ get_or ws i w → drop i ws ≡ w ∷ drop (i + 1) ws
 next ws i w within is = drop-cons ws i w within ∙ ap (λ x. x ∷ drop (suc i) ws) (sym is) ∙ ap (λ n. w ∷ drop n ws) (sym (add-one i))

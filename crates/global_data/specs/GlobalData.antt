@@ -1,5 +1,5 @@
 -- Values of global variables, put into the maps of an object.
-use Rattle.std.specs.Prelude.{◌≡◌, ℕ, ◌+◌, ◌==◌, nat_le, Bool, List, length, find, fold, Option, Some, None, option_and_then, unwrap_or, if◌then◌else◌}
+use Rattle.std.specs.Prelude.{◌≡◌, ℕ, ◌+◌, ◌==◌, nat_le, Bool, List, length, map, find, fold, Option, Some, None, option_and_then, unwrap_or, if◌then◌else◌}
 use Rattle.std.specs.Option.{IsSomeAnd, option_map, option_map_or, option_or}
 use Rattle.std.specs.String.{string_bytes}
 use Rattle.ebpf_items.specs.Maps.{MapView}
@@ -14,6 +14,17 @@ use Rattle.settings.specs.Content.{GlobalContent}
 abbrev pub map_of : List (List ℕ × MapView) → Option ℕ → Option (List ℕ × MapView)
 map_of maps (Some index) = find (λ m. m.1.section_index == index) maps
 map_of maps None = None
+
+-- a map's name, and how many bytes it has
+pub record Extent : Type 0 where
+  pub name : List ℕ
+  pub size : ℕ
+
+abbrev pub extent_of : List ℕ × MapView → Extent
+extent_of m = record { name = m.0; size = length m.1.contents }
+
+abbrev pub extents : List (List ℕ × MapView) → List Extent
+extents maps = map extent_of maps
 
 -- ---- what is written
 

@@ -1,4 +1,4 @@
--- The symbols of global variables by name, as a map has them.
+-- The symbols of global variables by name, as a `BTreeMap` has them.
 use Rattle.std.specs.Prelude.{◌≡◌, ℕ, List, [], ◌∷◌, Option, is_some, true}
 use Rattle.std.specs.Borrow.{Bor}
 use Rattle.std.specs.BTreeMap.{BTreeMap, get_by, is_at}
@@ -20,6 +20,6 @@ abbrev pub AreSet : List (List ℕ × GlobalContent) → List (List ℕ × Globa
 AreSet globals [] = Unit
 AreSet globals (g ∷ gs) = IsSet globals g.0 × AreSet globals gs
 
--- the map has for each name that is set the symbol of the greatest index
+-- the `BTreeMap` has for each name that is set the symbol of the greatest index
 pub record AreGlobalSymbols (globals : List (List ℕ × GlobalContent)) (symbols : List Symbol) (by_name : BTreeMap (Bor (List ℕ)) (Bor Symbol)) : Type 0 where
   pub at : (name : List ℕ) → IsSet globals name → symbol_under by_name name ≡ symbol_named symbols name

@@ -1,4 +1,4 @@
-pub mod DataMaps
 pub mod GlobalData
 pub mod GlobalSymbols
+pub mod SectionMaps
 pub mod Writes

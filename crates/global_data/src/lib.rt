@@ -1,8 +1,8 @@
 //! Values of global variables, put into the maps of an object.
 #![tactic(auto)]
 
-mod data_maps;
 mod patching;
+mod section_maps;
 mod symbols;
 mod writes;
 

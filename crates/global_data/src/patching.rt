@@ -2,7 +2,7 @@
 
 ghost use Rattle.std.specs.Prelude.{◌≡◌, ◌≢◌, None, IfErr, OnOk, OnErr, fold};
 ghost use Rattle.ebpf_items.specs.declared.error.ParseError.TheVariants.{OutOfMemory};
-ghost use Rattle.global_data.specs.GlobalData.{Says, first_fault, patched, written};
+ghost use Rattle.global_data.specs.GlobalData.{Says, extents, first_fault, patched, written};
 ghost use Rattle.global_data.specs.Writes.{Fit};
 
 use crate::writes::{MapWrite, writes_of};
@@ -26,6 +26,7 @@ fn write_all(maps: &mut Maps<'_>, writes: &[MapWrite<'_, '_>])
 /// bytes of the map of the symbol's section, of several maps of a section the first by name, from
 /// the symbol's address (`st_value`) on. The symbol is the one of the variable's name, of several the
 /// one of the greatest index. All other bytes stay, and so do all maps where a value is refused.
+/// Every map keeps its name and its number of bytes, whatever the answer.
 ///
 /// # Errors
 ///
@@ -43,6 +44,7 @@ pub fn patch_map_data(
     ensures sound { OnOk result (first_fault file.now maps.old settings.now.globals ≡ None) }
     ensures fault { IfErr result (λ e. e ≢ OutOfMemory → Says (first_fault file.now maps.old settings.now.globals) e) }
     ensures unchanged { OnErr result (maps.new ≡ maps.old) }
+    ensures lengths { extents maps.new ≡ extents maps.old }
 {
     if !settings.has_globals() {
         return Ok(());

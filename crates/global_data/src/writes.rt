@@ -10,7 +10,7 @@ ghost use Rattle.ebpf_items.specs.declared.error.ParseError.TheVariants.{OutOfMe
 ghost use Rattle.global_data.specs.GlobalData.{GlobalFault, Says, bad_data, fault_of, first_fault, symbol_fault, write_over};
 ghost use Rattle.global_data.specs.Writes.{writes_of};
 
-use crate::data_maps::DataMaps;
+use crate::section_maps::SectionMaps;
 use crate::symbols::GlobalSymbols;
 use ebpf_items::ParseError;
 use object_file::{ObjectFile, ReadSymbol};
@@ -57,7 +57,7 @@ fn bad_data(
 /// What a value writes that has a symbol.
 fn write_over<'a, 's>(
     alloc: Global,
-    maps: &DataMaps<'_, 'a>,
+    maps: &SectionMaps<'_, 'a>,
     name: &str,
     value: &GlobalValue<'s>,
     symbol: &ReadSymbol<'_>,
@@ -90,7 +90,7 @@ fn write_over<'a, 's>(
 /// What a value writes: nothing if there is no symbol and needn't be one.
 fn write_of<'a, 's>(
     alloc: Global,
-    maps: &DataMaps<'_, 'a>,
+    maps: &SectionMaps<'_, 'a>,
     name: &str,
     value: &GlobalValue<'s>,
     symbol: Option<&ReadSymbol<'_>>,
@@ -123,7 +123,7 @@ pub(crate) fn writes_of<'a, 's>(
     ensures fault { IfErr result (λ e. e ≢ OutOfMemory → Says (first_fault file.now maps.now settings.now.globals) e) }
 {
     let symbols = GlobalSymbols::new(alloc, file.symbols(), settings)?;
-    let maps = DataMaps::new(alloc, maps)?;
+    let maps = SectionMaps::new(alloc, maps)?;
     let mut writes = Vec::new(alloc);
     for (name, value) in settings.globals() {
         let Some(write) = write_of(alloc, &maps, name, value, symbols.named(name))? else {

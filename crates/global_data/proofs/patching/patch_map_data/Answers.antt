@@ -1,9 +1,10 @@
 use Rattle.std.proofs.Common.{sym, ap, ◌∙◌, subst, List, fold}
-use Rattle.global_data.specs.GlobalData.{Write, written}
-use Rattle.global_data.specs.Writes.{Fit}
+use Rattle.elf64.specs.Symbols.{symbols_of}
+use Rattle.global_data.specs.GlobalData.{Write, extents, written}
+use Rattle.global_data.specs.Writes.{Fit, writes_of}
 use Rattle.global_data.proofs.Fitting.{found-fit}
 use Rattle.global_data.proofs.Steps.{none_set, nothing_patched, nothing_wrong}
-use Rattle.global_data.proofs.Written.{patched-of}
+use Rattle.global_data.proofs.Written.{extents-written, patched-of}
 use Rattle.global_data.proofs.patching.patch_map_data.Goals as goal
 
 pub write_all-requires : goal.write_all-requires
@@ -25,3 +26,9 @@ returns-clause-patched c =
     c.write_all.ensures
     ∙ ap (fold written c.args.maps.now) (c.deref.ensures.value ∙ c.in_ok-writes.ensures.value)
     ∙ patched-of c.args.file.now c.args.maps.now c.args.settings.now.globals
+
+pub returns-clause-lengths : goal.returns-clause-lengths
+returns-clause-lengths c =
+    let writes : List Write = writes_of (symbols_of c.args.file.now) c.args.maps.now c.args.settings.now.globals in
+    ap extents (c.write_all.ensures ∙ ap (fold written c.args.maps.now) (c.deref.ensures.value ∙ c.in_ok-writes.ensures.value))
+    ∙ extents-written c.args.maps.now writes c.in_ok-writes.ensures.rising (found-fit c.args.file.now c.args.maps.now c.args.settings.now.globals c.in_ok-writes.ensures.rising c.in_ok-writes.ensures.sound)

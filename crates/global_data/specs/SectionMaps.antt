@@ -1,24 +1,17 @@
--- The maps of sections by the section's index, as a map has them.
-use Rattle.std.specs.Prelude.{◌≡◌, ℕ, ◌==◌, List, Option, Some, None, length, map, find, if◌then◌else◌}
+-- The maps of sections by the section's index, as a `BTreeMap` has them.
+use Rattle.std.specs.Prelude.{◌≡◌, ℕ, ◌==◌, List, Option, Some, None, map, find, if◌then◌else◌}
 use Rattle.std.specs.BTreeMap.{BTreeMap, get}
 use Rattle.std.specs.Cmp.Lexicographic.{slice_cmp}
 use Rattle.std.specs.List.Sorted.{IsStrictlySortedBy}
 use Rattle.std.specs.Option.{option_map, option_or}
 use Rattle.std.specs.Ordering.{nat_cmp}
 use Rattle.ebpf_items.specs.Maps.{MapView}
-
--- what is kept of a map: its name, and how many bytes it has
-pub record Extent : Type 0 where
-  pub name : List ℕ
-  pub size : ℕ
-
-abbrev pub extent_of : List ℕ × MapView → Extent
-extent_of m = record { name = m.0; size = length m.1.contents }
+use Rattle.global_data.specs.GlobalData.{Extent, extent_of}
 
 abbrev pub extent_in : List (List ℕ × MapView) → ℕ → Option Extent
 extent_in maps index = option_map extent_of (find (λ m. m.1.section_index == index) maps)
 
--- the map of each section, among maps whose names rise
+-- the `BTreeMap` has the extent of the map of each section, among maps whose names rise
 pub record AreExtents (maps : List (List ℕ × MapView)) (by_section : BTreeMap ℕ Extent) : Type 0 where
   pub at : (index : ℕ) → get nat_cmp by_section index ≡ extent_in maps index
   pub rising : IsStrictlySortedBy (slice_cmp nat_cmp) (map (λ e. e.0) maps)

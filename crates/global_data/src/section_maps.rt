@@ -5,8 +5,8 @@ ghost use Rattle.std.specs.Cmp.Lexicographic.{slice_cmp};
 ghost use Rattle.std.specs.List.Sorted.{IsStrictlySortedBy};
 ghost use Rattle.std.specs.Option.{option_copied, option_map};
 ghost use Rattle.std.specs.Ordering.{nat_cmp};
-ghost use Rattle.global_data.specs.DataMaps.{Enters, extent_of};
-ghost use Rattle.global_data.specs.GlobalData.{map_of};
+ghost use Rattle.global_data.specs.GlobalData.{extent_of, map_of};
+ghost use Rattle.global_data.specs.SectionMaps.{Enters};
 
 use object_maps::Maps;
 use std::alloc::{AllocError, Global};
@@ -21,7 +21,7 @@ pub(crate) struct MapExtent<'a> {
 }
 
 impl<'a> Model for MapExtent<'a> {
-    ghost use Rattle.global_data.specs.DataMaps.{Extent};
+    ghost use Rattle.global_data.specs.GlobalData.{Extent};
 
     ghost Value = { Extent };
 
@@ -30,15 +30,15 @@ impl<'a> Model for MapExtent<'a> {
 
 /// The maps of sections, by the section's index; of several of a section the first by name.
 #[derive(Drop)]
-pub(crate) struct DataMaps<'m, 'a> {
+pub(crate) struct SectionMaps<'m, 'a> {
     maps: &'m Maps<'a>,
     by_section: BTreeMap<usize, MapExtent<'a>>,
 }
 
-impl<'m, 'a> Model for DataMaps<'m, 'a> {
+impl<'m, 'a> Model for SectionMaps<'m, 'a> {
     ghost use Rattle.std.specs.Prelude.{ℕ, List};
     ghost use Rattle.ebpf_items.specs.Maps.{MapView};
-    ghost use Rattle.global_data.specs.DataMaps.{AreExtents};
+    ghost use Rattle.global_data.specs.SectionMaps.{AreExtents};
 
     ghost Value = { List (List ℕ × MapView) };
 
@@ -59,9 +59,9 @@ fn enter<'a>(
     Ok(())
 }
 
-impl<'m, 'a> DataMaps<'m, 'a> {
+impl<'m, 'a> SectionMaps<'m, 'a> {
     /// Those of some maps.
-    pub(crate) fn new(alloc: Global, maps: &'m Maps<'a>) -> Result<DataMaps<'m, 'a>, AllocError>
+    pub(crate) fn new(alloc: Global, maps: &'m Maps<'a>) -> Result<SectionMaps<'m, 'a>, AllocError>
         ensures value { IfOk result (λ found. found ≡ maps.now) }
         ensures rising { OnOk result (IsStrictlySortedBy (slice_cmp nat_cmp) (map (λ e. e.0) maps.now)) }
     {
@@ -73,7 +73,7 @@ impl<'m, 'a> DataMaps<'m, 'a> {
             };
             enter(&mut by_section, map.section_index(), extent)?;
         }
-        Ok(DataMaps { maps, by_section })
+        Ok(SectionMaps { maps, by_section })
     }
 
     /// The map of a section, if there is a section.

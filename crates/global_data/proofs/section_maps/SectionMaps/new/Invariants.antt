@@ -3,8 +3,8 @@ use Rattle.std.specs.BTreeMap.{get}
 use Rattle.std.specs.Option.{option_or}
 use Rattle.std.specs.Ordering.{nat_cmp}
 use Rattle.object_maps.specs.Maps.{shown}
-use Rattle.global_data.specs.DataMaps.{extent_in}
-use Rattle.global_data.proofs.data_maps.DataMaps.new.Given as goal
+use Rattle.global_data.specs.SectionMaps.{extent_in}
+use Rattle.global_data.proofs.section_maps.SectionMaps.new.Given as goal
 
 -- with what is left, the map of each section
 abbrev pub invariant-loop-name : goal.invariant-loop-name
