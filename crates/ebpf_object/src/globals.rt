@@ -2,7 +2,7 @@
 
 ghost use Rattle.std.specs.Prelude.{◌≡◌, ◌≢◌, None, IfErr, OnErr, OnOk};
 ghost use Rattle.ebpf_items.specs.declared.error.ParseError.TheVariants.{OutOfMemory};
-ghost use Rattle.global_data.specs.GlobalData.{Says, first_fault, patched};
+ghost use Rattle.global_data.specs.GlobalData.{Says, extents, first_fault, patched};
 
 use crate::object::Object;
 use ebpf_items::ParseError;
@@ -18,6 +18,7 @@ impl<'a> Object<'a> {
     pub fn patch_map_data(&mut self, settings: &Settings<'_>) -> Result<(), ParseError>
         ensures patched { OnOk result (self.new.maps ≡ patched self.old.file self.old.maps settings.now.globals) }
         ensures sound { OnOk result (first_fault self.old.file self.old.maps settings.now.globals ≡ None) }
+        ensures lengths { extents self.new.maps ≡ extents self.old.maps }
         ensures others { self.new ≡ record self.old { maps = self.new.maps } }
         ensures fault { IfErr result (λ e. e ≢ OutOfMemory → Says (first_fault self.old.file self.old.maps settings.now.globals) e) }
         ensures unchanged { OnErr result (self.new ≡ self.old) }

@@ -14,7 +14,7 @@ use Rattle.function_layout.specs.Layout.{IsLayout, Key, Table, has}
 use Rattle.function_layout.specs.Machines.{VisitsSame}
 use Rattle.function_layout.specs.Renamed.{renamed_table}
 use Rattle.function_types.specs.Named.{all_named}
-use Rattle.global_data.specs.GlobalData.{first_fault, patched}
+use Rattle.global_data.specs.GlobalData.{extents, first_fault, patched}
 use Rattle.linker.specs.Linked.{AllCanBeLinked, AreLinked, program_keys, unlinked}
 use Rattle.linker.specs.Unlinked.{table_of}
 use Rattle.object_parts.specs.Content.{FunctionContent, function_at}
@@ -31,10 +31,11 @@ pub record IsServed (settings : SettingsContent) (object : ObjectContent) : Type
   pub served : unserved object ≡ None
   pub numbered : are_numbered settings object.maps ≡ true
 
--- the maps of an object with the values of its global variables, each of which fits
+-- the maps of an object with the values of its global variables, each of which fits: names and lengths stay
 pub record ArePatchedMaps (settings : SettingsContent) (object : ObjectContent) (maps : List (List ℕ × MapView)) : Type 0 where
   pub patched : maps ≡ patched object.file object.maps settings.globals
   pub sound : first_fault object.file object.maps settings.globals ≡ None
+  pub lengths : extents maps ≡ extents object.maps
 
 -- the object whose maps were taken
 abbrev pub without_maps : ObjectContent → ObjectContent
