@@ -134,16 +134,46 @@ const CHANGES: [Change; 10] = [
     (KPROBE, 4, true, Some(("limit", &[1], false)), None),
     (ZEROS, 4, true, None, None),
     (ZEROS, 4, true, Some(("foo", &[1; 16], true)), None),
-    (ZEROS, 4, false, Some(("limit", &[1], true)), Some(Refusal::MapNumber)),
-    (ZEROS, 4, true, Some(("limit", &[1], true)), Some(Refusal::Symbol)),
+    (
+        ZEROS,
+        4,
+        false,
+        Some(("limit", &[1], true)),
+        Some(Refusal::MapNumber),
+    ),
+    (
+        ZEROS,
+        4,
+        true,
+        Some(("limit", &[1], true)),
+        Some(Refusal::Symbol),
+    ),
     (ZEROS, 4, true, Some(("limit", &[1], false)), None),
-    (ZEROS, 4, true, Some(("foo", &[1; 15], true)), Some(Refusal::Value)),
-    (KPROBE, 4, true, Some(("foo", &[1; 16], false)), Some(Refusal::Map)),
-    (ZEROS, 1, false, Some(("limit", &[1], true)), Some(Refusal::License)),
+    (
+        ZEROS,
+        4,
+        true,
+        Some(("foo", &[1; 15], true)),
+        Some(Refusal::Value),
+    ),
+    (
+        KPROBE,
+        4,
+        true,
+        Some(("foo", &[1; 16], false)),
+        Some(Refusal::Map),
+    ),
+    (
+        ZEROS,
+        1,
+        false,
+        Some(("limit", &[1], true)),
+        Some(Refusal::License),
+    ),
 ];
 
 /// Why a change is refused.
-fn refusal(alloc: Global, change: &Change) -> Result<Option<Refusal>, Fail> {
+fn why_refused(alloc: Global, change: &Change) -> Result<Option<Refusal>, Fail> {
     let (name, license, has_number, global, _) = *change;
     let object = with_bytes(
         &ONE_PROGRAM,
@@ -173,15 +203,23 @@ fn refusal(alloc: Global, change: &Change) -> Result<Option<Refusal>, Fail> {
 #[test]
 fn maps_and_globals(rt: HostRuntime) -> Result<(), Fail> {
     for change in CHANGES.iter() {
-        assert_eq!(rt; refusal(rt.alloc(), change)?, change.4);
+        assert_eq!(rt; why_refused(rt.alloc(), change)?, change.4);
     }
     Ok(())
 }
 
-/// The first slot of the object with one program, where it is changed to one, for a kernel that has
-/// or lacks the newer helpers, and how often the kernel is asked. The slots stay in the file.
-fn probed(alloc: Global, slot: &[u8], has_helpers: bool) -> Result<([u8; 8], u32), Fail> {
-    let object = with_bytes(&ONE_PROGRAM, &[(SLOTS, slot)]);
+/// The slots of the object with one program, of which the first ones are changed to these, for a kernel
+/// that has or lacks the newer helpers, and how often the kernel is asked. The slots stay in the file.
+fn probed(
+    alloc: Global,
+    slots: &[[u8; 8]; 2],
+    has_helpers: bool,
+) -> Result<([[u8; 8]; 2], u32), Fail> {
+    let changes = [
+        (SLOTS, slots[0].as_slice()),
+        (SLOTS + 8, slots[1].as_slice()),
+    ];
+    let object = with_bytes(&ONE_PROGRAM, &changes);
     let settings = Settings::new(alloc);
     let mut symbols = Watched::new(io::empty());
     let mut asked = 0u32;
@@ -200,38 +238,36 @@ fn probed(alloc: Global, slot: &[u8], has_helpers: bool) -> Result<([u8; 8], u32
     );
     let plan = plan.map_err(|_| "refused")?;
     let program = plan.programs().first().ok_or("no program")?;
-    if !program.slots().is_borrowed() {
+    let slots = program.slots();
+    if !slots.is_borrowed() {
         return Err(Fail::from("copied"));
     }
-    let slot = program.slots().get(0).ok_or("no slot")?;
-    Ok((slot.to_bytes(), asked))
+    let first = slots.get(0).ok_or("no slot")?;
+    let second = slots.get(1).ok_or("one slot")?;
+    Ok(([first.to_bytes(), second.to_bytes()], asked))
 }
 
-// A slot, the one for a kernel that lacks the newer helpers, and how often a kernel is asked.
-const PROBES: [([u8; 8], [u8; 8], u32); 4] = [
-    (
-        [0x85, 0, 0, 0, 112, 0, 0, 0],
-        [0x85, 0, 0, 0, 4, 0, 0, 0],
-        1,
-    ),
-    (
-        [0x85, 0, 0, 0, 115, 0, 0, 0],
-        [0x85, 0, 0, 0, 45, 0, 0, 0],
-        1,
-    ),
-    (
-        [0x85, 0, 0, 0, 111, 0, 0, 0],
-        [0x85, 0, 0, 0, 111, 0, 0, 0],
-        0,
-    ),
-    ([0xb7, 0, 0, 0, 0, 0, 0, 0], [0xb7, 0, 0, 0, 0, 0, 0, 0], 0),
+/// A call of a helper of a number.
+fn call(helper: u8) -> [u8; 8] {
+    [0x85, 0, 0, 0, helper, 0, 0, 0]
+}
+
+// The numbers of the helpers that two slots call, those for a kernel that lacks the newer helpers, and
+// how often a kernel is asked.
+const PROBES: [([u8; 2], [u8; 2], u32); 4] = [
+    ([112, 6], [4, 6], 1),
+    ([6, 115], [6, 45], 1),
+    ([113, 114], [4, 45], 1),
+    ([111, 116], [111, 116], 0),
 ];
 
 #[test]
 fn older_helpers(rt: HostRuntime) -> Result<(), Fail> {
-    for (slot, older, asked) in PROBES {
-        assert_eq!(rt; probed(rt.alloc(), &slot, true)?, (slot, asked));
-        assert_eq!(rt; probed(rt.alloc(), &slot, false)?, (older, asked));
+    for (helpers, older, asked) in PROBES {
+        let slots = [call(helpers[0]), call(helpers[1])];
+        let older = [call(older[0]), call(older[1])];
+        assert_eq!(rt; probed(rt.alloc(), &slots, true)?, (slots, asked));
+        assert_eq!(rt; probed(rt.alloc(), &slots, false)?, (older, asked));
     }
     Ok(())
 }
