@@ -12,7 +12,7 @@ use Rattle.bpf_prepare.specs.declared.error.RunError.TheVariants.{Output, Refuse
 abbrev pub inputs_of : List ℕ → SettingsContent → Inputs
 inputs_of file settings = record { file = file; settings = settings }
 
--- something holds of the text of the plan of an object, for a kernel of which the predicate and an answer of the probe tell
+-- something holds of the text of the plan of an object under settings, for a kernel of which the predicate and an answer of the probe tell
 pub record HoldsOfText {F : Type 0} (predicate : Mut F (BtfFeature × Unit {0}) Bool) (before : F) (Says : Bool → Type 0) (inputs : Inputs) (Holds : List ℕ → Type 0) : Type 0 where
   pub plan : PlanContent
   pub planned : IsPlanned predicate before Says inputs plan

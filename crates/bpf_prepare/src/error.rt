@@ -38,7 +38,7 @@ pub enum ProgramError {
     /// The object's file can't be read.
     #[error("can't read {name:?}: {error}")]
     Read { name: String, error: io::Error },
-    /// There is no memory for the words, or for writing.
+    /// There is no memory for the words, the settings, or for writing.
     #[error("out of memory")]
     OutOfMemory,
     /// There is no plan, or it can't be written.

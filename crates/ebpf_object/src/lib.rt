@@ -24,6 +24,8 @@ pub use object_file::{ObjectFile, ReadSection, ReadSymbol, unnamed_symbol};
 pub use object_maps::Maps;
 pub use object_parts::{Function, Functions, Program, Programs};
 pub use places::{function_without_code, name_at};
+pub use relocation_errors::{EbpfRelocationError, RelocationError};
+pub use settings::Settings;
 pub use slot_relocation::NumberedMap;
 pub use unserved::Pass;
 

@@ -1,3 +1,4 @@
 pub mod Made
 pub mod Names
+pub mod Numbers
 pub mod Refused

@@ -21,7 +21,7 @@ use Rattle.settings.specs.Content.{SettingsContent}
 use Rattle.slot_relocation.specs.Laws.{HaveNumbers, NumbersAreWritten}
 use Rattle.slot_relocation.specs.Maps.{map_rule}
 use Rattle.slot_relocation.specs.Writes.{AreRelocated}
-use Rattle.load_plan.specs.Made.{ArePatchedMaps, IsBuilt, IsLinkedObject, IsMade, IsRun, IsServed, maps_given, source_for, without_maps}
+use Rattle.load_plan.specs.Made.{ArePatchedMaps, IsBuilt, IsLinkedObject, IsMade, IsRun, IsReady, maps_given, source_for, without_maps}
 
 abbrev Keyed : Type 0
 Keyed = List (Key × FunctionContent)
@@ -71,7 +71,7 @@ programs_of law predicate before settings maps object answers linked built h fun
     (subst (λ (o : ObjectContent). AreRun o run functions) slots.numbers.others
     (linked_run law built.text_sections h slots.relocated linked functions is slots.calls))
 
-pub made_of : RenamedVisitsSame → NumbersAreWritten → {F : Type 0} (predicate : Mut F (BtfFeature × Unit {0}) Bool) (before : F) (Says : Bool → Type 0) (settings : SettingsContent) (object : ObjectContent) (answers : Answers) (maps : List (List ℕ × MapView)) (linked made : ObjectContent) → IsServed settings object → ArePatchedMaps settings object maps → IsBuilt predicate before settings maps (without_maps object) answers linked → IsSanitized Says linked.functions made.functions → made ≡ record linked { functions = made.functions } → IsMade predicate before Says settings object answers maps made
+pub made_of : RenamedVisitsSame → NumbersAreWritten → {F : Type 0} (predicate : Mut F (BtfFeature × Unit {0}) Bool) (before : F) (Says : Bool → Type 0) (settings : SettingsContent) (object : ObjectContent) (answers : Answers) (maps : List (List ℕ × MapView)) (linked made : ObjectContent) → IsReady settings object → ArePatchedMaps settings object maps → IsBuilt predicate before settings maps (without_maps object) answers linked → IsSanitized Says linked.functions made.functions → made ≡ record linked { functions = made.functions } → IsMade predicate before Says settings object answers maps made
 made_of law written predicate before Says settings object answers maps linked made served patched built sanitized others =
     let kernel = kernel_of Says (has_newer_helper linked.functions) linked.functions made.functions sanitized in
     record {

@@ -28,6 +28,7 @@ use Rattle.settings.specs.Content.{SettingsContent}
 use Rattle.slot_relocation.specs.Writes.{AreRelocated, Rule, relocated}
 use Rattle.load_plan.specs.Made.{IsBuilt, IsMade, without_maps}
 use Rattle.load_plan.specs.Planned.{IsPlanOf}
+use Rattle.load_plan.proofs.Numbers.{named_maps}
 
 abbrev Keyed : Type 0
 Keyed = List (Key × FunctionContent)
@@ -95,6 +96,7 @@ plan_is records carry predicate before Says settings object answers maps made h 
   made = made;
   making = h;
   is = refl;
+  numbers = named_maps settings maps object.file h.built.text_sections;
   holds = holds;
   names = names records carry predicate before Says settings object answers maps made (map (plan_map settings) maps) h holds;
 }

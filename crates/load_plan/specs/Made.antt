@@ -24,9 +24,9 @@ use Rattle.slot_relocation.specs.Laws.{HaveNumbers}
 use Rattle.slot_relocation.specs.Maps.{MapsGiven, given, map_rule}
 use Rattle.slot_relocation.specs.Writes.{AreRelocated, CanBeRelocated}
 
--- An object that is served so far: each record that a function keeps names a function, no pass that doesn't exist yet has something
--- to do with it, and each of its maps has a number.
-pub record IsServed (settings : SettingsContent) (object : ObjectContent) : Type 0 where
+-- An object on which the passes can be made: each record that a function keeps names a function, no pass that doesn't exist yet has
+-- something to do with it, and each of its maps has a number.
+pub record IsReady (settings : SettingsContent) (object : ObjectContent) : Type 0 where
   pub named : all_named object.types object.functions ≡ true
   pub served : unserved object ≡ None
   pub numbered : are_numbered settings object.maps ≡ true
@@ -62,13 +62,13 @@ pub record IsLinkedObject (object : ObjectContent) (text_sections : List ℕ) (l
   pub sound : AllCanBeLinked (unlinked object.file text_sections object.functions) (program_keys object.programs)
   pub others : linked ≡ record object { functions = linked.functions }
 
--- first with numbers, then linked
+-- the object with its functions' slots written: first with the numbers of maps, then linked
 pub record AreSlotsWritten (settings : SettingsContent) (maps : List (List ℕ × MapView)) (object : ObjectContent) (text_sections : List ℕ) (linked : ObjectContent) : Type 0 where
   pub relocated : ObjectContent
   pub numbers : IsRelocatedObject (maps_given settings maps object text_sections) object relocated
   pub calls : IsLinkedObject relocated text_sections linked
 
--- The object with its types rewritten first, and then its slots written with the numbers of these maps.
+-- The object with its types rewritten first, and then its slots written with the numbers of these maps, and its programs linked.
 pub record IsBuilt {F : Type 0} (predicate : Mut F (BtfFeature × Unit {0}) Bool) (before : F) (settings : SettingsContent) (maps : List (List ℕ × MapView)) (object : ObjectContent) (answers : Answers) (linked : ObjectContent) : Type 0 where
   pub text_sections : List ℕ
   pub sections : AreTextSections object.functions text_sections
@@ -94,10 +94,10 @@ pub record IsRun (t : Table) (functions : List (Key × FunctionContent)) (own : 
   pub runs : RunsAs t own function.instructions
 
 -- What the passes make of an object that is served: the maps with values, and the object built, and with older helpers where the
--- probe says that the kernel lacks the newer ones. Each program runs as its functions do, in which the slots at which relocations for
--- maps stand carry these maps' numbers.
+-- probe says that the kernel lacks the newer ones. Each program runs as its functions do, in which the slots that relocations for maps
+-- write carry these maps' numbers.
 pub record IsMade {F : Type 0} (predicate : Mut F (BtfFeature × Unit {0}) Bool) (before : F) (Says : Bool → Type 0) (settings : SettingsContent) (object : ObjectContent) (answers : Answers) (maps : List (List ℕ × MapView)) (made : ObjectContent) : Type 0 where
-  pub served : IsServed settings object
+  pub served : IsReady settings object
   pub patched : ArePatchedMaps settings object maps
   pub linked : ObjectContent
   pub built : IsBuilt predicate before settings maps (without_maps object) answers linked

@@ -1,16 +1,19 @@
 -- The plan of a file under settings, and what is refused.
-use Rattle.std.specs.Prelude.{◌≡◌, ◌≢◌, ◌⊎◌, ℕ, List, Bool, map}
+use Rattle.std.specs.Prelude.{◌≡◌, ◌≢◌, ◌⊎◌, ℕ, pos, List, [], ◌∷◌, map, Some, Bool}
 use Rattle.std.specs.Fn.{Mut}
 use Rattle.btf_records.specs.declared.feature.BtfFeature.{BtfFeature}
 use Rattle.ebpf_items.specs.Maps.{MapView}
 use Rattle.ebpf_items.specs.declared.error.ParseError.TheVariants as error
+use Rattle.elf64.specs.Relocations.{Relocation}
 use Rattle.ebpf_object.specs.Faults.{HasFault, IsFaultless}
 use Rattle.ebpf_object.specs.ParsedObject.{IsParsed, ObjectContent}
 use Rattle.object_plan.specs.Plans.{AllNamed, HoldsTypeBytes, plan_of}
 use Rattle.plan_maps.specs.PlanMaps.{plan_map}
-use Rattle.plan_text.specs.Content.{PlanContent}
+use Rattle.plan_text.specs.Content.{MapContent, PlanContent}
 use Rattle.settings.specs.Content.{SettingsContent}
-use Rattle.load_plan.specs.Made.{IsMade}
+use Rattle.slot_relocation.specs.Laws.{map_of}
+use Rattle.slot_relocation.specs.Maps.{NumberedMap}
+use Rattle.load_plan.specs.Made.{IsMade, maps_given}
 use Rattle.load_plan.specs.Refusals.{IsObjectRefusal}
 use Rattle.load_plan.specs.declared.error.PrepareError.{PrepareError}
 use Rattle.load_plan.specs.declared.error.PrepareError.TheVariants.{Parse}
@@ -25,13 +28,20 @@ pub record IsWholeObject (file : List ℕ) (object : ObjectContent) : Type 0 whe
   pub faultless : IsFaultless file
   pub parsed : IsParsed file object
 
--- The plan of an object is that of what the passes make of it, with its maps by their numbers. Its bytes of types hold the rewritten
--- table, in which each record of a function names one of the name that it has in the object's.
+-- some map of a plan has this name and this number
+abbrev pub HasMap : List MapContent → NumberedMap → Type 0
+HasMap [] m = ⊥
+HasMap (p ∷ ps) m = ((p.name ≡ m.name) × (pos p.number ≡ m.number)) ⊎ HasMap ps m
+
+-- The plan of an object is that of what the passes make of it, with its maps by their numbers: a map that a relocation names is one
+-- of the plan. Its bytes of types hold the rewritten table, in which each record of a function names one of the name that it has in
+-- the object's.
 pub record IsPlanOf {F : Type 0} (predicate : Mut F (BtfFeature × Unit {0}) Bool) (before : F) (Says : Bool → Type 0) (settings : SettingsContent) (object : ObjectContent) (plan : PlanContent) : Type 0 where
   pub maps : List (List ℕ × MapView)
   pub made : ObjectContent
   pub making : IsMade predicate before Says settings object plan.features maps made
   pub is : plan ≡ plan_of plan.features (map (plan_map settings) maps) made
+  pub numbers : (r : Relocation) (m : NumberedMap) → map_of (maps_given settings maps object making.built.text_sections) r ≡ Some m → HasMap plan.maps m
   pub holds : HoldsTypeBytes made.types plan.type_bytes
   pub names : AllNamed object.types plan.type_bytes plan.programs
 

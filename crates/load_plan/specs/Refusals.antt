@@ -22,7 +22,7 @@ use Rattle.relocation_errors.specs.declared.error.RelocationError.TheVariants as
 use Rattle.settings.specs.Content.{SettingsContent}
 use Rattle.slot_relocation.specs.Maps.{MapsGiven, map_rule}
 use Rattle.slot_relocation.specs.Writes.{HasErrorIn}
-use Rattle.load_plan.specs.Made.{ArePatchedMaps, IsRelocatedObject, IsRewrittenObject, IsServed, maps_given, without_maps}
+use Rattle.load_plan.specs.Made.{ArePatchedMaps, IsRelocatedObject, IsRewrittenObject, IsReady, maps_given, without_maps}
 use Rattle.load_plan.specs.declared.error.PrepareError.{PrepareError}
 use Rattle.load_plan.specs.declared.error.PrepareError.TheVariants.{FunctionRecordType, MapNumberMissing, NotYet, OutOfMemory, Parse, Relocation, Types}
 
@@ -44,13 +44,13 @@ IsNumberRefusal settings object OutOfMemory = Unit {0}
 IsNumberRefusal settings object _ = ⊥
 
 -- what is refused before anything is made
-abbrev pub IsServedRefusal : SettingsContent → ObjectContent → PrepareError → Type 0
-IsServedRefusal settings object (FunctionRecordType function id) = IsNamelessRefusal object (FunctionRecordType function id)
-IsServedRefusal settings object (NotYet pass) = (all_named object.types object.functions ≡ true) × IsNotYetRefusal object (NotYet pass)
-IsServedRefusal settings object (MapNumberMissing name) =
+abbrev pub IsReadyRefusal : SettingsContent → ObjectContent → PrepareError → Type 0
+IsReadyRefusal settings object (FunctionRecordType function id) = IsNamelessRefusal object (FunctionRecordType function id)
+IsReadyRefusal settings object (NotYet pass) = (all_named object.types object.functions ≡ true) × IsNotYetRefusal object (NotYet pass)
+IsReadyRefusal settings object (MapNumberMissing name) =
     (all_named object.types object.functions ≡ true) × (unserved object ≡ None) × IsNumberRefusal settings object (MapNumberMissing name)
-IsServedRefusal settings object OutOfMemory = Unit {0}
-IsServedRefusal settings object _ = ⊥
+IsReadyRefusal settings object OutOfMemory = Unit {0}
+IsReadyRefusal settings object _ = ⊥
 
 -- this is wrong with the first global variable whose value can't be put into the maps
 abbrev pub IsGlobalsRefusal : SettingsContent → ObjectContent → PrepareError → Type 0
@@ -66,11 +66,11 @@ IsTypesRefusal predicate before object (Types e) = e ≢ btf.OutOfMemory → Can
 IsTypesRefusal predicate before object _ = ⊥
 
 -- a relocation for a map has this fault
-abbrev pub HasMapsFault : MapsGiven → ObjectContent → EbpfRelocationError → Type 0
-HasMapsFault g object e = HasErrorIn (map_rule g) object.file object.functions (option_map string_bytes e.function) e.error
+abbrev pub HasRelocationFault : MapsGiven → ObjectContent → EbpfRelocationError → Type 0
+HasRelocationFault g object e = HasErrorIn (map_rule g) object.file object.functions (option_map string_bytes e.function) e.error
 
 -- none has a fault, and a program can't be linked
-pub record HasCallsFault (g : MapsGiven) (object : ObjectContent) (text_sections : List ℕ) (e : EbpfRelocationError) : Type 0 where
+pub record HasLinkingFault (g : MapsGiven) (object : ObjectContent) (text_sections : List ℕ) (e : EbpfRelocationError) : Type 0 where
   pub relocated : ObjectContent
   pub numbers : IsRelocatedObject g object relocated
   pub fault : HasFaultOf (unlinked relocated.file text_sections relocated.functions) relocated.programs (option_map string_bytes e.function) e.error
@@ -78,11 +78,11 @@ pub record HasCallsFault (g : MapsGiven) (object : ObjectContent) (text_sections
 -- the slots of an object can't be written with the numbers of these maps
 abbrev pub IsSlotsRefusal : SettingsContent → List (List ℕ × MapView) → ObjectContent → List ℕ → PrepareError → Type 0
 IsSlotsRefusal settings maps object text_sections (Relocation e) =
-    e.error ≢ relocation.OutOfMemory → HasMapsFault (maps_given settings maps object text_sections) object e ⊎ HasCallsFault (maps_given settings maps object text_sections) object text_sections e
+    e.error ≢ relocation.OutOfMemory → HasRelocationFault (maps_given settings maps object text_sections) object e ⊎ HasLinkingFault (maps_given settings maps object text_sections) object text_sections e
 IsSlotsRefusal settings maps object text_sections OutOfMemory = Unit {0}
 IsSlotsRefusal settings maps object text_sections _ = ⊥
 
--- so it is behind the rewriting of its types
+-- its types are rewritten, and then its slots can't be written
 pub record CannotWriteSlots {F : Type 0} (predicate : Mut F (BtfFeature × Unit {0}) Bool) (before : F) (settings : SettingsContent) (maps : List (List ℕ × MapView)) (object : ObjectContent) (e : PrepareError) : Type 0 where
   pub text_sections : List ℕ
   pub sections : AreTextSections object.functions text_sections
@@ -100,12 +100,12 @@ IsBuildingRefusal predicate before settings maps object _ = ⊥
 
 -- an object is served, and its global variables' values can't be put into its maps
 pub record IsUnpatched (settings : SettingsContent) (object : ObjectContent) (e : PrepareError) : Type 0 where
-  pub served : IsServed settings object
+  pub served : IsReady settings object
   pub refusal : IsGlobalsRefusal settings object e
 
 -- they can, and it can't be built
 pub record IsUnbuilt {F : Type 0} (predicate : Mut F (BtfFeature × Unit {0}) Bool) (before : F) (settings : SettingsContent) (object : ObjectContent) (e : PrepareError) : Type 0 where
-  pub served : IsServed settings object
+  pub served : IsReady settings object
   pub maps : List (List ℕ × MapView)
   pub patched : ArePatchedMaps settings object maps
   pub refusal : IsBuildingRefusal predicate before settings maps (without_maps object) e
@@ -113,9 +113,9 @@ pub record IsUnbuilt {F : Type 0} (predicate : Mut F (BtfFeature × Unit {0}) Bo
 -- what a refusal says of an object that was parsed, memory apart
 abbrev pub IsObjectRefusal : {F : Type 0} → Mut F (BtfFeature × Unit {0}) Bool → F → SettingsContent → ObjectContent → PrepareError → Type 0
 IsObjectRefusal predicate before settings object (Parse e) = IsUnpatched settings object (Parse e)
-IsObjectRefusal predicate before settings object (FunctionRecordType function id) = IsServedRefusal settings object (FunctionRecordType function id)
-IsObjectRefusal predicate before settings object (NotYet pass) = IsServedRefusal settings object (NotYet pass)
-IsObjectRefusal predicate before settings object (MapNumberMissing name) = IsServedRefusal settings object (MapNumberMissing name)
+IsObjectRefusal predicate before settings object (FunctionRecordType function id) = IsReadyRefusal settings object (FunctionRecordType function id)
+IsObjectRefusal predicate before settings object (NotYet pass) = IsReadyRefusal settings object (NotYet pass)
+IsObjectRefusal predicate before settings object (MapNumberMissing name) = IsReadyRefusal settings object (MapNumberMissing name)
 IsObjectRefusal predicate before settings object (Types e) = IsUnbuilt predicate before settings object (Types e)
 IsObjectRefusal predicate before settings object (Relocation e) = IsUnbuilt predicate before settings object (Relocation e)
 IsObjectRefusal predicate before settings object OutOfMemory = Unit {0}

@@ -27,6 +27,7 @@ pub enum PrepareError {
     /// A pass that doesn't exist yet has something to do with the object.
     #[error("not yet: {}", subject(*pass))]
     NotYet {
+        /// The first such pass.
         pass: Pass,
     },
     /// No number is set for a map.

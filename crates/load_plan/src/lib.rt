@@ -9,11 +9,11 @@ mod planning;
 
 pub use btf_records::{BtfError, BtfFeature};
 pub use btf_tables::Btf;
-pub use ebpf_object::{ParseError, Pass, ProgramSection, Slots, Watched, bpf_insn};
+pub use ebpf_object::{ParseError, Pass, PinningType, ProgramSection, Slots, Watched, bpf_insn};
 pub use error::PrepareError;
 pub use order::Order;
 pub use places::{Place, place_of};
-pub use plan_text::{Answers, Plan, PlanProgram};
+pub use plan_text::{Answers, MapWords, Plan, PlanMap, PlanProgram};
 pub use planning::prepare;
 pub use relocation_errors::{EbpfRelocationError, RelocationError};
 pub use settings::Settings;

@@ -3,8 +3,8 @@
 ghost use Rattle.std.specs.Prelude.{◌≡◌, [], None, true, IfErr, IfOk, OnOk};
 ghost use Rattle.ebpf_object.specs.Unserved.{unserved};
 ghost use Rattle.function_types.specs.Named.{all_named};
-ghost use Rattle.load_plan.specs.Made.{ArePatchedMaps, AreSlotsWritten, IsBuilt, IsMade, IsRelocatedObject, IsServed, maps_given, without_maps};
-ghost use Rattle.load_plan.specs.Refusals.{IsBuildingRefusal, IsGlobalsRefusal, IsNamelessRefusal, IsNotYetRefusal, IsNumberRefusal, IsObjectRefusal, IsServedRefusal, IsSlotsRefusal};
+ghost use Rattle.load_plan.specs.Made.{ArePatchedMaps, AreSlotsWritten, IsBuilt, IsMade, IsRelocatedObject, IsReady, maps_given, without_maps};
+ghost use Rattle.load_plan.specs.Refusals.{IsBuildingRefusal, IsGlobalsRefusal, IsNamelessRefusal, IsNotYetRefusal, IsNumberRefusal, IsObjectRefusal, IsReadyRefusal, IsSlotsRefusal};
 ghost use Rattle.plan_maps.specs.Numbers.{are_numbered};
 
 use crate::error::PrepareError;
@@ -67,8 +67,8 @@ fn require_ready(
     settings: &Settings<'_>,
     object: &Object<'_>,
 ) -> Result<(), PrepareError>
-    ensures served { OnOk result (IsServed settings.now object.now) }
-    ensures refused { IfErr result (IsServedRefusal settings.now object.now) }
+    ensures served { OnOk result (IsReady settings.now object.now) }
+    ensures refused { IfErr result (IsReadyRefusal settings.now object.now) }
 {
     require_named(alloc, object)?;
     require_served(object)?;
@@ -132,7 +132,7 @@ pub(crate) struct Made<'a> {
     pub(crate) maps: Maps<'a>,
 }
 
-/// Makes of an object what its plan is made of.
+/// Makes the passes over an object, of whose result its plan is made.
 pub(crate) fn make<'a, F: FnMut(BtfFeature) -> bool, P: FnOnce() -> bool>(
     alloc: Global,
     settings: &Settings<'_>,

@@ -25,7 +25,7 @@ fn parse<'a>(alloc: Global, file: &'a [u8]) -> Result<Object<'a>, PrepareError>
     Ok(Object::parse(alloc, file)?)
 }
 
-/// The plan of an object, of which all is made that the plan is made of.
+/// The plan of what all passes make of a parsed object.
 fn plan_object<'a, F: FnMut(BtfFeature) -> bool, P: FnOnce() -> bool>(
     alloc: Global,
     settings: &Settings<'_>,
@@ -69,7 +69,7 @@ fn plan_file<'a, F: FnMut(BtfFeature) -> bool, P: FnOnce() -> bool>(
 ///
 /// `kernel_types` are the kernel's types, `symbols` its symbols as `/proc/kallsyms` lists them,
 /// `predicate` says whether it takes a feature of types, and `probe` whether it has the newer helpers
-/// that read memory, in place of which older ones are called else. The passes that look at kernel
+/// that read memory: where it lacks them, older ones are called. The passes that look at kernel
 /// types, symbols and the order don't exist yet: an object with which they have something to do is
 /// refused. A number that is set for a map that the object hasn't is ignored.
 ///

@@ -17,7 +17,7 @@ pub enum RelocationError {
     UnknownSymbol {
         index: usize,
     },
-    /// No map is made of the symbol's section. `section_index` counts the section headers,
+    /// No map is given for the symbol or its section. `section_index` counts the section headers,
     /// `symbol_index` the symbol table's entries.
     #[error("no map for section {section_index} of symbol {symbol_index}, name {symbol_name:?}")]
     SectionNotFound {

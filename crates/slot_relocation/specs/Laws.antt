@@ -45,7 +45,7 @@ pub record CarriesNumber (g : MapsGiven) (r : Relocation) (s : bpf_insn) : Type 
   pub number : s.imm ≡ map.number
   pub source : src_reg_of s ≡ mark_of map.map.contents
 
--- after all relocations the slot at which one of them stands that writes carries the number of its map, whatever the others write
+-- after all relocations a slot at which one of them stands and writes carries the number of its map, whatever the others write
 pub record SlotsCarryNumbers : Type 0 where
   pub each : (g : MapsGiven) (f : FunctionContent) (r : ℕ × Relocation) (w : Write) → Writes g f r w → (s : bpf_insn) × (slice_get (slots_after g f) (place_in f r) ≡ Some s) × CarriesNumber g r.1 s
 

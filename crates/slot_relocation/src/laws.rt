@@ -3,8 +3,8 @@
 
 ghost use Rattle.slot_relocation.specs.Laws.{LengthsStay, NumbersAreWritten, OthersStay, SlotsCarryNumbers};
 
-/// The slot at which a relocation by a map, or by a variable of it, stands that writes carries the
-/// map's number after all relocations, whatever the others write.
+/// After all relocations, a slot at which one by a map, or by a variable of it, stands and writes
+/// carries the map's number, whatever the others write.
 pub fn slots_carry_numbers()
     ensures { SlotsCarryNumbers }
 {}

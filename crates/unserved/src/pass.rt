@@ -7,6 +7,6 @@ pub enum Pass {
     TypeRelocations,
     /// Externs are resolved.
     Externs,
-    /// Slots get what the externs are that relocations name.
+    /// Slots get the ids or addresses of the externs that relocations name.
     ExternRelocations,
 }
