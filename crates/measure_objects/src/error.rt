@@ -8,7 +8,7 @@ use thiserror::Error;
 
 #[derive(Debug, Drop, Error)]
 pub(crate) enum MeasureError {
-    #[error("call it with a file")]
+    #[error("call it with a file, and with the number of variables that get values")]
     Usage,
     #[error("{0}")]
     Io(#[from] io::Error),

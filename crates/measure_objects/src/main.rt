@@ -1,31 +1,18 @@
-//! Measures how long it takes to parse an object, and to link to each of its programs the functions
-//! that it leads to.
+//! Measures how long it takes to parse an object, to link to each of its programs the functions that
+//! it leads to, and to put values into its maps and their numbers into its slots.
 #![tactic(auto)]
 
 mod error;
+mod maps;
+mod times;
 
 use ebpf_object::Object;
 use error::MeasureError;
+use maps::{measure_numbers, measure_values};
 use std::process::ExitCode;
 use std::time::Instant;
-use std::{env, fs, io};
-
-/// So many times everything but the first parse is measured.
-const ROUNDS: u32 = 5;
-
-/// The microseconds since a moment.
-fn micros(rt: &HostRuntime, start: Instant) -> Result<u128, io::Error> {
-    Ok(start.elapsed(rt)?.as_micros())
-}
-
-/// Prints the least and the middle of times.
-fn print_times(rt: &HostRuntime, what: &str, mut times: Vec<u128>) -> Result<(), MeasureError> {
-    times.sort()?;
-    let least = times.first().copied().unwrap_or(0);
-    let middle = times.get(times.len() / 2).copied().unwrap_or(0);
-    println!(rt; "{what}: least {least} us, middle {middle} us")?;
-    Ok(())
-}
+use std::{env, fs};
+use times::{ROUNDS, micros, print_times};
 
 /// The slots of all functions of an object.
 fn slot_count(object: &Object<'_>) -> u64 {
@@ -42,10 +29,11 @@ fn measure_first(rt: &HostRuntime, bytes: &[u8]) -> Result<(), MeasureError> {
     let object = Object::parse(rt.alloc(), bytes)?;
     let time = micros(rt, start)?;
     println!(rt;
-        "{} programs, {} functions of {} slots in {} bytes, first parsed in {time} us",
+        "{} programs, {} functions of {} slots, {} maps in {} bytes, first parsed in {time} us",
         object.programs().len(),
         object.functions().len(),
         slot_count(&object),
+        object.maps().len(),
         bytes.len()
     )?;
     Ok(())
@@ -81,6 +69,14 @@ fn measure_linking(rt: &HostRuntime, bytes: &[u8]) -> Result<(), MeasureError> {
     print_times(rt, "linked", times)
 }
 
+/// How many variables get values: as many as a word says, and all where there is none.
+fn most_variables(word: Option<String>) -> Result<usize, MeasureError> {
+    match word {
+        Some(word) => word.parse().map_err(|_| MeasureError::Usage),
+        None => Ok(usize::MAX),
+    }
+}
+
 /// Measures the object of the file that the command line names.
 fn measure(rt: &HostRuntime) -> Result<(), MeasureError> {
     let mut words = env::args(rt)?;
@@ -88,10 +84,13 @@ fn measure(rt: &HostRuntime) -> Result<(), MeasureError> {
     let Some(file) = words.next() else {
         return Err(MeasureError::Usage);
     };
+    let most = most_variables(words.next())?;
     let bytes = fs::read(rt, file.as_str())?;
     measure_first(rt, bytes.as_slice())?;
     measure_parsing(rt, bytes.as_slice())?;
-    measure_linking(rt, bytes.as_slice())
+    measure_linking(rt, bytes.as_slice())?;
+    measure_numbers(rt, bytes.as_slice())?;
+    measure_values(rt, bytes.as_slice(), most)
 }
 
 fn main(rt: HostRuntime) -> ExitCode {

@@ -1,0 +1,26 @@
+//! Times that are measured.
+
+use crate::error::MeasureError;
+use std::io;
+use std::time::Instant;
+
+/// So many times everything but the first parse is measured.
+pub(crate) const ROUNDS: u32 = 5;
+
+/// The microseconds since a moment.
+pub(crate) fn micros(rt: &HostRuntime, start: Instant) -> Result<u128, io::Error> {
+    Ok(start.elapsed(rt)?.as_micros())
+}
+
+/// Prints the least and the middle of times.
+pub(crate) fn print_times(
+    rt: &HostRuntime,
+    what: &str,
+    mut times: Vec<u128>,
+) -> Result<(), MeasureError> {
+    times.sort()?;
+    let least = times.first().copied().unwrap_or(0);
+    let middle = times.get(times.len() / 2).copied().unwrap_or(0);
+    println!(rt; "{what}: least {least} us, middle {middle} us")?;
+    Ok(())
+}
