@@ -1,5 +1,7 @@
 //! Objects of one program, and what is wrong with others.
 
+mod helpers;
+mod two_functions;
 mod variables;
 
 use crate::Object;

@@ -1,6 +1,7 @@
-//! Why an object isn't printed.
+//! Why the steps over objects end early.
 
 use ebpf_object::ParseError;
+use relocation_errors::EbpfRelocationError;
 use std::alloc::{AllocError, AllocFailed};
 use std::io;
 use std::io::ErrorKind;
@@ -14,6 +15,8 @@ pub(crate) enum RunError {
     Io(#[from] io::Error),
     #[error("{0}")]
     Parse(#[from] ParseError),
+    #[error("{0}")]
+    Relocation(#[from] EbpfRelocationError),
     #[error("out of memory")]
     OutOfMemory(#[from] AllocError),
 }
