@@ -8,9 +8,9 @@ use Rattle.slot_relocation.specs.Writes.{AreRelocated, relocated}
 
 have_numbers : SlotsCarryNumbers → OthersStay → LengthsStay → (g : MapsGiven) (old new : List ((ℕ × ℕ) × FunctionContent)) → AreRelocated (map_rule g) g.file old new → HaveNumbers g old new
 have_numbers carry stay lengths g old new are key f at = (
-    relocated (map_rule g) g.file f,
-    are.at key ∙ ap (option_map (relocated (map_rule g) g.file)) at,
-    record { numbers = carry.each g f; others = stay.each g f; as_many = lengths.each g f },
+  relocated (map_rule g) g.file f,
+  are.at key ∙ ap (option_map (relocated (map_rule g) g.file)) at,
+  record { numbers = carry.each g f; others = stay.each g f; as_many = lengths.each g f },
 )
 
 pub numbers_are_written : SlotsCarryNumbers → OthersStay → LengthsStay → NumbersAreWritten
