@@ -3,12 +3,8 @@
 #![tactic(auto)]
 
 mod item;
-#[cfg(test)]
-mod plain;
 mod reading;
 mod rewriting;
-#[cfg(test)]
-mod tests;
 mod view;
 mod writing;
 

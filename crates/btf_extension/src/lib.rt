@@ -11,8 +11,6 @@ mod record;
 mod region;
 mod relocations;
 mod sec_info;
-#[cfg(test)]
-mod tests;
 
 pub use extension::{BtfExt, FuncInfo};
 pub use record::{bpf_core_relo, bpf_func_info, bpf_line_info};

@@ -13,8 +13,6 @@ mod items;
 mod kind;
 mod references;
 mod scalars;
-#[cfg(test)]
-mod tests;
 mod types;
 mod variables;
 mod words;

@@ -24,6 +24,3 @@ pub use relocation_kind::RelocationKind;
 pub use section::Section;
 pub use slot_list::{SlotIter, Slots, copy_instructions};
 pub use watched::Watched;
-
-#[cfg(test)]
-mod tests;

@@ -20,6 +20,3 @@ pub use relocation::RelocView;
 pub use relocation_section::{RelocationSectionView, RelocationSections, Relocations};
 pub use section::{SectionView, Sections};
 pub use symbol::{SymbolView, Symbols};
-
-#[cfg(test)]
-mod tests;

@@ -13,6 +13,3 @@ pub use attach::{
 pub use bindings::{InvalidTypeBinding, bpf_attach_type, bpf_map_type, bpf_prog_type};
 pub use program_section::{InvalidSection, ProgramSection};
 pub use section_kind::EbpfSectionKind;
-
-#[cfg(test)]
-mod tests;

@@ -7,6 +7,3 @@ mod text;
 
 pub use long_texts::LongTexts;
 pub use text::{is_text_at, text_at};
-
-#[cfg(test)]
-mod tests;

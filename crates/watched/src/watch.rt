@@ -140,6 +140,3 @@ impl<W: Write> Watched<W> {
         let _ = self.write_all(bytes);
     }
 }
-
-#[cfg(test)]
-mod tests;

@@ -2,7 +2,9 @@
 
 ghost use Rattle.std.specs.Prelude.{◌<◌, IfOk, vec_len};
 
-use crate::{TypeRef, plain, push_type, record_len};
+use crate::plain;
+use crate::sections::{ORDERS, push_words};
+use btf_encoding::{TypeRef, push_type, record_len};
 use btf_records::{
     Array, BtfEnum, BtfEnum64, BtfError, BtfKind, BtfMember, BtfParam, BtfType, Const, DataSec,
     DataSecEntry, DeclTag, Endianness, Enum, Enum64, Float, Func, FuncLinkage, FuncProto, Fwd, Int,
@@ -10,8 +12,6 @@ use btf_records::{
 };
 use std::alloc::{AllocError, Global};
 use std::test::Fail;
-
-const ORDERS: [Endianness; 2] = [Endianness::Little, Endianness::Big];
 
 /// The words of a record of each kind, in order of kind, and of others that are written as they are
 /// read: bits that have no meaning are kept.
@@ -58,12 +58,7 @@ static OTHERS: [[&[u32]; 2]; 4] = [
 /// The bytes of words.
 fn spelled(alloc: Global, order: Endianness, words: &[u32]) -> Result<Vec<u8>, AllocError> {
     let mut bytes = Vec::new(alloc);
-    for word in words {
-        match order {
-            Endianness::Little => bytes.extend_from_slice(&word.to_le_bytes())?,
-            Endianness::Big => bytes.extend_from_slice(&word.to_be_bytes())?,
-        }
-    }
+    push_words(&mut bytes, order, words)?;
     Ok(bytes)
 }
 

@@ -3,8 +3,8 @@ use Rattle.std.specs.Result.{result_ok}
 use Rattle.btf_sanitizing.specs.Facts.{number_named}
 use Rattle.btf_tables.specs.Carrying.{stays_in}
 use Rattle.btf_tables.specs.Sanitizing.{facts_in, stepped}
-use Rattle.sanitizing_tests.proofs.Sizes.{same_size}
-use Rattle.sanitizing_tests.proofs.carried.size_behind.Goals as goal
+use Rattle.test_rewriting.proofs.Sizes.{same_size}
+use Rattle.test_rewriting.proofs.carried.size_behind.Goals as goal
 
 pub returns : goal.returns
 returns g c = λ reached left here.

@@ -1,6 +1,8 @@
-use crate::{LongTexts, is_text_at, text_at};
+//! Texts of string tables, short and long.
+
 use std::alloc::{AllocError, Global};
 use std::test::Fail;
+use string_table::{LongTexts, is_text_at, text_at};
 
 /// `ab`, the empty text, `é`, bytes that are no UTF-8, and a text that no NUL ends.
 static STRINGS: [u8; 12] = *b"ab\0\0\xc3\xa9\0\xff\x61\0xy";

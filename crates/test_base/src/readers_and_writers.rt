@@ -2,9 +2,9 @@
 
 ghost use Rattle.std.specs.Prelude.{◌≤◌, IfOk};
 
-use super::Watched;
 use std::io;
 use std::io::{ErrorKind, Read, Write};
+use watched::Watched;
 
 // Reads and writes a byte a call, so many times; then it fails, or answers 0.
 #[derive(Drop)]
@@ -46,31 +46,26 @@ impl Write for Scarce {
     }
 }
 
-// A watched reader or writer of so many bytes that passes on so many calls.
-fn watched(left: usize, fails: bool, calls_left: u64) -> Watched<Scarce> {
-    Watched {
-        inner: Scarce {
-            left,
-            calls: 0,
-            fails,
-        },
-        calls_left,
-        has_failed: false,
-    }
+// A watched reader or writer of so many bytes.
+fn watched(left: usize, fails: bool) -> Watched<Scarce> {
+    Watched::new(Scarce {
+        left,
+        calls: 0,
+        fails,
+    })
 }
 
-// Bytes, whether it fails after them, calls, and the counts that four reads answer (none for a
-// failure); then how many calls reached the reader.
-const READS: [(usize, bool, u64, [Option<usize>; 4], usize); 3] = [
-    (2, true, 9, [Some(1), Some(1), None, None], 3),
-    (2, false, 9, [Some(1), Some(1), Some(0), Some(0)], 4),
-    (9, true, 1, [Some(1), None, None, None], 1),
+// Bytes, whether it fails after them, and the counts that four reads answer (none for a failure);
+// then how many calls reached the reader.
+const READS: [(usize, bool, [Option<usize>; 4], usize); 2] = [
+    (2, true, [Some(1), Some(1), None, None], 3),
+    (2, false, [Some(1), Some(1), Some(0), Some(0)], 4),
 ];
 
 #[test]
 fn keeps_a_reader_s_failure(rt: HostRuntime) {
-    for (left, fails, calls_left, answers, calls) in READS.iter() {
-        let mut reader = watched(*left, *fails, *calls_left);
+    for (left, fails, answers, calls) in READS.iter() {
+        let mut reader = watched(*left, *fails);
         for answer in answers {
             assert_eq!(rt; reader.read(&mut [0; 4]).ok(), *answer);
             assert_eq!(rt; reader.failed(), answer.is_none());
@@ -79,19 +74,15 @@ fn keeps_a_reader_s_failure(rt: HostRuntime) {
     }
 }
 
-// Bytes, whether it fails after them, calls, and whether five bytes are written; then how many
-// calls reached the writer.
-const WRITES: [(usize, bool, u64, bool, usize); 4] = [
-    (5, true, 9, true, 5),
-    (4, true, 9, false, 5),
-    (4, false, 9, false, 5),
-    (9, false, 3, false, 3),
-];
+// Bytes, whether it fails after them, and whether five bytes are written; then how many calls
+// reached the writer.
+const WRITES: [(usize, bool, bool, usize); 3] =
+    [(5, true, true, 5), (4, true, false, 5), (4, false, false, 5)];
 
 #[test]
 fn keeps_a_writer_s_failure(rt: HostRuntime) {
-    for (left, fails, calls_left, is_written, calls) in WRITES.iter() {
-        let mut writer = watched(*left, *fails, *calls_left);
+    for (left, fails, is_written, calls) in WRITES.iter() {
+        let mut writer = watched(*left, *fails);
         writer.send(b"plan\n");
         writer.send(b"");
         assert_eq!(rt; writer.failed(), !*is_written);
@@ -101,7 +92,7 @@ fn keeps_a_writer_s_failure(rt: HostRuntime) {
         assert_eq!(rt; writer.into_inner().calls, *calls);
     }
     // Nothing that is asked for is no failure where nothing is taken.
-    let mut writer = watched(0, false, 9);
+    let mut writer = watched(0, false);
     assert!(rt; matches!(writer.write(b""), Ok(0)));
     assert!(rt; writer.write(b"x").is_err());
 }

@@ -1,4 +1,4 @@
-//! Tests of crates over their public calls.
+//! Tests of records, of type tables and of what stands beside these.
 #![tactic(auto)]
 
 #[cfg(test)]
@@ -9,6 +9,14 @@ mod asking;
 mod candidates;
 #[cfg(test)]
 mod comparisons;
+#[cfg(test)]
+mod encoding;
+#[cfg(test)]
+mod extension;
+#[cfg(test)]
+mod plain;
+#[cfg(test)]
+mod records;
 #[cfg(test)]
 mod sections;
 #[cfg(test)]

@@ -3,7 +3,7 @@
 ghost use Rattle.std.specs.Prelude.{◌≡◌, take};
 ghost use Rattle.ebpf_items.specs.Maps.{map_view};
 
-use crate::{
+use ebpf_items::{
     BtfMap, BtfMapDef, EbpfSectionKind, LegacyMap, Map, ParseError, PinningType, RelocationKind,
     Section, Slots, bpf_insn, bpf_map_def, bpf_map_info, copy_instructions, parse_map_info,
 };

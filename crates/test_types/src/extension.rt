@@ -1,8 +1,10 @@
 //! Sections by hand, from the kernel's BTF documentation, in both byte orders.
 
-use crate::{BtfExt, FuncSecInfo, LineSecInfo, bpf_core_relo, bpf_func_info, bpf_line_info};
-use btf_records::{BtfError, Endianness};
-use btf_tables::Btf;
+use crate::sections::{ORDERS, push_words};
+use btf::{
+    Btf, BtfError, BtfExt, Endianness, FuncSecInfo, LineSecInfo, bpf_core_relo, bpf_func_info,
+    bpf_line_info,
+};
 use std::alloc::{AllocError, Global};
 use std::process::Abort;
 
@@ -12,8 +14,6 @@ const TABLE: [u8; 43] = [
     0x9f, 0xeb, 1, 0, 24, 0, 0, 0, 0, 0, 0, 0, 0, 0, 0, 0, 0, 0, 0, 0, 19, 0, 0, 0, 0, 0x2e, 0x74,
     0x65, 0x78, 0x74, 0, 0x78, 0x64, 0x70, 0, 0x2e, 0x74, 0x65, 0x78, 0x74, 0, 0xff, 0,
 ];
-
-const ORDERS: [Endianness; 2] = [Endianness::Little, Endianness::Big];
 
 /// What a section answers, in values that can be compared.
 #[derive(Clone, Copy, Debug, PartialEq, Eq)]
@@ -326,13 +326,6 @@ static BYTES: [(&[u8], Answer); 4] = [
     ),
 ];
 
-fn push_word(out: &mut Vec<u8>, order: Endianness, word: u32) -> Result<(), AllocError> {
-    match order {
-        Endianness::Little => out.extend_from_slice(&word.to_le_bytes()),
-        Endianness::Big => out.extend_from_slice(&word.to_be_bytes()),
-    }
-}
-
 /// The section of these words.
 fn section(alloc: Global, order: Endianness, words: &[u32]) -> Result<Vec<u8>, AllocError> {
     let mut out = Vec::new(alloc);
@@ -340,9 +333,7 @@ fn section(alloc: Global, order: Endianness, words: &[u32]) -> Result<Vec<u8>, A
         Endianness::Little => out.extend_from_slice(&[0x9f, 0xeb, 1, 0])?,
         Endianness::Big => out.extend_from_slice(&[0xeb, 0x9f, 1, 0])?,
     }
-    for word in words {
-        push_word(&mut out, order, *word)?;
-    }
+    push_words(&mut out, order, words)?;
     Ok(out)
 }
 

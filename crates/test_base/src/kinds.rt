@@ -3,7 +3,7 @@
 ghost use Rattle.std.specs.Prelude.{◌≡◌, Some, None, IfSome, codes, map, slice_get, true, false};
 ghost use Rattle.program_kinds.specs.ProgramSection.{plain_kinds, user_probe_kinds, sleepable_kinds, xdp_kinds, sk_skb_kinds, sk_reuseport_kinds, cgroup_skb_kinds, cgroup_kinds, kind_of_pieces};
 
-use crate::{
+use program_kinds::{
     CgroupSkbAttachType, CgroupSockAttachType, EbpfSectionKind, ProgramSection, XdpAttachType,
     bpf_attach_type, bpf_map_type, bpf_prog_type,
 };

@@ -1,6 +1,6 @@
 //! Small objects in both byte orders, read and refused.
 
-use crate::{ElfError, ElfFile, RelocView, SymbolKind};
+use elf64::{ElfError, ElfFile, RelocView, SymbolKind};
 use sample_objects::{ONE_PROGRAM, ONE_PROGRAM_BIG, with_bytes};
 use std::process::Abort;
 use std::test::Fail;

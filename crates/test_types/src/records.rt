@@ -1,6 +1,6 @@
 //! Words, kinds and info words by hand from the kernel's BTF documentation.
 
-use crate::{BtfError, BtfKind, Endianness, InfoBits, VarLinkage, half_word, push_half_word};
+use btf_records::{BtfError, BtfKind, Endianness, InfoBits, VarLinkage, half_word, push_half_word};
 use std::test::Fail;
 
 #[test]
