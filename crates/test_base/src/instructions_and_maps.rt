@@ -187,14 +187,10 @@ fn outer_maps(alloc: Global, contents: Vec<u8>, more: Vec<u8>) -> [Map; 2] {
         symbol_index: Some(1),
         contents,
     };
-    let typed = BtfMap {
-        def: BtfMapDef::default(),
-        inner_def: Some(BtfMapDef::default()),
-        section_index: 3,
-        symbol_index: 1,
-        contents: more,
-    };
-    [Map::Legacy(constants), Map::Btf(typed)]
+    let words = BtfMapDef::default();
+    let mut typed = Map::Btf(BtfMap::new(alloc, words, Some(words), 3, 1));
+    *typed.data_mut() = more;
+    [Map::Legacy(constants), typed]
 }
 
 #[test]

@@ -76,8 +76,11 @@ fn keeps_a_reader_s_failure(rt: HostRuntime) {
 
 // Bytes, whether it fails after them, and whether five bytes are written; then how many calls
 // reached the writer.
-const WRITES: [(usize, bool, bool, usize); 3] =
-    [(5, true, true, 5), (4, true, false, 5), (4, false, false, 5)];
+const WRITES: [(usize, bool, bool, usize); 3] = [
+    (5, true, true, 5),
+    (4, true, false, 5),
+    (4, false, false, 5),
+];
 
 #[test]
 fn keeps_a_writer_s_failure(rt: HostRuntime) {

@@ -1,15 +1,15 @@
 //! Records read slowly, as their definition says.
 
-ghost use Rattle.std.specs.Prelude.{◌≡◌, ◌+◌, ◌*◌, ◌<◌, ◌≤◌, SomeIff, length};
+ghost use Rattle.std.specs.Prelude.{◌≡◌, ◌+◌, ◌<◌, ◌≤◌, SomeIff, length};
 ghost use Rattle.btf_records.specs.Kinds.{kind_count, kind_of};
 ghost use Rattle.btf_records.specs.Words.{word_at};
-ghost use Rattle.btf_encoding.specs.Records.{HasRecord, len_behind, record_len};
+ghost use Rattle.btf_encoding.specs.Records.{kind_number_at, len_behind, record_len};
 
 use btf_records::Endianness;
 
 /// The word at an offset, from its four bytes.
 #[tactic(auto, unfolding(btf_records::specs::Words::word_at))]
-pub(crate) fn word(order: Endianness, bytes: &[u8], offset: usize) -> u32
+fn word(order: Endianness, bytes: &[u8], offset: usize) -> u32
     requires { offset + 4 ≤ length bytes.now }
     ensures { result ≡ word_at order bytes.now offset }
 {
@@ -40,7 +40,7 @@ fn len_of(kind: u32, count: usize) -> Option<usize>
 
 /// The number of bytes of the record that the bytes begin with.
 pub(crate) fn len(order: Endianness, bytes: &[u8]) -> Option<usize>
-    ensures { SomeIff result (HasRecord order bytes.now) (record_len order bytes.now) }
+    ensures { SomeIff result ((12 ≤ length bytes.now) × (kind_number_at order bytes.now < kind_count) × (record_len order bytes.now ≤ length bytes.now)) (record_len order bytes.now) }
 {
     if bytes.len() < 12 {
         return None;
