@@ -53,7 +53,11 @@ fn push_word(out: &mut Vec<u8>, order: Endianness, word: u32) -> Result<(), Allo
 }
 
 /// Writes words.
-pub(crate) fn push_words(out: &mut Vec<u8>, order: Endianness, words: &[u32]) -> Result<(), AllocError> {
+pub(crate) fn push_words(
+    out: &mut Vec<u8>,
+    order: Endianness,
+    words: &[u32],
+) -> Result<(), AllocError> {
     for word in words {
         push_word(out, order, *word)?;
     }
