@@ -1,7 +1,7 @@
 //! Externs that are refused; the table stays as it was.
 
-use crate::object::OBJECT;
-use crate::sections::{
+use super::object::OBJECT;
+use super::sections::{
     CONST, DATASEC, DATASEC_1, DATASEC_2, EXTERN, INT, ORDERS, PROTO, VAR, section_of,
 };
 use btf_records::BtfError;

@@ -1,13 +1,17 @@
 //! Externs, and what becomes of the table.
 
-use crate::object::OBJECT;
-use crate::sections::{
+mod object;
+mod refusals;
+mod sections;
+
+use btf_tables::{Btf, KsymsIds};
+use object::OBJECT;
+use object_externs::{ExternDesc, is_extern_symbol, read_externs};
+use object_file::ObjectFile;
+use sections::{
     CONST, DATASEC, DATASEC_1, DATASEC_2, EXTERN, INT, ORDERS, PROTO, SIGNED_INT, VAR, VOLATILE,
     section_of,
 };
-use btf_tables::{Btf, KsymsIds};
-use object_externs::{ExternDesc, is_extern_symbol, read_externs};
-use object_file::ObjectFile;
 
 /// An extern: its name, with and without its flavour, the id of what declares it, whether it is
 /// weak, and its type.

@@ -1,9 +1,8 @@
 //! Functions with calls of helpers.
 
-use crate::function::Function;
-use crate::functions::Functions;
 use btf_extension::{FuncSecInfo, LineSecInfo};
 use ebpf_items::Slots;
+use object_parts::{Function, Functions};
 use std::alloc::Global;
 
 /// A function of one slot, which stands in the file.

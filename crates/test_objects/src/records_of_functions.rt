@@ -1,9 +1,9 @@
 //! The records of a section by hand ("BTF.ext section"), which don't stand in order.
 
-use crate::SectionRecords;
 use btf_extension::{BtfExt, FuncSecInfo, LineSecInfo, bpf_func_info, bpf_line_info};
 use btf_records::Endianness;
 use btf_tables::Btf;
+use function_records::SectionRecords;
 use std::process::Abort;
 
 /// A table without types, whose strings hold `kprobe` at 1.

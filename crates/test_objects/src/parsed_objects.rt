@@ -4,9 +4,9 @@ mod helpers;
 mod two_functions;
 mod variables;
 
-use crate::Object;
 use btf_records::{BtfError, Endianness};
 use ebpf_items::{ParseError, ProgramSection, Slots};
+use ebpf_object::Object;
 use elf64::ElfError;
 use sample_objects::{ONE_PROGRAM, ONE_PROGRAM_BIG, with_bytes};
 use std::alloc::Global;

@@ -1,8 +1,8 @@
 //! Newer helpers, in whose place older ones are called.
 
 use super::two_functions::TWO_FUNCTIONS;
-use crate::Object;
 use ebpf_items::Slots;
+use ebpf_object::Object;
 use sample_objects::{ONE_PROGRAM, with_bytes};
 use std::alloc::Global;
 

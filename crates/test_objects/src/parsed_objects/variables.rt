@@ -1,7 +1,7 @@
 //! Objects with variables, whose table of types is rewritten.
 
-use crate::Object;
 use btf_records::BtfError;
+use ebpf_object::Object;
 use sample_objects::{ONE_PROGRAM, VARIABLES, with_bytes};
 use std::alloc::Global;
 

@@ -1,12 +1,12 @@
 //! Relocations inside a function.
 
-use crate::has_extern_relocation;
 use btf_extension::{FuncSecInfo, LineSecInfo};
 use ebpf_items::Slots;
 use object_file::ObjectFile;
 use object_parts::{Function, Functions};
 use sample_objects::with_bytes;
 use std::alloc::Global;
+use unserved::has_extern_relocation;
 
 /// An object with a section `kprobe` (index 2), whose function takes four slots: a wide load, a
 /// call of a function and an exit. Its one relocation (at 104: eight bytes of offset, four of type, four of

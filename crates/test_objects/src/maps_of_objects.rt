@@ -3,11 +3,11 @@
 mod objects;
 mod types;
 
-use crate::{Maps, read_maps};
 use btf_records::{BtfError, Endianness};
 use btf_tables::Btf;
 use ebpf_items::{Map, ParseError, PinningType};
 use object_file::ObjectFile;
+use object_maps::{Maps, read_maps};
 use objects::{Section, Symbol, object};
 use std::alloc::Global;
 use std::test::Fail;
