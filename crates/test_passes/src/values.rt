@@ -1,7 +1,7 @@
 //! Values put into the section `.data` of an object with two symbols.
 
-use crate::patch_map_data;
 use ebpf_items::ParseError;
+use global_data::patch_map_data;
 use object_file::ObjectFile;
 use object_maps::{Maps, read_maps};
 use sample_objects::{VARIABLES, with_bytes};

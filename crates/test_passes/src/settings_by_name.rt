@@ -1,6 +1,6 @@
 //! Settings that are made.
 
-use crate::settings::Settings;
+use settings::Settings;
 use std::test::Fail;
 
 #[test]

@@ -1,12 +1,12 @@
 //! Relocations by maps and by variables, over one object and some of its functions.
 
-use crate::{NumberedMap, relocate_maps};
 use btf_extension::{FuncSecInfo, LineSecInfo};
 use ebpf_items::{EbpfSectionKind, LegacyMap, Map, Slots, bpf_map_def};
 use object_file::ObjectFile;
 use object_parts::{Function, Functions};
 use relocation_errors::{EbpfRelocationError, RelocationError};
 use sample_objects::with_bytes;
+use slot_relocation::{NumberedMap, relocate_maps};
 use std::alloc::Global;
 use std::collections::BTreeSet;
 

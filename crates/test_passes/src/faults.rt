@@ -1,6 +1,6 @@
 //! A fault keeps its function's name, and both are printed.
 
-use crate::{EbpfRelocationError, RelocationError};
+use relocation_errors::{EbpfRelocationError, RelocationError};
 use std::alloc::AllocError;
 
 #[test]

@@ -2,8 +2,8 @@ use Rattle.std.proofs.Common.{◌≡◌, sym, subst, ap, ◌∙◌}
 use Rattle.std.specs.Prelude.{not}
 use Rattle.object_parts.specs.Content.{HaveFunctions, function_at}
 use Rattle.object_parts.specs.Names.{by_bytes}
-use Rattle.linker_tests.proofs.Have.{none_left, one_more, there}
-use Rattle.linker_tests.proofs.linking.have_functions.Goals as goal
+use Rattle.test_passes.proofs.Have.{none_left, one_more, there}
+use Rattle.test_passes.proofs.linking.have_functions.Goals as goal
 
 pub loop-program-preserved : goal.loop-program-preserved
 loop-program-preserved c = λ h.
