@@ -1,8 +1,8 @@
 use Rattle.std.proofs.Common.{[], ◌∷◌, refl, arith}
 use Rattle.std.proofs.lemmas.List.Elements.{All-cons, All-nil}
 use Rattle.plan_text.specs.Content.{IsSoundMap}
-use Rattle.plan_text.proofs.Samples.{distinct-none, rising-one, rising-two}
-use Rattle.plan_text.proofs.tests.maps_plan.Goals as goal
+use Rattle.test_plans.proofs.Samples.{distinct-none, rising-one, rising-two}
+use Rattle.test_plans.proofs.texts.maps_plan.Goals as goal
 
 pub new-requires-7 : goal.new-requires-7
 new-requires-7 c = record {

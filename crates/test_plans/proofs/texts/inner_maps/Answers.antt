@@ -1,8 +1,8 @@
 use Rattle.std.proofs.Common.{[], refl, arith}
 use Rattle.std.proofs.lemmas.List.Elements.{All-cons, All-nil}
 use Rattle.plan_text.specs.Content.{IsSoundMap}
-use Rattle.plan_text.proofs.Samples.{distinct-none, rising-none, rising-one}
-use Rattle.plan_text.proofs.tests.inner_maps.Goals as goal
+use Rattle.test_plans.proofs.Samples.{distinct-none, rising-none, rising-one}
+use Rattle.test_plans.proofs.texts.inner_maps.Goals as goal
 
 pub new-plan-requires : goal.new-plan-requires
 new-plan-requires g c = record {

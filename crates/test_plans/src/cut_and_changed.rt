@@ -1,18 +1,19 @@
-//! Runs over whole, cut and changed objects.
+//! Plans of cut and changed objects.
 
-use crate::error::RunError;
-use crate::running::run;
-use load_plan::{ParseError, PrepareError, Settings, Watched};
-use sample_objects::{ONE_PROGRAM, ONE_PROGRAM_PLAN, with_bytes};
+use crate::plans_of_objects::planned;
+use load_plan::{Order, ParseError, Plan, PrepareError, Settings, Watched};
+use sample_objects::{ONE_PROGRAM, with_bytes};
 use std::alloc::Global;
-use std::test::Fail;
 
-/// What a run writes, where it isn't refused.
-fn text_of(alloc: Global, object: &[u8]) -> Result<Vec<u8>, RunError> {
-    let settings = Settings::new(alloc);
-    let mut out = Watched::new(Vec::new(alloc));
-    run(alloc, object, &settings, |_feature| true, || true, &mut out)?;
-    Ok(out.into_inner())
+/// The plan of an object under no settings, for a kernel that lacks nothing.
+fn plan_of(alloc: Global, object: &[u8]) -> Result<Plan<'_>, PrepareError> {
+    planned(
+        alloc,
+        object,
+        &Settings::new(alloc),
+        Order::RelocateFirst,
+        &[],
+    )
 }
 
 fn is_hex(word: &str) -> bool {
@@ -55,33 +56,26 @@ fn are_lines(text: &[u8]) -> bool {
 }
 
 #[test]
-fn one_program(rt: HostRuntime) -> Result<(), Fail> {
-    let text = text_of(rt.alloc(), &ONE_PROGRAM).map_err(|_| "refused")?;
-    assert_eq!(rt; text.as_slice(), ONE_PROGRAM_PLAN);
-    Ok(())
-}
-
-#[test]
 fn fronts(rt: HostRuntime) {
     for len in 0..ONE_PROGRAM.len() {
-        let result = text_of(rt.alloc(), &ONE_PROGRAM[..len]);
-        assert!(rt;
-            matches!(
-                result,
-                Err(RunError::Refused(PrepareError::Parse(ParseError::ElfError(_))))
-            )
-        );
+        let result = plan_of(rt.alloc(), &ONE_PROGRAM[..len]);
+        assert!(rt; matches!(result, Err(PrepareError::Parse(ParseError::ElfError(_)))));
     }
+}
+
+/// Whether the text of a plan is made of lines of a plan.
+fn has_lines(alloc: Global, plan: &Plan<'_>) -> bool {
+    let mut out = Watched::new(Vec::new(alloc));
+    plan.write(&mut out).is_ok() && are_lines(out.into_inner().as_slice())
 }
 
 /// Whether an object is refused, or its plan is made of lines of a plan.
 fn is_sound(alloc: Global, object: &[u8]) -> bool {
-    match text_of(alloc, object) {
-        Ok(text) => are_lines(text.as_slice()),
-        Err(RunError::Refused(PrepareError::Parse(ParseError::OutOfMemory))) => false,
-        Err(RunError::Refused(PrepareError::OutOfMemory)) => false,
-        Err(RunError::Refused(_)) => true,
-        Err(RunError::Output) => false,
+    match plan_of(alloc, object) {
+        Ok(plan) => has_lines(alloc, &plan),
+        Err(PrepareError::Parse(ParseError::OutOfMemory)) => false,
+        Err(PrepareError::OutOfMemory) => false,
+        Err(_) => true,
     }
 }
 

@@ -1,8 +1,8 @@
 use Rattle.std.proofs.Common.{refl, arith}
 use Rattle.std.proofs.lemmas.List.Elements.{All-nil}
 use Rattle.plan_text.specs.Content.{IsSoundMap}
-use Rattle.plan_text.proofs.Samples.{distinct-two, rising-none, rising-one}
-use Rattle.plan_text.proofs.tests.typed_plan.Goals as goal
+use Rattle.test_plans.proofs.Samples.{distinct-two, rising-none, rising-one}
+use Rattle.test_plans.proofs.texts.typed_plan.Goals as goal
 
 pub new-requires-2 : goal.new-requires-2
 new-requires-2 c = record {

@@ -1,7 +1,9 @@
 //! Plans of small objects, for kernels that lack features, and refusals.
 
-use crate::objects::{FLOATS, RECORDS};
-use crate::{BtfFeature, Order, ParseError, Plan, PrepareError, Settings, Watched, prepare};
+mod objects;
+
+use load_plan::{BtfFeature, Order, ParseError, Plan, PrepareError, Settings, Watched, prepare};
+use objects::{FLOATS, RECORDS};
 use sample_objects::{ONE_PROGRAM, ONE_PROGRAM_PLAN, with_bytes};
 use std::alloc::Global;
 use std::io;
@@ -9,7 +11,7 @@ use std::test::Fail;
 
 /// The plan of an object without symbols and kernel types, for a kernel that has the newer helpers and
 /// lacks these features.
-fn planned<'a>(
+pub(crate) fn planned<'a>(
     alloc: Global,
     object: &'a [u8],
     settings: &Settings<'_>,

@@ -1,8 +1,8 @@
 //! The one map of an object with variables.
 
-use crate::{numbered_maps, plan_maps, unnumbered_map};
 use object_file::ObjectFile;
 use object_maps::{Maps, read_maps};
+use plan_maps::{numbered_maps, plan_maps, unnumbered_map};
 use plan_text::{MapWords, PlanMap};
 use sample_objects::VARIABLES;
 use settings::Settings;

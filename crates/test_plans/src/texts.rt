@@ -1,6 +1,6 @@
 //! Plans and their texts, and writers that fail.
 
-use crate::{
+use plan_text::{
     Answers, BtfFeature, FuncSecInfo, LineSecInfo, MapWords, PinningType, Plan, PlanMap, PlanParts,
     PlanProgram, ProgramSection, Slots, Watched, bpf_func_info, bpf_line_info,
 };

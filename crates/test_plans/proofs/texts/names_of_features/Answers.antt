@@ -1,8 +1,8 @@
 use Rattle.std.proofs.Common.{refl}
 use Rattle.std.proofs.lemmas.List.Elements.{All-nil}
 use Rattle.plan_text.specs.Content.{IsSoundMap}
-use Rattle.plan_text.proofs.Samples.{distinct-all, rising-none}
-use Rattle.plan_text.proofs.tests.names_of_features.Goals as goal
+use Rattle.test_plans.proofs.Samples.{distinct-all, rising-none}
+use Rattle.test_plans.proofs.texts.names_of_features.Goals as goal
 
 pub new-plan-requires : goal.new-plan-requires
 new-plan-requires g c = record {
