@@ -3,8 +3,6 @@
 
 mod error;
 mod running;
-#[cfg(test)]
-mod tests;
 mod words;
 
 use error::{ProgramError, RunError};

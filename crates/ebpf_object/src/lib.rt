@@ -28,6 +28,3 @@ pub use relocation_errors::{EbpfRelocationError, RelocationError};
 pub use settings::Settings;
 pub use slot_relocation::NumberedMap;
 pub use unserved::Pass;
-
-#[cfg(test)]
-mod tests;

@@ -4,7 +4,5 @@
 
 mod section_records;
 mod slot_index;
-#[cfg(test)]
-mod tests;
 
 pub use section_records::SectionRecords;

@@ -7,6 +7,3 @@ mod symbols;
 mod writes;
 
 pub use patching::patch_map_data;
-
-#[cfg(test)]
-mod tests;

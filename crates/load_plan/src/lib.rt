@@ -17,8 +17,3 @@ pub use plan_text::{Answers, MapWords, Plan, PlanMap, PlanProgram};
 pub use planning::prepare;
 pub use relocation_errors::{EbpfRelocationError, RelocationError};
 pub use settings::Settings;
-
-#[cfg(test)]
-mod objects;
-#[cfg(test)]
-mod tests;

@@ -13,6 +13,3 @@ mod reading;
 
 pub use maps::Maps;
 pub use reading::read_maps;
-
-#[cfg(test)]
-mod tests;

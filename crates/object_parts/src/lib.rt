@@ -10,6 +10,3 @@ pub use by_name::Programs;
 pub use function::Function;
 pub use functions::{Code, Functions};
 pub use program::Program;
-
-#[cfg(test)]
-mod tests;

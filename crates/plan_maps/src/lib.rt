@@ -6,6 +6,3 @@ mod plan_map;
 
 pub use numbers::{numbered_maps, unnumbered_map};
 pub use plan_map::plan_maps;
-
-#[cfg(test)]
-mod tests;

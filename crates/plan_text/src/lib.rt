@@ -13,6 +13,3 @@ pub use btf_records::BtfFeature;
 pub use btf_sanitizing::Answers;
 pub use ebpf_items::{PinningType, ProgramSection, Slots, Watched, bpf_insn};
 pub use plan::{MapWords, Plan, PlanMap, PlanParts, PlanProgram};
-
-#[cfg(test)]
-mod tests;

@@ -4,6 +4,3 @@
 mod error;
 
 pub use error::{EbpfRelocationError, RelocationError};
-
-#[cfg(test)]
-mod tests;

@@ -4,6 +4,3 @@
 mod settings;
 
 pub use settings::{GlobalValue, Settings};
-
-#[cfg(test)]
-mod tests;

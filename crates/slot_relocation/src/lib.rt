@@ -14,6 +14,3 @@ mod pass;
 pub use laws::{lengths_stay, numbers_are_written, others_stay, slots_carry_numbers};
 pub use map_index::NumberedMap;
 pub use pass::relocate_maps;
-
-#[cfg(test)]
-mod tests;

@@ -7,6 +7,3 @@ mod pass;
 
 pub use externs::has_extern_relocation;
 pub use pass::Pass;
-
-#[cfg(test)]
-mod tests;

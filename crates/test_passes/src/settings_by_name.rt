@@ -1,0 +1,37 @@
+//! Settings that are made.
+
+use settings::Settings;
+use std::test::Fail;
+
+#[test]
+fn the_last_of_a_name_counts(rt: HostRuntime) -> Result<(), Fail> {
+    let mut settings = Settings::new(rt.alloc());
+    assert!(rt; !settings.has_globals());
+    settings.set_map("counter", 7)?;
+    settings.set_map("counter", 0x7fff_ffff)?;
+    assert!(rt; !settings.has_globals());
+    assert!(rt; settings.map_number("counter") == Some(0x7fff_ffff));
+    assert!(rt; settings.map_number("limit").is_none());
+    settings.set_global("limit", &[1, 0, 0, 0], true)?;
+    assert!(rt; settings.has_globals());
+    assert!(rt; settings.has_global("limit"));
+    assert!(rt; !settings.has_global("counter"));
+    Ok(())
+}
+
+#[test]
+fn values_come_by_name(rt: HostRuntime) -> Result<(), Fail> {
+    let mut settings = Settings::new(rt.alloc());
+    for name in ["b", "a", "ab", "B"] {
+        settings.set_global(name, name.as_bytes(), name.len() == 1)?;
+    }
+    let mut globals = settings.globals();
+    for expected in ["B", "a", "ab", "b"] {
+        let next = globals
+            .next()
+            .map(|(name, value)| (*name, value.bytes, value.must_exist));
+        assert!(rt; next == Some((expected, expected.as_bytes(), expected.len() == 1)));
+    }
+    assert!(rt; globals.next().is_none());
+    Ok(())
+}

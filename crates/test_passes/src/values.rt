@@ -1,0 +1,231 @@
+//! Values put into the section `.data` of an object with two symbols.
+
+use ebpf_items::ParseError;
+use global_data::patch_map_data;
+use object_file::ObjectFile;
+use object_maps::{Maps, read_maps};
+use sample_objects::{VARIABLES, with_bytes};
+use settings::Settings;
+use std::alloc::Global;
+use std::test::Fail;
+
+/// Bytes of a file at an offset.
+type Change = (usize, &'static [u8]);
+
+/// A variable's name, its value, and whether it must exist.
+type Variable = (&'static str, &'static [u8], bool);
+
+/// Why a value is refused.
+#[derive(Clone, Copy)]
+enum Refusal {
+    NoSymbol(&'static str),
+    BadData(&'static str, u64, usize),
+    NoMap(usize),
+}
+
+/// The bytes of `.data`, at 64 in the file.
+const CONTENTS: [u8; 8] = [10, 11, 12, 13, 14, 15, 16, 17];
+
+/// Names the second symbol `y`; it has 4 bytes from 4 on. The first is `x`, of 4 bytes from 0 on.
+const Y: Change = (240, b"y");
+
+/// Where the second symbol has its type and binding, its section, its address and its size.
+const INFO: usize = 217;
+
+const SECTION: usize = 219;
+
+const ADDRESS: usize = 221;
+
+const SIZE: usize = 229;
+
+/// What is changed in the object, what is set, and the bytes of `.data` behind it.
+type Case = (
+    &'static [Change],
+    &'static [Variable],
+    Result<[u8; 8], Refusal>,
+);
+
+static PATCHED: [Case; 11] = [
+    (&[], &[], Ok(CONTENTS)),
+    (
+        &[],
+        &[("x", &[1, 2, 3, 4], true)],
+        Ok([10, 11, 12, 13, 1, 2, 3, 4]),
+    ),
+    (
+        &[Y],
+        &[("x", &[1, 2, 3, 4], false)],
+        Ok([1, 2, 3, 4, 14, 15, 16, 17]),
+    ),
+    (
+        &[Y],
+        &[("y", &[5, 6, 7, 8], true), ("x", &[1, 2, 3, 4], true)],
+        Ok([1, 2, 3, 4, 5, 6, 7, 8]),
+    ),
+    (
+        &[Y, (ADDRESS, &[2, 0, 0, 0, 0, 0, 0, 0])],
+        &[("y", &[5, 6, 7, 8], true), ("x", &[1, 2, 3, 4], true)],
+        Ok([1, 2, 5, 6, 7, 8, 16, 17]),
+    ),
+    (
+        &[(238, b"z"), (ADDRESS, &[2, 0, 0, 0, 0, 0, 0, 0])],
+        &[("z", &[5, 6, 7, 8], true), ("x", &[1, 2, 3, 4], true)],
+        Ok([5, 6, 7, 8, 3, 4, 16, 17]),
+    ),
+    (
+        &[],
+        &[("a", &[9], false), ("x", &[1, 2, 3, 4], true)],
+        Ok([10, 11, 12, 13, 1, 2, 3, 4]),
+    ),
+    (
+        &[],
+        &[("x", &[9], true), ("x", &[1, 2, 3, 4], true)],
+        Ok([10, 11, 12, 13, 1, 2, 3, 4]),
+    ),
+    (
+        &[(INFO, &[0x12])],
+        &[("x", &[1, 2, 3, 4], true)],
+        Ok([10, 11, 12, 13, 1, 2, 3, 4]),
+    ),
+    (&[(SIZE, &[0; 8])], &[("x", &[], true)], Ok(CONTENTS)),
+    (
+        &[(ADDRESS, &[8, 0, 0, 0, 0, 0, 0, 0]), (SIZE, &[0; 8])],
+        &[("x", &[], true)],
+        Ok(CONTENTS),
+    ),
+];
+
+static REFUSED: [Case; 14] = [
+    (&[], &[("a", &[9], true)], Err(Refusal::NoSymbol("a"))),
+    (
+        &[],
+        &[("a", &[9], true), ("x", &[9], false)],
+        Err(Refusal::NoSymbol("a")),
+    ),
+    (
+        &[],
+        &[("z", &[9], true), ("x", &[1, 2, 3, 4], true)],
+        Err(Refusal::NoSymbol("z")),
+    ),
+    (
+        &[Y],
+        &[("x", &[1, 2, 3, 4], true), ("y", &[5], true)],
+        Err(Refusal::BadData("y", 4, 1)),
+    ),
+    (
+        &[],
+        &[("x", &[1, 2, 3], false)],
+        Err(Refusal::BadData("x", 4, 3)),
+    ),
+    (
+        &[],
+        &[("x", &[1, 2, 3, 4, 5], true)],
+        Err(Refusal::BadData("x", 4, 5)),
+    ),
+    (
+        &[(SECTION, &[0, 0])],
+        &[("x", &[1, 2, 3, 4], true)],
+        Err(Refusal::NoMap(0)),
+    ),
+    (
+        &[(SECTION, &[0, 0])],
+        &[("x", &[1], true)],
+        Err(Refusal::BadData("x", 4, 1)),
+    ),
+    (
+        &[(SECTION, &[2, 0])],
+        &[("x", &[1, 2, 3, 4], true)],
+        Err(Refusal::NoMap(2)),
+    ),
+    (
+        &[(ADDRESS, &[5, 0, 0, 0, 0, 0, 0, 0])],
+        &[("x", &[1, 2, 3, 4], true)],
+        Err(Refusal::BadData("x", 4, 4)),
+    ),
+    (
+        &[(ADDRESS, &[255; 8])],
+        &[("x", &[1, 2, 3, 4], true)],
+        Err(Refusal::BadData("x", 4, 4)),
+    ),
+    (
+        &[(ADDRESS, &[252, 255, 255, 255, 255, 255, 255, 255])],
+        &[("x", &[1, 2, 3, 4], true)],
+        Err(Refusal::BadData("x", 4, 4)),
+    ),
+    (
+        &[(ADDRESS, &[9, 0, 0, 0, 0, 0, 0, 0]), (SIZE, &[0; 8])],
+        &[("x", &[], true)],
+        Err(Refusal::BadData("x", 0, 0)),
+    ),
+    // The section of types is one of variables of the same name, and its map the one that counts.
+    (
+        &[(408, &[1])],
+        &[("x", &[1, 2, 3, 4], true)],
+        Err(Refusal::NoMap(1)),
+    ),
+];
+
+fn is_refusal(error: &ParseError, expected: Refusal) -> bool {
+    match (error, expected) {
+        (ParseError::SymbolNotFound { name }, Refusal::NoSymbol(variable)) => {
+            name.as_str() == variable
+        }
+        (
+            ParseError::InvalidGlobalData {
+                name,
+                sym_size,
+                data_size,
+            },
+            Refusal::BadData(variable, symbol, data),
+        ) => name.as_str() == variable && *sym_size == symbol && *data_size == data,
+        (ParseError::MapNotFound { index }, Refusal::NoMap(section)) => *index == section,
+        _ => false,
+    }
+}
+
+/// Whether the map `.data` has the same bytes in both.
+fn same_data(maps: &Maps<'_>, others: &Maps<'_>) -> bool {
+    match (maps.get(".data"), others.get(".data")) {
+        (Some(map), Some(other)) => map.data() == other.data(),
+        _ => false,
+    }
+}
+
+/// Whether a case comes to what it says.
+fn holds(alloc: Global, case: &Case) -> Result<bool, Fail> {
+    let (changes, variables, expected) = case;
+    let object = with_bytes(&with_bytes(&VARIABLES, &[(64, &CONTENTS)]), changes);
+    let file = ObjectFile::parse(alloc, &object)?;
+    let mut maps = read_maps(alloc, &file, None)?;
+    let before = maps.try_clone()?;
+    let mut settings = Settings::new(alloc);
+    for (name, value, must_exist) in variables.iter() {
+        settings.set_global(name, value, *must_exist)?;
+    }
+    match (patch_map_data(alloc, &file, &mut maps, &settings), expected) {
+        (Ok(()), Ok(contents)) => match maps.get(".data") {
+            Some(map) => Ok(map.data() == contents.as_slice()),
+            None => Ok(false),
+        },
+        (Err(error), Err(refusal)) => {
+            Ok(is_refusal(&error, *refusal) && same_data(&maps, &before))
+        }
+        _ => Ok(false),
+    }
+}
+
+#[test]
+fn puts_values(rt: HostRuntime) -> Result<(), Fail> {
+    for case in PATCHED.iter() {
+        assert!(rt; holds(rt.alloc(), case)?);
+    }
+    Ok(())
+}
+
+#[test]
+fn refuses_values(rt: HostRuntime) -> Result<(), Fail> {
+    for case in REFUSED.iter() {
+        assert!(rt; holds(rt.alloc(), case)?);
+    }
+    Ok(())
+}

@@ -1,0 +1,90 @@
+//! Plans of cut and changed objects.
+
+use crate::plans_of_objects::planned;
+use load_plan::{Order, ParseError, Plan, PrepareError, Settings, Watched};
+use sample_objects::{ONE_PROGRAM, with_bytes};
+use std::alloc::Global;
+
+/// The plan of an object under no settings, for a kernel that lacks nothing.
+fn plan_of(alloc: Global, object: &[u8]) -> Result<Plan<'_>, PrepareError> {
+    planned(
+        alloc,
+        object,
+        &Settings::new(alloc),
+        Order::RelocateFirst,
+        &[],
+    )
+}
+
+fn is_hex(word: &str) -> bool {
+    word == "-"
+        || word.len() % 2 == 0
+            && !word.is_empty()
+            && word.bytes().all(|b| matches!(b, b'0'..=b'9' | b'a'..=b'f'))
+}
+
+fn is_decimal(word: &str) -> bool {
+    !word.is_empty()
+        && (word == "0" || !word.starts_with('0'))
+        && word.bytes().all(|b| matches!(b, b'0'..=b'9'))
+}
+
+/// Whether a line is one of a plan without maps, types, features and records.
+fn is_line(line: &str) -> bool {
+    let mut words = line.split(' ');
+    let (first, second, third) = (words.next(), words.next(), words.next());
+    let (fourth, fifth, sixth) = (words.next(), words.next(), words.next());
+    match (first, second, third, fourth, fifth, sixth) {
+        (Some("bpf-plan"), Some("1"), None, _, _, _) => true,
+        (Some("license" | "slots"), Some(word), None, _, _, _) => is_hex(word),
+        (Some("version"), Some(word), None, _, _, _) => word == "any" || is_decimal(word),
+        (Some("types"), Some("none"), None, _, _, _) => true,
+        (Some("program"), Some(name), Some(kind), Some(a), Some(b), None) => {
+            is_hex(name) && is_decimal(kind) && is_decimal(a) && is_decimal(b)
+        }
+        (Some("end"), None, _, _, _, _) => true,
+        _ => false,
+    }
+}
+
+/// Whether a text is made of lines of a plan, each ended by a line feed.
+fn are_lines(text: &[u8]) -> bool {
+    match std::str::from_utf8(text) {
+        Ok(text) => text.ends_with("\nend\n") && text.lines().all(|line| is_line(line)),
+        Err(_) => false,
+    }
+}
+
+#[test]
+fn fronts(rt: HostRuntime) {
+    for len in 0..ONE_PROGRAM.len() {
+        let result = plan_of(rt.alloc(), &ONE_PROGRAM[..len]);
+        assert!(rt; matches!(result, Err(PrepareError::Parse(ParseError::ElfError(_)))));
+    }
+}
+
+/// Whether the text of a plan is made of lines of a plan.
+fn has_lines(alloc: Global, plan: &Plan<'_>) -> bool {
+    let mut out = Watched::new(Vec::new(alloc));
+    plan.write(&mut out).is_ok() && are_lines(out.into_inner().as_slice())
+}
+
+/// Whether an object is refused, or its plan is made of lines of a plan.
+fn is_sound(alloc: Global, object: &[u8]) -> bool {
+    match plan_of(alloc, object) {
+        Ok(plan) => has_lines(alloc, &plan),
+        Err(PrepareError::Parse(ParseError::OutOfMemory)) => false,
+        Err(PrepareError::OutOfMemory) => false,
+        Err(_) => true,
+    }
+}
+
+#[test]
+fn changed_bytes(rt: HostRuntime) {
+    for byte in [0u8, 0xff] {
+        for at in 0..ONE_PROGRAM.len() {
+            let object = with_bytes(&ONE_PROGRAM, &[(at, &[byte])]);
+            assert!(rt; is_sound(rt.alloc(), &object));
+        }
+    }
+}
