@@ -52,10 +52,13 @@ def forget(process):
 
 
 def end_all():
-    """Ends all commands that are running: each is told to, and what doesn't end is killed."""
+    """Ends all commands that are running: each is told to, and what doesn't end is killed.
+
+    They are told as by Ctrl-C: `rt ci` then puts back what it set aside, and `rt try` ends the program that it runs.
+    """
     for process in began:
         with contextlib.suppress(ProcessLookupError):
-            os.killpg(process.pid, signal.SIGTERM)
+            os.killpg(process.pid, signal.SIGINT)
     while began:
         with contextlib.suppress(subprocess.TimeoutExpired):
             began[0].wait(PATIENCE)
@@ -76,7 +79,8 @@ def folder():
 def run(main):
     """Runs a script's work: `main` gives the status. Told to end, it ends all that it began, and then itself."""
     for number in ENDING:
-        if signal.getsignal(number) is not signal.SIG_IGN:
+        # A script that is to outlive its terminal does so.
+        if number != signal.SIGHUP or signal.getsignal(number) is not signal.SIG_IGN:
             signal.signal(number, raise_ended)
     try:
         status = main()
