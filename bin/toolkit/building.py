@@ -96,7 +96,8 @@ class Turns:
         if left == 0:
             return ""
         minutes = (time.monotonic() - self.began) * left / done / 60
-        return f", about {max(1, round(minutes))} minutes left"
+        minutes = max(1, round(minutes))
+        return f", about {minutes} minute{'s' if minutes > 1 else ''} left"
 
     def run(self):
         """Proves all crates; says whether they are proved."""
