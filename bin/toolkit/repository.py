@@ -1,0 +1,126 @@
+"""The repository's crates, what a program stands on, and whether its proved program is current."""
+
+import hashlib
+import os
+
+TOP = os.path.dirname(os.path.dirname(os.path.dirname(os.path.realpath(__file__))))
+
+# How long the first proof of bpf_prepare takes, as users are told.
+PROOF_MINUTES = 30
+PROOF_PROCESSORS = 4
+
+# What a check reads of a crate, besides its line in crates.txt.
+SOURCE_FOLDERS = ("src", "specs", "proofs")
+SOURCE_ENDS = (".rt", ".antt")
+
+
+def crate_folder(name):
+    return os.path.join(TOP, "crates", name)
+
+
+def program_file(name):
+    """Where the proved program is, once it is built."""
+    return os.path.join(crate_folder(name), "out", name)
+
+
+def checksum_file(name):
+    """What says of which sources the proved program is."""
+    return program_file(name) + ".sources"
+
+
+def crate_lines():
+    """The lines of crates.txt by crate, without comments."""
+    lines = {}
+    with open(os.path.join(TOP, "crates.txt"), encoding="utf-8") as file:
+        for line in file:
+            line = line.split("#")[0].strip()
+            if line:
+                lines[line.split(":")[0].split()[0]] = line
+    return lines
+
+
+def dependencies():
+    """The crates of this repository that each crate names, by crate."""
+    lines = crate_lines()
+    return {
+        crate: [word for word in line.partition(":")[2].split() if word in lines]
+        for crate, line in lines.items()
+    }
+
+
+def needed_crates(name):
+    """The crate and all that it stands on, by crate with those that each names."""
+    below = dependencies()
+    needed = {}
+    open_crates = [name]
+    while open_crates:
+        crate = open_crates.pop()
+        if crate not in needed:
+            needed[crate] = below[crate]
+            open_crates += below[crate]
+    return needed
+
+
+def is_program(name):
+    """Whether the repository has a program of this name."""
+    is_listed = name in crate_lines()
+    return is_listed and os.path.isfile(os.path.join(crate_folder(name), "src", "main.rt"))
+
+
+def source_files(crate):
+    """The files of a crate that a check reads, in one order everywhere."""
+    found = []
+    for part in SOURCE_FOLDERS:
+        for folder, _folders, names in os.walk(os.path.join(crate_folder(crate), part)):
+            found += [os.path.join(folder, name) for name in names if name.endswith(SOURCE_ENDS)]
+    return sorted(found)
+
+
+def checksum_of(parts):
+    """One checksum of byte strings, each with its length before it."""
+    whole = hashlib.sha256()
+    for part in parts:
+        whole.update(b"%d:" % len(part))
+        whole.update(part)
+    return whole.hexdigest()
+
+
+def content_of(path):
+    with open(path, "rb") as file:
+        return file.read()
+
+
+def sources_checksum(name):
+    """A checksum of all sources that a program stands on, of their names and what they hold."""
+    lines = crate_lines()
+    parts = []
+    for crate in sorted(needed_crates(name)):
+        parts.append(" ".join(lines[crate].split()).encode())
+        for path in source_files(crate):
+            parts += [os.path.relpath(path, TOP).encode(), content_of(path)]
+    return checksum_of(parts)
+
+
+def checksum_text(name, sources):
+    """What stands beside a proved program: the checksums of its sources and of the program itself."""
+    program = checksum_of([content_of(program_file(name))])
+    return f"sources {sources}\nprogram {program}\n"
+
+
+def note_proved(name, sources):
+    """Notes that the program that is there was proved and built from sources of this checksum."""
+    beside = checksum_file(name)
+    with open(beside + ".new", "w", encoding="utf-8") as file:
+        file.write(checksum_text(name, sources))
+    os.replace(beside + ".new", beside)
+
+
+def is_proved(name):
+    """Whether a proved program of the sources as they are now is there."""
+    if not os.access(program_file(name), os.X_OK):
+        return False
+    try:
+        noted = content_of(checksum_file(name)).decode()
+    except (OSError, UnicodeDecodeError):
+        return False
+    return noted == checksum_text(name, sources_checksum(name))

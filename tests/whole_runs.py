@@ -1,0 +1,115 @@
+"""What the tests of whole runs share: rows, objects with their texts, and what a run must give."""
+
+import collections
+import glob
+import os
+import sys
+
+TOP = os.path.dirname(os.path.dirname(os.path.realpath(__file__)))
+sys.path.insert(0, os.path.join(TOP, "bin"))
+
+# The seconds that a run may take.
+SECONDS = 60
+
+# What a run gave: its status, and what it wrote on both outputs.
+Run = collections.namedtuple("Run", "status out err")
+
+
+def bytes_of(path):
+    with open(path, "rb") as file:
+        return file.read()
+
+
+def shown(text):
+    """Bytes as text for a report."""
+    return text.decode("utf-8", "backslashreplace")
+
+
+class Row:
+    """A folder with a program's words and what the run must give; tests/run_rows tells of its files."""
+
+    def __init__(self, folder):
+        self.folder = folder
+        self.name = os.path.basename(folder)
+        self.words = self.text("args").splitlines()
+        self.status = int(self.text("status"))
+        self.stdout_to = self.text("stdout-to").rstrip(b"\n")
+        self.file_name = self.text("name").rstrip(b"\n")
+
+    def text(self, name):
+        """What a file of the row holds; nothing where it isn't there."""
+        path = os.path.join(self.folder, name)
+        return bytes_of(path) if os.path.exists(path) else b""
+
+    def difference(self, program, run):
+        """Why a run isn't as the row wants it; nothing where it is."""
+        if run.status != self.status:
+            return f"status {run.status}, wanted {self.status}; {shown(run.err[:300])}"
+        if run.out != self.text("stdout"):
+            return "standard output differs"
+        if self.status == 0:
+            return "something on standard error" if run.err else ""
+        begin = f"{program}: refused: " if self.status == 1 else f"{program}: "
+        if run.err.count(b"\n") != 1 or not run.err.startswith(begin.encode()):
+            return f"standard error isn't one line that begins with '{begin}'"
+        if self.text("stderr").rstrip(b"\n") not in run.err:
+            return f"standard error: {shown(run.err)}"
+        return ""
+
+
+def rows_of(folder):
+    """The rows of a folder, by name."""
+    return [Row(path.rstrip("/")) for path in sorted(glob.glob(os.path.join(folder, "*/")))]
+
+
+# An object of tests/objects, the words behind its name, and the text that a program prints of it.
+Printed = collections.namedtuple("Printed", "path words text")
+
+
+def objects_with(suffix):
+    """The objects that have a text of a suffix beside them."""
+    found = []
+    for text in sorted(glob.glob(os.path.join(TOP, "tests", "objects", "*." + suffix))):
+        path = text[: -len(suffix)] + "o"
+        # The words are those of both byte orders.
+        with_words = path.rsplit(".", 2)[0] + ".plan.words"
+        words = []
+        if suffix == "plan" and os.path.exists(with_words):
+            words = bytes_of(with_words).splitlines()
+        found.append(Printed(path, words, bytes_of(text)))
+    return found
+
+
+def object_difference(printed, run):
+    """Why a run on an object isn't as wanted; nothing where it is."""
+    if run.status == 0 and run.out + run.err == printed.text:
+        return ""
+    if run.status != 0:
+        return f"status {run.status}; {shown(run.err[:300])}"
+    given, wanted = (run.out + run.err).splitlines(), printed.text.splitlines()
+    for number, (line, other) in enumerate(zip(given, wanted), 1):
+        if line != other:
+            return f"line {number}: {shown(line)[:300]}, wanted {shown(other)[:300]}"
+    return f"{len(given)} lines, wanted {len(wanted)}"
+
+
+class Count:
+    """Counts what agrees, and tells of what differs."""
+
+    def __init__(self, what):
+        self.what = what
+        self.agree = 0
+        self.differ = 0
+
+    def note(self, name, difference):
+        if difference:
+            self.differ += 1
+            print(f"{name}: {difference}", flush=True)
+        else:
+            self.agree += 1
+
+    def end(self):
+        """Prints the last line, and gives the status."""
+        what = self.what and self.what + " "
+        print(f"{self.agree} {what}agree, {self.differ} differ", flush=True)
+        return 0 if self.differ == 0 else 1
