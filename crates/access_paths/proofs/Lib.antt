@@ -1,0 +1,2 @@
+pub mod AccessStrings
+pub mod FieldPaths

@@ -1,0 +1,6 @@
+pub mod AccessStrings
+pub mod FieldPaths
+pub mod Lookups
+pub mod LocalPaths
+pub mod Subjects
+pub mod Variants
