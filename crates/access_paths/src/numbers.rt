@@ -1,7 +1,6 @@
 //! Access strings.
 
-ghost use Rattle.std.specs.Prelude.{◌≡◌, ◌≢◌, IfOk, IfErr, None, Some, length};
-ghost use Rattle.std.specs.Option.{option_map};
+ghost use Rattle.std.specs.Prelude.{◌≡◌, ◌≢◌, IfOk, IfErr, None, Some};
 ghost use Rattle.access_paths.specs.AccessStrings.{access_numbers, number_in};
 ghost use Rattle.access_paths.specs.declared.error.AccessError.TheVariants.{BtfError as TypeError, InvalidAccessString};
 ghost use Rattle.btf_records.specs.declared.error.BtfError.TheVariants.{OutOfMemory};
@@ -20,7 +19,6 @@ fn number_in(text: &str) -> Option<u64>
 /// The numbers of an access string.
 ///
 /// `InvalidAccessString` where it isn't numbers of 64 bits joined by `:`.
-
 pub(crate) fn access_numbers(alloc: Global, text: &str) -> Result<Vec<u64>, AccessError>
     ensures value { IfOk result (λ numbers. access_numbers text.now ≡ Some numbers.items) }
     ensures refused { IfErr result (λ e. e ≢ TypeError OutOfMemory → (e ≡ InvalidAccessString) × (access_numbers text.now ≡ None)) }

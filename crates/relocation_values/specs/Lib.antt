@@ -1,0 +1,4 @@
+pub mod Extents
+pub mod FieldValues
+pub mod PathValues
+pub mod VariantValues
