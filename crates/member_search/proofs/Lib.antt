@@ -1,0 +1,5 @@
+pub mod Followed
+pub mod Members
+pub mod Rests
+pub mod Turns
+pub mod Work

@@ -1,0 +1,81 @@
+//! What one member says.
+
+ghost use Rattle.std.specs.Prelude.{◌≡◌};
+ghost use Rattle.member_search.specs.Looks.{is_composite, look_at, look_at_type, look_inside, searched};
+
+use access_paths::AccessError;
+use btf_compatibility::fields_are_compatible;
+use btf_encoding::TypeRef;
+use btf_records::{BtfKind, BtfMember};
+use btf_tables::Btf;
+
+/// What a look at a member of a struct or union gives.
+#[derive(Clone, Copy, Debug)]
+pub(crate) enum Look {
+    /// It isn't the one, and the next may be.
+    GoOn,
+    /// It has the name, and isn't compatible: the struct or union doesn't hold the one.
+    NotHere,
+    /// It is the one.
+    Here,
+    /// It has no name, and is the struct or union of this id.
+    Inside(u32),
+}
+
+fn is_composite(t: &TypeRef<'_>) -> bool
+    ensures { result ≡ is_composite t.now }
+{
+    matches!(t.kind(), BtfKind::Struct | BtfKind::Union)
+}
+
+/// A member without a name.
+fn look_inside(target: &Btf<'_>, member: BtfMember) -> Result<Look, AccessError>
+    ensures { result ≡ look_inside target.now member }
+{
+    let type_id = target.resolve_type(member.btf_type)?;
+    let t = target.type_by_id(type_id)?;
+    if is_composite(&t) {
+        Ok(Look::Inside(type_id))
+    } else {
+        Ok(Look::GoOn)
+    }
+}
+
+/// A member of the wanted name.
+fn look_at_type<'t>(
+    local: &Btf<'t>,
+    type_id: u32,
+    target: &Btf<'t>,
+    member: BtfMember,
+) -> Result<Look, AccessError>
+    ensures { result ≡ look_at_type local.now type_id target.now member }
+{
+    if fields_are_compatible(local, type_id, target, member.btf_type)? {
+        Ok(Look::Here)
+    } else {
+        Ok(Look::NotHere)
+    }
+}
+
+/// Whether a member of a target type is the one of this name that is compatible with the local type
+/// of this id.
+///
+/// `BtfError` where its name or its type can't be looked up, or types can't be compared.
+pub(crate) fn look_at<'t>(
+    local: &Btf<'t>,
+    type_id: u32,
+    name: &str,
+    target: &Btf<'t>,
+    member: BtfMember,
+) -> Result<Look, AccessError>
+    ensures { result ≡ look_at (searched local.now type_id name.now target.now) member }
+{
+    let member_name = target.string_at(member.name_offset)?;
+    if member_name.is_empty() {
+        return look_inside(target, member);
+    }
+    if member_name == name {
+        return look_at_type(local, type_id, target, member);
+    }
+    Ok(Look::GoOn)
+}
