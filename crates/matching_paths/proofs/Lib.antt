@@ -1,0 +1,2 @@
+pub mod FieldMatches
+pub mod Variants

@@ -1,0 +1,9 @@
+//! The paths of type relocations in a kernel's types (`bpf_core_spec_match`,
+//! tools/lib/bpf/relo_core.c).
+#![tactic(auto)]
+
+mod candidate;
+mod step;
+mod variant;
+
+pub use candidate::matching_path;
