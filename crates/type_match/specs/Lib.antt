@@ -1,0 +1,3 @@
+pub mod Candidates
+pub mod Outcomes
+pub mod TableMatches
