@@ -1,3 +1,4 @@
 pub mod Candidates
+pub mod KernelMatches
 pub mod Outcomes
 pub mod TableMatches

@@ -2,8 +2,10 @@
 //! tools/lib/bpf/relo_core.c).
 #![tactic(auto)]
 
+mod kernel;
 mod outcome;
 mod table;
 
+pub use kernel::kernel_matches;
 pub use outcome::{Outcome, OutcomeError, outcome_of};
 pub use table::{Match, add_matches};
