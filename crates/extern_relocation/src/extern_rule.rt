@@ -173,7 +173,10 @@ fn resolved_outcome(
 }
 
 /// The extern of a symbol's name.
-fn extern_of<'r, 'e>(externs: &'r Externs<'e>, symbol: &SymbolView<'_>) -> Option<&'r ExternDesc<'e>>
+fn extern_of<'r, 'e>(
+    externs: &'r Externs<'e>,
+    symbol: &SymbolView<'_>,
+) -> Option<&'r ExternDesc<'e>>
     ensures { option_copied result ≡ extern_of externs.now.by_name symbol.now }
 {
     let Ok(name) = symbol.name() else {

@@ -1,11 +1,10 @@
 -- What holds after some relocations of a function, of any rule.
-use Rattle.std.proofs.Common.{arith, ◌≡◌, ℕ, suc, zero, ◌+◌, ◌<◌, ◌≤◌, inl, inr, List, [], ◌∷◌, ◌++◌, Option, Some, None, refl, sym, ap, ◌∙◌, subst, append_assoc, length, length-append, slice_set}
+use Rattle.std.proofs.Common.{arith, ◌≡◌, ℕ, suc, ◌<◌, ◌≤◌, List, [], ◌∷◌, ◌++◌, Some, refl, sym, ap, ◌∙◌, append_assoc, length, length-append}
 use Rattle.std.specs.Prelude.{slice_get, fold}
-use Rattle.std.proofs.lemmas.List.{length-set}
 use Rattle.ebpf_items.specs.declared.instruction.bpf_insn.{bpf_insn}
 use Rattle.object_parts.specs.Content.{FunctionContent}
 use Rattle.slot_relocation.specs.declared.outcome.Write.{Write}
-use Rattle.slot_relocation.specs.Writes.{RuleOf, after, after_all, after_one, outcome_at, place_of, written}
+use Rattle.slot_relocation.specs.Writes.{RuleOf, after, after_all, after_one, outcome_at, place_of}
 use Rattle.slot_relocation.specs.WriteLaws.{IsWritten, LengthsRemain, Makes, OneWrites, Puts, UnwrittenStay}
 use Rattle.slot_relocation.proofs.Walk.{fold_more}
 use Rattle.slot_relocation.proofs.Writing.{long_all, put_here, stays_at}

@@ -1,5 +1,5 @@
 -- What is written has a place.
-use Rattle.std.proofs.Common.{arith, ◌≡◌, ℕ, suc, zero, ◌+◌, ◌<◌, List, [], ◌∷◌, Option, Some, None, sym, ◌∙◌, length}
+use Rattle.std.proofs.Common.{arith, ◌≡◌, ℕ, suc, zero, ◌+◌, ◌<◌, List, [], ◌∷◌, Option, Some, None, sym, length}
 use Rattle.std.specs.Prelude.{slice_get, IfSome, IsSome}
 use Rattle.ebpf_items.specs.declared.instruction.bpf_insn.{bpf_insn}
 use Rattle.slot_relocation.specs.declared.outcome.Fault.{Fault}

@@ -1,16 +1,14 @@
 -- The rule for relocations by maps and variables: a slot gets the map's number, and for a variable the next slot its place in
 -- the map's value.
-use Rattle.std.specs.Prelude.{ℕ, ◌+◌, ◌/◌, ◌%◌, ◌^◌, ◌==◌, ◌||◌, nat_lt, Bool, false, if◌then◌else◌, List, [], ◌∷◌, find, reverse, slice_get, Option, Some, None, unwrap_or, ℤ, pos, negsuc, ◌+ℤ◌}
+use Rattle.std.specs.Prelude.{ℕ, ◌^◌, ◌==◌, ◌||◌, nat_lt, Bool, false, if◌then◌else◌, List, [], ◌∷◌, find, reverse, Option, Some, None, ℤ, pos, negsuc, ◌+ℤ◌}
 use Rattle.std.specs.BTreeMap.{is_at}
 use Rattle.std.specs.List.{list_any}
 use Rattle.std.specs.Option.{option_map_or, option_or}
 use Rattle.std.specs.Ordering.{nat_cmp}
-use Rattle.ebpf_items.specs.Instruction.{is_pseudo_call, with_src_reg}
+use Rattle.ebpf_items.specs.Instruction.{is_pseudo_call}
 use Rattle.ebpf_items.specs.Maps.{MapView}
 use Rattle.ebpf_items.specs.declared.instruction.bpf_insn.{bpf_insn}
-use Rattle.elf64.specs.Relocations.{Relocation}
 use Rattle.elf64.specs.Symbols.{Symbol}
-use Rattle.object_file.specs.Symbols.{symbol_at}
 pub use Rattle.slot_relocation.specs.BySymbol.{symbol_index}
 use Rattle.slot_relocation.specs.BySymbol.{symbol_rule}
 use Rattle.slot_relocation.specs.Slots.{with_number}

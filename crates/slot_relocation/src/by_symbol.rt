@@ -65,7 +65,13 @@ impl<'r, 'o, S: SymbolRule> Rule<RelocView, Fault> for BySymbol<'r, 'o, S> {
         let place = (distance / SLOT_SIZE) as usize;
         match slots.get(place) {
             Some(slot) => {
-                outcome_of(self.file, &self.rule, slot, slots.get(place + 1), relocation)
+                outcome_of(
+                    self.file,
+                    &self.rule,
+                    slot,
+                    slots.get(place + 1),
+                    relocation,
+                )
             },
             None => Outcome::Refused(Fault::InvalidOffset),
         }

@@ -81,11 +81,7 @@ fn error_of(alloc: Global, file: &ObjectFile<'_>, at: &FaultAt<'_, Fault>) -> Re
 }
 
 /// The error for what stopped a pass, with the function's name.
-fn error_for(
-    alloc: Global,
-    file: &ObjectFile<'_>,
-    stop: Stop<'_, Fault>,
-) -> EbpfRelocationError
+fn error_for(alloc: Global, file: &ObjectFile<'_>, stop: Stop<'_, Fault>) -> EbpfRelocationError
     ensures { result.error ≢ OutOfMemory → IsErrorFor file.now stop.entry (option_map string_bytes result.function) result.error }
 {
     match stop {

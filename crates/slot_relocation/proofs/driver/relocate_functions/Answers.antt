@@ -1,5 +1,4 @@
-use Rattle.std.proofs.Common.{map, refl, subst, sym}
-use Rattle.std.specs.Map.{values_of}
+use Rattle.std.proofs.Common.{refl, subst, sym}
 use Rattle.object_parts.specs.Installed.{AreThere, Installed}
 use Rattle.slot_relocation.specs.Walks.{changed}
 use Rattle.slot_relocation.proofs.Installs.{are_changed, are_there}
