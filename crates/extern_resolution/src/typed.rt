@@ -1,0 +1,1 @@
+//! Externs with a type.
