@@ -52,12 +52,12 @@ use std::mem;
 pub struct Object<'a> {
     pub(crate) alloc: Global,
     pub(crate) file: ObjectFile<'a>,
-    btf: Option<Btf<'a>>,
+    pub(crate) btf: Option<Btf<'a>>,
     btf_ext: Option<BtfExt<'a>>,
     pub(crate) maps: Maps<'a>,
     programs: Programs<'a>,
     pub(crate) functions: Functions<'a>,
-    externs: Externs<'a>,
+    pub(crate) externs: Externs<'a>,
 }
 
 impl<'a> Model for Object<'a> {

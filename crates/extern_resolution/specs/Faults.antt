@@ -7,7 +7,7 @@ use Rattle.btf_records.specs.declared.error.BtfError.TheVariants as btf_error
 use Rattle.btf_records.specs.declared.kind.BtfKind.{BtfKind}
 use Rattle.btf_records.specs.declared.kind.BtfKind.TheVariants as kinds
 use Rattle.btf_tables.specs.Tables.{Table, type_by_id}
-use Rattle.extern_resolution.specs.Outcomes.{IsDeclaredAs, IsIncompatible, IsKernelRecord, IsMissing, is_any_sought, is_name_sought, is_sought, kernel_name}
+use Rattle.extern_resolution.specs.Outcomes.{IsIncompatible, IsKernelRecord, IsMissing, is_any_sought, is_name_sought, is_sought, kernel_name}
 use Rattle.extern_resolution.specs.declared.error.KsymsError.{KsymsError}
 use Rattle.extern_resolution.specs.declared.error.KsymsError.TheVariants as error
 use Rattle.kernel_symbols.specs.Texts.{AreTwo, address_of, has_unreadable, is_foreign, lines_of, said}

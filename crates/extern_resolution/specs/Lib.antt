@@ -3,3 +3,4 @@ pub mod Faults
 pub mod Outcomes
 pub mod Records
 pub mod Resolution
+pub mod Steps

@@ -1,10 +1,10 @@
 -- What becomes of an extern. libbpf has this as bpf_object__resolve_externs (tools/lib/bpf/libbpf.c).
-use Rattle.std.specs.Prelude.{◌≡◌, ℕ, Bool, true, false, ◌&&◌, ◌⊎◌, not, if◌then◌else◌, List, Option, None, Some, Result, Ok, Err, is_none, is_some, unwrap_or}
+use Rattle.std.specs.Prelude.{◌≡◌, ℕ, Bool, true, false, ◌&&◌, ◌⊎◌, not, if◌then◌else◌, List, Option, None, Some, Result, Ok, is_none}
 use Rattle.std.specs.List.{list_any}
 use Rattle.std.specs.Option.{IsSomeAnd, MatchOption, option_map_or}
 use Rattle.std.specs.Str.{bytes_eq}
 use Rattle.btf_compatibility.specs.TypeCompatibility.{types_compatible}
-use Rattle.btf_records.specs.Fields.{kind_of_type, type_of}
+use Rattle.btf_records.specs.Fields.{kind_of_type}
 use Rattle.btf_records.specs.declared.error.BtfError.{BtfError}
 use Rattle.btf_records.specs.declared.kind.BtfKind.{BtfKind}
 use Rattle.btf_records.specs.declared.kind.BtfKind.TheVariants as kinds
@@ -12,7 +12,7 @@ use Rattle.btf_tables.specs.EssentialNames.{essential_name}
 use Rattle.btf_tables.specs.Tables.{Table, type_by_id}
 use Rattle.btf_tables.specs.TypesByName.{IsFirstNamed}
 use Rattle.kernel_symbols.specs.Texts.{address_of}
-use Rattle.object_externs.specs.Externs.{ExternContent, declares, held_type}
+use Rattle.object_externs.specs.Externs.{ExternContent, held_type}
 
 -- the name that a kernel's record has: a function's without its flavour, a variable's whole
 abbrev pub kernel_name : BtfKind → List ℕ → List ℕ

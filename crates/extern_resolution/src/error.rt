@@ -17,19 +17,29 @@ pub enum KsymsError {
     TypedKsymRequiresKernelBtf,
     /// The kernel has no variable of this name.
     #[error("no kernel variable named {name:?}")]
-    VariableNotFound { name: String },
+    VariableNotFound {
+        name: String,
+    },
     /// The kernel has no function of this name.
     #[error("no kernel function named {name:?}")]
-    FunctionNotFound { name: String },
+    FunctionNotFound {
+        name: String,
+    },
     /// The kernel's function of this name has another signature.
     #[error("the signature of kernel function {name:?} isn't compatible")]
-    IncompatibleFunctionSignature { name: String },
+    IncompatibleFunctionSignature {
+        name: String,
+    },
     /// The kernel's variable of this name has another type.
     #[error("the type of kernel variable {name:?} isn't compatible")]
-    IncompatibleVariableType { name: String },
+    IncompatibleVariableType {
+        name: String,
+    },
     /// What declares the extern is neither a function nor a variable.
     #[error("extern {name:?} is neither a function nor a variable")]
-    InvalidExternType { name: String },
+    InvalidExternType {
+        name: String,
+    },
     /// A fault of the types.
     #[error("error in BTF: {0}")]
     BtfError(BtfError),

@@ -1,8 +1,9 @@
 //! Wanted symbols.
 
-ghost use Rattle.std.specs.Prelude.{◌≡◌};
+ghost use Rattle.std.specs.Prelude.{◌≡◌, ℕ, List, None};
 ghost use Rattle.kernel_symbols.specs.Reading.{address_under};
 
+use std::alloc::Global;
 use std::collections::BTreeMap;
 
 /// A wanted symbol, and its address as far as it was found.
@@ -19,6 +20,15 @@ pub struct Addresses<'a> {
 }
 
 impl<'a> Addresses<'a> {
+    /// No addresses.
+    pub fn none(alloc: Global) -> Addresses<'a>
+        ensures { (name : List ℕ) → address_under result name ≡ None }
+    {
+        Addresses {
+            by_name: BTreeMap::new(alloc),
+        }
+    }
+
     /// The address of a symbol of this name, where it was wanted and found.
     pub fn get(&self, name: &str) -> Option<u64>
         ensures { result ≡ address_under self.now name.now }
