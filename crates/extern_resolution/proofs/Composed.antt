@@ -145,8 +145,8 @@ some_from table kernel found text f (p ∷ old) (q ∷ mid) value steps h = elim
 
 -- ---- all externs
 
-pub resolved : (table : Table) (kernel : Option Table) (known : Option (List ℕ)) (found : Addresses) (old mid : ExternsContent) (new : List (List ℕ × ExternContent)) → AreSteps (EntryTyped table kernel) old mid → NoFault (λ f. Any (EntryTypedFault table kernel f) old.by_name) → AreSought old.by_name known found → AllZip (EntryAddressed found) mid.by_name new → NoFault (λ f. Any (NoAddress found f) mid.by_name) → AreResolved table kernel known old (record old { by_name = new })
-resolved table kernel known found old mid new typed typed_sound sought by_address sound =
+pub resolved : (table : Table) (kernel : Option Table) (known : Option (List ℕ)) (failed : Bool) (found : Addresses) (old mid : ExternsContent) (new : List (List ℕ × ExternContent)) → AreSteps (EntryTyped table kernel) old mid → NoFault (λ f. Any (EntryTypedFault table kernel f) old.by_name) → AreSought old.by_name known failed found → AllZip (EntryAddressed found) mid.by_name new → NoFault (λ f. Any (NoAddress found f) mid.by_name) → AreResolved table kernel known failed old (record old { by_name = new })
+resolved table kernel known failed found old mid new typed typed_sound sought by_address sound =
     let value = each_value found sought.text old.by_name sought.value in
     record {
       text = sought.text;
@@ -168,7 +168,7 @@ refused_typed table kernel known failed old f any = record { text = some_text kn
 pub refused_sought : (table : Table) (kernel : Option Table) (known : Option (List ℕ)) (failed : Bool) (old : ExternsContent) (f : KsymsError) → CannotSeek old.by_name known failed f → CannotResolve table kernel known failed old f
 refused_sought table kernel known failed old f fault = record { text = fault.text; given = fault.given; stands = inr (inl fault.stands) }
 
-pub refused_address : (table : Table) (kernel : Option Table) (known : Option (List ℕ)) (failed : Bool) (found : Addresses) (old mid : ExternsContent) (f : KsymsError) → AreSteps (EntryTyped table kernel) old mid → AreSought old.by_name known found → Any (NoAddress found f) mid.by_name → CannotResolve table kernel known failed old f
+pub refused_address : (table : Table) (kernel : Option Table) (known : Option (List ℕ)) (failed : Bool) (found : Addresses) (old mid : ExternsContent) (f : KsymsError) → AreSteps (EntryTyped table kernel) old mid → AreSought old.by_name known failed found → Any (NoAddress found f) mid.by_name → CannotResolve table kernel known failed old f
 refused_address table kernel known failed found old mid f typed sought any =
     let value = each_value found sought.text old.by_name sought.value in
     record {
@@ -183,10 +183,10 @@ pub err_typed : {T : Type 0} (r : Result T KsymsError) (table : Table) (kernel :
 err_typed (Ok x) table kernel known failed old f passed any = tt
 err_typed (Err g) table kernel known failed old f passed any = λ other. subst (CannotResolve table kernel known failed old) (sym passed) (refused_typed table kernel known failed old f (any (λ is. other (passed ∙ is))))
 
-pub ok_resolved : {T : Type 0} (shown : T → List (List ℕ × ExternContent)) (r : Result T KsymsError) (table : Table) (kernel : Option Table) (known : Option (List ℕ)) (found : Addresses) (old mid : ExternsContent) → AreSteps (EntryTyped table kernel) old mid → NoFault (λ f. Any (EntryTypedFault table kernel f) old.by_name) → AreSought old.by_name known found → IfOk r (λ new. AllZip (EntryAddressed found) mid.by_name (shown new)) → IfOk r (λ _. NoFault (λ f. Any (NoAddress found f) mid.by_name)) → IfOk r (λ new. AreResolved table kernel known old (record old { by_name = shown new }))
-ok_resolved shown (Ok new) table kernel known found old mid typed typed_sound sought by_address sound = resolved table kernel known found old mid (shown new) typed typed_sound sought by_address sound
-ok_resolved shown (Err f) table kernel known found old mid typed typed_sound sought by_address sound = tt
+pub ok_resolved : {T : Type 0} (shown : T → List (List ℕ × ExternContent)) (r : Result T KsymsError) (table : Table) (kernel : Option Table) (known : Option (List ℕ)) (failed : Bool) (found : Addresses) (old mid : ExternsContent) → AreSteps (EntryTyped table kernel) old mid → NoFault (λ f. Any (EntryTypedFault table kernel f) old.by_name) → AreSought old.by_name known failed found → IfOk r (λ new. AllZip (EntryAddressed found) mid.by_name (shown new)) → IfOk r (λ _. NoFault (λ f. Any (NoAddress found f) mid.by_name)) → IfOk r (λ new. AreResolved table kernel known failed old (record old { by_name = shown new }))
+ok_resolved shown (Ok new) table kernel known failed found old mid typed typed_sound sought by_address sound = resolved table kernel known failed found old mid (shown new) typed typed_sound sought by_address sound
+ok_resolved shown (Err f) table kernel known failed found old mid typed typed_sound sought by_address sound = tt
 
-pub err_address : {T : Type 0} (r : Result T KsymsError) (table : Table) (kernel : Option Table) (known : Option (List ℕ)) (failed : Bool) (found : Addresses) (old mid : ExternsContent) → AreSteps (EntryTyped table kernel) old mid → AreSought old.by_name known found → IfErr r (λ f. f ≢ error.OutOfMemory → Any (NoAddress found f) mid.by_name) → IfErr r (λ f. f ≢ error.OutOfMemory → CannotResolve table kernel known failed old f)
+pub err_address : {T : Type 0} (r : Result T KsymsError) (table : Table) (kernel : Option Table) (known : Option (List ℕ)) (failed : Bool) (found : Addresses) (old mid : ExternsContent) → AreSteps (EntryTyped table kernel) old mid → AreSought old.by_name known failed found → IfErr r (λ f. f ≢ error.OutOfMemory → Any (NoAddress found f) mid.by_name) → IfErr r (λ f. f ≢ error.OutOfMemory → CannotResolve table kernel known failed old f)
 err_address (Ok new) table kernel known failed found old mid typed sought any = tt
 err_address (Err f) table kernel known failed found old mid typed sought any = λ other. refused_address table kernel known failed found old mid f typed sought (any other)

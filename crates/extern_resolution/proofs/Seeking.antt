@@ -49,11 +49,11 @@ no_symbols_fault failed text externs none (error.InvalidExternType n) h = h
 no_symbols_fault failed text externs none (error.BtfError x) h = h
 no_symbols_fault failed text externs none error.OutOfMemory h = h
 
-pub nothing_sought : (externs : List (List ℕ × ExternContent)) (known : Option (List ℕ)) (found : Addresses) → is_any_sought externs ≡ false → AreSought externs known found
-nothing_sought externs known found none = record {
+pub nothing_sought : (externs : List (List ℕ × ExternContent)) (known : Option (List ℕ)) (failed : Bool) (found : Addresses) → is_any_sought externs ≡ false → AreSought externs known failed found
+nothing_sought externs known failed found none = record {
   text = some_text known;
   given = some_given known;
-  none = record { none = no_symbols_fault false (some_text known) externs none };
+  none = record { none = no_symbols_fault failed (some_text known) externs none };
   value = λ name h. absurd (true_false (sym h ∙ no_name externs name none));
 }
 
@@ -74,11 +74,11 @@ all_sought_faultless externs names text same none (error.InvalidExternType n) h 
 all_sought_faultless externs names text same none (error.BtfError x) h = h
 all_sought_faultless externs names text same none error.OutOfMemory h = h
 
-pub all_sought : (externs : List (List ℕ × ExternContent)) (names : List (Bor (List ℕ))) (known : Option (List ℕ)) (found : Addresses) → AreSoughtNames externs names → AreAddresses names known found → AreSought externs known found
-all_sought externs names known found same addresses = record {
+pub all_sought : (externs : List (List ℕ × ExternContent)) (names : List (Bor (List ℕ))) (known : Option (List ℕ)) (failed : Bool) (found : Addresses) → failed ≡ false → AreSoughtNames externs names → AreAddresses names known found → AreSought externs known failed found
+all_sought externs names known failed found sound same addresses = record {
   text = addresses.text;
   given = addresses.given;
-  none = record { none = all_sought_faultless externs names addresses.text same addresses.faultless };
+  none = rw sound (record { none = all_sought_faultless externs names addresses.text same addresses.faultless });
   value = λ name h. addresses.value name (same.same name ∙ h);
 }
 

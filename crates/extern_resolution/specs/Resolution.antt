@@ -9,10 +9,10 @@ use Rattle.kernel_symbols.specs.Texts.{IsGiven}
 use Rattle.object_externs.specs.Externs.{ExternsContent}
 
 -- no fault stands, and each extern becomes what the tables and the reader's text say
-pub record AreResolved (table : Table) (kernel : Option Table) (known : Option (List ℕ)) (old new : ExternsContent) : Type 0 where
+pub record AreResolved (table : Table) (kernel : Option Table) (known : Option (List ℕ)) (failed : Bool) (old new : ExternsContent) : Type 0 where
   pub text : List ℕ
   pub given : IsGiven known text
-  pub faultless : (f : KsymsError) → ResolutionFault table kernel false text old.by_name f → ⊥
+  pub faultless : (f : KsymsError) → ResolutionFault table kernel failed text old.by_name f → ⊥
   pub each : AllZip (EntryBecomes table kernel text) old.by_name new.by_name
   pub section : new.ksyms ≡ old.ksyms
 

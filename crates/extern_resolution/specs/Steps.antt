@@ -61,10 +61,10 @@ pub record AreSoughtNames (externs : List (List ℕ × ExternContent)) (names : 
   pub same : (name : List ℕ) → is_among names name ≡ is_name_sought externs name
 
 -- the addresses of the externs that are looked for there
-pub record AreSought (externs : List (List ℕ × ExternContent)) (known : Option (List ℕ)) (found : Addresses) : Type 0 where
+pub record AreSought (externs : List (List ℕ × ExternContent)) (known : Option (List ℕ)) (failed : Bool) (found : Addresses) : Type 0 where
   pub text : List ℕ
   pub given : IsGiven known text
-  pub none : NoFault (SymbolsFault false text externs)
+  pub none : NoFault (SymbolsFault failed text externs)
   pub value : (name : List ℕ) → is_name_sought externs name ≡ true → address_under found name ≡ address_of name text
 
 pub record CannotSeek (externs : List (List ℕ × ExternContent)) (known : Option (List ℕ)) (failed : Bool) (f : KsymsError) : Type 0 where

@@ -98,7 +98,7 @@ pub(crate) fn sought_addresses<'a, R: BufRead>(
     externs: &Externs<'a>,
     symbols: &mut Watched<R>,
 ) -> Result<Addresses<'a>, KsymsError>
-    ensures found { IfOk result (AreSought externs.now.by_name (R.remaining (watched_inner symbols.old))) }
+    ensures found { IfOk result (AreSought externs.now.by_name (R.remaining (watched_inner symbols.old)) (has_failed symbols.new)) }
     ensures refused { IfErr result (λ f. f ≢ OutOfMemory → CannotSeek externs.now.by_name (R.remaining (watched_inner symbols.old)) (has_failed symbols.new) f) }
     ensures unread { is_any_sought externs.now.by_name ≡ false → symbols.new ≡ symbols.old }
 {
