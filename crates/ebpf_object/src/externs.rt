@@ -23,7 +23,7 @@ impl Object<'_> {
         kernel_types: &[Btf<'_>],
         symbols: &mut Watched<R>,
     ) -> Result<(), KsymsError>
-        ensures externs { OnOk result (IfSome self.old.types (λ t. AreResolved t (slice_get kernel_types.now 0) (R.remaining (watched_inner symbols.old)) self.old.externs self.new.externs)) }
+        ensures externs { OnOk result (IfSome self.old.types (λ t. AreResolved t (slice_get kernel_types.now 0) (R.remaining (watched_inner symbols.old)) (has_failed symbols.new) self.old.externs self.new.externs)) }
         ensures others { self.new ≡ record self.old { externs = self.new.externs } }
         ensures refused { IfErr result (λ f. f ≢ OutOfMemory → IsSomeAnd self.old.types (λ t. CannotResolve t (slice_get kernel_types.now 0) (R.remaining (watched_inner symbols.old)) (has_failed symbols.new) self.old.externs f)) }
         ensures no_table { self.old.types ≡ None → (IsOk result) × (self.new ≡ self.old) × (symbols.new ≡ symbols.old) }
