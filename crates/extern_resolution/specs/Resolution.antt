@@ -1,5 +1,5 @@
 -- The externs of an object, resolved.
-use Rattle.std.specs.Prelude.{◌≡◌, ℕ, Bool, false, List, Option}
+use Rattle.std.specs.Prelude.{◌≡◌, ℕ, Bool, List, Option}
 use Rattle.std.specs.List.{AllZip}
 use Rattle.btf_tables.specs.Tables.{Table}
 use Rattle.extern_resolution.specs.Faults.{ResolutionFault}
