@@ -2,6 +2,7 @@
 #![tactic(auto)]
 
 mod calls;
+mod externs;
 mod globals;
 mod object;
 mod passes;
@@ -18,6 +19,7 @@ pub use ebpf_items::{
     bpf_insn, bpf_map_def, bpf_map_info, bpf_map_type, bpf_prog_type, copy_instructions,
     parse_map_info,
 };
+pub use extern_resolution::KsymsError;
 pub use object::Object;
 pub use object_externs::{ExternDesc, Externs};
 pub use object_file::{ObjectFile, ReadSection, ReadSymbol, unnamed_symbol};

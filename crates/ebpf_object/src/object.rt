@@ -52,7 +52,7 @@ use std::mem;
 pub struct Object<'a> {
     pub(crate) alloc: Global,
     pub(crate) file: ObjectFile<'a>,
-    btf: Option<Btf<'a>>,
+    pub(crate) btf: Option<Btf<'a>>,
     btf_ext: Option<BtfExt<'a>>,
     pub(crate) maps: Maps<'a>,
     programs: Programs<'a>,

@@ -1,0 +1,5 @@
+pub mod Composed
+pub mod Each
+pub mod Found
+pub mod Growing
+pub mod Seeking

@@ -1,0 +1,65 @@
+//! Look-ups in the kernel's table.
+
+ghost use Rattle.std.specs.Prelude.{◌≡◌, ◌≢◌, ℕ, IfErr, IfOk, MatchOption};
+ghost use Rattle.btf_records.specs.declared.error.BtfError.TheVariants.{OutOfMemory};
+ghost use Rattle.extern_resolution.specs.Outcomes.{IsKernelRecord, IsMissing, type_held_at};
+ghost use Rattle.extern_resolution.specs.Records.{IsRecord};
+ghost use Rattle.btf_tables.specs.TypesByName.{IsFirstNamed};
+
+use btf_compatibility::types_are_compatible;
+use btf_records::{BtfError, BtfKind};
+use btf_tables::Btf;
+
+/// What the kernel has of a kind and a name.
+#[derive(Clone, Copy)]
+pub(crate) enum KernelRecord {
+    /// A record whose type is compatible.
+    Compatible(u32),
+    /// One whose type isn't.
+    Incompatible,
+    /// None.
+    Missing,
+}
+
+/// The id that the kernel's table has for a kind and a name; a name that can't be read hides it.
+fn kernel_id(kernel: &Btf<'_>, name: &str, kind: BtfKind) -> Result<Option<u32>, BtfError>
+    ensures found { IfOk result (λ found. MatchOption found (IsMissing kernel.now kind name.now) (IsFirstNamed kernel.now name.now kind)) }
+    ensures memory { IfErr result (λ e. e ≡ OutOfMemory) }
+{
+    match kernel.id_by_type_name_kind(name, kind) {
+        Ok(id) => Ok(Some(id)),
+        Err(BtfError::OutOfMemory) => Err(BtfError::OutOfMemory),
+        Err(_error) => Ok(None),
+    }
+}
+
+/// The type that the record of an id is of.
+fn type_held_at(kernel: &Btf<'_>, id: u32) -> u32
+    ensures { result ≡ type_held_at kernel.now id }
+{
+    match kernel.type_by_id(id) {
+        Ok(t) => t.btf_type().unwrap_or(0),
+        Err(_error) => 0,
+    }
+}
+
+/// What the kernel has of a kind and a name for a local type.
+pub(crate) fn kernel_record(
+    table: &Btf<'_>,
+    type_id: u32,
+    kernel: &Btf<'_>,
+    name: &str,
+    kind: BtfKind,
+) -> Result<KernelRecord, BtfError>
+    ensures value { IfOk result (IsRecord table.now kernel.now type_id kind name.now) }
+    ensures refused { IfErr result (λ e. e ≢ OutOfMemory → (id : ℕ) × IsKernelRecord table.now kernel.now type_id kind name.now (Err e) id) }
+{
+    let Some(id) = kernel_id(kernel, name, kind)? else {
+        return Ok(KernelRecord::Missing);
+    };
+    if types_are_compatible(table, type_id, kernel, type_held_at(kernel, id))? {
+        Ok(KernelRecord::Compatible(id))
+    } else {
+        Ok(KernelRecord::Incompatible)
+    }
+}
