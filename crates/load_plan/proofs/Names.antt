@@ -25,8 +25,9 @@ use Rattle.object_plan.specs.Plans.{AllNamed, HoldsTypeBytes, Names, plan_of, pl
 use Rattle.plan_maps.specs.PlanMaps.{plan_map}
 use Rattle.plan_text.specs.Content.{MapContent, PlanContent}
 use Rattle.settings.specs.Content.{SettingsContent}
+use Rattle.slot_relocation.specs.Maps.{map_rule}
 use Rattle.slot_relocation.specs.Writes.{AreRelocated, Rule, relocated}
-use Rattle.load_plan.specs.Made.{IsBuilt, IsMade, without_maps}
+use Rattle.load_plan.specs.Made.{IsBuilt, IsMade, maps_given, without_maps}
 use Rattle.load_plan.specs.Planned.{IsPlanOf}
 use Rattle.load_plan.proofs.Numbers.{named_maps}
 
@@ -80,7 +81,7 @@ built_names records carry predicate before settings maps object answers linked h
     let slots = built.slots in
     records.each object.types bytes answers (is_some bytes) has_helpers object.functions
     (unlinked slots.relocated.file built.text_sections slots.relocated.functions) (program_keys slots.relocated.programs) linked.functions programs named
-    (records_of _ _ object built.rewritten slots.relocated.functions built.types.others slots.numbers.functions) slots.calls.programs
+    (records_of (map_rule (maps_given settings maps built.rewritten built.text_sections)) built.rewritten.file object built.rewritten slots.relocated.functions built.types.others slots.numbers.functions) slots.calls.programs
     (carried carry predicate before object.file object.externs.ksyms object.types answers built.rewritten.types bytes built.types.types is holds)
 
 names : RecordsName → NamesAreCarried → {F : Type 0} (predicate : Mut F (BtfFeature × Unit {0}) Bool) (before : F) (Says : Bool → Type 0) (settings : SettingsContent) (object : ObjectContent) (answers : Answers) (maps : List (List ℕ × MapView)) (made : ObjectContent) (ms : List MapContent) → IsMade predicate before Says settings object answers maps made → HoldsTypeBytes made.types (type_bytes made.types) → AllNamed object.types (type_bytes made.types) (plan_of answers ms made).programs
