@@ -2,9 +2,10 @@
 
 ghost use Rattle.std.specs.Prelude.{◌≡◌, ◌≢◌, true, false, IfErr, IfOk, OnOk, Err};
 ghost use Rattle.std.specs.Io.KnownBytes.{Appends};
-ghost use Rattle.watched.specs.Watched.{watched_inner, has_failed, AppendsPart};
+ghost use Rattle.load_plan.specs.Watched.{watched_inner, has_failed, AppendsPart};
 ghost use Rattle.load_plan.specs.Planned.{IsPlanned, IsRefusal};
 ghost use Rattle.bpf_prepare.specs.Run.{inputs_of, HoldsOfText, IsRunRefusal};
+ghost use Rattle.load_plan.specs.declared.error.PrepareError.TheVariants.{OutOfMemory};
 ghost use Rattle.bpf_prepare.specs.declared.error.RunError.TheVariants.{Output};
 
 use crate::error::RunError;
@@ -24,7 +25,7 @@ fn plan_of<'a, F: FnMut(BtfFeature) -> bool, P: FnOnce() -> bool>(
     requires predicate { F.IsAlwaysCallable predicate }
     requires probe { P.pre probe }
     ensures planned { IfOk result (IsPlanned F.FnMut predicate (P.post probe) (inputs_of object.entry.now settings.now)) }
-    ensures refused { IfErr result (IsRefusal F.FnMut predicate (inputs_of object.entry.now settings.now)) }
+    ensures refused { IfErr result (λ e. e ≢ OutOfMemory → IsRefusal F.FnMut predicate (inputs_of object.entry.now settings.now) e) }
 {
     let mut symbols = Watched::new(io::empty());
     prepare(

@@ -1,4 +1,7 @@
-pub mod Made
+pub mod Changes
+pub mod Granted
 pub mod Names
 pub mod Numbers
-pub mod Refused
+pub mod Planned
+pub mod Programs
+pub mod Slots

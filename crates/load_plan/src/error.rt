@@ -1,12 +1,13 @@
 //! Why an object gets no plan.
 
 ghost use Rattle.std.specs.Prelude.{◌≡◌};
-ghost use Rattle.load_plan.specs.declared.error.PrepareError.TheVariants.{Parse, OutOfMemory, Relocation, Types};
+ghost use Rattle.load_plan.specs.Errors.{of_parse, of_relocation, of_types};
+ghost use Rattle.load_plan.specs.declared.error.PrepareError.TheVariants.{OutOfMemory};
 
 use btf_records::BtfError;
 use ebpf_items::ParseError;
 use ebpf_object::Pass;
-use relocation_errors::EbpfRelocationError;
+use relocation_errors::{EbpfRelocationError, RelocationError};
 use std::alloc::{AllocError, AllocFailed};
 use thiserror::Error;
 
@@ -57,26 +58,38 @@ fn subject(pass: Pass) -> &'static str {
     }
 }
 
+/// Want of memory stays want of memory.
 impl From<ParseError> for PrepareError {
-    ghost from_gives = { λ error e. e ≡ Parse error };
+    ghost from_gives = { λ error e. e ≡ of_parse error };
 
     fn from(error: ParseError) -> PrepareError {
-        PrepareError::Parse(error)
+        match error {
+            ParseError::OutOfMemory => PrepareError::OutOfMemory,
+            error => PrepareError::Parse(error),
+        }
     }
 }
 
+/// Want of memory stays want of memory.
 impl From<BtfError> for PrepareError {
-    ghost from_gives = { λ error e. e ≡ Types error };
+    ghost from_gives = { λ error e. e ≡ of_types error };
 
     fn from(error: BtfError) -> PrepareError {
-        PrepareError::Types(error)
+        match error {
+            BtfError::OutOfMemory => PrepareError::OutOfMemory,
+            error => PrepareError::Types(error),
+        }
     }
 }
 
+/// Want of memory stays want of memory.
 impl From<EbpfRelocationError> for PrepareError {
-    ghost from_gives = { λ error e. e ≡ Relocation error };
+    ghost from_gives = { λ error e. e ≡ of_relocation error };
 
     fn from(error: EbpfRelocationError) -> PrepareError {
+        if let RelocationError::OutOfMemory = error.error() {
+            return PrepareError::OutOfMemory;
+        }
         PrepareError::Relocation(error)
     }
 }

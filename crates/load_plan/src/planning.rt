@@ -1,8 +1,10 @@
 //! From an object's bytes to its plan.
 
-ghost use Rattle.std.specs.Prelude.{◌≡◌, IfErr, IfOk};
-ghost use Rattle.load_plan.specs.Planned.{Inputs, IsParseRefusal, IsPlanOf, IsPlanned, IsRefusal, IsWholeObject};
-ghost use Rattle.load_plan.specs.Refusals.{IsObjectRefusal};
+ghost use Rattle.std.specs.Prelude.{◌≡◌, ◌≢◌, ℕ, List, IfErr, IfOk};
+ghost use Rattle.ebpf_object.specs.Faults.{HasFault};
+ghost use Rattle.load_plan.specs.Passes.{OfParse};
+ghost use Rattle.load_plan.specs.Planned.{IsPlanned, IsPlannedObject, IsRefusal, IsRefusedObject, IsWholeObject};
+ghost use Rattle.load_plan.specs.declared.error.PrepareError.TheVariants.{OutOfMemory};
 
 use crate::error::PrepareError;
 use crate::making::make;
@@ -10,17 +12,19 @@ use crate::order::Order;
 use btf_records::BtfFeature;
 use btf_tables::Btf;
 use ebpf_object::{Object, Watched};
+use function_layout::{reached_are_appended, renamed_visits_same, slots_are_copied};
 use object_plan::{names_are_carried, plan_of, records_name};
 use plan_maps::plan_maps;
 use plan_text::Plan;
 use settings::Settings;
+use slot_relocation::numbers_are_written;
 use std::alloc::Global;
 use std::io::BufRead;
 
 /// The object that a file holds.
 fn parse<'a>(alloc: Global, file: &'a [u8]) -> Result<Object<'a>, PrepareError>
     ensures parsed { IfOk result (IsWholeObject file.entry.now) }
-    ensures refused { IfErr result (IsParseRefusal file.entry.now) }
+    ensures refused { IfErr result (λ e. e ≢ OutOfMemory → OfParse (HasFault file.entry.now) e) }
 {
     Ok(Object::parse(alloc, file)?)
 }
@@ -28,38 +32,35 @@ fn parse<'a>(alloc: Global, file: &'a [u8]) -> Result<Object<'a>, PrepareError>
 /// The plan of what all passes make of a parsed object.
 fn plan_object<'a, F: FnMut(BtfFeature) -> bool, P: FnOnce() -> bool>(
     alloc: Global,
+    kernel_types: &[Btf<'_>],
     settings: &Settings<'_>,
+    order: Order,
     object: &mut Object<'a>,
     predicate: F,
     probe: P,
 ) -> Result<Plan<'a>, PrepareError>
     requires predicate { F.IsAlwaysCallable predicate }
     requires probe { P.pre probe }
-    ensures planned { IfOk result (IsPlanOf F.FnMut predicate (P.post probe) settings.now object.old) }
-    ensures refused { IfErr result (IsObjectRefusal F.FnMut predicate settings.now object.old) }
+    ensures planned { IfOk result (λ plan. (file : List ℕ) → IsPlannedObject F.FnMut predicate (P.post probe) (record { file = file; kernel_types = kernel_types.now; settings = settings.now; order = order }) object.old plan) }
+    ensures refused { IfErr result (λ e. e ≢ OutOfMemory → (file : List ℕ) → IsRefusedObject F.FnMut predicate (record { file = file; kernel_types = kernel_types.now; settings = settings.now; order = order }) object.old e) }
 {
+    numbers_are_written();
+    slots_are_copied();
+    reached_are_appended();
+    renamed_visits_same();
     records_name();
     names_are_carried();
-    let made = make(alloc, settings, object, predicate, probe)?;
-    let maps = plan_maps(alloc, &made.maps, settings)?;
-    Ok(plan_of(alloc, object, made.answers, maps)?)
-}
-
-/// The plan of the object that a file holds.
-fn plan_file<'a, F: FnMut(BtfFeature) -> bool, P: FnOnce() -> bool>(
-    alloc: Global,
-    settings: &Settings<'_>,
-    file: &'a [u8],
-    predicate: F,
-    probe: P,
-) -> Result<Plan<'a>, PrepareError>
-    requires predicate { F.IsAlwaysCallable predicate }
-    requires probe { P.pre probe }
-    ensures planned { IfOk result (IsPlanned F.FnMut predicate (P.post probe) (record { file = file.entry.now; settings = settings.now })) }
-    ensures refused { IfErr result (IsRefusal F.FnMut predicate (record { file = file.entry.now; settings = settings.now })) }
-{
-    let mut object = parse(alloc, file)?;
-    plan_object(alloc, settings, &mut object, predicate, probe)
+    let answers = make(
+        alloc,
+        kernel_types,
+        settings,
+        order,
+        object,
+        predicate,
+        probe,
+    )?;
+    let maps = plan_maps(alloc, object.maps(), settings)?;
+    Ok(plan_of(alloc, object, answers, maps)?)
 }
 
 /// The load plan of an object file for one kernel: its maps under the numbers that `settings` give
@@ -85,19 +86,28 @@ fn plan_file<'a, F: FnMut(BtfFeature) -> bool, P: FnOnce() -> bool>(
 pub fn prepare<'a, R: BufRead, F: FnMut(BtfFeature) -> bool, P: FnOnce() -> bool>(
     alloc: Global,
     object: &'a [u8],
-    _kernel_types: &[Btf<'_>],
+    kernel_types: &[Btf<'_>],
     symbols: &mut Watched<R>,
     settings: &Settings<'_>,
-    _order: Order,
+    order: Order,
     predicate: F,
     probe: P,
 ) -> Result<Plan<'a>, PrepareError>
     requires predicate { F.IsAlwaysCallable predicate }
     requires probe { P.pre probe }
-    ensures planned { IfOk result (IsPlanned F.FnMut predicate (P.post probe) (record { file = object.entry.now; settings = settings.now })) }
-    ensures refused { IfErr result (IsRefusal F.FnMut predicate (record { file = object.entry.now; settings = settings.now })) }
+    ensures planned { IfOk result (IsPlanned F.FnMut predicate (P.post probe) (record { file = object.entry.now; kernel_types = kernel_types.now; settings = settings.now; order = order })) }
+    ensures refused { IfErr result (λ e. e ≢ OutOfMemory → IsRefusal F.FnMut predicate (record { file = object.entry.now; kernel_types = kernel_types.now; settings = settings.now; order = order }) e) }
     ensures unread { symbols.new ≡ symbols.old }
 {
     let _ = symbols;
-    plan_file(alloc, settings, object, predicate, probe)
+    let mut parsed = parse(alloc, object)?;
+    plan_object(
+        alloc,
+        kernel_types,
+        settings,
+        order,
+        &mut parsed,
+        predicate,
+        probe,
+    )
 }
