@@ -10,8 +10,9 @@ use Rattle.function_layout.specs.Layout.{Key, linked, placed, ref_at}
 use Rattle.linker.specs.Unlinked.{Unlinked, slots_in, table_of}
 use Rattle.object_parts.specs.Content.{FunctionContent, function_at}
 use Rattle.plan_text.specs.Content.{MapContent}
-use Rattle.slot_relocation.specs.Laws.{CarriesNumber, HaveNumbers, Writes, WritesAt, map_of, mark_of, place_in}
+use Rattle.slot_relocation.specs.Laws.{CarriesNumber, HaveNumbers, Writes, WritesAt, map_of, mark_of}
 use Rattle.slot_relocation.specs.Maps.{MapsGiven, NumberedMap}
+use Rattle.slot_relocation.specs.Writes.{place_of}
 use Rattle.slot_relocation.specs.declared.outcome.Write.{Write}
 use Rattle.load_plan.specs.Programs.{AreSlotsOf, HasMap, IsKept, NumbersMap}
 
@@ -75,13 +76,13 @@ others_of law g has_helpers functions u own keys numbers key start place f s cop
     kept_slot has_helpers (linked (table_of u) own keys) (start + place) s kept
     (copied law u own keys key start place one.0 s copy one.1 (one.2.others place unwritten ∙ at) refers)
 
-numbers_of : SlotsAreCopied → (g : MapsGiven) (maps : List MapContent) (has_helpers : Bool) (functions : Keyed) (u : Unlinked) (own : Key) (keys : List Key) → HaveNumbers g functions u.functions → ((r : Relocation) (m : NumberedMap) → map_of g r ≡ Some m → HasMap maps m) → (key : Key) (start : ℕ) (f : FunctionContent) (r : ℕ × Relocation) (w : Write) → IsCopy (table_of u) own keys key start → function_at functions key ≡ Some f → Writes g f r w → ref_at (table_of u) key (place_in f r) ≡ None → (s : bpf_insn) × (slice_get (kernel_slots has_helpers (linked (table_of u) own keys)) (start + place_in f r) ≡ Some s) × NumbersMap g maps r.1 s
+numbers_of : SlotsAreCopied → (g : MapsGiven) (maps : List MapContent) (has_helpers : Bool) (functions : Keyed) (u : Unlinked) (own : Key) (keys : List Key) → HaveNumbers g functions u.functions → ((r : Relocation) (m : NumberedMap) → map_of g r ≡ Some m → HasMap maps m) → (key : Key) (start : ℕ) (f : FunctionContent) (r : ℕ × Relocation) (w : Write) → IsCopy (table_of u) own keys key start → function_at functions key ≡ Some f → Writes g f r w → ref_at (table_of u) key (place_of f r.0) ≡ None → (s : bpf_insn) × (slice_get (kernel_slots has_helpers (linked (table_of u) own keys)) (start + place_of f r.0) ≡ Some s) × NumbersMap g maps r.1 s
 numbers_of law g maps has_helpers functions u own keys numbers among key start f r w copy here writes refers =
     let one = numbers key f here in
     let slot = one.2.numbers r w writes in (
       slot.0,
-      kept_slot has_helpers (linked (table_of u) own keys) (start + place_in f r) slot.0 (number_kept has_helpers g r.1 slot.0 slot.2)
-          (copied law u own keys key start (place_in f r) one.0 slot.0 copy one.1 slot.1 refers),
+      kept_slot has_helpers (linked (table_of u) own keys) (start + place_of f r.0) slot.0 (number_kept has_helpers g r.1 slot.0 slot.2)
+          (copied law u own keys key start (place_of f r.0) one.0 slot.0 copy one.1 slot.1 refers),
       record { carried = slot.2; among = among r.1 },
     )
 

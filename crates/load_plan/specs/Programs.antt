@@ -18,8 +18,9 @@ use Rattle.object_parts.specs.Content.{FunctionContent, ProgramContent, function
 use Rattle.object_plan.specs.Plans.{AllName}
 use Rattle.plan_text.specs.Content as plan
 use Rattle.plan_text.specs.Content.{MapContent, PlanContent}
-use Rattle.slot_relocation.specs.Laws.{CarriesNumber, Writes, WritesAt, map_of, place_in}
+use Rattle.slot_relocation.specs.Laws.{CarriesNumber, Writes, WritesAt, map_of}
 use Rattle.slot_relocation.specs.Maps.{MapsGiven, NumberedMap}
+use Rattle.slot_relocation.specs.Writes.{place_of}
 use Rattle.slot_relocation.specs.declared.outcome.Write.{Write}
 use Rattle.load_plan.specs.Inputs.{Inputs, State, Under, keeps_helpers}
 use Rattle.load_plan.specs.Passes.{maps_given, unlinked_of}
@@ -63,7 +64,7 @@ pub record AreSlotsOf (g : MapsGiven) (maps : List MapContent) (has_helpers : Bo
   -- one that no relocation for a map writes, that refers to no function and that isn't renamed is the object's
   pub others : (key : Key) (start place : ℕ) (f : FunctionContent) (s : bpf_insn) → IsCopy t own keys key start → function_at functions key ≡ Some f → slice_get f.instructions place ≡ Some s → (WritesAt g f place → ⊥) → ref_at t key place ≡ None → IsKept has_helpers s → slice_get slots (start + place) ≡ Some s
   -- one at which such a relocation stands and writes, and that refers to no function, carries the map's number in the plan
-  pub numbers : (key : Key) (start : ℕ) (f : FunctionContent) (r : ℕ × Relocation) (w : Write) → IsCopy t own keys key start → function_at functions key ≡ Some f → Writes g f r w → ref_at t key (place_in f r) ≡ None → (s : bpf_insn) × (slice_get slots (start + place_in f r) ≡ Some s) × NumbersMap g maps r.1 s
+  pub numbers : (key : Key) (start : ℕ) (f : FunctionContent) (r : ℕ × Relocation) (w : Write) → IsCopy t own keys key start → function_at functions key ≡ Some f → Writes g f r w → ref_at t key (place_of f r.0) ≡ None → (s : bpf_insn) × (slice_get slots (start + place_of f r.0) ≡ Some s) × NumbersMap g maps r.1 s
 
 -- A program of a plan: what it is by an object, by the same after its functions' slots were written, and by what was answered about
 -- the kernel. All is told by one layout, the keys of the functions whose copies are appended to the program's own.
