@@ -1,7 +1,7 @@
 -- What a run says of the object's bytes and the settings.
 use Rattle.std.specs.Prelude.{◌≢◌, ℕ, List, [], Bool}
 use Rattle.load_plan.specs.Content.{PlanContent}
-use Rattle.load_plan.specs.Inputs.{Inputs, Predicate, SettingsContent}
+use Rattle.load_plan.specs.Inputs.{Inputs, Predicate, SettingsContent, inputs}
 use Rattle.load_plan.specs.PlanGrammar as grammar
 use Rattle.load_plan.specs.Planned.{IsPlanned, IsRefusal}
 use Rattle.load_plan.specs.declared.error.PrepareError.TheVariants as prepare
@@ -11,7 +11,7 @@ use Rattle.bpf_prepare.specs.declared.error.RunError.TheVariants.{Output, Refuse
 
 -- an object's file and settings, without types of a kernel
 abbrev pub inputs_of : List ℕ → SettingsContent → Inputs
-inputs_of file settings = record { file = file; kernel_types = []; settings = settings; order = RelocateFirst }
+inputs_of file settings = inputs file [] settings RelocateFirst
 
 -- something holds of the text of the plan of these inputs, for a kernel of which the predicate and the probe tell
 pub record HoldsOfText {F : Type 0} (predicate : Predicate F) (before : F) (Says : Bool → Type 0) (inputs : Inputs) (Holds : List ℕ → Type 0) : Type 0 where

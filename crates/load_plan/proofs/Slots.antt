@@ -14,7 +14,7 @@ use Rattle.slot_relocation.specs.Laws.{CarriesNumber, HaveNumbers, Writes, Write
 use Rattle.slot_relocation.specs.Maps.{MapsGiven, NumberedMap}
 use Rattle.slot_relocation.specs.Writes.{place_of}
 use Rattle.slot_relocation.specs.declared.outcome.Write.{Write}
-use Rattle.load_plan.specs.Programs.{AreSlotsOf, HasMap, IsKept, NumbersMap}
+use Rattle.load_plan.specs.Programs.{AreSlotsOf, HasMap, IsCopied, IsKept, NumbersMap}
 
 abbrev Keyed : Type 0
 Keyed = List (Key × FunctionContent)
@@ -70,19 +70,27 @@ copied law u own keys key start place h s copy here at refers =
     law.each (table_of u) own keys key start place s copy (ap (λ (l : List bpf_insn). slice_get l place) (slots_of u key h here) ∙ at)
     ∙ ap (λ (r : Option Key). Some (placed (table_of u) own keys r (start + place) s)) refers
 
-others_of : SlotsAreCopied → (g : MapsGiven) (has_helpers : Bool) (functions : Keyed) (u : Unlinked) (own : Key) (keys : List Key) → HaveNumbers g functions u.functions → (key : Key) (start place : ℕ) (f : FunctionContent) (s : bpf_insn) → IsCopy (table_of u) own keys key start → function_at functions key ≡ Some f → slice_get f.instructions place ≡ Some s → (WritesAt g f place → ⊥) → ref_at (table_of u) key place ≡ None → IsKept has_helpers s → slice_get (kernel_slots has_helpers (linked (table_of u) own keys)) (start + place) ≡ Some s
-others_of law g has_helpers functions u own keys numbers key start place f s copy here at unwritten refers kept =
-    let one = numbers key f here in
+others_of : SlotsAreCopied → (g : MapsGiven) (has_helpers : Bool) (functions : Keyed) (u : Unlinked) (own : Key) (keys : List Key) → HaveNumbers g functions u.functions → (key : Key) (start place : ℕ) (f : FunctionContent) (s : bpf_insn)
+    → IsCopied functions (table_of u) own keys key start place f
+    → slice_get f.instructions place ≡ Some s
+    → (WritesAt g f place → ⊥)
+    → IsKept has_helpers s
+    → slice_get (kernel_slots has_helpers (linked (table_of u) own keys)) (start + place) ≡ Some s
+others_of law g has_helpers functions u own keys numbers key start place f s is at unwritten kept =
+    let one = numbers key f is.here in
     kept_slot has_helpers (linked (table_of u) own keys) (start + place) s kept
-    (copied law u own keys key start place one.0 s copy one.1 (one.2.others place unwritten ∙ at) refers)
+    (copied law u own keys key start place one.0 s is.copy one.1 (one.2.others place unwritten ∙ at) is.refers)
 
-numbers_of : SlotsAreCopied → (g : MapsGiven) (maps : List MapContent) (has_helpers : Bool) (functions : Keyed) (u : Unlinked) (own : Key) (keys : List Key) → HaveNumbers g functions u.functions → ((r : Relocation) (m : NumberedMap) → map_of g r ≡ Some m → HasMap maps m) → (key : Key) (start : ℕ) (f : FunctionContent) (r : ℕ × Relocation) (w : Write) → IsCopy (table_of u) own keys key start → function_at functions key ≡ Some f → Writes g f r w → ref_at (table_of u) key (place_of f r.0) ≡ None → (s : bpf_insn) × (slice_get (kernel_slots has_helpers (linked (table_of u) own keys)) (start + place_of f r.0) ≡ Some s) × NumbersMap g maps r.1 s
-numbers_of law g maps has_helpers functions u own keys numbers among key start f r w copy here writes refers =
-    let one = numbers key f here in
+numbers_of : SlotsAreCopied → (g : MapsGiven) (maps : List MapContent) (has_helpers : Bool) (functions : Keyed) (u : Unlinked) (own : Key) (keys : List Key) → HaveNumbers g functions u.functions → ((r : Relocation) (m : NumberedMap) → map_of g r ≡ Some m → HasMap maps m) → (key : Key) (start : ℕ) (f : FunctionContent) (r : ℕ × Relocation) (w : Write)
+    → IsCopied functions (table_of u) own keys key start (place_of f r.0) f
+    → Writes g f r w
+    → (s : bpf_insn) × (slice_get (kernel_slots has_helpers (linked (table_of u) own keys)) (start + place_of f r.0) ≡ Some s) × NumbersMap g maps r.1 s
+numbers_of law g maps has_helpers functions u own keys numbers among key start f r w is writes =
+    let one = numbers key f is.here in
     let slot = one.2.numbers r w writes in (
       slot.0,
       kept_slot has_helpers (linked (table_of u) own keys) (start + place_of f r.0) slot.0 (number_kept has_helpers g r.1 slot.0 slot.2)
-          (copied law u own keys key start (place_of f r.0) one.0 slot.0 copy one.1 slot.1 refers),
+          (copied law u own keys key start (place_of f r.0) one.0 slot.0 is.copy one.1 slot.1 is.refers),
       record { carried = slot.2; among = among r.1 },
     )
 

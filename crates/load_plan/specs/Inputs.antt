@@ -20,6 +20,9 @@ pub record Inputs : Type 0 where
   pub settings : SettingsContent
   pub order : Order
 
+abbrev pub inputs : List ℕ → List Table → SettingsContent → Order → Inputs
+inputs file kernel_types settings order = record { file = file; kernel_types = kernel_types; settings = settings; order = order }
+
 -- What was answered about the kernel: which features of types it grants, by the features that were asked about, and whether it has the
 -- newer helpers that read memory, if that was asked.
 pub record Under : Type 0 where

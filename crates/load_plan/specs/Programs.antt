@@ -59,12 +59,26 @@ pub record NumbersMap (g : MapsGiven) (maps : List MapContent) (r : Relocation) 
   pub carried : CarriesNumber g r s
   pub among : (m : NumberedMap) → map_of g r ≡ Some m → HasMap maps m
 
--- What the slots of a program are, by those of the functions that it has copies of.
+-- the slot at a place of a function whose copy begins at a slot of a program refers to no function
+pub record IsCopied (functions : List (Key × FunctionContent)) (t : Table) (own : Key) (keys : List Key) (key : Key) (start place : ℕ) (f : FunctionContent) : Type 0 where
+  pub copy : IsCopy t own keys key start
+  pub here : function_at functions key ≡ Some f
+  pub refers : ref_at t key place ≡ None
+
+-- What the slots of a program are, by those of the functions that it has copies of: in each copy,
 pub record AreSlotsOf (g : MapsGiven) (maps : List MapContent) (has_helpers : Bool) (functions : List (Key × FunctionContent)) (t : Table) (own : Key) (keys : List Key) (slots : List bpf_insn) : Type 0 where
   -- one that no relocation for a map writes, that refers to no function and that isn't renamed is the object's
-  pub others : (key : Key) (start place : ℕ) (f : FunctionContent) (s : bpf_insn) → IsCopy t own keys key start → function_at functions key ≡ Some f → slice_get f.instructions place ≡ Some s → (WritesAt g f place → ⊥) → ref_at t key place ≡ None → IsKept has_helpers s → slice_get slots (start + place) ≡ Some s
+  pub others : (key : Key) (start place : ℕ) (f : FunctionContent) (s : bpf_insn)
+      → IsCopied functions t own keys key start place f
+      → slice_get f.instructions place ≡ Some s
+      → (WritesAt g f place → ⊥)
+      → IsKept has_helpers s
+      → slice_get slots (start + place) ≡ Some s
   -- one at which such a relocation stands and writes, and that refers to no function, carries the map's number in the plan
-  pub numbers : (key : Key) (start : ℕ) (f : FunctionContent) (r : ℕ × Relocation) (w : Write) → IsCopy t own keys key start → function_at functions key ≡ Some f → Writes g f r w → ref_at t key (place_of f r.0) ≡ None → (s : bpf_insn) × (slice_get slots (start + place_of f r.0) ≡ Some s) × NumbersMap g maps r.1 s
+  pub numbers : (key : Key) (start : ℕ) (f : FunctionContent) (r : ℕ × Relocation) (w : Write)
+      → IsCopied functions t own keys key start (place_of f r.0) f
+      → Writes g f r w
+      → (s : bpf_insn) × (slice_get slots (start + place_of f r.0) ≡ Some s) × NumbersMap g maps r.1 s
 
 -- A program of a plan: what it is by an object, by the same after its functions' slots were written, and by what was answered about
 -- the kernel. All is told by one layout, the keys of the functions whose copies are appended to the program's own.

@@ -3,7 +3,7 @@
 ghost use Rattle.std.specs.Prelude.{◌≡◌, ◌≢◌, ℕ, List, IfErr, IfOk, OnOk};
 ghost use Rattle.ebpf_object.specs.Calls as calls;
 ghost use Rattle.ebpf_object.specs.Rewriting.{AreAnswered};
-ghost use Rattle.load_plan.specs.Inputs.{Inputs};
+ghost use Rattle.load_plan.specs.Inputs.{inputs};
 ghost use Rattle.load_plan.specs.Made.{IsMade, IsRefusedTypes};
 ghost use Rattle.load_plan.specs.Passes.{CannotLink, CannotPutValues, CannotWriteNumbers, HasNamelessRecord, IsNumbered, IsServed, IsUnserved, KeepsNamed, LacksNumber, LinksPrograms, OfParse, OfRelocation, PutsValues, RewritesTypes, WritesNumbers};
 ghost use Rattle.load_plan.specs.Planned.{IsRefusedObject};
@@ -142,8 +142,8 @@ pub(crate) fn make<F: FnMut(BtfFeature) -> bool, P: FnOnce() -> bool>(
 ) -> Result<Answers, PrepareError>
     requires predicate { F.IsAlwaysCallable predicate }
     requires probe { P.pre probe }
-    ensures made { IfOk result (λ answers. (file : List ℕ) → IsMade F.FnMut predicate (P.post probe) (record { file = file; kernel_types = kernel_types.now; settings = settings.now; order = order }) answers.items object.old object.new) }
-    ensures refused { IfErr result (λ e. e ≢ OutOfMemory → (file : List ℕ) → IsRefusedObject F.FnMut predicate (record { file = file; kernel_types = kernel_types.now; settings = settings.now; order = order }) object.old e) }
+    ensures made { IfOk result (λ answers. (file : List ℕ) → IsMade F.FnMut predicate (P.post probe) (inputs file kernel_types.now settings.now order) answers.items object.old object.new) }
+    ensures refused { IfErr result (λ e. e ≢ OutOfMemory → (file : List ℕ) → IsRefusedObject F.FnMut predicate (inputs file kernel_types.now settings.now order) object.old e) }
 {
     let _ = (kernel_types, order);
     require_named(alloc, object)?;

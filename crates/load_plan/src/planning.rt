@@ -2,6 +2,7 @@
 
 ghost use Rattle.std.specs.Prelude.{◌≡◌, ◌≢◌, ℕ, List, IfErr, IfOk};
 ghost use Rattle.ebpf_object.specs.Faults.{HasFault};
+ghost use Rattle.load_plan.specs.Inputs.{inputs};
 ghost use Rattle.load_plan.specs.Passes.{OfParse};
 ghost use Rattle.load_plan.specs.Planned.{IsPlanned, IsPlannedObject, IsRefusal, IsRefusedObject, IsWholeObject};
 ghost use Rattle.load_plan.specs.declared.error.PrepareError.TheVariants.{OutOfMemory};
@@ -41,8 +42,8 @@ fn plan_object<'a, F: FnMut(BtfFeature) -> bool, P: FnOnce() -> bool>(
 ) -> Result<Plan<'a>, PrepareError>
     requires predicate { F.IsAlwaysCallable predicate }
     requires probe { P.pre probe }
-    ensures planned { IfOk result (λ plan. (file : List ℕ) → IsPlannedObject F.FnMut predicate (P.post probe) (record { file = file; kernel_types = kernel_types.now; settings = settings.now; order = order }) object.old plan) }
-    ensures refused { IfErr result (λ e. e ≢ OutOfMemory → (file : List ℕ) → IsRefusedObject F.FnMut predicate (record { file = file; kernel_types = kernel_types.now; settings = settings.now; order = order }) object.old e) }
+    ensures planned { IfOk result (λ plan. (file : List ℕ) → IsPlannedObject F.FnMut predicate (P.post probe) (inputs file kernel_types.now settings.now order) object.old plan) }
+    ensures refused { IfErr result (λ e. e ≢ OutOfMemory → (file : List ℕ) → IsRefusedObject F.FnMut predicate (inputs file kernel_types.now settings.now order) object.old e) }
 {
     numbers_are_written();
     slots_are_copied();
@@ -95,8 +96,8 @@ pub fn prepare<'a, R: BufRead, F: FnMut(BtfFeature) -> bool, P: FnOnce() -> bool
 ) -> Result<Plan<'a>, PrepareError>
     requires predicate { F.IsAlwaysCallable predicate }
     requires probe { P.pre probe }
-    ensures planned { IfOk result (IsPlanned F.FnMut predicate (P.post probe) (record { file = object.entry.now; kernel_types = kernel_types.now; settings = settings.now; order = order })) }
-    ensures refused { IfErr result (λ e. e ≢ OutOfMemory → IsRefusal F.FnMut predicate (record { file = object.entry.now; kernel_types = kernel_types.now; settings = settings.now; order = order }) e) }
+    ensures planned { IfOk result (IsPlanned F.FnMut predicate (P.post probe) (inputs object.entry.now kernel_types.now settings.now order)) }
+    ensures refused { IfErr result (λ e. e ≢ OutOfMemory → IsRefusal F.FnMut predicate (inputs object.entry.now kernel_types.now settings.now order) e) }
     ensures unread { symbols.new ≡ symbols.old }
 {
     let _ = symbols;
