@@ -2,7 +2,6 @@ pub mod Slots
 pub mod Writes
 pub mod BySymbol
 pub mod Maps
-pub mod Externs
 pub mod Laws
 pub mod WriteLaws
 pub mod Walks

@@ -13,7 +13,7 @@ use object_file::ObjectFile;
 use object_parts::{Function, SLOT_SIZE};
 
 /// What a relocation does by its symbol.
-pub(crate) trait SymbolRule {
+pub trait SymbolRule {
     /// The rule's definition.
     ghost does: { Self → Does };
 

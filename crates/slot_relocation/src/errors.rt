@@ -99,7 +99,7 @@ fn error_for(
 
 /// Makes the relocations that the file holds in all functions, by a rule on their symbols. Of several
 /// faults the first in order of section and offset is answered. The functions then stay as they are.
-pub(crate) fn relocate_by_symbol<'f, S: SymbolRule + Drop>(
+pub fn relocate_by_symbol<'f, S: SymbolRule + Drop>(
     alloc: Global,
     file: &ObjectFile<'_>,
     rule: S,

@@ -65,7 +65,7 @@ impl Write {
 }
 
 /// A slot with a source register and a number in its immediate.
-pub(crate) fn with_number(slot: bpf_insn, source: u8, number: i32) -> bpf_insn
+pub fn with_number(slot: bpf_insn, source: u8, number: i32) -> bpf_insn
     ensures { result ≡ with_number slot source number }
 {
     let mut numbered = slot;

@@ -9,10 +9,11 @@ use Rattle.std.proofs.lemmas.Bool.Decides.{nat_tests}
 use Rattle.std.proofs.lemmas.Map.Views.{any-filter_same}
 use Rattle.elf64.specs.Relocations.{Relocation}
 use Rattle.object_parts.specs.Content.{FunctionContent}
-use Rattle.unserved.specs.Relocations.{asks_for_extern, end_of, is_by_extern}
+use Rattle.object_parts.specs.Geometry.{end_of}
+use Rattle.unserved.specs.Relocations.{asks_for_extern, is_by_extern}
 
 -- what passes a test of the offset lies between
-is_between : (a b k : ℕ) (u v : Bool) → ((nat_le a k && (nat_lt k b && u)) && v) ≡ true → range_contains nat_cmp (Included a) (Excluded b) k ≡ true
+is_between : (a b k : ℕ) (u v : Bool) → (((nat_le a k && nat_lt k b) && u) && v) ≡ true → range_contains nat_cmp (Included a) (Excluded b) k ≡ true
 is_between a b k u v h = grind (arith, nat_tests)
 
 -- those from a function's offset to its end are all that ask for an extern

@@ -8,14 +8,11 @@ use Rattle.object_externs.specs.Symbols.{is_extern_symbol}
 use Rattle.object_file.specs.Relocations.{relocations_by_offset}
 use Rattle.object_file.specs.Symbols.{symbol_at}
 use Rattle.object_parts.specs.Content.{FunctionContent}
-
--- where a function ends in its section
-abbrev pub end_of : FunctionContent → ℕ
-end_of f = f.section_offset + 8 * length f.instructions
+use Rattle.object_parts.specs.Geometry.{is_inside}
 
 -- whether a slot of a function begins at an offset of its section
 abbrev pub is_at_slot : FunctionContent → ℕ → Bool
-is_at_slot f offset = nat_le f.section_offset offset && (nat_lt offset (end_of f) && (offset - f.section_offset) % 8 == 0)
+is_at_slot f offset = is_inside f offset && (offset - f.section_offset) % 8 == 0
 
 -- the symbol that a relocation is by, where it is known
 abbrev pub symbol_by : List ℕ → Relocation → Option Symbol

@@ -5,7 +5,7 @@ ghost use Rattle.std.specs.List.{list_any};
 ghost use Rattle.object_file.specs.Relocations.{relocations_by_offset};
 ghost use Rattle.unserved.specs.Relocations.{asks_for_extern, has_extern_relocation, is_by_extern, needs_extern};
 
-use crate::function::{end_of, is_at_slot, symbol_by};
+use crate::function::{is_at_slot, symbol_by};
 use elf64::RelocView;
 use object_externs::is_extern_symbol;
 use object_file::ObjectFile;
@@ -39,7 +39,7 @@ fn needs_extern(file: &ObjectFile<'_>, function: &Function<'_>) -> bool
 {
     let index = function.section_index;
     // No offset lies behind an end past 64 bits.
-    let Ok(end) = u64::try_from(end_of(function)) else {
+    let Ok(end) = u64::try_from(function.end()) else {
         return file
             .relocations_by_offset(index)
             .any(|(at, r)| asks_for_extern(file, function, *at, r));

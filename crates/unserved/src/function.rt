@@ -1,30 +1,19 @@
 //! The relocations inside a function.
 
-ghost use Rattle.std.specs.Prelude.{◌≡◌, ◌≤◌};
+ghost use Rattle.std.specs.Prelude.{◌≡◌};
 ghost use Rattle.std.specs.Option.{option_copied};
-ghost use Rattle.unserved.specs.Relocations.{end_of, is_at_slot, symbol_by};
+ghost use Rattle.unserved.specs.Relocations.{is_at_slot, symbol_by};
 
 use elf64::{RelocView, SymbolView};
 use object_file::ObjectFile;
-use object_parts::Function;
-
-/// The bytes of a slot.
-const SLOT_SIZE: u64 = 8;
-
-/// Where a function ends in its section, in bytes.
-pub(crate) fn end_of(function: &Function<'_>) -> u128
-    ensures value { result ≡ end_of function.now }
-    ensures least { function.now.section_offset ≤ result }
-{
-    function.section_offset as u128 + SLOT_SIZE as u128 * function.instructions.len() as u128
-}
+use object_parts::{Function, SLOT_SIZE};
 
 /// Whether a slot of a function begins at an offset of its section.
 pub(crate) fn is_at_slot(function: &Function<'_>, offset: u64) -> bool
     ensures { result ≡ is_at_slot function.now offset }
 {
     let start = function.section_offset as u64;
-    start <= offset && (offset as u128) < end_of(function) && (offset - start) % SLOT_SIZE == 0
+    function.is_inside(offset) && (offset - start) % SLOT_SIZE == 0
 }
 
 /// The symbol that a relocation is by, where it is known.

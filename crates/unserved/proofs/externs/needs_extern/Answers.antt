@@ -12,5 +12,5 @@ returns c =
     let f = c.function.inside in
     let all = relocations_by_offset c.args.file.now f.section_index in
     any_from_yields_List (asks_for_extern c.args.file.now c.args.function.now) _ _ _ c.any-2.ensures.ran (YieldsList-from_rest _ c.relocations_in.ensures) (λ x b q k. search (rules, tests))
-    ∙ externs_inside c.args.file.now c.args.function.now f.section_offset c.in-Ok.end all (ap (λ g. g.section_offset) c.function.view_is) (c.in-Ok.ensures.1 ∙ c.end_of.ensures.value)
+    ∙ externs_inside c.args.file.now c.args.function.now f.section_offset c.in-Ok.end all (ap (λ g. g.section_offset) c.function.view_is) (c.in-Ok.ensures.1 ∙ c.end.ensures.value)
     ∙ ap (λ g. list_any (asks_for_extern c.args.file.now c.args.function.now) (relocations_by_offset c.args.file.now g.section_index)) c.function.view_is

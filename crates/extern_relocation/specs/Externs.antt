@@ -15,8 +15,8 @@ use Rattle.object_externs.specs.Symbols.{is_extern_symbol}
 use Rattle.slot_relocation.specs.BySymbol.{symbol_rule}
 use Rattle.slot_relocation.specs.Slots.{with_number}
 use Rattle.slot_relocation.specs.Writes.{Rule}
-use Rattle.slot_relocation.specs.declared.extern_rule.Resolution.{Resolution}
-use Rattle.slot_relocation.specs.declared.extern_rule.Resolution.TheVariants.{Id, Address, Missing, Unresolved}
+use Rattle.extern_relocation.specs.declared.extern_rule.Resolution.{Resolution}
+use Rattle.extern_relocation.specs.declared.extern_rule.Resolution.TheVariants.{Id, Address, Missing, Unresolved}
 use Rattle.slot_relocation.specs.declared.outcome.Fault.{Fault}
 use Rattle.slot_relocation.specs.declared.outcome.Fault.TheVariants.{InvalidOffset, NoExtern, Unresolvable}
 use Rattle.slot_relocation.specs.declared.outcome.Outcome.{Outcome}

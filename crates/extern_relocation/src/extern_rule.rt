@@ -4,19 +4,17 @@ ghost use Rattle.std.specs.Prelude.{◌≡◌, ◌≢◌, ◌/◌, ◌%◌, ◌^
 ghost use Rattle.std.specs.Option.{option_copied, option_map};
 ghost use Rattle.std.specs.String.{string_bytes};
 ghost use Rattle.relocation_errors.specs.declared.error.RelocationError.TheVariants.{OutOfMemory};
-ghost use Rattle.slot_relocation.specs.Externs.{call_outcome, extern_of, extern_outcome, extern_rule, load_outcome, load_write, resolution, resolved_outcome, signed_word};
-ghost use Rattle.slot_relocation.specs.declared.extern_rule.Resolution.TheVariants.{Missing};
+ghost use Rattle.extern_relocation.specs.Externs.{call_outcome, extern_of, extern_outcome, extern_rule, load_outcome, load_write, resolution, resolved_outcome, signed_word};
+ghost use Rattle.extern_relocation.specs.declared.extern_rule.Resolution.TheVariants.{Missing};
 ghost use Rattle.slot_relocation.specs.Writes.{AreRelocated, CanBeRelocated, HasErrorIn};
 
-use crate::by_symbol::SymbolRule;
-use crate::errors::relocate_by_symbol;
-use crate::outcome::{Fault, Outcome, Write, with_number};
 use ebpf_items::bpf_insn;
 use elf64::SymbolView;
 use object_externs::{ExternDesc, Externs, is_extern_symbol};
 use object_file::ObjectFile;
 use object_parts::Functions;
 use relocation_errors::EbpfRelocationError;
+use slot_relocation::{Fault, Outcome, SymbolRule, Write, relocate_by_symbol, with_number};
 use std::alloc::Global;
 
 /// The operation code of a call: `BPF_JMP | BPF_CALL`.

@@ -1,0 +1,7 @@
+//! Relocations by externs: what is known of the kernel's functions and variables is written into the
+//! slots of an object's functions.
+#![tactic(auto)]
+
+mod extern_rule;
+
+pub use extern_rule::relocate_externs;
