@@ -262,11 +262,12 @@ impl<'a> Object<'a> {
         mem::replace(&mut self.maps, Maps::new(self.alloc))
     }
 
-    /// Puts maps in place of the object's.
-    pub fn put_maps(&mut self, maps: Maps<'a>)
-        ensures { self.new ≡ record self.old { maps = maps.entry } }
+    /// Puts maps in place of the object's, which are answered.
+    pub fn replace_maps(&mut self, maps: Maps<'a>) -> Maps<'a>
+        ensures replaced { result ≡ self.old.maps }
+        ensures others { self.new ≡ record self.old { maps = maps.entry } }
     {
-        self.maps = maps;
+        mem::replace(&mut self.maps, maps)
     }
 
     /// Rewrites the table of types to the features that a kernel grants, as the predicate tells:
