@@ -56,7 +56,7 @@ pub struct Object<'a> {
     pub(crate) maps: Maps<'a>,
     programs: Programs<'a>,
     pub(crate) functions: Functions<'a>,
-    externs: Externs<'a>,
+    pub(crate) externs: Externs<'a>,
 }
 
 impl<'a> Model for Object<'a> {

@@ -92,4 +92,4 @@ extern_outcome externs slot next index s =
 
 -- the rule, of the externs of a file's object by name
 abbrev pub extern_rule : List ℕ → List (List ℕ × ExternContent) → Rule
-extern_rule file externs = symbol_rule file (extern_outcome externs)
+extern_rule file externs slots distance r = symbol_rule file (extern_outcome externs) slots distance r

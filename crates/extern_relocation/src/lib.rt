@@ -3,5 +3,7 @@
 #![tactic(auto)]
 
 mod extern_rule;
+mod laws;
 
 pub use extern_rule::relocate_externs;
+pub use laws::externs_are_written;

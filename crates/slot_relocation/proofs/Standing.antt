@@ -1,5 +1,5 @@
 -- What holds after the relocations that the file holds: they stand at whole slots, and their offsets rise.
-use Rattle.std.proofs.Common.{arith, ◌≡◌, ℕ, ◌-◌, ◌/◌, ◌%◌, ◌<◌, ◌≤◌, inl, inr, true, List, [], ◌∷◌, ◌++◌, Some, refl, sym, ap, ◌∙◌, subst}
+use Rattle.std.proofs.Common.{arith, ◌≡◌, ℕ, ◌+◌, ◌-◌, ◌/◌, ◌%◌, ◌<◌, ◌≤◌, inl, inr, true, List, [], ◌∷◌, ◌++◌, Some, refl, sym, ap, ◌∙◌, subst}
 use Rattle.std.specs.Prelude.{slice_get, fold}
 use Rattle.std.specs.Ordering.{nat_cmp}
 use Rattle.std.specs.declared.cmp.Ordering.TheVariants.{Less}
@@ -14,10 +14,10 @@ use Rattle.object_parts.specs.Content.{FunctionContent}
 use Rattle.object_parts.specs.Geometry.{is_inside}
 use Rattle.slot_relocation.specs.declared.outcome.Write.{Write}
 use Rattle.slot_relocation.specs.BySymbol.{Does, symbol_rule}
-use Rattle.slot_relocation.specs.WriteLaws.{Makes, Reaches}
+use Rattle.slot_relocation.specs.WriteLaws.{IsKept, Makes, Reaches}
 use Rattle.slot_relocation.specs.Writes.{after, after_all, after_one, distance, place_of, relocations_inside}
 use Rattle.slot_relocation.proofs.AfterAll.{after_split}
-use Rattle.slot_relocation.proofs.BySymbol.{stands}
+use Rattle.slot_relocation.proofs.BySymbol.{Stands, stands}
 use Rattle.slot_relocation.proofs.Rising.{AllAbove, IsRising, Placed, offsets_rise, rising_filter}
 use Rattle.slot_relocation.proofs.Writing.{stays_at, written_here}
 
@@ -61,16 +61,21 @@ inside_passed f (r ∷ rs) all = (all.0, inside_passed f rs all.1)
 inside_all : (file : List ℕ) (f : FunctionContent) → AllInside f (relocations_inside file f)
 inside_all file f = inside_passed f (relocations_inside file f) (recursion_from_All (λ r. is_inside f r.0 ≡ true) (relocations_inside file f) (filter_passes (λ r. is_inside f r.0) (relocations_by_offset file f.section_index)))
 
--- a slot at which one stands and writes carries what it writes, whatever the others do
-pub first_stays : (file : List ℕ) (does : Does) (f : FunctionContent) (r : Placed) (w : Write) → Makes (symbol_rule file does) f (relocations_inside file f) r w → slice_get (after_all (symbol_rule file does) f (relocations_inside file f)) (place_of f r.0) ≡ Some w.first
-first_stays file does f r w m =
+-- what one writes into its own slot stays, whatever the others do
+kept : (file : List ℕ) (does : Does) (f : FunctionContent) (r : Placed) (w : Write) → (m : Makes (symbol_rule file does) f (relocations_inside file f) r w) → Stands file does (after_all (symbol_rule file does) f m.before) (distance f r.0) r.1 w → slice_get (after_all (symbol_rule file does) f (relocations_inside file f)) (place_of f r.0) ≡ Some w.first
+kept file does f r w m s =
     let rule = symbol_rule file does in
     let slots = after_all rule f m.before in
     let inside = inside_at f m.before r m.rest (subst (AllInside f) (sym m.split) (inside_all file f)) in
     let up = rising_from m.before r m.rest (subst IsRising (sym m.split) (rising_filter (λ x. is_inside f x.0) (relocations_by_offset file f.section_index) (offsets_rise file f.section_index))) in
-    let s = stands file does slots (distance f r.0) r.1 w m.outcome in
     ap (λ rs. slice_get (fold (after_one rule f) f.instructions rs) (place_of f r.0)) (sym m.split)
     ∙ ap (λ l. slice_get l (place_of f r.0)) (after_split rule f f.instructions m.before r m.rest)
     ∙ later_stay file does f r (after_one rule f slots r) m.rest (from_start f r.0 inside) s.whole up
     ∙ ap (λ o. slice_get (after slots (place_of f r.0) o) (place_of f r.0)) m.outcome
     ∙ written_here slots (place_of f r.0) w s.slot s.at
+
+pub is_kept : (file : List ℕ) (does : Does) (f : FunctionContent) (r : Placed) (w : Write) → Makes (symbol_rule file does) f (relocations_inside file f) r w → IsKept file does f r w
+is_kept file does f r w m =
+    let slots = after_all (symbol_rule file does) f m.before in
+    let s = stands file does slots (distance f r.0) r.1 w m.outcome in
+    record { slot = s.slot; next = slice_get slots (distance f r.0 / 8 + 1); symbol = s.symbol; known = s.known; made = s.made; kept = kept file does f r w m s }

@@ -90,4 +90,4 @@ outcome_by text_sections maps slot next index s = option_map_or (outcome_in text
 
 -- the rule: a relocation stands at a whole slot and is by a known symbol
 abbrev pub map_rule : MapsGiven → Rule
-map_rule g = symbol_rule g.file (outcome_by g.text_sections g.maps)
+map_rule g slots distance r = symbol_rule g.file (outcome_by g.text_sections g.maps) slots distance r

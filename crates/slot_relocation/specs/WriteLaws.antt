@@ -1,9 +1,11 @@
 -- What holds of a function's slots after some relocations, of any rule.
-use Rattle.std.specs.Prelude.{◌≡◌, ◌⊎◌, ℕ, ◌+◌, ◌<◌, true, List, ◌∷◌, ◌++◌, length, slice_get, Some, is_some}
+use Rattle.std.specs.Prelude.{◌≡◌, ◌⊎◌, ℕ, ◌+◌, ◌<◌, true, List, ◌∷◌, ◌++◌, length, slice_get, Option, Some, is_some}
 use Rattle.ebpf_items.specs.declared.instruction.bpf_insn.{bpf_insn}
 use Rattle.object_parts.specs.Content.{FunctionContent}
 use Rattle.elf64.specs.Relocations.{Relocation}
-use Rattle.slot_relocation.specs.BySymbol.{Does, symbol_rule}
+use Rattle.elf64.specs.Symbols.{Symbol}
+use Rattle.object_file.specs.Symbols.{symbol_at}
+use Rattle.slot_relocation.specs.BySymbol.{Does, symbol_index, symbol_rule}
 use Rattle.slot_relocation.specs.declared.outcome.Outcome.TheVariants.{Written}
 use Rattle.slot_relocation.specs.declared.outcome.Write.{Write}
 use Rattle.slot_relocation.specs.Writes.{RuleOf, after_all, outcome_at, place_of, relocations_inside}
@@ -45,6 +47,15 @@ pub record LengthsRemain (A E : Type 0) : Type 0 where
 
 -- ---- relocations that the file holds: they stand at whole slots, and their offsets rise
 
--- so a slot at which one stands and writes carries what it writes, whatever the others do
-pub record FirstsStay : Type 0 where
-  pub each : (file : List ℕ) (does : Does) (f : FunctionContent) (r : ℕ × Relocation) (w : Write) → Makes (symbol_rule file does) f (relocations_inside file f) r w → slice_get (after_all (symbol_rule file does) f (relocations_inside file f)) (place_of f r.0) ≡ Some w.first
+-- so one that writes stands at a slot and is by a symbol, which say what it writes, and after all of them the slot carries
+-- that, whatever the others write
+pub record IsKept (file : List ℕ) (does : Does) (f : FunctionContent) (r : ℕ × Relocation) (w : Write) : Type 0 where
+  pub slot : bpf_insn
+  pub next : Option bpf_insn
+  pub symbol : Symbol
+  pub known : symbol_at file (symbol_index r.1) ≡ Some symbol
+  pub made : does slot next (symbol_index r.1) symbol ≡ Written w
+  pub kept : slice_get (after_all (symbol_rule file does) f (relocations_inside file f)) (place_of f r.0) ≡ Some w.first
+
+pub record WritesAreKept : Type 0 where
+  pub each : (file : List ℕ) (does : Does) (f : FunctionContent) (r : ℕ × Relocation) (w : Write) → Makes (symbol_rule file does) f (relocations_inside file f) r w → IsKept file does f r w

@@ -127,5 +127,5 @@ HasErrorIn rule file [] name e = ⊥
 HasErrorIn rule file (g ∷ gs) name e = HasError rule file g.1 name e ⊎ HasErrorIn rule file gs name e
 
 -- no relocation inside these functions has a fault
-abbrev pub CanBeRelocated : Rule → List ℕ → List ((ℕ × ℕ) × FunctionContent) → Type 0
-CanBeRelocated rule file functions = AreFaultless rule (relocations_inside file) functions
+pub record CanBeRelocated (rule : Rule) (file : List ℕ) (functions : List ((ℕ × ℕ) × FunctionContent)) : Type 0 where
+  pub none : HasFaultInside rule (relocations_inside file) functions → ⊥

@@ -2,7 +2,7 @@
 //! their contracts are the theorems.
 
 ghost use Rattle.slot_relocation.specs.Laws.{NumbersAreWritten, SlotsCarryNumbers};
-ghost use Rattle.slot_relocation.specs.WriteLaws.{FirstsStay, LengthsRemain, OneWrites, UnwrittenStay};
+ghost use Rattle.slot_relocation.specs.WriteLaws.{LengthsRemain, OneWrites, UnwrittenStay, WritesAreKept};
 
 use crate::outcome::Fault;
 use elf64::RelocView;
@@ -23,10 +23,11 @@ pub fn lengths_remain<A, E>()
     ensures { LengthsRemain A E }
 {}
 
-/// After all relocations that the file holds, a slot at which one of them stands and writes carries
-/// what it writes, whatever the others write, by any rule on their symbols.
-pub fn firsts_stay()
-    ensures { FirstsStay }
+/// Of the relocations that the file holds, by any rule on their symbols, one that writes stands at a
+/// slot and is by a symbol, and after all of them the slot carries what it writes, whatever the others
+/// write.
+pub fn writes_are_kept()
+    ensures { WritesAreKept }
 {}
 
 /// After all relocations, a slot at which one by a map, or by a variable of it, stands and writes

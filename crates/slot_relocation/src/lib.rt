@@ -19,8 +19,8 @@ pub use by_symbol::SymbolRule;
 pub use driver::{FaultAt, Stop, relocate_functions};
 pub use errors::relocate_by_symbol;
 pub use laws::{
-    firsts_stay, lengths_remain, numbers_are_written, one_writes, slots_carry_numbers,
-    unwritten_stay,
+    lengths_remain, numbers_are_written, one_writes, slots_carry_numbers, unwritten_stay,
+    writes_are_kept,
 };
 pub use map_index::NumberedMap;
 pub use map_rule::relocate_maps;
