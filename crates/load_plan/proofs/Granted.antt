@@ -13,7 +13,7 @@ use Rattle.btf_sanitizing.specs.Rewritten.{rewritten}
 use Rattle.btf_tables.specs.Sanitizing.{facts_in, stepped}
 use Rattle.btf_tables.specs.Tables.{Table}
 use Rattle.ebpf_object.specs.Rewriting.{IsLeft, IsRewritten, IsRewrittenIf}
-use Rattle.load_plan.specs.Granted.{AreGranted, NeedGranted}
+use Rattle.load_plan.specs.Granted.{AreGranted, NeedGranted, came_as}
 
 get_none : (l : List BtfType) (i : ℕ) → slice_get l i ≡ None → length l ≤ i
 get_none [] i h = omega arith
@@ -58,7 +58,7 @@ void_needs grants (x ∷ xs) false i came r empty here = let none : length (x �
 granted_if : (answers : Answers) (file : List ℕ) (ksyms : Option (ℕ × Option ℕ)) (table new : Table) (b : Bool) → (length table.types == 0) ≡ b → IsRewrittenIf b answers file ksyms table new → NeedGranted answers (stepped ksyms table).types new.types
 granted_if answers file ksyms table new true empty left =
     let same : new ≡ table = cc (left.same) in
-    record { each = λ id r here. void_needs (granted answers) new.types (id == 0) (id - 1) _ r (ap (λ (t : Table). length t.types == 0) same ∙ empty) here }
+    record { each = λ id r here. void_needs (granted answers) new.types (id == 0) (id - 1) (came_as (stepped ksyms table).types id r) r (ap (λ (t : Table). length t.types == 0) same ∙ empty) here }
 granted_if answers file ksyms table new false filled is =
     let known = facts_in answers is.sizes is.offsets (stepped ksyms table) in
     record { each = λ id r here. granted_here known new.types is.keeps id r here (record_of_id known.types id) refl }

@@ -19,7 +19,7 @@ use Rattle.linker.specs.Records.{functions_in}
 use Rattle.linker.specs.Unlinked.{Unlinked}
 use Rattle.object_parts.specs.Content.{FunctionContent, ProgramContent, function_at}
 use Rattle.object_plan.specs.Laws.{HaveRecordsOf, NamesAreCarried, RecordsName}
-use Rattle.object_plan.specs.Plans.{AllNamed, HoldsTypeBytes, Names, plan_program_of, type_bytes}
+use Rattle.object_plan.specs.Plans.{AllNamed, HoldsTypeBytes, Names, plan_program_of, type_bytes, type_bytes_of}
 use Rattle.slot_relocation.specs.Writes.{AreRelocated, Rule, relocated}
 
 abbrev Keyed : Type 0

@@ -34,7 +34,7 @@ use Rattle.slot_relocation.specs.Maps.{NumberedMap}
 use Rattle.load_plan.specs.Inputs.{Inputs, State, Under, keeps_helpers}
 use Rattle.load_plan.specs.Passes.{maps_given, unlinked_of}
 use Rattle.load_plan.specs.Programs.{ArePlanPrograms, HasMap, IsPlanProgram, own_key, source_for}
-use Rattle.load_plan.proofs.Slots.{kernel_slots, slots_carried}
+use Rattle.load_plan.proofs.Carried.{kernel_slots, slots_carried}
 
 abbrev Keyed : Type 0
 Keyed = List (Key × FunctionContent)

@@ -115,7 +115,7 @@ fn write_numbers(
 {
     let maps = object.take_maps();
     let written = write_numbers_of(alloc, settings, &maps, object, text_sections);
-    object.put_maps(maps);
+    let _ = object.replace_maps(maps);
     written
 }
 
@@ -145,7 +145,8 @@ pub(crate) fn make<F: FnMut(BtfFeature) -> bool, P: FnOnce() -> bool>(
     ensures made { IfOk result (λ answers. (file : List ℕ) → IsMade F.FnMut predicate (P.post probe) (inputs file kernel_types.now settings.now order) answers.items object.old object.new) }
     ensures refused { IfErr result (λ e. e ≢ OutOfMemory → (file : List ℕ) → IsRefusedObject F.FnMut predicate (inputs file kernel_types.now settings.now order) object.old e) }
 {
-    let _ = (kernel_types, order);
+    let _ = kernel_types;
+    let _ = order;
     require_named(alloc, object)?;
     require_served(object)?;
     require_numbered(alloc, settings, object)?;
