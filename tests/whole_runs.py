@@ -66,16 +66,26 @@ def rows_of(folder):
 Printed = collections.namedtuple("Printed", "path words text")
 
 
+def words_beside(path):
+    """The words that the program is called with behind an object's name: those for both byte orders, and those for its own.
+
+    A file beside the object is named by its path.
+    """
+    words = []
+    for file in (path.rsplit(".", 2)[0] + ".plan.words", path[: -len("o")] + "plan.words"):
+        if os.path.exists(file):
+            words += bytes_of(file).splitlines()
+    here = os.fsencode(os.path.dirname(path))
+    paths = [os.path.join(here, word) for word in words]
+    return [path if os.path.isfile(path) else word for word, path in zip(words, paths)]
+
+
 def objects_with(suffix):
     """The objects that have a text of a suffix beside them."""
     found = []
     for text in sorted(glob.glob(os.path.join(TOP, "tests", "objects", "*." + suffix))):
         path = text[: -len(suffix)] + "o"
-        # The words are those of both byte orders.
-        with_words = path.rsplit(".", 2)[0] + ".plan.words"
-        words = []
-        if suffix == "plan" and os.path.exists(with_words):
-            words = bytes_of(with_words).splitlines()
+        words = words_beside(path) if suffix == "plan" else []
         found.append(Printed(path, words, bytes_of(text)))
     return found
 

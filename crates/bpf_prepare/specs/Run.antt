@@ -1,24 +1,25 @@
--- What a run says of the object's bytes and the settings.
-use Rattle.std.specs.Prelude.{ℕ, List, Bool}
-use Rattle.std.specs.Fn.{Mut}
-use Rattle.btf_records.specs.declared.feature.BtfFeature.{BtfFeature}
-use Rattle.plan_text.specs.Content.{PlanContent}
-use Rattle.plan_text.specs.PlanGrammar as grammar
-use Rattle.settings.specs.Content.{SettingsContent}
-use Rattle.load_plan.specs.Planned.{Inputs, IsPlanned, IsRefusal}
+-- What a run says of the object's bytes, the kernel's types and symbols, and the settings.
+use Rattle.std.specs.Prelude.{◌≢◌, ℕ, List, Bool, Option}
+use Rattle.load_plan.specs.Content.{PlanContent}
+use Rattle.load_plan.specs.Inputs.{Inputs, Predicate, SettingsContent, Table, inputs, symbols_given}
+use Rattle.load_plan.specs.PlanGrammar as grammar
+use Rattle.load_plan.specs.Planned.{IsPlanned, IsRefusal}
+use Rattle.load_plan.specs.declared.error.PrepareError.TheVariants as prepare
+use Rattle.load_plan.specs.declared.order.Order.TheVariants.{RelocateFirst}
 use Rattle.bpf_prepare.specs.declared.error.RunError.{RunError}
 use Rattle.bpf_prepare.specs.declared.error.RunError.TheVariants.{Output, Refused}
 
-abbrev pub inputs_of : List ℕ → SettingsContent → Inputs
-inputs_of file settings = record { file = file; settings = settings }
+-- the inputs of a run: the bytes of the symbols' reader, if they are known, and whether reading them failed
+abbrev pub inputs_of : List ℕ → List Table → Option (List ℕ) → Bool → SettingsContent → Inputs
+inputs_of file kernel_types symbols failed settings = inputs file kernel_types (symbols_given symbols failed) settings RelocateFirst
 
--- something holds of the text of the plan of an object under settings, for a kernel of which the predicate and an answer of the probe tell
-pub record HoldsOfText {F : Type 0} (predicate : Mut F (BtfFeature × Unit {0}) Bool) (before : F) (Says : Bool → Type 0) (inputs : Inputs) (Holds : List ℕ → Type 0) : Type 0 where
+-- something holds of the text of the plan of these inputs, for a kernel of which the predicate and the probe tell
+pub record HoldsOfText {F : Type 0} (predicate : Predicate F) (before : F) (Says : Bool → Type 0) (inputs : Inputs) (Holds : List ℕ → Type 0) : Type 0 where
   pub plan : PlanContent
   pub planned : IsPlanned predicate before Says inputs plan
   pub holds : Holds (grammar.text_of plan)
 
 -- what an error says of the inputs
-abbrev pub IsRunRefusal : {F : Type 0} → Mut F (BtfFeature × Unit {0}) Bool → F → Inputs → RunError → Type 0
-IsRunRefusal predicate before inputs (Refused e) = IsRefusal predicate before inputs e
+abbrev pub IsRunRefusal : {F : Type 0} → Predicate F → F → Inputs → RunError → Type 0
+IsRunRefusal predicate before inputs (Refused e) = e ≢ prepare.OutOfMemory → IsRefusal predicate before inputs e
 IsRunRefusal predicate before inputs Output = Unit {0}

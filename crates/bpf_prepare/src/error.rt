@@ -5,7 +5,7 @@ ghost use Rattle.bpf_prepare.specs.declared.error.ProgramError.TheVariants.{OutO
 ghost use Rattle.bpf_prepare.specs.declared.error.RunError.TheVariants.{Refused};
 ghost use Rattle.bpf_prepare.specs.Program.{status_of};
 
-use load_plan::{ParseError, Place, PrepareError};
+use load_plan::{BtfError, ParseError, Place, PrepareError};
 use std::alloc::{AllocError, AllocFailed};
 use std::io;
 use thiserror::Error;
@@ -33,11 +33,14 @@ impl From<PrepareError> for RunError {
 #[derive(Debug, Drop, Error)]
 pub enum ProgramError {
     /// It was called with other words.
-    #[error("usage: bpf_prepare OBJECT [--map NAME=NUMBER].. [--global NAME=HEX].. [--older-helpers]")]
+    #[error("usage: bpf_prepare OBJECT [--types FILE].. [--types-order little|big] [--symbols FILE] [--map NAME=NUMBER].. [--global NAME=HEX].. [--older-helpers]")]
     Usage,
-    /// The object's file can't be read.
+    /// A file can't be read.
     #[error("can't read {name:?}: {error}")]
     Read { name: String, error: io::Error },
+    /// The kernel types of a file can't be parsed.
+    #[error("kernel types in {name:?}: {error}")]
+    Types { name: String, error: BtfError },
     /// There is no memory for the words, the settings, or for writing.
     #[error("out of memory")]
     OutOfMemory,

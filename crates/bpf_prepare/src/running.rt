@@ -1,55 +1,29 @@
 //! From an object's bytes to its plan's text.
 
-ghost use Rattle.std.specs.Prelude.{◌≡◌, ◌≢◌, true, false, IfErr, IfOk, OnOk, Err};
+ghost use Rattle.std.specs.Prelude.{◌≡◌, ◌≢◌, true, false, IfErr, OnOk, Err};
 ghost use Rattle.std.specs.Io.KnownBytes.{Appends};
-ghost use Rattle.watched.specs.Watched.{watched_inner, has_failed, AppendsPart};
-ghost use Rattle.load_plan.specs.Planned.{IsPlanned, IsRefusal};
+ghost use Rattle.load_plan.specs.Watched.{watched_inner, has_failed, AppendsPart};
 ghost use Rattle.bpf_prepare.specs.Run.{inputs_of, HoldsOfText, IsRunRefusal};
 ghost use Rattle.bpf_prepare.specs.declared.error.RunError.TheVariants.{Output};
 
 use crate::error::RunError;
-use load_plan::{BtfFeature, Order, Plan, PrepareError, Settings, Watched, prepare};
+use load_plan::{Btf, BtfFeature, Order, Settings, Watched, prepare};
 use std::alloc::Global;
-use std::io;
-use std::io::Write;
+use std::io::{BufRead, Write};
 
-/// The plan of an object, without kernel types and symbols.
-fn plan_of<'a, F: FnMut(BtfFeature) -> bool, P: FnOnce() -> bool>(
-    alloc: Global,
-    object: &'a [u8],
-    settings: &Settings<'_>,
-    predicate: F,
-    probe: P,
-) -> Result<Plan<'a>, PrepareError>
-    requires predicate { F.IsAlwaysCallable predicate }
-    requires probe { P.pre probe }
-    ensures planned { IfOk result (IsPlanned F.FnMut predicate (P.post probe) (inputs_of object.entry.now settings.now)) }
-    ensures refused { IfErr result (IsRefusal F.FnMut predicate (inputs_of object.entry.now settings.now)) }
-{
-    let mut symbols = Watched::new(io::empty());
-    prepare(
-        alloc,
-        object,
-        &[],
-        &mut symbols,
-        settings,
-        Order::RelocateFirst,
-        predicate,
-        probe,
-    )
-}
-
-/// Writes the text of an object's plan under settings, or nothing where the object is refused.
-/// `predicate` says which features of types the kernel grants, and `probe` whether it has the newer
+/// Writes the text of an object's plan, or nothing where the object is refused. `kernel_types` are
+/// the kernel's types, `symbols` its symbols as `/proc/kallsyms` lists them, and `predicate` says which features of types the kernel grants, and `probe` whether it has the newer
 /// helpers that read memory.
 ///
 /// # Errors
 ///
 /// [`RunError::Refused`] where the object gets no plan, and [`RunError::Output`] where the writer
 /// fails or takes nothing; a beginning of the text went out then.
-pub fn run<F: FnMut(BtfFeature) -> bool, P: FnOnce() -> bool, W: Write>(
+pub fn run<R: BufRead, F: FnMut(BtfFeature) -> bool, P: FnOnce() -> bool, W: Write>(
     alloc: Global,
     object: &[u8],
+    kernel_types: &[Btf<'_>],
+    symbols: &mut Watched<R>,
     settings: &Settings<'_>,
     predicate: F,
     probe: P,
@@ -60,18 +34,27 @@ pub fn run<F: FnMut(BtfFeature) -> bool, P: FnOnce() -> bool, W: Write>(
 
     // Exactly the text of the plan went out, of an object in which no fault stands.
     ensures well { OnOk result (has_failed out.new ≡ false) }
-    ensures written { OnOk result (HoldsOfText F.FnMut predicate (P.post probe) (inputs_of object.now settings.now) (λ text. Appends (W.contents (watched_inner out.old)) (W.contents (watched_inner out.new)) text)) }
+    ensures written { OnOk result (HoldsOfText F.FnMut predicate (P.post probe) (inputs_of object.now kernel_types.now (R.remaining (watched_inner symbols.old)) (has_failed symbols.new) settings.now) (λ text. Appends (W.contents (watched_inner out.old)) (W.contents (watched_inner out.new)) text)) }
 
     // A refusal names a fault that stands, and writes nothing.
-    ensures refused { IfErr result (IsRunRefusal F.FnMut predicate (inputs_of object.now settings.now)) }
+    ensures refused { IfErr result (IsRunRefusal F.FnMut predicate (inputs_of object.now kernel_types.now (R.remaining (watched_inner symbols.old)) (has_failed symbols.new) settings.now)) }
     ensures unwritten { IfErr result (λ e. e ≢ Output → out.new ≡ out.old) }
 
     // Of an object that isn't refused, a beginning of the text went out, and the writer failed.
-    ensures part { result ≡ Err Output → HoldsOfText F.FnMut predicate (P.post probe) (inputs_of object.now settings.now) (λ text. AppendsPart (W.contents (watched_inner out.old)) (W.contents (watched_inner out.new)) text) }
+    ensures part { result ≡ Err Output → HoldsOfText F.FnMut predicate (P.post probe) (inputs_of object.now kernel_types.now (R.remaining (watched_inner symbols.old)) (has_failed symbols.new) settings.now) (λ text. AppendsPart (W.contents (watched_inner out.old)) (W.contents (watched_inner out.new)) text) }
     ensures failed { result ≡ Err Output → has_failed out.new ≡ true }
     ensures at_once { has_failed out.old ≡ true → out.new ≡ out.old }
 {
-    let plan = plan_of(alloc, object, settings, predicate, probe)?;
+    let plan = prepare(
+        alloc,
+        object,
+        kernel_types,
+        symbols,
+        settings,
+        Order::RelocateFirst,
+        predicate,
+        probe,
+    )?;
     match plan.write(out) {
         Ok(()) => Ok(()),
         Err(_) => Err(RunError::Output),

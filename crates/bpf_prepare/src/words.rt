@@ -4,7 +4,7 @@ ghost use Rattle.std.specs.Prelude.{◌<◌, ◌^◌, IfSome};
 
 use crate::error::ProgramError;
 use hex::FromHexError;
-use load_plan::Settings;
+use load_plan::{Endianness, Settings};
 use std::alloc::Global;
 
 /// A global variable's name and bytes.
@@ -21,6 +21,12 @@ pub struct Words<'w> {
     pub object: &'w str,
     /// Whether the kernel has the newer helpers that read memory.
     pub has_newer_helpers: bool,
+    /// The names of files with kernel types, in order.
+    pub types: Vec<&'w str>,
+    /// The byte order of all of them.
+    pub types_order: Endianness,
+    /// The name of the file with the kernel's symbols.
+    pub symbols: Option<&'w str>,
     maps: Vec<&'w str>,
     globals: Vec<GlobalWord<'w>>,
 }
@@ -53,6 +59,23 @@ fn global_value(alloc: Global, word: &str) -> Result<GlobalWord<'_>, ProgramErro
     }
 }
 
+/// The byte order of a name.
+fn order_of(word: &str) -> Result<Endianness, ProgramError> {
+    match word {
+        "little" => Ok(Endianness::Little),
+        "big" => Ok(Endianness::Big),
+        _ => Err(ProgramError::Usage),
+    }
+}
+
+/// Sets what may be set once.
+fn set_once<T: Drop>(place: &mut Option<T>, value: T) -> Result<(), ProgramError> {
+    match place.replace(value) {
+        None => Ok(()),
+        Some(_) => Err(ProgramError::Usage),
+    }
+}
+
 impl<'w> Words<'w> {
     /// Reads the words behind the program's name: the object's file name once, and options.
     ///
@@ -63,11 +86,23 @@ impl<'w> Words<'w> {
     pub fn read(alloc: Global, words: &'w [String]) -> Result<Words<'w>, ProgramError> {
         let mut object = None;
         let mut has_newer_helpers = true;
+        let mut types = Vec::new(alloc);
+        let mut types_order = None;
+        let mut symbols = None;
         let mut maps = Vec::new(alloc);
         let mut globals = Vec::new(alloc);
         let mut rest = words.iter();
         while let Some(word) = rest.next() {
             match word.as_str() {
+                "--types" => types.push(rest.next().ok_or(ProgramError::Usage)?.as_str())?,
+                "--types-order" => {
+                    let order = rest.next().ok_or(ProgramError::Usage)?;
+                    set_once(&mut types_order, order_of(order)?)?;
+                }
+                "--symbols" => {
+                    let name = rest.next().ok_or(ProgramError::Usage)?;
+                    set_once(&mut symbols, name.as_str())?;
+                }
                 "--map" => maps.push(rest.next().ok_or(ProgramError::Usage)?.as_str())?,
                 "--global" => {
                     let value = rest.next().ok_or(ProgramError::Usage)?;
@@ -81,6 +116,9 @@ impl<'w> Words<'w> {
         Ok(Words {
             object: object.ok_or(ProgramError::Usage)?,
             has_newer_helpers,
+            types,
+            types_order: types_order.unwrap_or(Endianness::Little),
+            symbols,
             maps,
             globals,
         })

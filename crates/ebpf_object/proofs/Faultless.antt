@@ -1,6 +1,6 @@
 -- What was read without a fault has none.
 use Rattle.std.proofs.Common.{◌≡◌, ℕ, List, [], Option, Some, None, refl, sym, ap, inl, inr, subst, arith}
-use Rattle.std.specs.Option.{IsSomeAnd}
+use Rattle.std.specs.Option.{IsSomeAnd, option_map}
 use Rattle.std.specs.Prelude.{◌≢◌, Contains, IfErr, IfSome, OnOk, Result, Ok, Err, codes}
 use Rattle.btf_extension.specs.Extensions.{Extension}
 use Rattle.btf_records.specs.declared.error.BtfError.{BtfError}
@@ -21,6 +21,7 @@ use Rattle.object_maps.specs.Maps.{HasMapsFault, maps_faults}
 use Rattle.object_parse.specs.Faults.{HasSoundFunctions}
 use Rattle.btf_extension.specs.Faults.{ExtensionFault}
 use Rattle.ebpf_object.specs.Faults.{HasFault, HasMapFault, HasObjectFault, HasTableFault, IsFaultless, IsSound, SaysOfTypes, TableFaultOf}
+use Rattle.ebpf_object.specs.ParsedObject.{completed}
 use Rattle.ebpf_object.specs.Types.{HoldsRecords, HoldsRecordsIn, HoldsTypes, HoldsTypesIn, RecordsFault, TypesFault}
 
 -- a section holds one table alone
@@ -61,11 +62,11 @@ nothing-said : (o : Option MapFault) → IsSomeAnd o (Contains []) → ⊥
 nothing-said None said = said
 nothing-said (Some f) said = absurd (omega (arith, said.1))
 
-no-map-fault : (file : List ℕ) (table : Option Table) → maps_faults file table ≡ [] → (e : ParseError) (other : Option Table) → HasMapFault file other e → other ≡ table → ⊥
+no-map-fault : (file : List ℕ) (table : Option Table) → maps_faults file (option_map completed table) ≡ [] → (e : ParseError) (other : Option Table) → HasMapFault file other e → other ≡ table → ⊥
 no-map-fault file table none e other fault same =
-    nothing-said _ (subst (λ faults. Says faults e) none (subst (λ t. HasMapsFault file t e) same fault.1))
+    nothing-said _ (subst (λ faults. Says faults e) none (subst (λ t. HasMapsFault file (option_map completed t) e) same fault.1))
 
-pub sound : (file : List ℕ) (table : Option Table) (extension : Option Extension) → HoldsTypes file table → HoldsRecords file table extension → HasSoundFunctions file → maps_faults file table ≡ [] → IfSome table (λ t. AreFaultless (ExternsFault (symbols_of file) t)) → (e : ParseError) → HasObjectFault file e → ⊥
+pub sound : (file : List ℕ) (table : Option Table) (extension : Option Extension) → HoldsTypes file table → HoldsRecords file table extension → HasSoundFunctions file → maps_faults file (option_map completed table) ≡ [] → IfSome table (λ t. AreFaultless (ExternsFault (symbols_of file) t)) → (e : ParseError) → HasObjectFault file e → ⊥
 sound file table extension holds records functions maps externs e (inl fault) = says-none (TypesFault file) (no-types-fault-in _ _ table holds) e fault
 sound file table extension holds records functions maps externs e (inr (inl fault)) =
     no-table-fault file table extension holds records externs e fault.0 fault.1 (unique _ _ table (Some fault.0) holds fault.1.0)
@@ -91,7 +92,7 @@ pub externs-fault : (file : List ℕ) (table : Option Table) → HoldsTypes file
 externs-fault file None holds e said = absurd said
 externs-fault file (Some table) holds e said = inr (inl (table, (holds, says-weaker (ExternsFault (symbols_of file) table) (TableFaultOf file table) (λ e fault. inr fault) e said)))
 
-pub map-fault : (file : List ℕ) (table : Option Table) → HoldsTypes file table → (e : ParseError) → HasMapsFault file table e → HasObjectFault file e
+pub map-fault : (file : List ℕ) (table : Option Table) → HoldsTypes file table → (e : ParseError) → HasMapsFault file (option_map completed table) e → HasObjectFault file e
 map-fault file table holds e said = inr (inr (inl (table, (holds, said))))
 
 pub if-err : {T E : Type 0} {P Q : E → Type 0} (r : Result T E) → ((e : E) → P e → Q e) → IfErr r P → IfErr r Q

@@ -1,2 +1,3 @@
 pub mod Faultless
 pub mod Linked
+pub mod RefusedTables

@@ -1,4 +1,5 @@
 -- What is wrong with a file: a fault of the file itself, of its types, or of what is made of both.
+use Rattle.std.specs.Option.{option_map}
 use Rattle.std.specs.Prelude.{ℕ, ◌⊎◌, List, Option, Some}
 use Rattle.btf_records.specs.declared.error.BtfError.{BtfError}
 use Rattle.btf_tables.specs.Tables.{Table}
@@ -9,6 +10,7 @@ use Rattle.object_externs.specs.Faults.{ExternsFault}
 use Rattle.object_file.specs.Faults.{HasFileFault, IsFileFaultless}
 use Rattle.object_maps.specs.Maps.{HasMapsFault}
 use Rattle.object_parse.specs.Faults.{HasFunctionFault}
+use Rattle.ebpf_object.specs.ParsedObject.{completed}
 use Rattle.ebpf_object.specs.Types.{HoldsTypes, RecordsFault, TypesFault}
 
 -- an error of type information says this
@@ -27,9 +29,9 @@ TableFaultOf file table e = RecordsFault file table e ⊎ ExternsFault (symbols_
 abbrev pub HasTableFault : List ℕ → Table → ParseError → Type 0
 HasTableFault file table e = HoldsTypes file (Some table) × SaysOfTypes (TableFaultOf file table) e
 
--- a fault of the maps of a file whose types are these
+-- a fault of the maps of a file whose types are these, completed for its externs
 abbrev pub HasMapFault : List ℕ → Option Table → ParseError → Type 0
-HasMapFault file table e = HoldsTypes file table × HasMapsFault file table e
+HasMapFault file table e = HoldsTypes file table × HasMapsFault file (option_map completed table) e
 
 -- a fault of what a file holds besides its headers, names, license and version
 abbrev pub HasObjectFault : List ℕ → ParseError → Type 0

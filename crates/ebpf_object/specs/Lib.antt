@@ -5,4 +5,3 @@ pub mod ParsedObject
 pub mod Places
 pub mod Rewriting
 pub mod Types
-pub mod Unserved

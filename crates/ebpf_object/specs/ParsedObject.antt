@@ -30,14 +30,15 @@ no_externs = record { by_name = []; ksyms = None }
 abbrev pub completed : Table → Table
 completed table = if has_function table then with_placeholder table else table
 
--- the object that a file holds: its types are those of the section, completed, all else is of the types as they were read
+-- The object that a file holds: its types are those of the section, completed. What stands beside them, the records of functions and
+-- the externs are of the types as they were read, the maps of those of the object.
 pub record IsParsed (file : List ℕ) (object : ObjectContent) : Type 0 where
   pub table : Option Table
   pub holds : HoldsTypes file table
   pub same_file : object.file ≡ file
   pub types : object.types ≡ option_map completed table
   pub extension : HoldsRecords file table object.extension
-  pub maps : object.maps ≡ maps_of file table
+  pub maps : object.maps ≡ maps_of file object.types
   pub programs : object.programs ≡ programs_of file
   pub functions : object.functions ≡ functions_of file object.extension
   pub externs : object.externs ≡ option_map_or (externs_of (symbols_of file)) table no_externs

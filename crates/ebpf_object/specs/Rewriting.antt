@@ -1,15 +1,17 @@
 -- The table of an object, rewritten to the features that a kernel grants.
 use Rattle.std.specs.Prelude.{◌≡◌, ◌⊎◌, ℕ, length, ◌==◌, Bool, true, false, List, [], Option, Some, None}
 use Rattle.std.specs.Fn.{Mut}
-use Rattle.std.specs.Option.{option_map}
+use Rattle.std.specs.Option.{IsSomeAnd, option_map}
 use Rattle.btf_parts.specs.Faultless.{IsFaultless}
 use Rattle.btf_records.specs.declared.error.BtfError.{BtfError}
 use Rattle.btf_records.specs.declared.feature.BtfFeature.{BtfFeature}
-use Rattle.btf_sanitizing.specs.Answers.{Answers}
+use Rattle.btf_sanitizing.specs.Answers.{Answers, AreDistinct, AreGiven, features}
 use Rattle.btf_sanitizing.specs.Kept.{Keeps}
+use Rattle.btf_sanitizing.specs.Needs.{AreQuestions}
+use Rattle.btf_sanitizing.specs.Sanitized.{SanitizingFault}
 use Rattle.btf_tables.specs.Carrying.{Carries, stays_in}
 use Rattle.btf_tables.specs.GrownTables.{TextsStay}
-use Rattle.btf_tables.specs.Sanitizing.{AreAnswersFor, IsAccepted, IsRefused, StepFault, StepStays, facts_in, sanitized, stepped}
+use Rattle.btf_tables.specs.Sanitizing.{IsAccepted, StepFault, StepStays, facts_in, sanitized, stepped}
 use Rattle.btf_tables.specs.Tables.{Table}
 use Rattle.elf64.specs.Symbols.{symbols_of}
 use Rattle.object_file.specs.Reading.{read_sections}
@@ -20,20 +22,50 @@ pub record AreNumbersOf (file : List ℕ) (sizes offsets : List ℕ → Option �
   pub size_at : (name : List ℕ) → sizes name ≡ option_map (λ s. s.size) (last_section (read_sections file) name)
   pub offset_at : (name : List ℕ) → offsets name ≡ option_map (λ s. s.address) (last_symbol (symbols_of file) name)
 
--- what refuses to rewrite a table: a fault of the step on `.ksyms`, or of a record behind it
-pub record CannotRewrite {F : Type 0} (predicate : Mut F (BtfFeature × Unit {0}) Bool) (before : F) (file : List ℕ) (ksyms : Option (ℕ × Option ℕ)) (table : Table) (e : BtfError) : Type 0 where
-  pub sizes : List ℕ → Option ℕ
-  pub offsets : List ℕ → Option ℕ
-  pub numbers : AreNumbersOf file sizes offsets
-  pub fault : StepFault ksyms table e ⊎ (IsFaultless (StepFault ksyms table) × IsRefused predicate before sizes offsets (stepped ksyms table) e)
+-- calls of the predicate gave these answers, in this order
+pub record AreAnswered {F : Type 0} (predicate : Mut F (BtfFeature × Unit {0}) Bool) (before : F) (answers : Answers) : Type 0 where
+  pub after : F
+  pub given : AreGiven predicate before [] answers after
 
--- The table behind the step and then, under the answers that were given, rewritten record by record; neither refuses.
--- What isn't rewritten stays: its texts, and the answers that rest on it.
-pub record IsRewrittenTable {F : Type 0} (predicate : Mut F (BtfFeature × Unit {0}) Bool) (before : F) (file : List ℕ) (ksyms : Option (ℕ × Option ℕ)) (table : Table) (answers : Answers) (new : Table) : Type 0 where
+-- the features that the records of a table need, in the order of need, each once
+pub record AreAsked (table : Table) (answers : Answers) : Type 0 where
+  pub questions : AreQuestions table.strings table.types answers
+  pub once : AreDistinct (features answers)
+
+-- under answers a record of a table can't be rewritten
+abbrev pub IsRefusedUnder : Answers → (List ℕ → Option ℕ) → (List ℕ → Option ℕ) → Table → BtfError → Type 0
+IsRefusedUnder answers sizes offsets table e = AreAsked table answers × SanitizingFault table.order (facts_in answers sizes offsets table) e
+
+-- what refuses to rewrite a table under answers: a fault of the step on `.ksyms`, or of a record after it
+pub record TableFault (answers : Answers) (file : List ℕ) (ksyms : Option (ℕ × Option ℕ)) (table : Table) (e : BtfError) : Type 0 where
   pub sizes : List ℕ → Option ℕ
   pub offsets : List ℕ → Option ℕ
   pub numbers : AreNumbersOf file sizes offsets
-  pub asked : AreAnswersFor predicate before (stepped ksyms table) answers
+  pub fault : StepFault ksyms table e ⊎ (IsFaultless (StepFault ksyms table) × IsRefusedUnder answers sizes offsets (stepped ksyms table) e)
+
+-- a table can't be rewritten under answers that a predicate gave
+pub record IsRefusedTable {F : Type 0} (predicate : Mut F (BtfFeature × Unit {0}) Bool) (before : F) (file : List ℕ) (ksyms : Option (ℕ × Option ℕ)) (table : Table) (e : BtfError) : Type 0 where
+  pub answers : Answers
+  pub answered : AreAnswered predicate before answers
+  pub fault : TableFault answers file ksyms table e
+
+-- a table without a type isn't looked at
+abbrev pub CannotRewrite : Answers → List ℕ → Option (ℕ × Option ℕ) → Option Table → BtfError → Type 0
+CannotRewrite answers file ksyms types e = IsSomeAnd types (λ table. ((length table.types == 0) ≡ false) × TableFault answers file ksyms table e)
+
+-- the types of an object can't be rewritten under answers that a predicate gave
+pub record IsRefused {F : Type 0} (predicate : Mut F (BtfFeature × Unit {0}) Bool) (before : F) (file : List ℕ) (ksyms : Option (ℕ × Option ℕ)) (types : Option Table) (e : BtfError) : Type 0 where
+  pub answers : Answers
+  pub answered : AreAnswered predicate before answers
+  pub fault : CannotRewrite answers file ksyms types e
+
+-- The table after the step and then, under answers, rewritten record by record; neither refuses.
+-- What isn't rewritten stays: its texts, and the answers that rest on it.
+pub record IsRewrittenTable (answers : Answers) (file : List ℕ) (ksyms : Option (ℕ × Option ℕ)) (table : Table) (new : Table) : Type 0 where
+  pub sizes : List ℕ → Option ℕ
+  pub offsets : List ℕ → Option ℕ
+  pub numbers : AreNumbersOf file sizes offsets
+  pub asked : AreAsked (stepped ksyms table) answers
   pub table_is : new ≡ sanitized answers sizes offsets (stepped ksyms table)
   pub stepped_whole : IsFaultless (StepFault ksyms table)
   pub accepted : IsAccepted answers sizes offsets (stepped ksyms table)
@@ -48,11 +80,12 @@ pub record IsLeft (types : Option Table) (answers : Answers) (new : Option Table
   pub unasked : answers ≡ []
 
 -- a table without a type is left
-abbrev pub IsRewrittenIf : {F : Type 0} → Bool → Mut F (BtfFeature × Unit {0}) Bool → F → List ℕ → Option (ℕ × Option ℕ) → Table → Answers → Table → Type 0
-IsRewrittenIf true predicate before file ksyms table answers new = IsLeft (Some table) answers (Some new)
-IsRewrittenIf false predicate before file ksyms table answers new = IsRewrittenTable predicate before file ksyms table answers new
+abbrev pub IsRewrittenIf : Bool → Answers → List ℕ → Option (ℕ × Option ℕ) → Table → Table → Type 0
+IsRewrittenIf true answers file ksyms table new = IsLeft (Some table) answers (Some new)
+IsRewrittenIf false answers file ksyms table new = IsRewrittenTable answers file ksyms table new
 
-abbrev pub IsRewritten : {F : Type 0} → Mut F (BtfFeature × Unit {0}) Bool → F → List ℕ → Option (ℕ × Option ℕ) → Option Table → Answers → Option Table → Type 0
-IsRewritten predicate before file ksyms (Some table) answers (Some new) = IsRewrittenIf (length table.types == 0) predicate before file ksyms table answers new
-IsRewritten predicate before file ksyms None answers None = IsLeft None answers None
-IsRewritten predicate before file ksyms _ answers _ = ⊥
+-- the types of an object, rewritten under answers
+abbrev pub IsRewritten : Answers → List ℕ → Option (ℕ × Option ℕ) → Option Table → Option Table → Type 0
+IsRewritten answers file ksyms (Some table) (Some new) = IsRewrittenIf (length table.types == 0) answers file ksyms table new
+IsRewritten answers file ksyms None None = IsLeft None answers None
+IsRewritten answers file ksyms _ _ = ⊥

@@ -2,9 +2,9 @@
 #![tactic(auto)]
 
 mod calls;
+mod externs;
 mod globals;
 mod object;
-mod passes;
 mod places;
 mod rewriting;
 mod slots;
@@ -18,6 +18,7 @@ pub use ebpf_items::{
     bpf_insn, bpf_map_def, bpf_map_info, bpf_map_type, bpf_prog_type, copy_instructions,
     parse_map_info,
 };
+pub use extern_resolution::KsymsError;
 pub use object::Object;
 pub use object_externs::{ExternDesc, Externs};
 pub use object_file::{ObjectFile, ReadSection, ReadSymbol, unnamed_symbol};
@@ -27,4 +28,3 @@ pub use places::{function_without_code, name_at};
 pub use relocation_errors::{EbpfRelocationError, RelocationError};
 pub use settings::Settings;
 pub use slot_relocation::NumberedMap;
-pub use unserved::Pass;

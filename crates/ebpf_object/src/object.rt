@@ -14,17 +14,16 @@ ghost use Rattle.object_externs.specs.Faults.{ExternsFault};
 ghost use Rattle.object_file.specs.ByteOrders.{file_endianness};
 ghost use Rattle.object_file.specs.License.{license_of, HasNoNul};
 ghost use Rattle.object_file.specs.Version.{version_of, IsKnownVersion};
-ghost use Rattle.object_maps.specs.Maps.{maps_faults, maps_of};
+ghost use Rattle.object_maps.specs.Maps.{HasMapsFault, maps_faults, maps_of};
 ghost use Rattle.object_parts.specs.Content.{HaveFunctions, key_cmp};
-ghost use Rattle.ebpf_object.specs.Types.{HoldsTypes};
 ghost use Rattle.btf_parts.specs.Faultless.{IsFaultless as AreFaultless};
 ghost use Rattle.ebpf_object.specs.Faults.{HasFault, HasObjectFault, IsFaultless, IsSound, SaysOfTypes};
 ghost use Rattle.ebpf_object.specs.ParsedObject.{IsParsed, completed, no_externs};
 ghost use Rattle.linker.specs.Linked.{AllCanBeLinked, AreLinked, HasFaultOf, program_keys, unlinked};
 ghost use Rattle.relocation_errors.specs.declared.error.RelocationError.TheVariants as RelocationError;
 ghost use Rattle.std.specs.String.{string_bytes};
-ghost use Rattle.ebpf_object.specs.Calls.{AreTextSections};
-ghost use Rattle.ebpf_object.specs.Rewriting.{CannotRewrite, IsRewritten};
+ghost use Rattle.ebpf_object.specs.Calls as calls;
+ghost use Rattle.ebpf_object.specs.Rewriting.{AreAnswered, IsRefused, IsRewritten};
 ghost use Rattle.btf_records.specs.declared.error.BtfError.TheVariants as BtfError;
 
 use crate::calls::text_sections;
@@ -52,12 +51,12 @@ use std::mem;
 pub struct Object<'a> {
     pub(crate) alloc: Global,
     pub(crate) file: ObjectFile<'a>,
-    btf: Option<Btf<'a>>,
+    pub(crate) btf: Option<Btf<'a>>,
     btf_ext: Option<BtfExt<'a>>,
     pub(crate) maps: Maps<'a>,
     programs: Programs<'a>,
     pub(crate) functions: Functions<'a>,
-    externs: Externs<'a>,
+    pub(crate) externs: Externs<'a>,
 }
 
 impl<'a> Model for Object<'a> {
@@ -77,10 +76,9 @@ fn maps<'a>(
     file: &ObjectFile<'a>,
     table: &Option<Btf<'_>>,
 ) -> Result<Maps<'a>, ParseError>
-    requires { HoldsTypes file.now table.now }
     ensures value { IfOk result (λ maps. maps ≡ maps_of file.now table.now) }
     ensures accepted { OnOk result (maps_faults file.now table.now ≡ []) }
-    ensures refused { IfErr result (λ e. e ≢ OutOfMemory → HasObjectFault file.now e) }
+    ensures refused { IfErr result (λ e. e ≢ OutOfMemory → HasMapsFault file.now table.now e) }
 {
     read_maps(alloc, file, table.as_ref())
 }
@@ -241,9 +239,9 @@ impl<'a> Object<'a> {
         ensures refused { IfErr result (λ e. e ≢ OutOfMemory → HasObjectFault file.entry e) }
     {
         let mut types = read_types(alloc, &file)?;
+        let externs = externs(alloc, file.symbols(), &mut types.table)?;
         let code = read_code(alloc, &file, types.extension.as_ref())?;
         let maps = maps(alloc, &file, &types.table)?;
-        let externs = externs(alloc, file.symbols(), &mut types.table)?;
         Ok(Object {
             alloc,
             file,
@@ -264,6 +262,14 @@ impl<'a> Object<'a> {
         mem::replace(&mut self.maps, Maps::new(self.alloc))
     }
 
+    /// Puts maps in place of the object's, which are answered.
+    pub fn replace_maps(&mut self, maps: Maps<'a>) -> Maps<'a>
+        ensures replaced { result ≡ self.old.maps }
+        ensures others { self.new ≡ record self.old { maps = maps.entry } }
+    {
+        mem::replace(&mut self.maps, maps)
+    }
+
     /// Rewrites the table of types to the features that a kernel grants, as the predicate tells:
     /// [`Btf::fixup_and_sanitize`] with the sizes of the sections, the offsets of the symbols and,
     /// where a section of externs has an entry, its ids. Asks and changes nothing where the object
@@ -278,9 +284,10 @@ impl<'a> Object<'a> {
         predicate: F,
     ) -> Result<Answers, BtfError>
         requires { F.IsAlwaysCallable predicate }
-        ensures rewritten { IfOk result (λ answers. IsRewritten F.FnMut predicate self.old.file self.old.externs.ksyms self.old.types answers.items self.new.types) }
+        ensures rewritten { IfOk result (λ answers. IsRewritten answers.items self.old.file self.old.externs.ksyms self.old.types self.new.types) }
+        ensures answered { IfOk result (λ answers. AreAnswered F.FnMut predicate answers.items) }
         ensures others { self.new ≡ record self.old { types = self.new.types } }
-        ensures refused { IfErr result (λ e. e ≢ BtfError.OutOfMemory → IsSomeAnd self.old.types (λ t. ((length t.types == 0) ≡ false) × CannotRewrite F.FnMut predicate self.old.file self.old.externs.ksyms t e)) }
+        ensures refused { IfErr result (λ e. e ≢ BtfError.OutOfMemory → IsRefused F.FnMut predicate self.old.file self.old.externs.ksyms self.old.types e) }
         ensures err { OnErr result (self.new ≡ self.old) }
     {
         let ksyms = self.externs.ksyms();
@@ -289,7 +296,8 @@ impl<'a> Object<'a> {
 
     /// The indexes of the sections that functions lie in.
     pub fn text_sections(&self) -> Result<BTreeSet<usize>, AllocError>
-        ensures { IfOk result (λ sections. AreTextSections self.now.functions sections.keys) }
+        ensures value { IfOk result (λ sections. sections.keys ≡ calls.text_sections self.now.functions) }
+        ensures at { IfOk result (λ sections. calls.AreTextSections self.now.functions sections.keys) }
     {
         text_sections(self.alloc, &self.functions)
     }

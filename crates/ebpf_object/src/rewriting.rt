@@ -1,9 +1,8 @@
 //! The table of types, rewritten to the features that a kernel grants.
 
-ghost use Rattle.std.specs.Prelude.{◌≡◌, ◌≢◌, ◌==◌, false, length, IfErr, IfOk, OnErr};
-ghost use Rattle.std.specs.Option.{IsSomeAnd};
+ghost use Rattle.std.specs.Prelude.{◌≡◌, ◌≢◌, IfErr, IfOk, OnErr};
 ghost use Rattle.btf_records.specs.declared.error.BtfError.TheVariants.{OutOfMemory};
-ghost use Rattle.ebpf_object.specs.Rewriting.{CannotRewrite, IsRewritten, IsRewrittenTable};
+ghost use Rattle.ebpf_object.specs.Rewriting.{AreAnswered, IsRefused, IsRefusedTable, IsRewritten, IsRewrittenTable};
 
 use btf_records::{BtfError, BtfFeature};
 use btf_sanitizing::Answers;
@@ -21,8 +20,9 @@ fn rewrite_table<'a, F: FnMut(BtfFeature) -> bool>(
     predicate: F,
 ) -> Result<Answers, BtfError>
     requires { F.IsAlwaysCallable predicate }
-    ensures rewritten { IfOk result (λ answers. IsRewrittenTable F.FnMut predicate file.now ksyms table.old answers.items table.new) }
-    ensures refused { IfErr result (λ e. e ≢ OutOfMemory → CannotRewrite F.FnMut predicate file.now ksyms table.old e) }
+    ensures rewritten { IfOk result (λ answers. IsRewrittenTable answers.items file.now ksyms table.old table.new) }
+    ensures answered { IfOk result (λ answers. AreAnswered F.FnMut predicate answers.items) }
+    ensures refused { IfErr result (λ e. e ≢ OutOfMemory → IsRefusedTable F.FnMut predicate file.now ksyms table.old e) }
     ensures err { OnErr result (table.new ≡ table.old) }
 {
     let sizes = section_sizes(alloc, file)?;
@@ -39,8 +39,9 @@ pub(crate) fn rewrite<'a, F: FnMut(BtfFeature) -> bool>(
     predicate: F,
 ) -> Result<Answers, BtfError>
     requires { F.IsAlwaysCallable predicate }
-    ensures rewritten { IfOk result (λ answers. IsRewritten F.FnMut predicate file.now ksyms types.old answers.items types.new) }
-    ensures refused { IfErr result (λ e. e ≢ OutOfMemory → IsSomeAnd types.old (λ t. ((length t.types == 0) ≡ false) × CannotRewrite F.FnMut predicate file.now ksyms t e)) }
+    ensures rewritten { IfOk result (λ answers. IsRewritten answers.items file.now ksyms types.old types.new) }
+    ensures answered { IfOk result (λ answers. AreAnswered F.FnMut predicate answers.items) }
+    ensures refused { IfErr result (λ e. e ≢ OutOfMemory → IsRefused F.FnMut predicate file.now ksyms types.old e) }
     ensures err { OnErr result (types.new ≡ types.old) }
 {
     match types {

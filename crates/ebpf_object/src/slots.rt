@@ -6,10 +6,12 @@ ghost use Rattle.std.specs.String.{string_bytes};
 ghost use Rattle.ebpf_object.specs.Helpers.{IsSanitized};
 ghost use Rattle.object_parts.specs.Content.{has_newer_helper};
 ghost use Rattle.relocation_errors.specs.declared.error.RelocationError.TheVariants as RelocationError;
+ghost use Rattle.extern_relocation.specs.Externs.{extern_rule};
 ghost use Rattle.slot_relocation.specs.Maps.{given, map_rule};
 ghost use Rattle.slot_relocation.specs.Writes.{AreRelocated, CanBeRelocated, HasErrorIn};
 
 use crate::object::Object;
+use extern_relocation::relocate_externs;
 use relocation_errors::EbpfRelocationError;
 use slot_relocation::{NumberedMap, relocate_maps};
 use std::collections::BTreeSet;
@@ -40,6 +42,23 @@ impl<'a> Object<'a> {
             maps,
             text_sections,
         )
+    }
+
+    /// Writes what is known of the kernel's functions and variables into the slots at which relocations
+    /// by externs stand: [`relocate_externs`].
+    ///
+    /// # Errors
+    ///
+    /// Those of [`relocate_externs`], with the function's name; the object is as before then.
+    #[tactic(auto, using(crate::proofs::Linked::functions_stay_relocated))]
+    pub fn relocate_externs(&mut self) -> Result<(), EbpfRelocationError>
+        ensures relocated { OnOk result (AreRelocated (extern_rule self.old.file self.old.externs.by_name) self.old.file self.old.functions self.new.functions) }
+        ensures sound { OnOk result (CanBeRelocated (extern_rule self.old.file self.old.externs.by_name) self.old.file self.old.functions) }
+        ensures others { self.new ≡ record self.old { functions = self.new.functions } }
+        ensures fault { IfErr result (λ e. e.error ≢ RelocationError.OutOfMemory → HasErrorIn (extern_rule self.old.file self.old.externs.by_name) self.old.file self.old.functions (option_map string_bytes e.function) e.error) }
+        ensures unchanged { OnErr result (self.new ≡ self.old) }
+    {
+        relocate_externs(self.alloc, &self.file, &mut self.functions, &self.externs)
     }
 
     /// Calls older helpers in place of newer ones where the kernel lacks these: 4 in place of 112 and

@@ -1,16 +1,12 @@
 -- Where the copies stand in the linked slots.
-use Rattle.std.proofs.Common.{◌≡◌, ℕ, zero, suc, ◌+◌, ◌-◌, ◌<◌, ◌≤◌, Bool, true, false, cond, List, [], ◌∷◌, ◌++◌, length, Option, Some, None, refl, sym, ap, ◌∙◌, inl, inr, arith, ◌⊎◌, ltb, length-append}
+use Rattle.std.proofs.Common.{◌≡◌, ℕ, zero, suc, ◌+◌, ◌-◌, ◌<◌, ◌≤◌, Bool, true, false, cond, List, [], ◌∷◌, ◌++◌, length, Option, Some, None, refl, sym, ap, ◌∙◌, inl, inr, arith, ltb, length-append}
 use Rattle.std.specs.Prelude.{slice_get, is_some}
 use Rattle.std.proofs.lemmas.Bool.Decides.{nat_tests}
 use Rattle.ebpf_items.specs.declared.instruction.bpf_insn.{bpf_insn}
+use Rattle.function_layout.specs.Copies.{IsCopy}
 use Rattle.function_layout.specs.Layout.{Key, same, Table, ref_at, has, end_of, start_of, placed, copy_of, copies_of}
 use Rattle.function_layout.proofs.SameKey.{same_true}
 use Rattle.function_layout.specs.Machines.{Place, place_of}
-
--- a copy of key k begins at b
-abbrev pub IsCopy : Table → Key → List Key → Key → ℕ → Type 0
-IsCopy t own [] k b = (k ≡ own) × (b ≡ 0)
-IsCopy t own (c ∷ ks) k b = ((k ≡ c) × (b ≡ end_of t own ks)) ⊎ IsCopy t own ks k b
 
 pub copy_end : (t : Table) (own : Key) (ks : List Key) (k : Key) (b : ℕ) → IsCopy t own ks k b → b + length (t.slots k) ≤ end_of t own ks
 copy_end t own [] k b h =

@@ -9,7 +9,8 @@ use Rattle.function_layout.specs.Layout.{Key, Table, ref_at, flat_option, IsLayo
 use Rattle.ebpf_items.specs.Instruction.{is_pseudo_call, dst_reg_of}
 use Rattle.function_layout.specs.Machines.{Outside, Ends, Shows, Move, Leave, Call, By, is_jump, move_of, slot_at, nat_of, Frame, may_run, SourceRun, source_leave, source_move, source_show, source_step, source_run, FlatRun, flat_leave, flat_move, place_of, flat_show, flat_run, ends_outside, SameSlot, SameEvent, Agree, VisitsSame}
 use Rattle.function_layout.proofs.Keys.{IsOf, all_closed, closed_ref}
-use Rattle.function_layout.proofs.Flat.{IsCopy, start_copy, has_start, fetch, place}
+use Rattle.function_layout.specs.Copies.{IsCopy}
+use Rattle.function_layout.proofs.Flat.{start_copy, has_start, fetch, place}
 
 -- a position stands for a frame, in one of the copies of its function
 record IsAt (t : Table) (own : Key) (ks : List Key) (f : Frame) (p : ℤ) : Type 0 where

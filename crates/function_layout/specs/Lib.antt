@@ -1,3 +1,4 @@
+pub mod Copies
 pub mod Layout
 pub mod Machines
 pub mod Reached

@@ -6,6 +6,7 @@
 //! their contracts are the theorems.
 #![tactic(auto)]
 
+ghost use Rattle.function_layout.specs.Copies.{SlotsAreCopied};
 ghost use Rattle.function_layout.specs.Renamed.{RenamedVisitsSame};
 ghost use Rattle.function_layout.specs.Theorems.{CopiesAreFew, LayoutIsUnique, LengthsAdd, LinkedVisitsSame, ReachedAreAppended};
 ghost use Rattle.function_layout.specs.Walking.{WalkLaws, OrderLaws, PlaceLaws};
@@ -57,4 +58,9 @@ pub fn order_laws()
 /// Copies stand one behind the other.
 pub fn place_laws()
     ensures { PlaceLaws }
+{}
+
+/// Each slot of a function that is copied to a program stands in the copy, as it is where it refers to no function.
+pub fn slots_are_copied()
+    ensures { SlotsAreCopied }
 {}

@@ -9,12 +9,9 @@ use crate::target::Target;
 use ebpf_items::bpf_insn;
 use elf64::{SymbolKind, SymbolView};
 use object_file::ObjectFile;
-use object_parts::Function;
+use object_parts::{Function, SLOT_SIZE};
 use std::collections::BTreeSet;
 use std::marker::Model;
-
-/// The bytes of a slot.
-const SLOT_SIZE: u128 = 8;
 
 /// A symbol that a relocation names, and how many bits the relocation fills.
 #[derive(Drop)]
@@ -37,7 +34,7 @@ fn place_of(function: &Function<'_>, slot: usize) -> u128
     ensures value { result ≡ place_of function.now slot }
     ensures small { result < 2 ^ 68 }
 {
-    function.section_offset as u128 + SLOT_SIZE * slot as u128
+    function.section_offset as u128 + SLOT_SIZE as u128 * slot as u128
 }
 
 /// Whether a symbol can stand for a function: code, or in a section with functions.

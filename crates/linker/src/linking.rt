@@ -4,7 +4,7 @@ ghost use Rattle.std.specs.Prelude.{[], ◌≡◌, ◌≢◌, true, Some, IfOk, 
 ghost use Rattle.relocation_errors.specs.declared.error.RelocationError.TheVariants.{OutOfMemory};
 ghost use Rattle.object_parts.specs.Content.{HaveFunctions, has_function};
 ghost use Rattle.linker.specs.Faults.{CanBeLinked, HasLinkFault};
-ghost use Rattle.linker.specs.Installed.{AreLinkedTo, AreThere, Installed};
+ghost use Rattle.linker.specs.Installed.{AreLinkedTo};
 ghost use Rattle.linker.specs.Linked.{AllCanBeLinked, AreLinked, HasFaultOf, IsLinked, program_keys, unlinked, with_copies};
 ghost use Rattle.std.specs.Option.{option_map};
 ghost use Rattle.std.specs.String.{string_bytes};
@@ -122,17 +122,6 @@ impl<'s, 'o, 'f> Source<'s, 'o, 'f> {
     }
 }
 
-/// Puts functions in place of those of their keys.
-fn install<'f>(functions: &mut Functions<'f>, linked: Vec<Function<'f>>)
-    requires { AreThere functions.old linked.items }
-    ensures { Installed functions.old functions.new linked.entry.items }
-{
-    let mut rest = linked;
-    while let Some(function) = rest.pop() {
-        functions.replace(function);
-    }
-}
-
 /// Links to each program the functions that it leads to, from the functions as they stand: behind
 /// the program's own function come copies of those, each once, and references are aimed at the
 /// copies. The records of the copied functions come with them. A program's name is in its error.
@@ -159,7 +148,7 @@ pub fn relocate_calls<'f>(
     ensures unchanged { OnErr result (functions.new ≡ functions.old) }
 {
     let linked = link_from(alloc, file, programs, functions, text_sections)?;
-    install(functions, linked);
+    functions.install(linked);
     Ok(())
 }
 

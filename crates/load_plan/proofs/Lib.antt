@@ -1,4 +1,9 @@
-pub mod Made
+pub mod Carried
+pub mod Chain
+pub mod Changes
+pub mod Granted
 pub mod Names
 pub mod Numbers
+pub mod Planned
+pub mod Programs
 pub mod Refused

@@ -1,23 +1,29 @@
--- Refusals of slots behind the rewriting of types.
-use Rattle.std.proofs.Common.{ℕ, List, Bool}
-use Rattle.std.specs.Fn.{Mut}
-use Rattle.btf_records.specs.declared.feature.BtfFeature.{BtfFeature}
-use Rattle.btf_sanitizing.specs.Answers.{Answers}
-use Rattle.ebpf_items.specs.Maps.{MapView}
-use Rattle.ebpf_object.specs.Calls.{AreTextSections}
-use Rattle.ebpf_object.specs.ParsedObject.{ObjectContent}
-use Rattle.settings.specs.Content.{SettingsContent}
-use Rattle.load_plan.specs.Made.{IsRewrittenObject}
-use Rattle.load_plan.specs.Refusals.{IsBuildingRefusal, IsSlotsRefusal}
-use Rattle.load_plan.specs.declared.error.PrepareError.{PrepareError}
-use Rattle.load_plan.specs.declared.error.PrepareError.TheVariants.{FunctionRecordType, MapNumberMissing, NotYet, OutOfMemory, Parse, Relocation, Types}
+-- Errors of passes as a PrepareError.
+use Rattle.std.proofs.Common.{◌≡◌, List, [], Option, Some, None, refl, inl, inr}
+use Rattle.std.specs.Prelude.{◌≢◌}
+use Rattle.btf_records.specs.declared.error.BtfError.{BtfError}
+use Rattle.btf_records.specs.declared.error.BtfError.TheVariants as btf
+use Rattle.ebpf_items.specs.declared.error.ParseError.{ParseError}
+use Rattle.ebpf_items.specs.declared.error.ParseError.TheVariants as parse
+use Rattle.ebpf_object.specs.Rewriting.{IsRefused}
+use Rattle.extern_resolution.specs.declared.error.KsymsError.{KsymsError}
+use Rattle.extern_resolution.specs.declared.error.KsymsError.TheVariants as ksyms
+use Rattle.load_plan.specs.Errors.{of_ksyms, of_parse, of_types}
+use Rattle.load_plan.specs.Inputs.{Predicate, State}
+use Rattle.load_plan.specs.Made.{IsRefusedTypes}
+use Rattle.load_plan.specs.Passes.{OfKsyms, OfParse}
+use Rattle.load_plan.specs.declared.error.PrepareError.TheVariants.{OutOfMemory}
 
-pub slots_refused : {F : Type 0} (predicate : Mut F (BtfFeature × Unit {0}) Bool) (before : F) (settings : SettingsContent) (maps : List (List ℕ × MapView)) (object : ObjectContent) (text_sections : List ℕ) (answers : Answers) (rewritten : ObjectContent) (e : PrepareError) → AreTextSections object.functions text_sections → IsRewrittenObject predicate before object answers rewritten → IsSlotsRefusal settings maps rewritten text_sections e → IsBuildingRefusal predicate before settings maps object e
-slots_refused predicate before settings maps object text_sections answers rewritten (Relocation e) sections types refusal =
-    record { text_sections = text_sections; sections = sections; answers = answers; rewritten = rewritten; types = types; refusal = refusal }
-slots_refused predicate before settings maps object text_sections answers rewritten OutOfMemory sections types refusal = tt
-slots_refused predicate before settings maps object text_sections answers rewritten (Parse e) sections types refusal = absurd refusal
-slots_refused predicate before settings maps object text_sections answers rewritten (FunctionRecordType f id) sections types refusal = absurd refusal
-slots_refused predicate before settings maps object text_sections answers rewritten (NotYet pass) sections types refusal = absurd refusal
-slots_refused predicate before settings maps object text_sections answers rewritten (MapNumberMissing name) sections types refusal = absurd refusal
-slots_refused predicate before settings maps object text_sections answers rewritten (Types e) sections types refusal = absurd refusal
+pub parse_refused : (Stands : ParseError → Type 0) (e : ParseError) → (e ≢ parse.OutOfMemory → Stands e) → of_parse e ≢ OutOfMemory → OfParse Stands (of_parse e)
+parse_refused Stands parse.OutOfMemory stands other = absurd (other refl)
+parse_refused Stands e stands other = stands (λ same. cc)
+
+pub ksyms_refused : (Stands : KsymsError → Type 0) (e : KsymsError) → (e ≢ ksyms.OutOfMemory → Stands e) → of_ksyms e ≢ OutOfMemory → OfKsyms Stands (of_ksyms e)
+ksyms_refused Stands ksyms.OutOfMemory stands other = absurd (other refl)
+ksyms_refused Stands e stands other = stands (λ same. cc)
+
+pub types_refused : {F : Type 0} (predicate : Predicate F) (before : F) (s : State) (e : BtfError) → (e ≢ btf.OutOfMemory → IsRefused predicate before s.file s.externs.ksyms s.types e) → of_types e ≢ OutOfMemory → IsRefusedTypes predicate before s (of_types e)
+types_refused predicate before s btf.OutOfMemory refused other = absurd (other refl)
+types_refused predicate before s e refused other =
+    let r = refused (λ same. cc) in
+    record { answers = r.answers; answered = r.answered; fault = r.fault }

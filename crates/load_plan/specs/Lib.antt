@@ -1,4 +1,11 @@
+pub mod Errors
+pub mod Granted
+pub mod Inputs
 pub mod Made
+pub mod Passes
 pub mod Places
 pub mod Planned
-pub mod Refusals
+pub mod Programs
+pub use Rattle.plan_text.specs.Content
+pub use Rattle.plan_text.specs.PlanGrammar
+pub use Rattle.watched.specs.Watched

@@ -1,12 +1,13 @@
 //! Why an object gets no plan.
 
 ghost use Rattle.std.specs.Prelude.{◌≡◌};
-ghost use Rattle.load_plan.specs.declared.error.PrepareError.TheVariants.{Parse, OutOfMemory, Relocation, Types};
+ghost use Rattle.load_plan.specs.Errors.{of_ksyms, of_parse, of_relocation, of_types};
+ghost use Rattle.load_plan.specs.declared.error.PrepareError.TheVariants.{OutOfMemory};
 
 use btf_records::BtfError;
 use ebpf_items::ParseError;
-use ebpf_object::Pass;
-use relocation_errors::EbpfRelocationError;
+use ebpf_object::KsymsError;
+use relocation_errors::{EbpfRelocationError, RelocationError};
 use std::alloc::{AllocError, AllocFailed};
 use thiserror::Error;
 
@@ -24,23 +25,23 @@ pub enum PrepareError {
         /// The record's type.
         type_id: u32,
     },
-    /// A pass that doesn't exist yet has something to do with the object.
-    #[error("not yet: {}", subject(*pass))]
-    NotYet {
-        /// The first such pass.
-        pass: Pass,
-    },
+    /// The object has type relocations: the pass that resolves them doesn't exist yet.
+    #[error("not yet: type relocations")]
+    NotYet,
     /// No number is set for a map.
     #[error("map {name:?} has no number")]
     MapNumberMissing {
         /// The map's name.
         name: String,
     },
+    /// An extern can't be resolved by the kernel's types and symbols.
+    #[error("{0}")]
+    Ksyms(KsymsError),
     /// The object's types can't be rewritten to the kernel's features.
     #[error("{0}")]
     Types(BtfError),
-    /// A slot can't get a map's number, or a program can't be linked to the functions that it leads
-    /// to.
+    /// A slot can't get a map's number or what is known of an extern, or a program can't be linked to
+    /// the functions that it leads to.
     #[error("{0}")]
     Relocation(EbpfRelocationError),
     /// Memory ran out.
@@ -48,35 +49,50 @@ pub enum PrepareError {
     OutOfMemory,
 }
 
-/// What a pass has to do with.
-fn subject(pass: Pass) -> &'static str {
-    match pass {
-        Pass::TypeRelocations => "type relocations",
-        Pass::Externs => "externs",
-        Pass::ExternRelocations => "relocations for externs",
-    }
-}
-
+/// Want of memory stays want of memory.
 impl From<ParseError> for PrepareError {
-    ghost from_gives = { λ error e. e ≡ Parse error };
+    ghost from_gives = { λ error e. e ≡ of_parse error };
 
     fn from(error: ParseError) -> PrepareError {
-        PrepareError::Parse(error)
+        match error {
+            ParseError::OutOfMemory => PrepareError::OutOfMemory,
+            error => PrepareError::Parse(error),
+        }
     }
 }
 
+/// Want of memory stays want of memory.
+impl From<KsymsError> for PrepareError {
+    ghost from_gives = { λ error e. e ≡ of_ksyms error };
+
+    fn from(error: KsymsError) -> PrepareError {
+        match error {
+            KsymsError::OutOfMemory => PrepareError::OutOfMemory,
+            error => PrepareError::Ksyms(error),
+        }
+    }
+}
+
+/// Want of memory stays want of memory.
 impl From<BtfError> for PrepareError {
-    ghost from_gives = { λ error e. e ≡ Types error };
+    ghost from_gives = { λ error e. e ≡ of_types error };
 
     fn from(error: BtfError) -> PrepareError {
-        PrepareError::Types(error)
+        match error {
+            BtfError::OutOfMemory => PrepareError::OutOfMemory,
+            error => PrepareError::Types(error),
+        }
     }
 }
 
+/// Want of memory stays want of memory.
 impl From<EbpfRelocationError> for PrepareError {
-    ghost from_gives = { λ error e. e ≡ Relocation error };
+    ghost from_gives = { λ error e. e ≡ of_relocation error };
 
     fn from(error: EbpfRelocationError) -> PrepareError {
+        if let RelocationError::OutOfMemory = error.error() {
+            return PrepareError::OutOfMemory;
+        }
         PrepareError::Relocation(error)
     }
 }

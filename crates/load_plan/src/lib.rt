@@ -7,9 +7,11 @@ mod order;
 mod places;
 mod planning;
 
-pub use btf_records::{BtfError, BtfFeature};
+pub use btf_records::{BtfError, BtfFeature, Endianness};
 pub use btf_tables::Btf;
-pub use ebpf_object::{ParseError, Pass, PinningType, ProgramSection, Slots, Watched, bpf_insn};
+pub use ebpf_object::{
+    KsymsError, ParseError, PinningType, ProgramSection, Slots, Watched, bpf_insn,
+};
 pub use error::PrepareError;
 pub use order::Order;
 pub use places::{Place, place_of};

@@ -1,28 +1,32 @@
 //! The passes over a parsed object.
 
-ghost use Rattle.std.specs.Prelude.{◌≡◌, [], None, true, IfErr, IfOk, OnOk};
-ghost use Rattle.ebpf_object.specs.Unserved.{unserved};
-ghost use Rattle.function_types.specs.Named.{all_named};
-ghost use Rattle.load_plan.specs.Made.{ArePatchedMaps, AreSlotsWritten, IsBuilt, IsMade, IsRelocatedObject, IsReady, maps_given, without_maps};
-ghost use Rattle.load_plan.specs.Refusals.{IsBuildingRefusal, IsGlobalsRefusal, IsNamelessRefusal, IsNotYetRefusal, IsNumberRefusal, IsObjectRefusal, IsReadyRefusal, IsSlotsRefusal};
-ghost use Rattle.plan_maps.specs.Numbers.{are_numbered};
+ghost use Rattle.std.specs.Prelude.{◌≡◌, ◌≢◌, ℕ, List, slice_get, IfErr, IfOk, OnOk};
+ghost use Rattle.ebpf_object.specs.Calls as calls;
+ghost use Rattle.ebpf_object.specs.Rewriting.{AreAnswered};
+ghost use Rattle.load_plan.specs.Inputs.{inputs, symbols_given};
+ghost use Rattle.load_plan.specs.Made.{IsMade, IsRefusedTypes};
+ghost use Rattle.load_plan.specs.Passes.{CannotLink, CannotPutValues, CannotResolve, CannotWriteExterns, CannotWriteNumbers, HasNamelessRecord, HasNoTypeRelocations, IsNotYet, IsNumbered, KeepsNamed, LacksNumber, LinksPrograms, OfKsyms, OfParse, OfRelocation, PutsValues, ResolvesExterns, RewritesTypes, WritesExterns, WritesNumbers};
+ghost use Rattle.load_plan.specs.Planned.{IsRefusedObject};
+ghost use Rattle.load_plan.specs.declared.error.PrepareError.TheVariants.{OutOfMemory};
+ghost use Rattle.watched.specs.Watched.{has_failed, watched_inner};
 
 use crate::error::PrepareError;
+use crate::order::Order;
 use btf_records::BtfFeature;
-use ebpf_object::{Maps, Object};
-use function_layout::renamed_visits_same;
+use btf_tables::Btf;
+use ebpf_object::{Maps, Object, Watched};
 use function_types::nameless_record;
 use plan_maps::{numbered_maps, unnumbered_map};
 use plan_text::Answers;
 use settings::Settings;
-use slot_relocation::numbers_are_written;
 use std::alloc::Global;
 use std::collections::BTreeSet;
+use std::io::BufRead;
 
 /// Refuses an object with a function that keeps a record whose type is no function with a name.
 fn require_named(alloc: Global, object: &Object<'_>) -> Result<(), PrepareError>
-    ensures accepted { OnOk result (all_named object.now.types object.now.functions ≡ true) }
-    ensures refused { IfErr result (IsNamelessRefusal object.now) }
+    ensures made { OnOk result (KeepsNamed object.now object.now) }
+    ensures refused { IfErr result (λ e. e ≢ OutOfMemory → HasNamelessRecord object.now e) }
 {
     match nameless_record(object.btf(), object.functions()) {
         Some((name, type_id)) => Err(PrepareError::FunctionRecordType {
@@ -33,15 +37,15 @@ fn require_named(alloc: Global, object: &Object<'_>) -> Result<(), PrepareError>
     }
 }
 
-/// Refuses an object with which a pass that doesn't exist yet has something to do.
-fn require_served(object: &Object<'_>) -> Result<(), PrepareError>
-    ensures accepted { OnOk result (unserved object.now ≡ None) }
-    ensures refused { IfErr result (IsNotYetRefusal object.now) }
+/// Refuses an object with type relocations: the pass that resolves them doesn't exist yet.
+fn require_no_type_relocations(object: &Object<'_>) -> Result<(), PrepareError>
+    ensures made { OnOk result (HasNoTypeRelocations object.now object.now) }
+    ensures refused { IfErr result (IsNotYet object.now) }
 {
-    match object.unserved() {
-        Some(pass) => Err(PrepareError::NotYet { pass }),
-        None => Ok(()),
+    if object.has_btf_relocations() {
+        return Err(PrepareError::NotYet);
     }
+    Ok(())
 }
 
 /// Refuses an object with a map for which no number is set.
@@ -50,8 +54,8 @@ fn require_numbered(
     settings: &Settings<'_>,
     object: &Object<'_>,
 ) -> Result<(), PrepareError>
-    ensures accepted { OnOk result (are_numbered settings.now object.now.maps ≡ true) }
-    ensures refused { IfErr result (IsNumberRefusal settings.now object.now) }
+    ensures made { OnOk result (IsNumbered settings.now object.now object.now) }
+    ensures refused { IfErr result (λ e. e ≢ OutOfMemory → LacksNumber settings.now object.now e) }
 {
     match unnumbered_map(object.maps(), settings) {
         Some(name) => Err(PrepareError::MapNumberMissing {
@@ -61,95 +65,122 @@ fn require_numbered(
     }
 }
 
-/// Refuses an object on which the passes can't be made.
-fn require_ready(
-    alloc: Global,
-    settings: &Settings<'_>,
-    object: &Object<'_>,
-) -> Result<(), PrepareError>
-    ensures served { OnOk result (IsReady settings.now object.now) }
-    ensures refused { IfErr result (IsReadyRefusal settings.now object.now) }
-{
-    require_named(alloc, object)?;
-    require_served(object)?;
-    require_numbered(alloc, settings, object)
-}
-
-/// Takes an object's maps, with the values of its global variables.
-fn take_patched_maps<'a>(
-    settings: &Settings<'_>,
-    object: &mut Object<'a>,
-) -> Result<Maps<'a>, PrepareError>
-    ensures patched { IfOk result (ArePatchedMaps settings.now object.old) }
-    ensures taken { OnOk result (object.new ≡ without_maps object.old) }
-    ensures refused { IfErr result (IsGlobalsRefusal settings.now object.old) }
+/// Puts the values of global variables into an object's maps.
+fn put_values(settings: &Settings<'_>, object: &mut Object<'_>) -> Result<(), PrepareError>
+    ensures made { OnOk result (PutsValues settings.now object.old object.new) }
+    ensures refused { IfErr result (λ e. e ≢ OutOfMemory → OfParse (CannotPutValues settings.now object.old) e) }
 {
     object.patch_map_data(settings)?;
-    Ok(object.take_maps())
+    Ok(())
 }
 
-/// Writes the numbers of maps into an object's slots, and links its programs.
-fn write_slots(
+/// Resolves an object's externs by a kernel's types and symbols.
+fn resolve<R: BufRead>(
+    kernel_types: &[Btf<'_>],
+    symbols: &mut Watched<R>,
+    object: &mut Object<'_>,
+) -> Result<(), PrepareError>
+    ensures made { OnOk result (ResolvesExterns (slice_get kernel_types.now 0) (symbols_given (R.remaining (watched_inner symbols.old)) (has_failed symbols.new)) object.old object.new) }
+    ensures refused { IfErr result (λ e. e ≢ OutOfMemory → OfKsyms (CannotResolve (slice_get kernel_types.now 0) (symbols_given (R.remaining (watched_inner symbols.old)) (has_failed symbols.new)) object.old) e) }
+{
+    object.resolve_externs(kernel_types, symbols)?;
+    Ok(())
+}
+
+/// Rewrites the types of an object to the features that a kernel grants.
+fn rewrite_types<F: FnMut(BtfFeature) -> bool>(
+    object: &mut Object<'_>,
+    predicate: F,
+) -> Result<Answers, PrepareError>
+    requires { F.IsAlwaysCallable predicate }
+    ensures made { IfOk result (λ answers. RewritesTypes answers.items object.old object.new) }
+    ensures answered { IfOk result (λ answers. AreAnswered F.FnMut predicate answers.items) }
+    ensures refused { IfErr result (λ e. e ≢ OutOfMemory → IsRefusedTypes F.FnMut predicate object.old e) }
+{
+    Ok(object.fixup_and_sanitize_btf(predicate)?)
+}
+
+/// Writes the numbers of maps into the slots of an object that lent them.
+fn write_numbers_of(
     alloc: Global,
     settings: &Settings<'_>,
     maps: &Maps<'_>,
     object: &mut Object<'_>,
     text_sections: &BTreeSet<usize>,
 ) -> Result<(), PrepareError>
-    ensures written { OnOk result (AreSlotsWritten settings.now maps.now object.old text_sections.now.keys object.new) }
-    ensures refused { IfErr result (IsSlotsRefusal settings.now maps.now object.old text_sections.now.keys) }
+    requires { text_sections.now.keys ≡ calls.text_sections object.old.functions }
+    ensures made { OnOk result (WritesNumbers settings.now (record object.old { maps = maps.now }) (record object.new { maps = maps.now })) }
+    ensures refused { IfErr result (λ e. e ≢ OutOfMemory → OfRelocation (CannotWriteNumbers settings.now (record object.old { maps = maps.now })) e) }
 {
     let numbered = numbered_maps(alloc, maps, settings)?;
     object.relocate_maps(&numbered, text_sections)?;
+    Ok(())
+}
+
+/// Writes the numbers of an object's maps into its slots.
+fn write_numbers(
+    alloc: Global,
+    settings: &Settings<'_>,
+    object: &mut Object<'_>,
+    text_sections: &BTreeSet<usize>,
+) -> Result<(), PrepareError>
+    requires { text_sections.now.keys ≡ calls.text_sections object.old.functions }
+    ensures made { OnOk result (WritesNumbers settings.now object.old object.new) }
+    ensures refused { IfErr result (λ e. e ≢ OutOfMemory → OfRelocation (CannotWriteNumbers settings.now object.old) e) }
+{
+    let maps = object.take_maps();
+    let written = write_numbers_of(alloc, settings, &maps, object, text_sections);
+    let _ = object.replace_maps(maps);
+    written
+}
+
+/// Writes what is known of an object's externs into its slots.
+fn write_externs(object: &mut Object<'_>) -> Result<(), PrepareError>
+    ensures made { OnOk result (WritesExterns object.old object.new) }
+    ensures refused { IfErr result (λ e. e ≢ OutOfMemory → OfRelocation (CannotWriteExterns object.old) e) }
+{
+    object.relocate_externs()?;
+    Ok(())
+}
+
+/// Links an object's programs.
+fn link(object: &mut Object<'_>, text_sections: &BTreeSet<usize>) -> Result<(), PrepareError>
+    requires { text_sections.now.keys ≡ calls.text_sections object.old.functions }
+    ensures made { OnOk result (LinksPrograms object.old object.new) }
+    ensures refused { IfErr result (λ e. e ≢ OutOfMemory → OfRelocation (CannotLink object.old) e) }
+{
     object.relocate_calls(text_sections)?;
     Ok(())
 }
 
-/// Rewrites the types of an object to the features that a kernel grants, and writes its slots.
-fn build<F: FnMut(BtfFeature) -> bool>(
+/// Makes the passes over an object, of whose result its plan is made, and answers what was answered
+/// about the kernel's features.
+pub(crate) fn make<R: BufRead, F: FnMut(BtfFeature) -> bool, P: FnOnce() -> bool>(
     alloc: Global,
+    kernel_types: &[Btf<'_>],
+    symbols: &mut Watched<R>,
     settings: &Settings<'_>,
-    maps: &Maps<'_>,
+    order: Order,
     object: &mut Object<'_>,
     predicate: F,
-) -> Result<Answers, PrepareError>
-    requires { F.IsAlwaysCallable predicate }
-    ensures built { IfOk result (λ answers. IsBuilt F.FnMut predicate settings.now maps.now object.old answers.items object.new) }
-    ensures refused { IfErr result (IsBuildingRefusal F.FnMut predicate settings.now maps.now object.old) }
-{
-    let text_sections = object.text_sections()?;
-    let answers = object.fixup_and_sanitize_btf(predicate)?;
-    write_slots(alloc, settings, maps, object, &text_sections)?;
-    Ok(answers)
-}
-
-/// What the passes make of an object, beside what becomes of it.
-#[derive(Drop)]
-pub(crate) struct Made<'a> {
-    /// The answers about the kernel's features.
-    pub(crate) answers: Answers,
-    /// The object's maps, with the values of its global variables.
-    pub(crate) maps: Maps<'a>,
-}
-
-/// Makes the passes over an object, of whose result its plan is made.
-pub(crate) fn make<'a, F: FnMut(BtfFeature) -> bool, P: FnOnce() -> bool>(
-    alloc: Global,
-    settings: &Settings<'_>,
-    object: &mut Object<'a>,
-    predicate: F,
     probe: P,
-) -> Result<Made<'a>, PrepareError>
+) -> Result<Answers, PrepareError>
     requires predicate { F.IsAlwaysCallable predicate }
     requires probe { P.pre probe }
-    ensures made { IfOk result (λ made. IsMade F.FnMut predicate (P.post probe) settings.now object.old made.answers.items made.maps object.new) }
-    ensures refused { IfErr result (IsObjectRefusal F.FnMut predicate settings.now object.old) }
+    ensures made { IfOk result (λ answers. (file : List ℕ) → IsMade F.FnMut predicate (P.post probe) (inputs file kernel_types.now (symbols_given (R.remaining (watched_inner symbols.old)) (has_failed symbols.new)) settings.now order) answers.items object.old object.new) }
+    ensures refused { IfErr result (λ e. e ≢ OutOfMemory → (file : List ℕ) → IsRefusedObject F.FnMut predicate (inputs file kernel_types.now (symbols_given (R.remaining (watched_inner symbols.old)) (has_failed symbols.new)) settings.now order) object.old e) }
 {
-    renamed_visits_same();
-    numbers_are_written();
-    require_ready(alloc, settings, object)?;
-    let maps = take_patched_maps(settings, object)?;
-    let answers = build(alloc, settings, &maps, object, predicate)?;
+    let _ = order;
+    require_named(alloc, object)?;
+    require_no_type_relocations(object)?;
+    require_numbered(alloc, settings, object)?;
+    put_values(settings, object)?;
+    resolve(kernel_types, symbols, object)?;
+    let text_sections = object.text_sections()?;
+    let answers = rewrite_types(object, predicate)?;
+    write_numbers(alloc, settings, object, &text_sections)?;
+    write_externs(object)?;
+    link(object, &text_sections)?;
     object.sanitize_functions(probe);
-    Ok(Made { answers, maps })
+    Ok(answers)
 }

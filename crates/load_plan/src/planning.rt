@@ -1,8 +1,12 @@
 //! From an object's bytes to its plan.
 
-ghost use Rattle.std.specs.Prelude.{◌≡◌, IfErr, IfOk};
-ghost use Rattle.load_plan.specs.Planned.{Inputs, IsParseRefusal, IsPlanOf, IsPlanned, IsRefusal, IsWholeObject};
-ghost use Rattle.load_plan.specs.Refusals.{IsObjectRefusal};
+ghost use Rattle.std.specs.Prelude.{◌≢◌, ℕ, List, IfErr, IfOk};
+ghost use Rattle.ebpf_object.specs.Faults.{HasFault};
+ghost use Rattle.load_plan.specs.Inputs.{inputs, symbols_given};
+ghost use Rattle.load_plan.specs.Passes.{OfParse};
+ghost use Rattle.load_plan.specs.Planned.{IsPlanned, IsPlannedObject, IsRefusal, IsRefusedObject, IsWholeObject};
+ghost use Rattle.load_plan.specs.declared.error.PrepareError.TheVariants.{OutOfMemory};
+ghost use Rattle.watched.specs.Watched.{has_failed, watched_inner};
 
 use crate::error::PrepareError;
 use crate::making::make;
@@ -10,94 +14,107 @@ use crate::order::Order;
 use btf_records::BtfFeature;
 use btf_tables::Btf;
 use ebpf_object::{Object, Watched};
+use extern_relocation::externs_are_written;
+use function_layout::{reached_are_appended, renamed_visits_same, slots_are_copied};
 use object_plan::{names_are_carried, plan_of, records_name};
 use plan_maps::plan_maps;
 use plan_text::Plan;
 use settings::Settings;
+use slot_relocation::numbers_are_written;
 use std::alloc::Global;
 use std::io::BufRead;
 
 /// The object that a file holds.
 fn parse<'a>(alloc: Global, file: &'a [u8]) -> Result<Object<'a>, PrepareError>
     ensures parsed { IfOk result (IsWholeObject file.entry.now) }
-    ensures refused { IfErr result (IsParseRefusal file.entry.now) }
+    ensures refused { IfErr result (λ e. e ≢ OutOfMemory → OfParse (HasFault file.entry.now) e) }
 {
     Ok(Object::parse(alloc, file)?)
 }
 
 /// The plan of what all passes make of a parsed object.
-fn plan_object<'a, F: FnMut(BtfFeature) -> bool, P: FnOnce() -> bool>(
+fn plan_object<'a, R: BufRead, F: FnMut(BtfFeature) -> bool, P: FnOnce() -> bool>(
     alloc: Global,
+    kernel_types: &[Btf<'_>],
+    symbols: &mut Watched<R>,
     settings: &Settings<'_>,
+    order: Order,
     object: &mut Object<'a>,
     predicate: F,
     probe: P,
 ) -> Result<Plan<'a>, PrepareError>
     requires predicate { F.IsAlwaysCallable predicate }
     requires probe { P.pre probe }
-    ensures planned { IfOk result (IsPlanOf F.FnMut predicate (P.post probe) settings.now object.old) }
-    ensures refused { IfErr result (IsObjectRefusal F.FnMut predicate settings.now object.old) }
+    ensures planned { IfOk result (λ plan. (file : List ℕ) → IsPlannedObject F.FnMut predicate (P.post probe) (inputs file kernel_types.now (symbols_given (R.remaining (watched_inner symbols.old)) (has_failed symbols.new)) settings.now order) object.old plan) }
+    ensures refused { IfErr result (λ e. e ≢ OutOfMemory → (file : List ℕ) → IsRefusedObject F.FnMut predicate (inputs file kernel_types.now (symbols_given (R.remaining (watched_inner symbols.old)) (has_failed symbols.new)) settings.now order) object.old e) }
 {
+    numbers_are_written();
+    externs_are_written();
+    slots_are_copied();
+    reached_are_appended();
+    renamed_visits_same();
     records_name();
     names_are_carried();
-    let made = make(alloc, settings, object, predicate, probe)?;
-    let maps = plan_maps(alloc, &made.maps, settings)?;
-    Ok(plan_of(alloc, object, made.answers, maps)?)
-}
-
-/// The plan of the object that a file holds.
-fn plan_file<'a, F: FnMut(BtfFeature) -> bool, P: FnOnce() -> bool>(
-    alloc: Global,
-    settings: &Settings<'_>,
-    file: &'a [u8],
-    predicate: F,
-    probe: P,
-) -> Result<Plan<'a>, PrepareError>
-    requires predicate { F.IsAlwaysCallable predicate }
-    requires probe { P.pre probe }
-    ensures planned { IfOk result (IsPlanned F.FnMut predicate (P.post probe) (record { file = file.entry.now; settings = settings.now })) }
-    ensures refused { IfErr result (IsRefusal F.FnMut predicate (record { file = file.entry.now; settings = settings.now })) }
-{
-    let mut object = parse(alloc, file)?;
-    plan_object(alloc, settings, &mut object, predicate, probe)
+    let answers = make(
+        alloc,
+        kernel_types,
+        symbols,
+        settings,
+        order,
+        object,
+        predicate,
+        probe,
+    )?;
+    let maps = plan_maps(alloc, object.maps(), settings)?;
+    Ok(plan_of(alloc, object, answers, maps)?)
 }
 
 /// The load plan of an object file for one kernel: its maps under the numbers that `settings` give
 /// them, with the values of its global variables; its types rewritten to the features that the kernel
-/// grants; and its programs, whose slots name the maps by these numbers, each linked to the functions
-/// that it leads to.
+/// grants; and its programs, whose slots name the maps by these numbers and the kernel's functions and
+/// variables by what is known of them, each linked to the functions that it leads to.
 ///
-/// `kernel_types` are the kernel's types, `symbols` its symbols as `/proc/kallsyms` lists them,
-/// `predicate` says whether it takes a feature of types, and `probe` whether it has the newer helpers
-/// that read memory: where it lacks them, older ones are called. The passes that look at kernel
-/// types, symbols and the order don't exist yet: an object with which they have something to do is
-/// refused. A number that is set for a map that the object hasn't is ignored.
+/// `kernel_types` are the kernel's types, of which the first table has its functions and variables;
+/// `symbols` are its symbols as `/proc/kallsyms` lists them, which are read only where a variable
+/// without a type is looked for; `predicate` says whether it takes a feature of types, and `probe`
+/// whether it has the newer helpers that read memory: where it lacks them, older ones are called. The
+/// pass that resolves type relocations doesn't exist yet: an object with type relocations is refused,
+/// and the order says nothing. A number that is set for a map that the object hasn't is ignored.
 ///
 /// # Errors
 ///
 /// The earliest pass that refuses: [`PrepareError::Parse`] where the file isn't an object that can
 /// be parsed, [`PrepareError::FunctionRecordType`] where a record of a function names none,
-/// [`PrepareError::NotYet`] where a pass that doesn't exist yet has something to do,
+/// [`PrepareError::NotYet`] where the object has type relocations,
 /// [`PrepareError::MapNumberMissing`] where no number is set for a map, [`PrepareError::Parse`] where
-/// a value of a global variable can't be put into the maps, [`PrepareError::Types`] where the types
-/// can't be rewritten, and [`PrepareError::Relocation`] where a slot can't get a map's number or a
-/// program can't be linked.
+/// a value of a global variable can't be put into the maps, [`PrepareError::Ksyms`] where an extern
+/// can't be resolved, [`PrepareError::Types`] where the types can't be rewritten, and
+/// [`PrepareError::Relocation`] where a slot can't get a map's number or what is known of an extern, or
+/// a program can't be linked.
 pub fn prepare<'a, R: BufRead, F: FnMut(BtfFeature) -> bool, P: FnOnce() -> bool>(
     alloc: Global,
     object: &'a [u8],
-    _kernel_types: &[Btf<'_>],
+    kernel_types: &[Btf<'_>],
     symbols: &mut Watched<R>,
     settings: &Settings<'_>,
-    _order: Order,
+    order: Order,
     predicate: F,
     probe: P,
 ) -> Result<Plan<'a>, PrepareError>
     requires predicate { F.IsAlwaysCallable predicate }
     requires probe { P.pre probe }
-    ensures planned { IfOk result (IsPlanned F.FnMut predicate (P.post probe) (record { file = object.entry.now; settings = settings.now })) }
-    ensures refused { IfErr result (IsRefusal F.FnMut predicate (record { file = object.entry.now; settings = settings.now })) }
-    ensures unread { symbols.new ≡ symbols.old }
+    ensures planned { IfOk result (IsPlanned F.FnMut predicate (P.post probe) (inputs object.entry.now kernel_types.now (symbols_given (R.remaining (watched_inner symbols.old)) (has_failed symbols.new)) settings.now order)) }
+    ensures refused { IfErr result (λ e. e ≢ OutOfMemory → IsRefusal F.FnMut predicate (inputs object.entry.now kernel_types.now (symbols_given (R.remaining (watched_inner symbols.old)) (has_failed symbols.new)) settings.now order) e) }
 {
-    let _ = symbols;
-    plan_file(alloc, settings, object, predicate, probe)
+    let mut parsed = parse(alloc, object)?;
+    plan_object(
+        alloc,
+        kernel_types,
+        symbols,
+        settings,
+        order,
+        &mut parsed,
+        predicate,
+        probe,
+    )
 }

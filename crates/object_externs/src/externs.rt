@@ -114,6 +114,23 @@ impl<'a> Externs<'a> {
         self.ksyms
     }
 
+    /// The externs with these in place of their own, for the same section.
+    pub fn replaced(&self, by_name: BTreeMap<&'a str, ExternDesc<'a>>) -> Externs<'a>
+        ensures { result ≡ record self.now { by_name = by_bytes by_name.entry.entries } }
+    {
+        Externs {
+            by_name,
+            ksyms: self.ksyms,
+        }
+    }
+
+    /// Puts these in place of the externs, for the same section.
+    pub fn set_by_name(&mut self, by_name: BTreeMap<&'a str, ExternDesc<'a>>)
+        ensures { self.new ≡ record self.old { by_name = by_bytes by_name.entry.entries } }
+    {
+        self.by_name = by_name;
+    }
+
     /// The same externs.
     pub fn try_clone(&self) -> Result<Externs<'a>, AllocError>
         ensures { IfOk result (λ externs. externs ≡ self.now) }

@@ -1,2 +1,3 @@
 pub mod ByBytes
+pub mod Installs
 pub mod Keyed

@@ -1,2 +1,4 @@
 pub mod Content
+pub mod Geometry
+pub mod Installed
 pub mod Names

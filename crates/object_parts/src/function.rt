@@ -1,11 +1,15 @@
 //! The functions of an object.
 
-ghost use Rattle.std.specs.Prelude.{◌≡◌, IfOk};
+ghost use Rattle.std.specs.Prelude.{◌≡◌, ◌≤◌, IfOk};
+ghost use Rattle.object_parts.specs.Geometry.{end_of, is_inside, with_instructions};
 
 use btf_extension::{FuncSecInfo, LineSecInfo};
 use ebpf_items::Slots;
 use std::alloc::AllocError;
 use std::marker::Model;
+
+/// The bytes of an instruction slot.
+pub const SLOT_SIZE: u64 = 8;
 
 /// A function of an object.
 #[derive(Debug, Drop)]
@@ -47,21 +51,44 @@ impl<'a> Function<'a> {
         (self.section_index, self.address)
     }
 
-    /// The same function. Slots and records that lie in the file stay there.
-    pub fn try_clone(&self) -> Result<Function<'a>, AllocError>
-        ensures { IfOk result (λ function. function ≡ self.now) }
+    /// Where the function ends in its section, in bytes.
+    pub fn end(&self) -> u128
+        ensures value { result ≡ end_of self.now }
+        ensures least { self.now.section_offset ≤ result }
+    {
+        self.section_offset as u128 + SLOT_SIZE as u128 * self.instructions.len() as u128
+    }
+
+    /// Whether an offset of its section, in bytes, lies inside the function.
+    pub fn is_inside(&self, offset: u64) -> bool
+        ensures { result ≡ is_inside self.now offset }
+    {
+        self.section_offset as u64 <= offset && (offset as u128) < self.end()
+    }
+
+    /// The function with other slots.
+    pub fn with_instructions(&self, instructions: Slots<'a>) -> Result<Function<'a>, AllocError>
+        ensures { IfOk result (λ function. function ≡ with_instructions self.now instructions.entry) }
     {
         Ok(Function {
             address: self.address,
             name: self.name,
             section_index: self.section_index,
             section_offset: self.section_offset,
-            instructions: self.instructions.try_clone()?,
+            instructions,
             func_info: self.func_info.try_clone()?,
             line_info: self.line_info.try_clone()?,
             func_info_rec_size: self.func_info_rec_size,
             line_info_rec_size: self.line_info_rec_size,
         })
+    }
+
+    /// The same function. Slots and records that lie in the file stay there.
+    pub fn try_clone(&self) -> Result<Function<'a>, AllocError>
+        ensures { IfOk result (λ function. function ≡ self.now) }
+    {
+        let instructions = self.instructions.try_clone()?;
+        self.with_instructions(instructions)
     }
 }
 

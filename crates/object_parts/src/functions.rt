@@ -6,6 +6,7 @@ ghost use Rattle.std.specs.List.{list_any};
 ghost use Rattle.std.specs.Map.{lookup};
 ghost use Rattle.std.specs.Option.{option_copied};
 ghost use Rattle.ebpf_items.specs.Instruction.{calls_newer_helper};
+ghost use Rattle.object_parts.specs.Installed.{AreThere, Installed};
 ghost use Rattle.object_parts.specs.Content.{AreKeyed, Replaces, has_function, has_newer_helper, key_cmp, key_of, with_older_helpers};
 
 use crate::by_name::Programs;
@@ -95,6 +96,17 @@ impl<'a> Functions<'a> {
     {
         if self.insert(function).is_err() {
             unreachable!();
+        }
+    }
+
+    /// Puts functions in place of those of their keys. Takes no memory.
+    pub fn install(&mut self, list: Vec<Function<'a>>)
+        requires { AreThere self.old list.items }
+        ensures { Installed self.old self.new list.entry.items }
+    {
+        let mut rest = list;
+        while let Some(function) = rest.pop() {
+            self.replace(function);
         }
     }
 

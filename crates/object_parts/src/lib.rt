@@ -7,6 +7,6 @@ mod functions;
 mod program;
 
 pub use by_name::Programs;
-pub use function::Function;
+pub use function::{Function, SLOT_SIZE};
 pub use functions::{Code, Functions};
 pub use program::Program;

@@ -1,8 +1,13 @@
-//! Object files for the tests of several crates, and what is to be made of them.
+//! Object files for the tests of several crates, what is to be made of them, and a reader that gives a
+//! text slowly.
 #![tactic(auto)]
+
+mod slow_text;
 
 ghost use Rattle.std.specs.Prelude.{◌≡◌, fold};
 ghost use Rattle.sample_objects.specs.Changes.{with_change};
+
+pub use slow_text::SlowText;
 
 /// An object of 568 bytes, numbers least significant byte first: a section `license` (index 1, its
 /// four bytes `GPL` and a NUL at 64), a section `kprobe` (index 2, two slots at 72), a symbol table

@@ -1,50 +1,27 @@
--- Relocated functions are put in place.
-use Rattle.std.proofs.Common.{◌≡◌, ℕ, Bool, true, false, cond, List, [], ◌∷◌, ◌++◌, Option, Some, None, refl, sym, ap, ◌∙◌, subst, is_some, append_assoc}
+-- Changed functions are put in place.
+use Rattle.std.proofs.Common.{◌≡◌, ℕ, Bool, true, false, cond, List, [], ◌∷◌, Option, Some, None, refl, sym, ap, ◌∙◌, is_some}
 use Rattle.std.specs.Prelude.{◌||◌, map}
 use Rattle.std.proofs.lemmas.Cmp.{nat_cmp_total}
 use Rattle.std.specs.BTreeMap.{is_at}
-use Rattle.std.specs.List.{list_any}
-use Rattle.std.specs.Map.{keys_of, values_of}
+use Rattle.std.specs.Map.{values_of}
 use Rattle.std.specs.Option.{option_map, option_or}
 use Rattle.std.specs.Ordering.{is_eq, nat_cmp, ordering_reverse, ordering_then}
 use Rattle.std.specs.declared.cmp.Ordering.{Ordering}
 use Rattle.std.specs.declared.cmp.Ordering.TheVariants.{Less, Equal, Greater}
-use Rattle.object_parts.specs.Content.{AreKeyed, FunctionContent, Replaces, function_at, has_function, key_cmp, key_of}
-use Rattle.slot_relocation.specs.Walks.{AreThere, Installed, installed_at}
-use Rattle.slot_relocation.specs.Writes.{AreRelocated, Rule, relocated}
+use Rattle.object_parts.specs.Content.{AreKeyed, FunctionContent, function_at, key_cmp, key_of}
+use Rattle.object_parts.specs.Installed.{AreChanged, AreThere, Installed, installed_at}
 
 abbrev pub Entry : Type 0
 Entry = (ℕ × ℕ) × FunctionContent
+
+-- a change that leaves keys alone
+abbrev pub KeepsKeys : (FunctionContent → FunctionContent) → Type 0
+KeepsKeys change = (f : FunctionContent) → key_of (change f) ≡ key_of f
 
 -- whether a function has a key rests on the keys alone
 has_first : (b : Bool) (f : FunctionContent) (o : Option FunctionContent) (rest : Bool) → is_some o ≡ rest → is_some (cond b (Some f) o) ≡ (b || rest)
 has_first true f o rest h = refl
 has_first false f o rest h = h
-
-has_by_keys : (es : List Entry) (key : ℕ × ℕ) → has_function es key ≡ list_any (is_at (key_cmp key)) (keys_of es)
-has_by_keys [] key = refl
-has_by_keys (e ∷ es) key = has_first (is_at (key_cmp key) e.0) e.1 (function_at es key) (list_any (is_at (key_cmp key)) (keys_of es)) (has_by_keys es key)
-
-still_there : (old new : List Entry) (key : ℕ × ℕ) → keys_of new ≡ keys_of old → has_function old key ≡ true → has_function new key ≡ true
-still_there old new key e h = has_by_keys new key ∙ ap (list_any (is_at (key_cmp key))) e ∙ sym (has_by_keys old key) ∙ h
-
-pub none_installed : (old : List Entry) → Installed old old []
-none_installed old = record { keys = refl; at = λ key. refl }
-
-pub one_installed : (old cur new : List Entry) (g : FunctionContent) (gs : List FunctionContent) → Installed old cur gs → Replaces cur new g → Installed old new (g ∷ gs)
-one_installed old cur new g gs i r = record {
-  keys = r.keys ∙ i.keys;
-  at = λ key. r.at key ∙ ap (λ o. cond (is_at (key_cmp (key_of g)) key) (Some g) o) (i.at key);
-}
-
-there_back : (fs : List Entry) (xs : List FunctionContent) (g : FunctionContent) (done : List FunctionContent) → AreThere fs (xs ++ (g ∷ done)) → has_function fs (key_of g) ≡ true
-there_back fs [] g done h = h.0
-there_back fs (x ∷ xs) g done h = there_back fs xs g done h.1
-
-pub popped_there : (old cur : List Entry) (all rest xs : List FunctionContent) (g : FunctionContent) (done : List FunctionContent) → AreThere old all → rest ++ done ≡ all → rest ≡ xs ++ (g ∷ []) → Installed old cur done → has_function cur (key_of g) ≡ true
-popped_there old cur all rest xs g done h e r i =
-    let split : all ≡ xs ++ (g ∷ done) = sym e ∙ ap (λ l. l ++ done) r ∙ append_assoc xs (g ∷ []) done in
-    still_there old cur (key_of g) i.keys (there_back old xs g done (subst (AreThere old) split h))
 
 -- keys are compared alike from both sides
 reversed_then : (x y : Ordering) → is_eq (ordering_then (ordering_reverse x) (ordering_reverse y)) ≡ is_eq (ordering_then x y)
@@ -80,32 +57,35 @@ there_more : (e : Entry) (es : List Entry) (gs : List FunctionContent) → AreTh
 there_more e es [] h = tt
 there_more e es (g ∷ gs) h = (has_first (is_at (key_cmp (key_of g)) e.0) e.1 (function_at es (key_of g)) true h.0 ∙ or_there (is_at (key_cmp (key_of g)) e.0), there_more e es gs h.1)
 
-pub are_there : (rule : Rule) (file : List ℕ) (es : List Entry) → AreKeyed es → AreThere es (map (relocated rule file) (values_of es))
+is_there : (k : ℕ × ℕ) (e : Entry) (es : List Entry) → k ≡ e.0 → is_some (function_at (e ∷ es) k) ≡ true
+is_there k e es same = ap (λ b. is_some (cond b (Some e.1) (function_at es k))) (ap (is_at (key_cmp k)) (sym same) ∙ own_key k)
+
+pub are_there : (change : FunctionContent → FunctionContent) (es : List Entry) → KeepsKeys change → AreKeyed es → AreThere es (map change (values_of es))
 unfolding AreKeyed
-are_there rule file [] keyed = tt
-are_there rule file (e ∷ es) keyed = (
-  ap (λ b. is_some (cond b (Some e.1) (function_at es (key_of e.1)))) (ap (is_at (key_cmp (key_of e.1))) keyed.0 ∙ own_key (key_of e.1)),
-  there_more e es (map (relocated rule file) (values_of es)) (are_there rule file es keyed.1),
+are_there change [] stay keyed = tt
+are_there change (e ∷ es) stay keyed = (
+  is_there (key_of (change e.1)) e es (stay e.1 ∙ sym keyed.0),
+  there_more e es (map change (values_of es)) (are_there change es stay keyed.1),
 )
 
 -- the function of a key after all were put in place
-relocated_first : (rule : Rule) (file : List ℕ) (b : Bool) (f : FunctionContent) (rest o : Option FunctionContent) (after : Option FunctionContent) → after ≡ option_or (option_map (relocated rule file) rest) o → cond b (Some (relocated rule file f)) after ≡ option_or (option_map (relocated rule file) (cond b (Some f) rest)) o
-relocated_first rule file true f rest o after h = refl
-relocated_first rule file false f rest o after h = h
+changed_first : (change : FunctionContent → FunctionContent) (b : Bool) (f : FunctionContent) (rest o : Option FunctionContent) (after : Option FunctionContent) → after ≡ option_or (option_map change rest) o → cond b (Some (change f)) after ≡ option_or (option_map change (cond b (Some f) rest)) o
+changed_first change true f rest o after h = refl
+changed_first change false f rest o after h = h
 
-relocated_for : (rule : Rule) (file : List ℕ) (es : List Entry) (key : ℕ × ℕ) (o : Option FunctionContent) → AreKeyed es → installed_at (map (relocated rule file) (values_of es)) key o ≡ option_or (option_map (relocated rule file) (function_at es key)) o
+changed_for : (change : FunctionContent → FunctionContent) (es : List Entry) (key : ℕ × ℕ) (o : Option FunctionContent) → KeepsKeys change → AreKeyed es → installed_at (map change (values_of es)) key o ≡ option_or (option_map change (function_at es key)) o
 unfolding AreKeyed
-relocated_for rule file [] key o keyed = refl
-relocated_for rule file (e ∷ es) key o keyed =
-    ap (λ b. cond b (Some (relocated rule file e.1)) (installed_at (map (relocated rule file) (values_of es)) key o)) (both_sides (key_of e.1) key ∙ ap (is_at (key_cmp key)) (sym keyed.0))
-    ∙ relocated_first rule file (is_at (key_cmp key) e.0) e.1 (function_at es key) o (installed_at (map (relocated rule file) (values_of es)) key o) (relocated_for rule file es key o keyed.1)
+changed_for change [] key o stay keyed = refl
+changed_for change (e ∷ es) key o stay keyed =
+    ap (λ b. cond b (Some (change e.1)) (installed_at (map change (values_of es)) key o)) (ap (λ k. is_at (key_cmp k) key) (stay e.1) ∙ both_sides (key_of e.1) key ∙ ap (is_at (key_cmp key)) (sym keyed.0))
+    ∙ changed_first change (is_at (key_cmp key) e.0) e.1 (function_at es key) o (installed_at (map change (values_of es)) key o) (changed_for change es key o stay keyed.1)
 
-or_itself : (rule : Rule) (file : List ℕ) (o : Option FunctionContent) → option_or (option_map (relocated rule file) o) o ≡ option_map (relocated rule file) o
-or_itself rule file None = refl
-or_itself rule file (Some f) = refl
+or_itself : (change : FunctionContent → FunctionContent) (o : Option FunctionContent) → option_or (option_map change o) o ≡ option_map change o
+or_itself change None = refl
+or_itself change (Some f) = refl
 
-pub are_relocated : (rule : Rule) (file : List ℕ) (old new : List Entry) → AreKeyed old → Installed old new (map (relocated rule file) (values_of old)) → AreRelocated rule file old new
-are_relocated rule file old new keyed i = record {
+pub are_changed : (change : FunctionContent → FunctionContent) (old new : List Entry) → KeepsKeys change → AreKeyed old → Installed old new (map change (values_of old)) → AreChanged change old new
+are_changed change old new stay keyed i = record {
   keys = i.keys;
-  at = λ key. i.at key ∙ relocated_for rule file old key (function_at old key) keyed ∙ or_itself rule file (function_at old key);
+  at = λ key. i.at key ∙ changed_for change old key (function_at old key) stay keyed ∙ or_itself change (function_at old key);
 }

@@ -1,9 +1,12 @@
 pub mod AfterAll
+pub mod BySymbol
+pub mod Fitting
 pub mod Indexes
 pub mod Inside
 pub mod Installs
 pub mod Numbers
 pub mod Rising
+pub mod Standing
 pub mod Walk
 pub mod Writing
 pub mod Written

@@ -16,7 +16,9 @@ use Rattle.std.proofs.lemmas.Cmp.{nat_cmp_total}
 use Rattle.elf64.specs.Relocations.{Relocation, relocations_of}
 use Rattle.object_file.specs.Relocations.{relocations_by_offset, with_relocation}
 use Rattle.slot_relocation.specs.Writes.{number_of}
-use Rattle.slot_relocation.proofs.Walk.{Placed}
+
+abbrev pub Placed : Type 0
+Placed = ℕ × Relocation
 
 abbrev pub IsRising : List Placed → Type 0
 IsRising rs = IsStrictlySortedBy nat_cmp (keys_of rs)

@@ -1,5 +1,5 @@
 -- What a write does to the slots.
-use Rattle.std.proofs.Common.{arith, ◌≡◌, ℕ, suc, zero, ◌+◌, ◌⊎◌, inl, inr, true, List, [], ◌∷◌, Option, Some, None, refl, ap, ◌∙◌, length, slice_set}
+use Rattle.std.proofs.Common.{arith, ◌≡◌, ℕ, suc, zero, ◌+◌, ◌⊎◌, inl, inr, true, List, [], ◌∷◌, Option, Some, None, refl, sym, ap, ◌∙◌, subst, ◌<◌, length, slice_set}
 use Rattle.std.specs.Prelude.{slice_get, fold, is_some}
 use Rattle.std.proofs.lemmas.List.{length-set}
 use Rattle.ebpf_items.specs.declared.instruction.bpf_insn.{bpf_insn}
@@ -7,9 +7,8 @@ use Rattle.object_parts.specs.Content.{FunctionContent}
 use Rattle.slot_relocation.specs.declared.outcome.Outcome.{Outcome}
 use Rattle.slot_relocation.specs.declared.outcome.Outcome.TheVariants.{Skipped, Written, Refused}
 use Rattle.slot_relocation.specs.declared.outcome.Write.{Write}
-use Rattle.slot_relocation.specs.Writes.{Rule, after, after_one, outcome_at, written}
-use Rattle.slot_relocation.specs.Laws.{place_in}
-use Rattle.slot_relocation.proofs.Walk.{Placed}
+use Rattle.slot_relocation.specs.Writes.{RuleOf, after, after_one, outcome_at, place_of, written}
+use Rattle.slot_relocation.specs.WriteLaws.{Puts, Reaches}
 
 set_here : (xs : List bpf_insn) (i : ℕ) (x y : bpf_insn) → slice_get xs i ≡ Some x → slice_get (slice_set xs i y) i ≡ Some y
 set_here [] i x y h = absurd (cc)
@@ -41,27 +40,47 @@ stays_next slots place i first None never = set_apart slots place i first (λ e.
 stays_next slots place i first (Some next) never =
     set_apart (slice_set slots place first) (place + 1) i next (λ e. never (inr (refl, e))) ∙ set_apart slots place i first (λ e. never (inl e))
 
-abbrev pub IsAt : ℕ → Write → ℕ → Type 0
-IsAt place w i = (place ≡ i) ⊎ ((is_some w.next ≡ true) × (place + 1 ≡ i))
-
-stays_after : (slots : List bpf_insn) (place i : ℕ) (o : Outcome) → ((w : Write) → o ≡ Written w → IsAt place w i → ⊥) → slice_get (after slots place o) i ≡ slice_get slots i
+stays_after : {E : Type 0} (slots : List bpf_insn) (place i : ℕ) (o : Outcome E) → ((w : Write) → o ≡ Written w → Reaches place w i → ⊥) → slice_get (after slots place o) i ≡ slice_get slots i
 stays_after slots place i Skipped never = refl
 stays_after slots place i (Written w) never = stays_next slots place i w.first w.next (never w refl)
 stays_after slots place i (Refused cause) never = refl
 
-pub stays_at : (rule : Rule) (f : FunctionContent) (slots : List bpf_insn) (r : Placed) (i : ℕ) → ((w : Write) → outcome_at rule f slots r ≡ Written w → IsAt (place_in f r) w i → ⊥) → slice_get (after_one rule f slots r) i ≡ slice_get slots i
-stays_at rule f slots r i never = stays_after slots (place_in f r) i (outcome_at rule f slots r) never
+pub stays_at : {A E : Type 0} (rule : RuleOf A E) (f : FunctionContent) (slots : List bpf_insn) (r : ℕ × A) (i : ℕ) → ((w : Write) → outcome_at rule f slots r ≡ Written w → Reaches (place_of f r.0) w i → ⊥) → slice_get (after_one rule f slots r) i ≡ slice_get slots i
+stays_at rule f slots r i never = stays_after slots (place_of f r.0) i (outcome_at rule f slots r) never
 
 -- and so does the number of slots
 long_next : (slots : List bpf_insn) (place : ℕ) (first : bpf_insn) (next : Option bpf_insn) → length (written slots place (record { first = first; next = next })) ≡ length slots
 long_next slots place first None = length-set slots place first
 long_next slots place first (Some next) = length-set (slice_set slots place first) (place + 1) next ∙ length-set slots place first
 
-long_after : (slots : List bpf_insn) (place : ℕ) (o : Outcome) → length (after slots place o) ≡ length slots
+long_after : {E : Type 0} (slots : List bpf_insn) (place : ℕ) (o : Outcome E) → length (after slots place o) ≡ length slots
 long_after slots place Skipped = refl
 long_after slots place (Written w) = long_next slots place w.first w.next
 long_after slots place (Refused cause) = refl
 
-pub long_all : (rule : Rule) (f : FunctionContent) (slots : List bpf_insn) (rs : List Placed) → length (fold (after_one rule f) slots rs) ≡ length slots
+pub long_all : {A E : Type 0} (rule : RuleOf A E) (f : FunctionContent) (slots : List bpf_insn) (rs : List (ℕ × A)) → length (fold (after_one rule f) slots rs) ≡ length slots
 long_all rule f slots [] = refl
-long_all rule f slots (r ∷ rs) = long_all rule f (after_one rule f slots r) rs ∙ long_after slots (place_in f r) (outcome_at rule f slots r)
+long_all rule f slots (r ∷ rs) = long_all rule f (after_one rule f slots r) rs ∙ long_after slots (place_of f r.0) (outcome_at rule f slots r)
+
+-- a slot that is there gets what is put into it
+set_in : (xs : List bpf_insn) (i : ℕ) (y : bpf_insn) → i < length xs → slice_get (slice_set xs i y) i ≡ Some y
+set_in [] i y h = absurd (omega (arith, h))
+set_in (z ∷ xs) zero y h = refl
+set_in (z ∷ xs) (suc i) y h = let k : suc i < suc (length xs) = h in set_in xs i y (omega (arith, k))
+
+put_first : (slots : List bpf_insn) (place : ℕ) (first : bpf_insn) (next : Option bpf_insn) → place < length slots → slice_get (written slots place (record { first = first; next = next })) place ≡ Some first
+put_first slots place first None h = set_in slots place first h
+put_first slots place first (Some next) h =
+    set_apart (slice_set slots place first) (place + 1) place next (next_apart place) ∙ set_in slots place first h
+
+put_next : (slots : List bpf_insn) (place : ℕ) (first s : bpf_insn) (next : Option bpf_insn) → next ≡ Some s → place + 1 < length slots → slice_get (written slots place (record { first = first; next = next })) (place + 1) ≡ Some s
+put_next slots place first s None is h = absurd (cc)
+put_next slots place first s (Some next) is h =
+    let long : place + 1 < length (slice_set slots place first) = let e = length-set slots place first in omega (arith, e, h) in
+    set_in (slice_set slots place first) (place + 1) next long ∙ is
+
+pub put_here : (slots : List bpf_insn) (at : ℕ) (w : Write) (place : ℕ) (s : bpf_insn) → Puts at w place s → place < length slots → slice_get (written slots at w) place ≡ Some s
+put_here slots at w place s (inl first) h =
+    ap (slice_get (written slots at w)) (sym first.0) ∙ put_first slots at w.first w.next (subst (λ p. p < length slots) (sym first.0) h) ∙ ap Some first.1
+put_here slots at w place s (inr next) h =
+    ap (slice_get (written slots at w)) (sym next.0) ∙ put_next slots at w.first s w.next next.1 (subst (λ p. p < length slots) (sym next.0) h)

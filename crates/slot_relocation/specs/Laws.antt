@@ -1,30 +1,28 @@
 -- What holds of a function after the relocations by maps inside it.
-use Rattle.std.specs.Prelude.{◌≡◌, ◌⊎◌, ℕ, ◌+◌, ◌/◌, true, List, [], ◌∷◌, ◌++◌, length, slice_get, Some, Option, option_and_then, is_some}
+use Rattle.std.specs.Prelude.{◌≡◌, ℕ, List, [], ◌∷◌, length, slice_get, Some, Option, option_and_then}
 use Rattle.ebpf_items.specs.Instruction.{src_reg_of}
 use Rattle.ebpf_items.specs.declared.instruction.bpf_insn.{bpf_insn}
 use Rattle.elf64.specs.Relocations.{Relocation}
 use Rattle.elf64.specs.Symbols.{Symbol}
 use Rattle.object_file.specs.Symbols.{symbol_at}
 use Rattle.object_parts.specs.Content.{FunctionContent, function_at}
-use Rattle.slot_relocation.specs.declared.outcome.Outcome.TheVariants.{Written}
 use Rattle.slot_relocation.specs.declared.outcome.Write.{Write}
-use Rattle.slot_relocation.specs.Writes.{AreRelocated, after_all, distance, outcome_at, relocated, relocations_inside}
-use Rattle.slot_relocation.specs.Maps.{MapsGiven, NumberedMap, map_for, map_rule, symbol_index}
-
--- the place of the slot at which a relocation stands
-abbrev pub place_in : FunctionContent → ℕ × Relocation → ℕ
-place_in f r = distance f r.0 / 8
+use Rattle.slot_relocation.specs.BySymbol.{symbol_index}
+use Rattle.slot_relocation.specs.Maps.{MapsGiven, NumberedMap, map_for, map_rule}
+use Rattle.slot_relocation.specs.WriteLaws.{IsWritten, Makes}
+use Rattle.slot_relocation.specs.Writes.{AreRelocated, place_of, relocated, relocations_inside}
 
 -- the slots of a function after the relocations inside it
 abbrev pub slots_after : MapsGiven → FunctionContent → List bpf_insn
 slots_after g f = (relocated (map_rule g) g.file f).instructions
 
 -- a relocation inside a function writes this, by the slots after those before it
-pub record Writes (g : MapsGiven) (f : FunctionContent) (r : ℕ × Relocation) (w : Write) : Type 0 where
-  pub before : List (ℕ × Relocation)
-  pub rest : List (ℕ × Relocation)
-  pub split : before ++ (r ∷ rest) ≡ relocations_inside g.file f
-  pub outcome : outcome_at (map_rule g) f (after_all (map_rule g) f before) r ≡ Written w
+abbrev pub Writes : MapsGiven → FunctionContent → ℕ × Relocation → Write → Type 0
+Writes g f r w = Makes (map_rule g) f (relocations_inside g.file f) r w
+
+-- some relocation writes the slot at a place: its own, or the next one
+abbrev pub WritesAt : MapsGiven → FunctionContent → ℕ → Type 0
+WritesAt g f place = IsWritten (map_rule g) f (relocations_inside g.file f) place
 
 -- the map that a symbol names, and that a relocation names where it isn't skipped
 abbrev pub map_by : MapsGiven → ℕ → Symbol → Option NumberedMap
@@ -47,26 +45,11 @@ pub record CarriesNumber (g : MapsGiven) (r : Relocation) (s : bpf_insn) : Type 
 
 -- after all relocations a slot at which one of them stands and writes carries the number of its map, whatever the others write
 pub record SlotsCarryNumbers : Type 0 where
-  pub each : (g : MapsGiven) (f : FunctionContent) (r : ℕ × Relocation) (w : Write) → Writes g f r w → (s : bpf_insn) × (slice_get (slots_after g f) (place_in f r) ≡ Some s) × CarriesNumber g r.1 s
-
--- some relocation writes the slot at a place: its own, or the next one
-pub record WritesAt (g : MapsGiven) (f : FunctionContent) (place : ℕ) : Type 0 where
-  pub relocation : ℕ × Relocation
-  pub write : Write
-  pub made : Writes g f relocation write
-  pub at : (place_in f relocation ≡ place) ⊎ ((is_some write.next ≡ true) × (place_in f relocation + 1 ≡ place))
-
--- a slot that no relocation writes stays as it was
-pub record OthersStay : Type 0 where
-  pub each : (g : MapsGiven) (f : FunctionContent) (place : ℕ) → (WritesAt g f place → ⊥) → slice_get (slots_after g f) place ≡ slice_get f.instructions place
-
--- a function keeps its number of slots
-pub record LengthsStay : Type 0 where
-  pub each : (g : MapsGiven) (f : FunctionContent) → length (slots_after g f) ≡ length f.instructions
+  pub each : (g : MapsGiven) (f : FunctionContent) (r : ℕ × Relocation) (w : Write) → Writes g f r w → (s : bpf_insn) × (slice_get (slots_after g f) (place_of f r.0) ≡ Some s) × CarriesNumber g r.1 s
 
 -- what holds of a function's slots after all relocations
 pub record HasNumbers (g : MapsGiven) (old new : FunctionContent) : Type 0 where
-  pub numbers : (r : ℕ × Relocation) (w : Write) → Writes g old r w → (s : bpf_insn) × (slice_get new.instructions (place_in old r) ≡ Some s) × CarriesNumber g r.1 s
+  pub numbers : (r : ℕ × Relocation) (w : Write) → Writes g old r w → (s : bpf_insn) × (slice_get new.instructions (place_of old r.0) ≡ Some s) × CarriesNumber g r.1 s
   pub others : (place : ℕ) → (WritesAt g old place → ⊥) → slice_get new.instructions place ≡ slice_get old.instructions place
   pub as_many : length new.instructions ≡ length old.instructions
 

@@ -1,18 +1,20 @@
 -- The rule for relocations by maps and variables: a slot gets the map's number, and for a variable the next slot its place in
 -- the map's value.
-use Rattle.std.specs.Prelude.{ℕ, ◌+◌, ◌/◌, ◌%◌, ◌^◌, ◌==◌, ◌||◌, nat_lt, Bool, false, if◌then◌else◌, List, [], ◌∷◌, find, reverse, slice_get, Option, Some, None, unwrap_or, ℤ, pos, negsuc, ◌+ℤ◌}
+use Rattle.std.specs.Prelude.{ℕ, ◌^◌, ◌==◌, ◌||◌, nat_lt, Bool, false, if◌then◌else◌, List, [], ◌∷◌, find, reverse, Option, Some, None, ℤ, pos, negsuc, ◌+ℤ◌}
 use Rattle.std.specs.BTreeMap.{is_at}
 use Rattle.std.specs.List.{list_any}
 use Rattle.std.specs.Option.{option_map_or, option_or}
 use Rattle.std.specs.Ordering.{nat_cmp}
-use Rattle.ebpf_items.specs.Instruction.{is_pseudo_call, with_src_reg}
+use Rattle.ebpf_items.specs.Instruction.{is_pseudo_call}
 use Rattle.ebpf_items.specs.Maps.{MapView}
 use Rattle.ebpf_items.specs.declared.instruction.bpf_insn.{bpf_insn}
-use Rattle.elf64.specs.Relocations.{Relocation}
 use Rattle.elf64.specs.Symbols.{Symbol}
-use Rattle.object_file.specs.Symbols.{symbol_at}
+pub use Rattle.slot_relocation.specs.BySymbol.{symbol_index}
+use Rattle.slot_relocation.specs.BySymbol.{symbol_rule}
+use Rattle.slot_relocation.specs.Slots.{with_number}
 use Rattle.slot_relocation.specs.Writes.{Rule}
-use Rattle.slot_relocation.specs.declared.outcome.Fault.TheVariants.{InvalidOffset, NoMap, UnknownSymbol}
+use Rattle.slot_relocation.specs.declared.outcome.Fault.{Fault}
+use Rattle.slot_relocation.specs.declared.outcome.Fault.TheVariants.{InvalidOffset, NoMap}
 use Rattle.slot_relocation.specs.declared.outcome.Outcome.{Outcome}
 use Rattle.slot_relocation.specs.declared.outcome.Outcome.TheVariants.{Skipped, Written, Refused}
 
@@ -50,58 +52,40 @@ abbrev pub fits_32_bits : ℤ → Bool
 fits_32_bits (pos n) = nat_lt n (2 ^ 31)
 fits_32_bits (negsuc n) = nat_lt n (2 ^ 31)
 
--- a slot with a source register and an immediate
-abbrev pub with_number : bpf_insn → ℕ → ℤ → bpf_insn
-with_number slot source number = record (with_src_reg slot source) { imm = number }
-
 -- Source register 1 (BPF_PSEUDO_MAP_FD) marks a map's number.
-abbrev pub map_write : NumberedMap → bpf_insn → Outcome
+abbrev pub map_write : NumberedMap → bpf_insn → Outcome Fault
 map_write m slot = Written (record { first = with_number slot 1 m.number; next = None })
 
 -- Source register 2 (BPF_PSEUDO_MAP_VALUE) marks the number of a map with a variable, whose place in the value is the next
 -- slot's immediate.
-abbrev pub variable_write : NumberedMap → bpf_insn → bpf_insn → ℤ → Outcome
+abbrev pub variable_write : NumberedMap → bpf_insn → bpf_insn → ℤ → Outcome Fault
 variable_write m slot next place =
     if fits_32_bits place then Written (record { first = with_number slot 2 m.number; next = Some (record next { imm = place }) })
     else Refused InvalidOffset
 
 -- a variable stands where the slot's immediate leads from its symbol's address
-abbrev pub variable_outcome : NumberedMap → bpf_insn → Option bpf_insn → ℕ → Outcome
+abbrev pub variable_outcome : NumberedMap → bpf_insn → Option bpf_insn → ℕ → Outcome Fault
 variable_outcome m slot next address =
     option_map_or (λ n. variable_write m slot n (slot.imm +ℤ pos address)) next (Refused InvalidOffset)
 
 -- a map with bytes holds variables
-abbrev pub outcome_for : NumberedMap → List ℕ → bpf_insn → Option bpf_insn → ℕ → Outcome
+abbrev pub outcome_for : NumberedMap → List ℕ → bpf_insn → Option bpf_insn → ℕ → Outcome Fault
 outcome_for m [] slot next address = map_write m slot
 outcome_for m (byte ∷ bytes) slot next address = variable_outcome m slot next address
 
 -- whether the section of an index is one of those with functions
-abbrev pub has_functions : MapsGiven → ℕ → Bool
-has_functions g section = list_any (is_at (nat_cmp section)) g.text_sections
+abbrev pub has_functions : List ℕ → ℕ → Bool
+has_functions text_sections section = list_any (is_at (nat_cmp section)) text_sections
 
 -- a symbol of a section without functions is a map or a variable
-abbrev pub outcome_in : MapsGiven → bpf_insn → Option bpf_insn → ℕ → Symbol → ℕ → Outcome
-outcome_in g slot next index s section =
-    if is_pseudo_call slot || has_functions g section then Skipped
-    else option_map_or (λ m. outcome_for m m.map.contents slot next s.address) (map_for g.maps index section) (Refused (NoMap section index))
+abbrev pub outcome_in : List ℕ → List NumberedMap → bpf_insn → Option bpf_insn → ℕ → Symbol → ℕ → Outcome Fault
+outcome_in text_sections maps slot next index s section =
+    if is_pseudo_call slot || has_functions text_sections section then Skipped
+    else option_map_or (λ m. outcome_for m m.map.contents slot next s.address) (map_for maps index section) (Refused (NoMap section index))
 
-abbrev pub outcome_by : MapsGiven → bpf_insn → Option bpf_insn → ℕ → Symbol → Outcome
-outcome_by g slot next index s = option_map_or (outcome_in g slot next index s) s.section_index Skipped
+abbrev pub outcome_by : List ℕ → List NumberedMap → bpf_insn → Option bpf_insn → ℕ → Symbol → Outcome Fault
+outcome_by text_sections maps slot next index s = option_map_or (outcome_in text_sections maps slot next index s) s.section_index Skipped
 
--- the index of a relocation's symbol: 0 stands for none, and no symbol has it
-abbrev pub symbol_index : Relocation → ℕ
-symbol_index r = unwrap_or r.symbol 0
-
--- what a relocation at a slot does
-abbrev pub outcome_of : MapsGiven → bpf_insn → Option bpf_insn → Relocation → Outcome
-outcome_of g slot next r =
-    option_map_or (outcome_by g slot next (symbol_index r)) (symbol_at g.file (symbol_index r)) (Refused (UnknownSymbol (symbol_index r)))
-
--- the slot that begins at a distance in bytes from the function's beginning
-abbrev pub slot_at : List bpf_insn → ℕ → Option bpf_insn
-slot_at slots distance = if distance % 8 == 0 then slice_get slots (distance / 8) else None
-
--- the rule: a relocation stands at a whole slot
+-- the rule: a relocation stands at a whole slot and is by a known symbol
 abbrev pub map_rule : MapsGiven → Rule
-map_rule g slots distance r =
-    option_map_or (λ slot. outcome_of g slot (slice_get slots (distance / 8 + 1)) r) (slot_at slots distance) (Refused InvalidOffset)
+map_rule g slots distance r = symbol_rule g.file (outcome_by g.text_sections g.maps) slots distance r

@@ -1,19 +1,22 @@
 -- What the functions of this crate answer on their way.
-use Rattle.std.specs.Prelude.{◌≡◌, ◌⊎◌, ⊤, ℕ, ◌+◌, ◌<◌, ◌&&◌, Bool, true, false, not, List, [], ◌∷◌, length, map, slice_get, IfSome, Option, Some, None, option_and_then, if◌then◌else◌}
-use Rattle.std.specs.BTreeMap.{get, is_at}
-use Rattle.std.specs.Map.{keys_of, values_of}
+use Rattle.std.specs.Prelude.{◌≡◌, ◌⊎◌, ⊤, ℕ, ◌+◌, ◌<◌, ◌&&◌, Bool, true, false, not, List, [], ◌∷◌, length, map, slice_get, IfSome, IsSome, Option, Some, None, option_and_then, if◌then◌else◌}
+use Rattle.std.specs.BTreeMap.{get}
+use Rattle.std.specs.Map.{values_of}
 use Rattle.std.specs.Ordering.{is_lt, nat_cmp, ordering_then}
 use Rattle.std.specs.declared.alloc.Global.{Global}
 use Rattle.std.specs.declared.collections.BTreeMap.{BTreeMap}
 use Rattle.ebpf_items.specs.declared.instruction.bpf_insn.{bpf_insn}
-use Rattle.elf64.specs.Relocations.{Relocation}
-use Rattle.object_parts.specs.Content.{FunctionContent, function_at, has_function, key_cmp, key_of}
+use Rattle.object_parts.specs.Content.{FunctionContent}
+use Rattle.relocation_errors.specs.declared.error.RelocationError.{RelocationError}
+use Rattle.slot_relocation.specs.declared.outcome.Fault.{Fault}
 use Rattle.slot_relocation.specs.declared.outcome.Outcome.{Outcome}
 use Rattle.slot_relocation.specs.declared.outcome.Outcome.TheVariants.{Written, Refused}
-use Rattle.slot_relocation.specs.declared.function.Refusal.{Refusal}
-use Rattle.slot_relocation.specs.declared.function.Refusal.TheVariants as refusal
-use Rattle.slot_relocation.specs.declared.pass.FaultAt.{FaultAt}
-use Rattle.slot_relocation.specs.Writes.{Rule, HasFault, after_one, outcome_at, relocated, relocations_inside}
+use Rattle.slot_relocation.specs.declared.rule.Refusal.{Refusal}
+use Rattle.slot_relocation.specs.declared.rule.Refusal.TheVariants as refusal
+use Rattle.slot_relocation.specs.declared.driver.FaultAt.{FaultAt}
+use Rattle.slot_relocation.specs.declared.driver.Stop.{Stop}
+use Rattle.slot_relocation.specs.declared.driver.Stop.TheVariants as stop
+use Rattle.slot_relocation.specs.Writes.{IsErrorOf, RuleOf, HasFaultAmong, after_one, outcome_at, relocated_by}
 use Rattle.slot_relocation.specs.Maps.{NumberedMap, is_of_section, is_of_symbol, last_map}
 
 -- the places of maps by the numbers of their symbols or sections
@@ -29,70 +32,74 @@ pub record AreLastOf (all given : List NumberedMap) (by_symbol by_section : Plac
   pub section : (index : ℕ) → map_at all by_section index ≡ last_map (is_of_section index) given
 
 -- what is written has a place
-abbrev pub FitsIn : List bpf_insn → ℕ → Outcome → Type 0
+abbrev pub FitsIn : {E : Type 0} → List bpf_insn → ℕ → Outcome E → Type 0
 FitsIn slots place (Written w) = (place < length slots) × IfSome w.next (λ s. place + 1 < length slots)
 FitsIn slots place _ = ⊤
 
-abbrev pub is_refused : Outcome → Bool
+-- where something is written into the next slot, there is one
+abbrev pub NextFits : {E : Type 0} → Option bpf_insn → Outcome E → Type 0
+NextFits next (Written w) = IfSome w.next (λ s. IsSome next)
+NextFits next _ = ⊤
+
+abbrev pub is_refused : {E : Type 0} → Outcome E → Bool
 is_refused (Refused cause) = true
 is_refused _ = false
 
 -- whether no relocation has a fault, by the slots after those before it
-abbrev pub are_sound : Rule → FunctionContent → List bpf_insn → List (ℕ × Relocation) → Bool
+abbrev pub are_sound : {A E : Type 0} → RuleOf A E → FunctionContent → List bpf_insn → List (ℕ × A) → Bool
 are_sound rule f slots [] = true
 are_sound rule f slots (r ∷ rs) = not (is_refused (outcome_at rule f slots r)) && are_sound rule f (after_one rule f slots r) rs
 
-abbrev pub is_sound : Rule → List ℕ → FunctionContent → Bool
-is_sound rule file f = are_sound rule f f.instructions (relocations_inside file f)
+abbrev pub is_sound : {A E : Type 0} → RuleOf A E → List (ℕ × A) → FunctionContent → Bool
+is_sound rule rs f = are_sound rule f f.instructions rs
 
 -- why one relocation isn't made
-abbrev pub IsRefusalOf : ℕ → Outcome → Refusal → Type 0
+abbrev pub IsRefusalOf : {E : Type 0} → ℕ → Outcome E → Refusal E → Type 0
 IsRefusalOf offset outcome (refusal.Fault o cause) = (o ≡ offset) × (outcome ≡ Refused cause)
 IsRefusalOf offset outcome refusal.OutOfMemory = ⊤
 
 -- why a function isn't relocated
-abbrev pub IsRefusal : Rule → List ℕ → FunctionContent → Refusal → Type 0
-IsRefusal rule file f (refusal.Fault offset cause) = HasFault rule file f offset cause
-IsRefusal rule file f refusal.OutOfMemory = ⊤
+abbrev pub IsRefusal : {A E : Type 0} → RuleOf A E → List (ℕ × A) → FunctionContent → Refusal E → Type 0
+IsRefusal rule rs f (refusal.Fault offset cause) = HasFaultAmong rule f rs offset cause
+IsRefusal rule rs f refusal.OutOfMemory = ⊤
 
 -- the functions at which faults stand
-abbrev pub IsFaultAt : Rule → List ℕ → FunctionContent → FaultAt → Type 0
-IsFaultAt rule file f x = (x.function.now ≡ f.name) × (x.section_index ≡ f.section_index) × HasFault rule file f x.offset x.fault
+abbrev pub IsFaultAt : {A E : Type 0} → RuleOf A E → (FunctionContent → List (ℕ × A)) → FunctionContent → FaultAt E → Type 0
+IsFaultAt rule inside f x = (x.function.now ≡ f.name) × (x.section_index ≡ f.section_index) × HasFaultAmong rule f (inside f) x.offset x.fault
 
-abbrev pub IsFaultIn : Rule → List ℕ → List ((ℕ × ℕ) × FunctionContent) → FaultAt → Type 0
-IsFaultIn rule file [] x = ⊥
-IsFaultIn rule file (g ∷ gs) x = IsFaultAt rule file g.1 x ⊎ IsFaultIn rule file gs x
+abbrev pub IsFaultIn : {A E : Type 0} → RuleOf A E → (FunctionContent → List (ℕ × A)) → List ((ℕ × ℕ) × FunctionContent) → FaultAt E → Type 0
+IsFaultIn rule inside [] x = ⊥
+IsFaultIn rule inside (g ∷ gs) x = IsFaultAt rule inside g.1 x ⊎ IsFaultIn rule inside gs x
+
+-- why functions aren't relocated
+abbrev pub IsStop : {A E : Type 0} → RuleOf A E → (FunctionContent → List (ℕ × A)) → List ((ℕ × ℕ) × FunctionContent) → Stop E → Type 0
+IsStop rule inside functions (stop.Fault x) = IsFaultIn rule inside functions x
+IsStop rule inside functions stop.OutOfMemory = ⊤
+
+-- a function after the relocations inside it
+abbrev pub changed : {A E : Type 0} → RuleOf A E → (FunctionContent → List (ℕ × A)) → FunctionContent → FunctionContent
+changed rule inside f = relocated_by rule (inside f) f
 
 -- no relocation inside some functions has a fault
-abbrev pub AllSound : Rule → List ℕ → List ((ℕ × ℕ) × FunctionContent) → Type 0
-AllSound rule file [] = ⊤
-AllSound rule file (g ∷ gs) = (is_sound rule file g.1 ≡ true) × AllSound rule file gs
+abbrev pub AllSound : {A E : Type 0} → RuleOf A E → (FunctionContent → List (ℕ × A)) → List ((ℕ × ℕ) × FunctionContent) → Type 0
+AllSound rule inside [] = ⊤
+AllSound rule inside (g ∷ gs) = (is_sound rule (inside g.1) g.1 ≡ true) × AllSound rule inside gs
 
 -- the functions so far are relocated and have no fault, or this is a fault of them
-abbrev pub AreWalked : Rule → List ℕ → List ((ℕ × ℕ) × FunctionContent) → List FunctionContent → Option FaultAt → Type 0
-AreWalked rule file functions list None = (list ≡ map (relocated rule file) (values_of functions)) × AllSound rule file functions
-AreWalked rule file functions list (Some x) = IsFaultIn rule file functions x
+abbrev pub AreWalked : {A E : Type 0} → RuleOf A E → (FunctionContent → List (ℕ × A)) → List ((ℕ × ℕ) × FunctionContent) → List FunctionContent → Option (FaultAt E) → Type 0
+AreWalked rule inside functions list None = (list ≡ map (changed rule inside) (values_of functions)) × AllSound rule inside functions
+AreWalked rule inside functions list (Some x) = IsFaultIn rule inside functions x
 
 -- whether a fault stands before another, by section and then by offset
-abbrev pub is_before : FaultAt → FaultAt → Bool
+abbrev pub is_before : {E : Type 0} → FaultAt E → FaultAt E → Bool
 is_before a b = is_lt (ordering_then (nat_cmp a.section_index b.section_index) (nat_cmp a.offset b.offset))
 
 -- the first of two faults; of two at one offset the earlier one
-abbrev pub first_of : Option FaultAt → FaultAt → FaultAt
+abbrev pub first_of : {E : Type 0} → Option (FaultAt E) → FaultAt E → FaultAt E
 first_of None met = met
 first_of (Some earlier) met = if is_before met earlier then met else earlier
 
--- each of these has a key that a function has
-abbrev pub AreThere : List ((ℕ × ℕ) × FunctionContent) → List FunctionContent → Type 0
-AreThere functions [] = Unit {0}
-AreThere functions (g ∷ gs) = (has_function functions (key_of g) ≡ true) × AreThere functions gs
-
--- the function of a key after these were put in place
-abbrev pub installed_at : List FunctionContent → ℕ × ℕ → Option FunctionContent → Option FunctionContent
-installed_at [] key o = o
-installed_at (g ∷ gs) key o = if is_at (key_cmp (key_of g)) key then Some g else installed_at gs key o
-
--- these were put in place
-pub record Installed (old new : List ((ℕ × ℕ) × FunctionContent)) (gs : List FunctionContent) : Type 0 where
-  pub keys : keys_of new ≡ keys_of old
-  pub at : (key : ℕ × ℕ) → function_at new key ≡ installed_at gs key (function_at old key)
+-- the error, with a function's name, for what stopped the relocations that a file holds
+abbrev pub IsErrorFor : List ℕ → Stop Fault → Option (List ℕ) → RelocationError → Type 0
+IsErrorFor file (stop.Fault x) name e = (name ≡ Some x.function.now) × IsErrorOf file x.section_index x.offset x.fault e
+IsErrorFor file stop.OutOfMemory name e = ⊥

@@ -1,7 +1,34 @@
-//! What holds of functions after the relocations by maps inside them. The functions here compute
-//! nothing: their contracts are the theorems.
+//! What holds of functions after the relocations inside them. The functions here compute nothing:
+//! their contracts are the theorems.
 
-ghost use Rattle.slot_relocation.specs.Laws.{LengthsStay, NumbersAreWritten, OthersStay, SlotsCarryNumbers};
+ghost use Rattle.slot_relocation.specs.Laws.{NumbersAreWritten, SlotsCarryNumbers};
+ghost use Rattle.slot_relocation.specs.WriteLaws.{LengthsRemain, OneWrites, UnwrittenStay, WritesAreKept};
+
+use crate::outcome::Fault;
+use elf64::RelocView;
+
+/// A slot that no relocation writes stays as it was, by any rule.
+pub fn unwritten_stay<A, E>()
+    ensures { UnwrittenStay A E }
+{}
+
+/// A slot that exactly one relocation writes carries what that one writes, computed from the slots
+/// after those before it, by any rule.
+pub fn one_writes<A, E>()
+    ensures { OneWrites A E }
+{}
+
+/// A function keeps its number of slots, by any rule.
+pub fn lengths_remain<A, E>()
+    ensures { LengthsRemain A E }
+{}
+
+/// Of the relocations that the file holds, by any rule on their symbols, one that writes stands at a
+/// slot and is by a symbol, and after all of them the slot carries what it writes, whatever the others
+/// write.
+pub fn writes_are_kept()
+    ensures { WritesAreKept }
+{}
 
 /// After all relocations, a slot at which one by a map, or by a variable of it, stands and writes
 /// carries the map's number, whatever the others write.
@@ -9,22 +36,12 @@ pub fn slots_carry_numbers()
     ensures { SlotsCarryNumbers }
 {}
 
-/// A slot that no relocation writes stays as it was.
-pub fn others_stay()
-    ensures { OthersStay }
-{}
-
-/// A function keeps its number of slots.
-pub fn lengths_stay()
-    ensures { LengthsStay }
-{}
-
-/// All three hold of the functions of an object that were relocated.
+/// All of it holds of the functions of an object that were relocated by maps.
 #[tactic(auto, using(crate::proofs::Written::numbers_are_written))]
 pub fn numbers_are_written()
     ensures { NumbersAreWritten }
 {
     slots_carry_numbers();
-    others_stay();
-    lengths_stay();
+    unwritten_stay::<RelocView, Fault>();
+    lengths_remain::<RelocView, Fault>();
 }

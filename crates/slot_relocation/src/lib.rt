@@ -2,15 +2,27 @@
 //!
 //! A pass goes over the relocations inside each function in order of their offsets. By the slots as
 //! they then stand its rule says of each whether it is skipped, what it writes, or why it is refused.
+//! The driver is the same for all passes ([`relocate_functions`]), and so is what they have in common
+//! that go by the relocations that the file holds ([`relocate_by_symbol`]); here stands that for maps.
 #![tactic(auto)]
 
-mod function;
+mod by_symbol;
+mod driver;
+mod errors;
 mod laws;
 mod map_index;
 mod map_rule;
 mod outcome;
-mod pass;
+mod rule;
 
-pub use laws::{lengths_stay, numbers_are_written, others_stay, slots_carry_numbers};
+pub use by_symbol::SymbolRule;
+pub use driver::{FaultAt, Stop, relocate_functions};
+pub use errors::relocate_by_symbol;
+pub use laws::{
+    lengths_remain, numbers_are_written, one_writes, slots_carry_numbers, unwritten_stay,
+    writes_are_kept,
+};
 pub use map_index::NumberedMap;
-pub use pass::relocate_maps;
+pub use map_rule::relocate_maps;
+pub use outcome::{Fault, Outcome, Write, with_number};
+pub use rule::{Pass, Refusal, Rule, relocate_each};

@@ -1,16 +1,23 @@
-//! What relocations by maps and variables do.
+//! Relocations by maps and variables.
 
-ghost use Rattle.std.specs.Prelude.{◌≡◌, ◌/◌};
-ghost use Rattle.slot_relocation.specs.Maps.{map_rule, outcome_by, outcome_for, outcome_of, variable_outcome, with_number};
-ghost use Rattle.slot_relocation.specs.Walks.{FitsIn};
+ghost use Rattle.std.specs.Prelude.{◌≡◌, ◌≢◌, IfErr, OnErr, OnOk};
+ghost use Rattle.std.specs.Option.{option_map};
+ghost use Rattle.std.specs.String.{string_bytes};
+ghost use Rattle.relocation_errors.specs.declared.error.RelocationError.TheVariants.{OutOfMemory};
+ghost use Rattle.slot_relocation.specs.Maps.{given, map_rule, outcome_by, outcome_for, variable_outcome};
+ghost use Rattle.slot_relocation.specs.Writes.{AreRelocated, CanBeRelocated, HasErrorIn};
 
+use crate::by_symbol::SymbolRule;
+use crate::errors::relocate_by_symbol;
 use crate::map_index::{MapIndex, NumberedMap};
-use crate::outcome::{Fault, Outcome, SLOT_SIZE, Write};
-use ebpf_items::{Slots, bpf_insn};
-use elf64::{RelocView, SymbolView};
+use crate::outcome::{Fault, Outcome, Write, with_number};
+use ebpf_items::bpf_insn;
+use elf64::SymbolView;
 use object_file::ObjectFile;
+use object_parts::Functions;
+use relocation_errors::EbpfRelocationError;
+use std::alloc::Global;
 use std::collections::BTreeSet;
-use std::marker::Model;
 
 /// The source register that marks a map's number.
 const BPF_PSEUDO_MAP_FD: u8 = 1;
@@ -20,29 +27,10 @@ const BPF_PSEUDO_MAP_VALUE: u8 = 2;
 
 /// What relocations by maps and variables do to the slots of an object's functions.
 #[derive(Drop)]
-pub(crate) struct MapRule<'r, 'o, 'm> {
-    pub(crate) file: &'r ObjectFile<'o>,
+struct MapRule<'r, 'm> {
     /// The indexes of the sections with functions.
-    pub(crate) text_sections: &'r BTreeSet<usize>,
-    pub(crate) maps: MapIndex<'m>,
-}
-
-impl<'r, 'o, 'm> Model for MapRule<'r, 'o, 'm> {
-    ghost use Rattle.slot_relocation.specs.Maps.{MapsGiven};
-
-    ghost Value = { MapsGiven };
-
-    ghost view = { λ r. record { file = r.file.now; text_sections = r.text_sections.now.keys; maps = r.maps } };
-}
-
-/// A slot with a source register and a number in its immediate.
-fn with_number(slot: bpf_insn, source: u8, number: i32) -> bpf_insn
-    ensures { result ≡ with_number slot source number }
-{
-    let mut numbered = slot;
-    numbered.set_src_reg(source);
-    numbered.imm = number;
-    numbered
+    text_sections: &'r BTreeSet<usize>,
+    maps: MapIndex<'m>,
 }
 
 /// What a relocation by a variable at an address does.
@@ -51,7 +39,7 @@ fn variable_outcome(
     slot: bpf_insn,
     next: Option<bpf_insn>,
     address: u64,
-) -> Outcome
+) -> Outcome<Fault>
     ensures { result ≡ variable_outcome map.now slot next address }
 {
     let Some(mut next) = next else {
@@ -73,7 +61,7 @@ fn outcome_for(
     slot: bpf_insn,
     next: Option<bpf_insn>,
     address: u64,
-) -> Outcome
+) -> Outcome<Fault>
     ensures { result ≡ outcome_for map.now map.now.map.contents slot next address }
 {
     if map.map.data().is_empty() {
@@ -85,17 +73,16 @@ fn outcome_for(
     variable_outcome(map, slot, next, address)
 }
 
-impl<'r, 'o, 'm> MapRule<'r, 'o, 'm> {
-    /// What a relocation by the symbol of an index does at a slot.
+impl<'r, 'm> SymbolRule for MapRule<'r, 'm> {
+    ghost does = { λ r. outcome_by r.text_sections.now.keys r.maps };
+
     fn outcome_by(
         &self,
         slot: bpf_insn,
         next: Option<bpf_insn>,
         symbol_index: usize,
         symbol: &SymbolView<'_>,
-    ) -> Outcome
-        ensures { result ≡ outcome_by self.now slot next symbol_index symbol.now }
-    {
+    ) -> Outcome<Fault> {
         let Some(section_index) = symbol.section_index() else {
             return Outcome::Skipped;
         };
@@ -110,36 +97,37 @@ impl<'r, 'o, 'm> MapRule<'r, 'o, 'm> {
             }),
         }
     }
+}
 
-    /// What a relocation does at a slot.
-    fn outcome_of(&self, slot: bpf_insn, next: Option<bpf_insn>, relocation: &RelocView) -> Outcome
-        ensures { result ≡ outcome_of self.now slot next relocation.now }
-    {
-        // No symbol has the index 0.
-        let index = relocation.symbol().unwrap_or(0);
-        match self.file.symbol_at(index) {
-            Some(symbol) => self.outcome_by(slot, next, index, symbol.view()),
-            None => Outcome::Refused(Fault::UnknownSymbol { index }),
-        }
-    }
-
-    /// What a relocation does to slots as they stand, at a distance in bytes from their beginning.
-    pub(crate) fn outcome(
-        &self,
-        slots: &Slots<'_>,
-        distance: u64,
-        relocation: &RelocView,
-    ) -> Outcome
-        ensures value { result ≡ map_rule self.now slots.now distance relocation.now }
-        ensures within { FitsIn slots.now (distance / 8) result }
-    {
-        if distance % SLOT_SIZE != 0 {
-            return Outcome::Refused(Fault::InvalidOffset);
-        }
-        let place = (distance / SLOT_SIZE) as usize;
-        match slots.get(place) {
-            Some(slot) => self.outcome_of(slot, slots.get(place + 1), relocation),
-            None => Outcome::Refused(Fault::InvalidOffset),
-        }
-    }
+/// Writes the numbers of maps into the slots that relocations by maps, or by variables of them, name.
+/// Of each relocation inside a function, in order of their offsets, the symbol says which map: the last
+/// one in `maps` of the symbol, or else the last one of the symbol's section. The slot gets the map's
+/// number as its immediate and `BPF_PSEUDO_MAP_FD` as its source register; where the map has bytes it
+/// gets `BPF_PSEUDO_MAP_VALUE`, and the next slot's immediate becomes the sum of the slot's old one and
+/// the symbol's address. Skipped are calls of functions, and symbols of no section or of one of
+/// `text_sections`, the indexes of the sections with functions.
+///
+/// # Errors
+///
+/// With the function's name: `InvalidRelocationOffset` for a relocation at no whole slot, or by a
+/// variable without a next slot or with a sum past 32 signed bits, `UnknownSymbol` for a symbol that
+/// the object hasn't, `SectionNotFound` for one without a map, and `OutOfMemory`. Of several faults
+/// the first in order of section and offset is answered. The functions then stay as they are.
+pub fn relocate_maps<'f>(
+    alloc: Global,
+    file: &ObjectFile<'_>,
+    functions: &mut Functions<'f>,
+    maps: &[NumberedMap<'_>],
+    text_sections: &BTreeSet<usize>,
+) -> Result<(), EbpfRelocationError>
+    ensures relocated { OnOk result (AreRelocated (map_rule (given file.now text_sections.now.keys maps.now)) file.now functions.old functions.new) }
+    ensures sound { OnOk result (CanBeRelocated (map_rule (given file.now text_sections.now.keys maps.now)) file.now functions.old) }
+    ensures fault { IfErr result (λ e. e.error ≢ OutOfMemory → HasErrorIn (map_rule (given file.now text_sections.now.keys maps.now)) file.now functions.old (option_map string_bytes e.function) e.error) }
+    ensures unchanged { OnErr result (functions.new ≡ functions.old) }
+{
+    let rule = MapRule {
+        text_sections,
+        maps: MapIndex::new(alloc, maps)?,
+    };
+    relocate_by_symbol(alloc, file, rule, functions)
 }

@@ -1,26 +1,33 @@
 //! What a relocation does to the slots of a function.
 
-ghost use Rattle.std.specs.Prelude.{◌≡◌, ◌/◌, OnOk};
-ghost use Rattle.slot_relocation.specs.Walks.{FitsIn};
+ghost use Rattle.std.specs.Prelude.{◌≡◌, ◌<◌, ◌+◌, ◌/◌, IfSome, length, OnOk};
+ghost use Rattle.slot_relocation.specs.Slots.{with_number};
 ghost use Rattle.slot_relocation.specs.Writes.{written};
 
 use ebpf_items::{Slots, bpf_insn};
+use object_parts::SLOT_SIZE;
 use std::alloc::AllocError;
-
-/// The bytes of a slot.
-pub(crate) const SLOT_SIZE: u64 = 8;
 
 /// What a relocation writes: the slot at which it stands, and perhaps the next one.
 #[derive(Clone, Copy, Debug)]
-pub(crate) struct Write {
-    pub(crate) first: bpf_insn,
-    pub(crate) next: Option<bpf_insn>,
+pub struct Write {
+    pub first: bpf_insn,
+    pub next: Option<bpf_insn>,
 }
 
-/// Why a relocation is refused.
+/// What a relocation does, or why it is refused.
 #[derive(Clone, Copy, Debug)]
-pub(crate) enum Fault {
-    /// No whole slot stands there, there is no second one, or the value doesn't fit.
+pub enum Outcome<E> {
+    Skipped,
+    Written(Write),
+    Refused(E),
+}
+
+/// Why a relocation that the file holds is refused.
+#[derive(Clone, Copy, Debug)]
+pub enum Fault {
+    /// No whole slot stands there, there is no second one, its code isn't one that the relocation
+    /// applies to, or the value doesn't fit.
     InvalidOffset,
     /// The symbol table has no symbol of this index.
     UnknownSymbol {
@@ -31,20 +38,21 @@ pub(crate) enum Fault {
         section_index: usize,
         symbol_index: usize,
     },
-}
-
-/// What a relocation does.
-#[derive(Clone, Copy, Debug)]
-pub(crate) enum Outcome {
-    Skipped,
-    Written(Write),
-    Refused(Fault),
+    /// No extern has the name of the symbol of this index.
+    NoExtern {
+        symbol_index: usize,
+    },
+    /// The extern of the symbol of this index has no value that the slot could hold.
+    Unresolvable {
+        symbol_index: usize,
+    },
 }
 
 impl Write {
     /// Writes into slots, at a distance in bytes from their beginning.
     pub(crate) fn apply(self, slots: &mut Slots<'_>, distance: u64) -> Result<(), AllocError>
-        requires { FitsIn slots.old (distance / 8) (Outcome.Written self) }
+        requires first { distance / 8 < length slots.old }
+        requires next { IfSome self.next (λ s. distance / 8 + 1 < length slots.old) }
         ensures { OnOk result (slots.new ≡ written slots.old (distance / 8) self) }
     {
         let place = (distance / SLOT_SIZE) as usize;
@@ -54,4 +62,14 @@ impl Write {
         }
         Ok(())
     }
+}
+
+/// A slot with a source register and a number in its immediate.
+pub fn with_number(slot: bpf_insn, source: u8, number: i32) -> bpf_insn
+    ensures { result ≡ with_number slot source number }
+{
+    let mut numbered = slot;
+    numbered.set_src_reg(source);
+    numbered.imm = number;
+    numbered
 }

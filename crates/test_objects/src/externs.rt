@@ -2,7 +2,7 @@
 
 mod object;
 mod refusals;
-mod sections;
+pub(crate) mod sections;
 
 use btf_tables::{Btf, KsymsIds};
 use object::OBJECT;

@@ -2,8 +2,6 @@
 #![tactic(auto)]
 
 #[cfg(test)]
-mod extern_relocations;
-#[cfg(test)]
 mod externs;
 #[cfg(test)]
 mod helper_calls;
@@ -13,3 +11,5 @@ mod maps_of_objects;
 mod parsed_objects;
 #[cfg(test)]
 mod records_of_functions;
+#[cfg(test)]
+mod resolved_externs;

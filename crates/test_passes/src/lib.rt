@@ -1,8 +1,11 @@
-//! Tests of the passes over an object: values, numbers of maps, and linking.
+//! Tests of the passes over an object: values, numbers of maps, what is known of externs, and
+//! linking.
 #![tactic(auto)]
 
 #[cfg(test)]
 mod comparing;
+#[cfg(test)]
+mod extern_slots;
 #[cfg(test)]
 mod faults;
 #[cfg(test)]

@@ -1,2 +1,2 @@
-pub mod Ids
-pub mod Tables
+pub mod DifferingMatches
+pub mod MatchesOf

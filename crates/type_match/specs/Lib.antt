@@ -1,4 +1,4 @@
-pub mod Candidates
-pub mod KernelMatches
+pub mod Laws
+pub mod Matches
 pub mod Outcomes
-pub mod TableMatches
+pub mod RelocationOutcomes

@@ -1,17 +1,17 @@
 -- What matches come to (`bpf_core_calc_relo_insn`, tools/lib/bpf/relo_core.c).
-use Rattle.std.specs.Prelude.{◌==◌, ◌&&◌, Bool, true, List, [], ◌∷◌, Option, None, Some, Result, Ok, Err, if◌then◌else◌}
+use Rattle.std.specs.Prelude.{◌==◌, ◌&&◌, not, Bool, true, filter, List, [], ◌∷◌, Option, None, Some, Result, Ok, Err, if◌then◌else◌}
 use Rattle.std.specs.List.{list_all}
 use Rattle.ebpf_items.specs.declared.relocation_kind.RelocationKind.{RelocationKind}
 use Rattle.ebpf_items.specs.declared.relocation_kind.RelocationKind.TheVariants as kinds
 use Rattle.relocation_values.specs.FieldValues.{plain}
 use Rattle.relocation_values.specs.declared.value.RelocationValue.{RelocationValue}
+use Rattle.type_match.specs.declared.error.TypeRelocationError.{TypeRelocationError}
+use Rattle.type_match.specs.declared.error.TypeRelocationError.TheVariants.{ConflictingCandidates, MissingTargetDefinition}
+use Rattle.type_match.specs.declared.matches.Match.{Match}
 use Rattle.type_match.specs.declared.outcome.Outcome.{Outcome}
 use Rattle.type_match.specs.declared.outcome.Outcome.TheVariants.{Poison, Value}
-use Rattle.type_match.specs.declared.outcome.OutcomeError.{OutcomeError}
-use Rattle.type_match.specs.declared.outcome.OutcomeError.TheVariants.{ConflictingCandidates, MissingTargetDefinition}
-use Rattle.type_match.specs.declared.table.Match.{Match}
 
-abbrev pub no_match : RelocationKind → Result Outcome OutcomeError
+abbrev pub no_match : RelocationKind → Result Outcome TypeRelocationError
 no_match kinds.FieldExists = Ok (Value (plain 0))
 no_match kinds.TypeExists = Ok (Value (plain 0))
 no_match kinds.EnumVariantExists = Ok (Value (plain 0))
@@ -35,6 +35,11 @@ abbrev pub of_first : Match → Outcome
 of_first first = value_of_first first.value
 
 -- in the order of tables and ids: the first decides, and the others must agree with it
-abbrev pub outcome_of : RelocationKind → List Match → Result Outcome OutcomeError
+abbrev pub outcome_of : RelocationKind → List Match → Result Outcome TypeRelocationError
 outcome_of kind [] = no_match kind
 outcome_of kind (first ∷ others) = if list_all (agree first) others then Ok (of_first first) else Err ConflictingCandidates
+
+-- the matches that don't agree with the first, in order
+abbrev pub conflicts : List Match → List Match
+conflicts [] = []
+conflicts (first ∷ others) = filter (λ other. not (agree first other)) others

@@ -2,10 +2,17 @@
 //! tools/lib/bpf/relo_core.c).
 #![tactic(auto)]
 
-mod kernel;
+mod error;
+mod laws;
+mod matcher;
+mod matches;
 mod outcome;
-mod table;
+mod relocation;
 
-pub use kernel::kernel_matches;
-pub use outcome::{Outcome, OutcomeError, outcome_of};
-pub use table::{Match, add_matches};
+pub use error::TypeRelocationError;
+pub use laws::lists_of_one_table;
+pub use matcher::TypeMatcher;
+pub use matches::{Match, kernel_matches};
+pub use outcome::{Outcome, conflicts, outcome_of};
+pub use relocation::{RelocationOutcome, TypeRelocation, relocation_outcome};
+pub use type_candidates::KernelType;

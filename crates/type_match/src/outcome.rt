@@ -1,12 +1,14 @@
 //! What matches come to.
 
-ghost use Rattle.std.specs.Prelude.{◌≡◌};
+ghost use Rattle.std.specs.Prelude.{◌≡◌, filter, not, IfOk};
 ghost use Rattle.std.specs.List.{list_all};
-ghost use Rattle.type_match.specs.Outcomes.{agree, no_match, of_first, outcome_of};
+ghost use Rattle.type_match.specs.Outcomes.{agree, conflicts, no_match, of_first, outcome_of};
 
-use crate::table::Match;
+use crate::error::TypeRelocationError;
+use crate::matches::Match;
 use ebpf_items::RelocationKind;
 use relocation_values::RelocationValue;
+use std::alloc::{AllocError, Global};
 
 /// What a type relocation comes to.
 #[derive(Clone, Copy, Debug)]
@@ -17,17 +19,8 @@ pub enum Outcome {
     Poison,
 }
 
-/// Why it comes to nothing.
-#[derive(Clone, Copy, Debug, PartialEq, Eq)]
-pub enum OutcomeError {
-    /// A match has another value, or another place, than the first.
-    ConflictingCandidates,
-    /// There is no such type.
-    MissingTargetDefinition,
-}
-
 /// Without a match.
-fn no_match(kind: RelocationKind) -> Result<Outcome, OutcomeError>
+fn no_match(kind: RelocationKind) -> Result<Outcome, TypeRelocationError>
     ensures { result ≡ no_match kind }
 {
     match kind {
@@ -38,7 +31,7 @@ fn no_match(kind: RelocationKind) -> Result<Outcome, OutcomeError>
             field: None,
         })),
         RelocationKind::TypeIdTarget | RelocationKind::TypeSize => {
-            Err(OutcomeError::MissingTargetDefinition)
+            Err(TypeRelocationError::MissingTargetDefinition)
         }
         _ => Ok(Outcome::Poison),
     }
@@ -81,7 +74,7 @@ fn of_first(first: Match) -> Outcome
 /// `ConflictingCandidates` where another match has another bit offset, or another value where both
 /// can be computed; `MissingTargetDefinition` where the id or the size of a type is asked for that
 /// isn't there.
-pub fn outcome_of(kind: RelocationKind, matches: &[Match]) -> Result<Outcome, OutcomeError>
+pub fn outcome_of(kind: RelocationKind, matches: &[Match]) -> Result<Outcome, TypeRelocationError>
     ensures { result ≡ outcome_of kind matches.now }
 {
     let [first, others @ ..] = matches else {
@@ -90,6 +83,31 @@ pub fn outcome_of(kind: RelocationKind, matches: &[Match]) -> Result<Outcome, Ou
     if all_agree(*first, others) {
         Ok(of_first(*first))
     } else {
-        Err(OutcomeError::ConflictingCandidates)
+        Err(TypeRelocationError::ConflictingCandidates)
+    }
+}
+
+/// The matches that don't agree with one.
+#[tactic(auto, using(crate::proofs::DifferingMatches::conflict_on, crate::proofs::DifferingMatches::conflict_past, crate::proofs::DifferingMatches::conflict_end))]
+fn differing(alloc: Global, first: Match, others: &[Match]) -> Result<Vec<Match>, AllocError>
+    ensures { IfOk result (λ found. found.items ≡ filter (λ other. not (agree first other)) others.now) }
+{
+    let mut found = Vec::new(alloc);
+    for other in others {
+        if !agree(first, *other) {
+            found.push(*other)?;
+        }
+    }
+    Ok(found)
+}
+
+/// The matches that don't agree with the first, in order: those for which `outcome_of` answers
+/// `ConflictingCandidates`.
+pub fn conflicts(alloc: Global, matches: &[Match]) -> Result<Vec<Match>, AllocError>
+    ensures { IfOk result (λ found. found.items ≡ conflicts matches.now) }
+{
+    match matches {
+        [first, others @ ..] => differing(alloc, *first, others),
+        [] => Ok(Vec::new(alloc)),
     }
 }

@@ -3,4 +3,4 @@
 
 mod watch;
 
-pub use watch::Watched;
+pub use watch::{TakeBytes, Watched};

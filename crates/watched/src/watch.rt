@@ -1,12 +1,13 @@
 //! Readers and writers that keep whether they failed.
 
-ghost use Rattle.std.specs.Prelude.{◌≡◌, ◌+◌, ◌-◌, ◌≤◌, ◌<◌, ◌^◌, ◌↔◌, ◌⊎◌, true, false, length, IfOk, OnOk, OnErr, IsErr};
+ghost use Rattle.std.specs.Prelude.{◌≡◌, ◌+◌, ◌-◌, ◌≤◌, ◌<◌, ◌^◌, ◌↔◌, ◌⊎◌, ℕ, List, true, false, length, IfOk, IfErr, OnOk, OnErr, IsErr};
 ghost use Rattle.std.specs.Io.{ReadsAtMost, WritesAtMost};
-ghost use Rattle.std.specs.Io.KnownBytes.{Appends, ReadConsumes, WriteAppends};
+ghost use Rattle.std.specs.Io.KnownBytes.{Appends, IsAtEnd, ReadConsumes, WriteAppends};
+ghost use Rattle.watched.specs.Handing.{HandsOn, HasAtHand};
 ghost use Rattle.watched.specs.Watched.{watched_inner, has_failed, calls_left, AppendsPart, Sends};
 
 use std::io;
-use std::io::{ErrorKind, Read, Write};
+use std::io::{BufRead, ErrorKind, Read, Write};
 
 /// A reader or a writer that keeps whether it failed. It passes on at most 2^64 - 1 calls. A call
 /// that fails, that answers 0 where there was something to write, or that would be one more sets
@@ -91,6 +92,52 @@ impl<R: Read> Watched<R> {
         let count = self.inner.read(buf);
         self.has_failed = count.is_err();
         count
+    }
+}
+
+/// What takes a reader's bytes, as many at a time as the reader has at hand.
+pub trait TakeBytes<E> {
+    // the bytes are taken
+    ghost takes: { Self → List ℕ → Self → Type 0 };
+
+    // they are refused with this error
+    ghost refuses: { Self → List ℕ → E → Type 0 };
+
+    fn take_bytes(&mut self, bytes: &[u8]) -> Result<(), E>
+        ensures taken { OnOk result (takes self.old bytes.now self.new) }
+        ensures refused { IfErr result (λ e. refuses self.old bytes.now e) };
+}
+
+impl<R: BufRead> Watched<R> {
+    /// Hands the bytes that the reader has at hand to a taker, and goes past them. `false` is
+    /// answered at the end, where nothing is handed on. This counts as one call.
+    pub fn hand_bytes<E, T: TakeBytes<E>>(&mut self, taker: &mut T) -> io::Result<Result<bool, E>>
+        ensures taken { IfOk result (λ r. IfOk r (λ more. more ≡ true → HandsOn (R.remaining (watched_inner self.old)) (R.remaining (watched_inner self.new)) (λ bytes. T.takes taker.old bytes taker.new))) }
+        ensures refused { IfOk result (λ r. IfErr r (λ e. HasAtHand (R.remaining (watched_inner self.old)) (λ bytes. T.refuses taker.old bytes e))) }
+        ensures end { IfOk result (λ r. IfOk r (λ more. more ≡ false → (taker.new ≡ taker.old) × IsAtEnd (R.remaining (watched_inner self.old)))) }
+        ensures failed { IsErr result ↔ (has_failed self.new ≡ true) }
+        ensures at_once { has_failed self.old ≡ true → self.new ≡ self.old }
+        ensures counted { OnOk result ((calls_left self.new + 1 ≡ calls_left self.old) × (has_failed self.old ≡ false)) }
+        ensures passed_on { has_failed self.old ≡ false → 0 < calls_left self.old → calls_left self.new + 1 ≡ calls_left self.old }
+        ensures exhausted { calls_left self.old ≡ 0 → watched_inner self.new ≡ watched_inner self.old }
+    {
+        self.count_call()?;
+        let bytes = match self.inner.fill_buf() {
+            Ok(bytes) => bytes,
+            Err(error) => {
+                self.has_failed = true;
+                return Err(error);
+            }
+        };
+        if bytes.is_empty() {
+            return Ok(Ok(false));
+        }
+        if let Err(error) = taker.take_bytes(bytes) {
+            return Ok(Err(error));
+        }
+        let amount = bytes.len();
+        self.inner.consume(amount);
+        Ok(Ok(true))
     }
 }
 

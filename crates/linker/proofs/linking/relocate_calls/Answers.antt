@@ -8,4 +8,4 @@ install-requires c =
 
 pub returns-clause-linked : goal.returns-clause-linked
 returns-clause-linked c =
-    are_linked (unlinked c.args.file.now c.args.text_sections.now.keys c.args.functions.now) (program_keys c.args.programs.now) c.in_ok-linked.linked.items c.install.new.functions c.in_ok-linked.ensures.linked c.install.ensures
+    are_linked (unlinked c.args.file.now c.args.text_sections.now.keys c.args.functions.now) (program_keys c.args.programs.now) c.in_ok-linked.linked.items c.install.new.self c.in_ok-linked.ensures.linked c.install.ensures

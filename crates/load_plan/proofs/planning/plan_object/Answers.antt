@@ -1,12 +1,25 @@
-use Rattle.std.proofs.Common.{◌∙◌, List, ap}
+use Rattle.std.proofs.Common.{List, [], map, ◌∙◌, ap}
 use Rattle.object_plan.specs.Plans.{plan_of}
+use Rattle.plan_maps.specs.PlanMaps.{plan_map}
 use Rattle.plan_text.specs.Content.{MapContent}
-use Rattle.load_plan.proofs.Names.{planned}
+use Rattle.load_plan.proofs.Planned.{distinct_made, planned_made}
 use Rattle.load_plan.proofs.planning.plan_object.Goals as goal
 
+pub plan_of-requires-clause-answers : goal.plan_of-requires-clause-answers
+plan_of-requires-clause-answers g c = distinct_made (c.in_ok-answers.ensures.made [])
+
 pub returns-clause-planned : goal.returns-clause-planned
-returns-clause-planned g c =
-    planned c.records_name.ensures c.names_are_carried.ensures g.F.FnMut c.args.predicate (g.P.FnOnce.post c.args.probe tt) c.args.settings.now c.args.object.now
-    c.in_ok-made.made.answers.items c.in_ok-made.made.maps c.make.new.object c.in_ok-plan_of.field-0 c.in_ok-made.ensures.made
-    (c.in_ok-plan_of.ensures.value ∙ ap (λ (ms : List MapContent). plan_of c.in_ok-made.made.answers.items ms c.make.new.object) c.in_ok-maps.ensures.value)
+returns-clause-planned g c = λ file.
+    planned_made (c.in_ok-answers.ensures.made file)
+    (record {
+      written = c.numbers_are_written.ensures;
+      externs = c.externs_are_written.ensures;
+      copies = c.slots_are_copied.ensures;
+      reach = c.reached_are_appended.ensures;
+      renamed = c.renamed_visits_same.ensures;
+      records = c.records_name.ensures;
+      carry = c.names_are_carried.ensures;
+    })
+    c.in_ok-plan_of.field-0
+    (c.in_ok-plan_of.ensures.value ∙ ap (λ (ms : List MapContent). plan_of c.in_ok-answers.answers.items ms c.make.new.object) (c.in_ok-maps.ensures.value ∙ ap (map (plan_map c.args.settings.now)) c.maps.ensures))
     c.in_ok-plan_of.ensures.holds

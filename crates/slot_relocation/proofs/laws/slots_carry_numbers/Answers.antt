@@ -1,4 +1,4 @@
-use Rattle.slot_relocation.proofs.AfterAll.{slots_carry_numbers}
+use Rattle.slot_relocation.proofs.Written.{slots_carry_numbers}
 use Rattle.slot_relocation.proofs.laws.slots_carry_numbers.Goals as goal
 
 pub returns : goal.returns

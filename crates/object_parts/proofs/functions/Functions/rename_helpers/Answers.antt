@@ -1,4 +1,4 @@
-use Rattle.std.proofs.Common.{◌≡◌, map, refl, rules}
+use Rattle.std.proofs.Common.{refl, rules}
 use Rattle.std.proofs.lemmas.Map.Made.{map_same_pairs}
 use Rattle.object_parts.specs.Content.{with_older_helpers}
 use Rattle.object_parts.proofs.Keyed.{keyed_map}

@@ -1,0 +1,335 @@
+//! Random tables of types: what type relocations over them come to, and which members are found by name,
+//! beside what the plain definitions say.
+
+use crate::tally::Tally;
+use access_paths::{Subject, subject_of};
+use btf::{Btf, BtfError, BtfFeature, BtfKind, Endianness, TypeRef};
+use ebpf_items::RelocationKind;
+use member_search::{Found, find_member};
+use plain_matching::{Answer, Fault, plain_member, plain_outcome};
+use sample_tables::{Dice, Texts, random_types, section};
+use std::alloc::{AllocError, Global};
+use std::collections::BTreeMap;
+use type_match::{
+    RelocationOutcome, TypeMatcher, TypeRelocation, TypeRelocationError, relocation_outcome,
+};
+
+/// So many relocations of each object, and as many searches for members.
+const ASKED: u32 = 32;
+
+/// The least number of types of a table, and how many more there may be.
+const LEAST: u32 = 3;
+
+const MORE: u32 = 14;
+
+/// How often a type is looked for that is fit.
+const TRIES: u32 = 4;
+
+/// What type relocations come to, with faults of the object's types and of a kernel's, and what searches
+/// for members give.
+pub const SORTS: [&str; 22] = [
+    "value",
+    "field",
+    "poison",
+    "conflicting candidates",
+    "missing target definition",
+    "object: access string",
+    "object: access index",
+    "object: kind for type",
+    "object: type information",
+    "object: string offset",
+    "object: unknown type",
+    "object: unexpected type",
+    "object: type depth",
+    "kernel: nesting level",
+    "kernel: type information",
+    "kernel: string offset",
+    "kernel: unknown type",
+    "kernel: unexpected type",
+    "kernel: type depth",
+    "member found",
+    "member not found",
+    "search refused",
+];
+
+fn sort_of_fault(is_local: bool, fault: Fault) -> &'static str {
+    match (is_local, fault) {
+        (true, Fault::InvalidAccessString) => "object: access string",
+        (true, Fault::InvalidAccessIndex(_, _, _)) => "object: access index",
+        (true, Fault::InvalidKindForType(_)) => "object: kind for type",
+        (true, Fault::InvalidTypeInfo) => "object: type information",
+        (true, Fault::InvalidStringOffset(_)) => "object: string offset",
+        (true, Fault::UnknownBtfType(_)) => "object: unknown type",
+        (true, Fault::UnexpectedBtfType(_)) => "object: unexpected type",
+        (true, Fault::MaximumTypeDepthReached(_)) => "object: type depth",
+        (false, Fault::MaximumNestingLevelReached) => "kernel: nesting level",
+        (false, Fault::InvalidTypeInfo) => "kernel: type information",
+        (false, Fault::InvalidStringOffset(_)) => "kernel: string offset",
+        (false, Fault::UnknownBtfType(_)) => "kernel: unknown type",
+        (false, Fault::UnexpectedBtfType(_)) => "kernel: unexpected type",
+        (false, Fault::MaximumTypeDepthReached(_)) => "kernel: type depth",
+        (true, _) => "object: others",
+        (false, _) => "kernel: others",
+    }
+}
+
+fn sort_of(answer: Answer) -> &'static str {
+    match answer {
+        Answer::Value(_) => "value",
+        Answer::Field(_, _, _) => "field",
+        Answer::Poison => "poison",
+        Answer::ConflictingCandidates => "conflicting candidates",
+        Answer::MissingTargetDefinition => "missing target definition",
+        Answer::Local(fault) => sort_of_fault(true, fault),
+        Answer::Kernel(_, _, fault) => sort_of_fault(false, fault),
+        Answer::OutOfMemory => "out of memory",
+    }
+}
+
+/// What an outcome says beside the answer.
+fn details(
+    outcome: &Result<RelocationOutcome, TypeRelocationError>,
+) -> Option<(Option<(u32, u32)>, Option<usize>)> {
+    match outcome {
+        Ok(found) => Some((
+            found.local_field.map(|field| (field.type_id, field.size)),
+            found.table,
+        )),
+        Err(_error) => None,
+    }
+}
+
+/// Compares what relocations come to with what the definition says, one by one and all at once.
+fn compare_outcomes<'m>(
+    local: &'m Btf<'m>,
+    relocations: &[TypeRelocation],
+    kernel: &'m [Btf<'m>],
+    tally: &mut Tally,
+) -> Result<(), AllocError> {
+    let matcher = TypeMatcher::collect(local, relocations, kernel)?;
+    for relocation in relocations {
+        let plain = plain_outcome(local, *relocation, kernel);
+        let answer = Answer::of(&plain);
+        let found = relocation_outcome(local, *relocation, kernel);
+        let collected = matcher.relocation_outcome(*relocation);
+        let is_found = answer == Answer::of(&found) && details(&plain) == details(&found);
+        let is_collected = answer == Answer::of(&collected)
+            && details(&plain) == details(&collected);
+        tally.count(sort_of(answer), is_found && is_collected)?;
+    }
+    Ok(())
+}
+
+/// A member that was found, and where.
+fn member_of(found: Option<Found>) -> Option<(u32, u64, u32, Option<u32>, usize)> {
+    let found = found?;
+    Some((
+        found.place.type_id,
+        found.place.index,
+        found.type_id,
+        found.bits,
+        found.parts,
+    ))
+}
+
+/// Compares which member is found with what the definition says.
+fn compare_members<'t>(
+    local: &Btf<'t>,
+    type_id: u32,
+    name: &str,
+    kernel: &Btf<'t>,
+    root: u32,
+    tally: &mut Tally,
+) -> Result<(), AllocError> {
+    let found = find_member(local, type_id, name, kernel, root, Some(8));
+    let plain = plain_member(local, type_id, name, kernel, root, Some(8));
+    match (found, plain) {
+        (Ok(Some(one)), Ok(other)) => tally.count(
+            "member found",
+            member_of(Some(one)) == member_of(other),
+        ),
+        (Ok(None), Ok(other)) => tally.count("member not found", other.is_none()),
+        (Err(one), Err(other)) => tally.count(
+            "search refused",
+            Fault::of(&one) == Fault::of(&other),
+        ),
+        (_, _) => tally.count("search refused", false),
+    }
+}
+
+/// Kinds of type relocations.
+const KINDS: [RelocationKind; 12] = [
+    RelocationKind::FieldByteOffset,
+    RelocationKind::FieldByteSize,
+    RelocationKind::FieldExists,
+    RelocationKind::FieldSigned,
+    RelocationKind::FieldLShift64,
+    RelocationKind::FieldRShift64,
+    RelocationKind::TypeIdLocal,
+    RelocationKind::TypeIdTarget,
+    RelocationKind::TypeExists,
+    RelocationKind::TypeSize,
+    RelocationKind::EnumVariantExists,
+    RelocationKind::EnumVariantValue,
+];
+
+/// Whether a record is such as relocations of a subject mostly are about.
+fn is_fit(t: &TypeRef<'_>, subject: Subject) -> bool {
+    match subject {
+        Subject::Field => matches!(t.kind(), BtfKind::Struct | BtfKind::Union),
+        Subject::Variant => matches!(t.kind(), BtfKind::Enum | BtfKind::Enum64),
+        Subject::Type => true,
+    }
+}
+
+/// The id of a type, mostly one that is fit for a subject.
+fn random_type(dice: &mut Dice, table: &Btf<'_>, subject: Subject) -> u32 {
+    let bound = u32::try_from(table.len()).unwrap_or(0).saturating_add(2);
+    for _ in 0..TRIES {
+        let type_id = dice.number(bound);
+        let is_fit = table.type_by_id(type_id).is_ok_and(|t| is_fit(&t, subject));
+        if is_fit {
+            return type_id;
+        }
+    }
+    dice.number(bound)
+}
+
+/// A random relocation, mostly with an access string of the kind.
+fn random_relocation(dice: &mut Dice, texts: &Texts, local: &Btf<'_>) -> TypeRelocation {
+    let kind = KINDS[dice.number(12) as usize % 12];
+    let subject = subject_of(kind);
+    let accesses = match (dice.number(12), subject) {
+        (0, _) => texts.any.as_slice(),
+        (_, Subject::Field) => texts.fields.as_slice(),
+        (_, Subject::Type) => texts.whole.as_slice(),
+        (_, Subject::Variant) => texts.variants.as_slice(),
+    };
+    TypeRelocation {
+        kind,
+        type_id: random_type(dice, local, subject),
+        access_str_off: dice.any_of(accesses),
+    }
+}
+
+/// Asks for a random member of a random type.
+fn search_random<'t>(
+    dice: &mut Dice,
+    texts: &Texts,
+    local: &Btf<'t>,
+    kernel: &Btf<'t>,
+    tally: &mut Tally,
+) -> Result<(), AllocError> {
+    let root = random_type(dice, kernel, Subject::Field);
+    let type_id = random_type(dice, local, Subject::Type);
+    let mut name_offset = dice.any_of(texts.names.as_slice());
+    if dice.number(2) == 0 {
+        let index = dice.number(4) as usize;
+        let member = kernel.type_by_id(root).ok().and_then(|t| t.member(index));
+        name_offset = member.map_or(name_offset, |member| member.name_offset);
+    }
+    let name = kernel.string_at(name_offset).unwrap_or("a");
+    compare_members(local, type_id, name, kernel, root, tally)
+}
+
+/// Asks for members and for what relocations come to, over the tables of an object and of kernels.
+fn compare_tables<'m>(
+    dice: &mut Dice,
+    texts: &Texts,
+    local: &'m Btf<'m>,
+    kernel: &'m [Btf<'m>],
+    tally: &mut Tally,
+) -> Result<(), AllocError> {
+    let mut relocations = Vec::new(local.allocator());
+    for _ in 0..ASKED {
+        relocations.push(random_relocation(dice, texts, local))?;
+        if let Some(first) = kernel.first() {
+            search_random(dice, texts, local, first, tally)?;
+        }
+    }
+    compare_outcomes(local, relocations.as_slice(), kernel, tally)
+}
+
+/// Makes unions of the 64-bit enums of a table, where that can be done.
+fn deny_enum64(alloc: Global, table: &mut Btf<'_>) {
+    let sizes: BTreeMap<&str, u64> = BTreeMap::new(alloc);
+    let offsets: BTreeMap<&str, u64> = BTreeMap::new(alloc);
+    let _answers = table.fixup_and_sanitize(&sizes, &offsets, None, |feature| {
+        feature != BtfFeature::Enum64
+    });
+}
+
+/// The section of a random table.
+fn random_section(
+    alloc: Global,
+    texts: &Texts,
+    shape: u64,
+    numbers: u64,
+) -> Result<Vec<u8>, AllocError> {
+    let mut dice = Dice::new(shape, numbers);
+    let count = LEAST.wrapping_add(dice.choice(MORE));
+    let words = random_types(alloc, &mut dice, texts, count)?;
+    section(
+        alloc,
+        Endianness::Little,
+        words.as_slice(),
+        texts.strings.as_slice(),
+        &[],
+    )
+}
+
+/// The sections of up to three tables of a kernel, of which most are much like the object's, and then of an object.
+fn random_sections(alloc: Global, texts: &Texts, round: u64) -> Result<Vec<Vec<u8>>, AllocError> {
+    let mut sections = Vec::new(alloc);
+    let others = round % 4;
+    for number in 0..others {
+        let shape = if round % 7 == number {
+            u64::MAX.wrapping_sub(round)
+        } else {
+            round
+        };
+        let numbers = u64::wrapping_add(round.wrapping_mul(4), number);
+        sections.push(random_section(alloc, texts, shape, u64::MAX.wrapping_sub(numbers))?)?;
+    }
+    sections.push(random_section(alloc, texts, round, round)?)?;
+    Ok(sections)
+}
+
+/// One object and one kernel.
+fn compare_round(
+    alloc: Global,
+    texts: &Texts,
+    round: u64,
+    tally: &mut Tally,
+) -> Result<(), BtfError> {
+    let sections = random_sections(alloc, texts, round)?;
+    let mut tables = Vec::new(alloc);
+    for section in sections.iter() {
+        tables.push(Btf::parse(alloc, section.as_slice(), Endianness::Little)?)?;
+    }
+    let Some(mut local) = tables.pop() else {
+        return Ok(());
+    };
+    if round % 3 == 0 {
+        deny_enum64(alloc, &mut local);
+    }
+    let mut dice = Dice::new(round, round);
+    compare_tables(&mut dice, texts, &local, tables.as_slice(), tally)?;
+    drop(local);
+    drop(tables);
+    Ok(())
+}
+
+/// Compares over so many random objects and kernels.
+///
+/// # Errors
+///
+/// Those of parsing the tables, which are made such that there is none, and `OutOfMemory`.
+pub fn compare_rounds(alloc: Global, rounds: u64) -> Result<Tally, BtfError> {
+    let texts = Texts::new(alloc)?;
+    let mut tally = Tally::new(alloc);
+    for round in 0..rounds {
+        compare_round(alloc, &texts, round, &mut tally)?;
+    }
+    Ok(tally)
+}

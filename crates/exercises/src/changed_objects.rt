@@ -1,0 +1,72 @@
+//! Each front of an object, and the object with each byte set to 0 and to 255 in turn: how many answers
+//! are as they must be.
+
+use crate::error::ExerciseError;
+use ebpf_object::{Object, ParseError};
+use elf64::ElfError;
+use std::alloc::Global;
+use std::env::Args;
+use std::fs;
+
+/// The size of an ELF64 header.
+const HEADER: usize = 64;
+
+/// Whether a proper front of an object whose section headers stand at the end is refused as it must
+/// be: for its header, or for the section headers.
+fn is_front_refused(alloc: Global, front: &[u8]) -> bool {
+    match Object::parse(alloc, front) {
+        Err(ParseError::ElfError(ElfError::NotElf)) => front.len() < HEADER,
+        Err(ParseError::ElfError(ElfError::BadSectionTable)) => front.len() >= HEADER,
+        _ => false,
+    }
+}
+
+/// How many of the proper fronts are refused as they must be.
+fn count_fronts(alloc: Global, object: &[u8]) -> usize {
+    let mut count: usize = 0;
+    for len in 0..object.len() {
+        if is_front_refused(alloc, &object[..len]) {
+            count = count.saturating_add(1);
+        }
+    }
+    count
+}
+
+/// Whether the answer to an object is one: without a change it is parsed, and memory is there.
+fn is_answered(alloc: Global, object: &[u8], is_changed: bool) -> bool {
+    match Object::parse(alloc, object) {
+        Ok(_object) => true,
+        Err(ParseError::OutOfMemory) => false,
+        Err(_error) => is_changed,
+    }
+}
+
+/// How many of the objects with one byte of this value are answered.
+fn count_changes(alloc: Global, object: &mut Vec<u8>, byte: u8) -> usize {
+    let mut count: usize = 0;
+    for at in 0..object.len() {
+        let before = object[at];
+        object[at] = byte;
+        if is_answered(alloc, object.as_slice(), before != byte) {
+            count = count.saturating_add(1);
+        }
+        object[at] = before;
+    }
+    count
+}
+
+/// Counts the answers over the file that the words name, and prints the counts.
+pub(crate) fn run(rt: &HostRuntime, words: &mut Args) -> Result<(), ExerciseError> {
+    let Some(name) = words.next() else {
+        return Err(ExerciseError::Usage);
+    };
+    let mut object = fs::read(rt, name.as_str())?;
+    let len = object.len();
+    let fronts = count_fronts(rt.alloc(), object.as_slice());
+    println!(rt; "{fronts} of {len} fronts are refused by their length")?;
+    for byte in [0, 0xff] {
+        let answered = count_changes(rt.alloc(), &mut object, byte);
+        println!(rt; "{answered} of {len} objects with a byte {byte} are parsed or refused")?;
+    }
+    Ok(())
+}

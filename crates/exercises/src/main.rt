@@ -1,0 +1,71 @@
+//! Exercises of the libraries, for tests and measurements. The first word says which:
+//!
+//! - `memory-calls`: the calls that take memory;
+//! - `changed-bytes OBJECT`: each front of an object, and the object with each byte changed;
+//! - `linkers OBJECT..`: linked programs beside those of the plain linker;
+//! - `matchings COUNT [counts]`: type relocations over random tables of types, beside the plain definitions;
+//! - `refused-objects COUNT TYPES SYMBOLS OBJECT..`, `refused-structs COUNT`, `refused-tables COUNT`: steps while a
+//!   request for memory is refused, so many requests before them;
+//! - `measure-types FILE [STRUCT..]`, `measure-symbols FILE [NAME..]`, `measure-object OBJECT [COUNT]`: how long
+//!   calls take.
+#![tactic(auto)]
+
+mod changed_objects;
+mod error;
+mod linked_objects;
+mod matchings;
+mod measured_maps;
+mod measured_objects;
+mod measured_symbols;
+mod measured_types;
+mod memory_calls;
+mod object_steps;
+mod relocated_objects;
+mod requests;
+mod rewritten_tables;
+mod thousand_structs;
+mod times;
+
+use error::ExerciseError;
+use std::env;
+use std::env::Args;
+use std::process::ExitCode;
+
+/// The status of an exercise that prints what it finds; its error is printed.
+fn status_of(rt: &HostRuntime, answer: Result<(), ExerciseError>) -> ExitCode {
+    match answer {
+        Ok(()) => ExitCode::SUCCESS,
+        Err(error) => {
+            let _ = eprintln!(rt; "exercises: {error}");
+            ExitCode::from(error.status())
+        }
+    }
+}
+
+/// Does an exercise.
+fn run(rt: &HostRuntime, exercise: &str, words: &mut Args) -> ExitCode {
+    match exercise {
+        "memory-calls" => memory_calls::run(rt),
+        "changed-bytes" => status_of(rt, changed_objects::run(rt, words)),
+        "linkers" => status_of(rt, linked_objects::run(rt, words)),
+        "matchings" => status_of(rt, matchings::run(rt, words)),
+        "refused-objects" => status_of(rt, relocated_objects::run(rt, words)),
+        "refused-structs" => thousand_structs::run(rt, words),
+        "refused-tables" => rewritten_tables::run(rt, words),
+        "measure-types" => status_of(rt, measured_types::run(rt, words)),
+        "measure-symbols" => status_of(rt, measured_symbols::run(rt, words)),
+        "measure-object" => status_of(rt, measured_objects::run(rt, words)),
+        _ => status_of(rt, Err(ExerciseError::Usage)),
+    }
+}
+
+fn main(rt: HostRuntime) -> ExitCode {
+    let Ok(mut words) = env::args(&rt) else {
+        return ExitCode::from(3);
+    };
+    let _program = words.next();
+    match words.next() {
+        Some(exercise) => run(&rt, exercise.as_str(), &mut words),
+        None => status_of(&rt, Err(ExerciseError::Usage)),
+    }
+}

@@ -1,0 +1,91 @@
+//! How long it takes to parse an object, to link to each of its programs the functions that it leads to,
+//! and to put values into its maps and their numbers into its slots.
+
+use crate::error::ExerciseError;
+use crate::measured_maps::{measure_numbers, measure_values};
+use crate::times::{micros, print_times};
+use ebpf_object::Object;
+use std::env::Args;
+use std::fs;
+use std::time::Instant;
+
+/// So many times everything but the first parse is measured.
+pub(crate) const ROUNDS: u32 = 5;
+
+/// The slots of all functions of an object.
+fn slot_count(object: &Object<'_>) -> u64 {
+    let mut count: u64 = 0;
+    for (_key, function) in object.functions().iter() {
+        count = count.saturating_add(function.instructions.len() as u64);
+    }
+    count
+}
+
+/// Parses the object for the first time in this process, and prints how much it holds.
+fn measure_first(rt: &HostRuntime, bytes: &[u8]) -> Result<(), ExerciseError> {
+    let start = Instant::now(rt)?;
+    let object = Object::parse(rt.alloc(), bytes)?;
+    let time = micros(rt, start)?;
+    println!(rt;
+        "{} programs, {} functions of {} slots, {} maps in {} bytes, first parsed in {time} us",
+        object.programs().len(),
+        object.functions().len(),
+        slot_count(&object),
+        object.maps().len(),
+        bytes.len()
+    )?;
+    Ok(())
+}
+
+/// Parses the object again and again.
+fn measure_parsing(rt: &HostRuntime, bytes: &[u8]) -> Result<(), ExerciseError> {
+    let mut times = Vec::with_capacity(rt.alloc(), ROUNDS as usize)?;
+    for _ in 0..ROUNDS {
+        let start = Instant::now(rt)?;
+        let object = Object::parse(rt.alloc(), bytes)?;
+        times.push(micros(rt, start)?)?;
+        drop(object);
+    }
+    print_times(rt, "parsed again", times)
+}
+
+/// Links the programs of objects that are parsed anew.
+fn measure_linking(rt: &HostRuntime, bytes: &[u8]) -> Result<(), ExerciseError> {
+    let mut slots = 0;
+    let mut times = Vec::with_capacity(rt.alloc(), ROUNDS as usize)?;
+    for _ in 0..ROUNDS {
+        let mut object = Object::parse(rt.alloc(), bytes)?;
+        let start = Instant::now(rt)?;
+        let sections = object.text_sections()?;
+        object.relocate_calls(&sections)?;
+        times.push(micros(rt, start)?)?;
+        slots = slot_count(&object);
+        drop(object);
+        drop(sections);
+    }
+    println!(rt; "{slots} slots where linked")?;
+    print_times(rt, "linked", times)
+}
+
+/// How many variables get values: as many as a word says, and all where there is none.
+fn most_variables(word: Option<String>) -> Result<usize, ExerciseError> {
+    match word {
+        Some(word) => word.parse().map_err(|_| ExerciseError::Usage),
+        None => Ok(usize::MAX),
+    }
+}
+
+/// Measures the object of the file that the first word names; the next one says how many variables get
+/// values.
+pub(crate) fn run(rt: &HostRuntime, words: &mut Args) -> Result<(), ExerciseError> {
+    let Some(file) = words.next() else {
+        return Err(ExerciseError::Usage);
+    };
+    let most = most_variables(words.next())?;
+    let bytes = fs::read(rt, file.as_str())?;
+    measure_first(rt, bytes.as_slice())?;
+    measure_parsing(rt, bytes.as_slice())?;
+    measure_linking(rt, bytes.as_slice())?;
+    measure_numbers(rt, bytes.as_slice())?;
+    measure_values(rt, bytes.as_slice(), most)
+}

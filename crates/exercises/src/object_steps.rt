@@ -1,0 +1,145 @@
+//! Steps on an object, and what becomes of it.
+
+use crate::error::ExerciseError;
+use btf::Btf;
+use ebpf_object::{KsymsError, Maps, NumberedMap, Object, ParseError, Watched};
+use relocation_errors::RelocationError;
+use settings::Settings;
+use std::alloc::{AllocError, Global};
+
+/// A kernel's types and the text of its symbols.
+#[derive(Drop)]
+pub(crate) struct Kernel<'k> {
+    pub types: Vec<Btf<'k>>,
+    pub symbols: &'k [u8],
+}
+
+/// What a step answers.
+#[derive(Clone, Copy)]
+enum Answer {
+    Made,
+    Refused,
+    OutOfMemory,
+}
+
+/// Appends what is known of an object's externs.
+fn push_externs(object: &Object<'_>, bytes: &mut Vec<u8>) -> Result<(), AllocError> {
+    for (_name, known) in object.externs().iter() {
+        bytes.push(u8::from(known.is_resolved))?;
+        bytes.extend_from_slice(&known.kernel_btf_id.unwrap_or(0).to_le_bytes())?;
+        bytes.extend_from_slice(&known.ksym_addr.unwrap_or(u64::MAX).to_le_bytes())?;
+    }
+    Ok(())
+}
+
+/// The bytes of an object's maps and of its functions' slots, and what is known of its externs.
+fn bytes_of(alloc: Global, object: &Object<'_>) -> Result<Vec<u8>, AllocError> {
+    let mut bytes = Vec::new(alloc);
+    for (_name, map) in object.maps().iter() {
+        bytes.extend_from_slice(map.data())?;
+    }
+    for (_key, function) in object.functions().iter() {
+        for slot in function.instructions.iter() {
+            bytes.extend_from_slice(&slot.to_bytes())?;
+        }
+    }
+    push_externs(object, &mut bytes)?;
+    Ok(bytes)
+}
+
+/// What became of an object by a step for which memory may have been refused.
+fn outcome(
+    alloc: Global,
+    object: &Object<'_>,
+    before: &[u8],
+    answer: Answer,
+) -> Result<&'static str, AllocError> {
+    let bytes = bytes_of(alloc, object)?;
+    Ok(match (answer, bytes.as_slice() == before) {
+        (Answer::Made, false) => "done",
+        (Answer::Made, true) => "nothing to do",
+        (Answer::Refused, true) => "refused",
+        (Answer::OutOfMemory, true) => "as before",
+        (Answer::Refused | Answer::OutOfMemory, false) => "changed",
+    })
+}
+
+/// Puts the value of the global variable `limit` into an object's maps, if it has this variable.
+pub(crate) fn put_value(
+    alloc: Global,
+    object: &mut Object<'_>,
+) -> Result<&'static str, ExerciseError> {
+    let mut settings = Settings::new(alloc);
+    settings.set_global("limit", &[10, 0, 0, 0], false)?;
+    let before = bytes_of(alloc, object)?;
+    let answer = match object.patch_map_data(&settings) {
+        Ok(()) => Answer::Made,
+        Err(ParseError::OutOfMemory) => Answer::OutOfMemory,
+        Err(error) => return Err(ExerciseError::Parse(error)),
+    };
+    Ok(outcome(alloc, object, &before, answer)?)
+}
+
+/// The maps, each with the number 7.
+fn numbered<'m>(alloc: Global, maps: &'m Maps<'_>) -> Result<Vec<NumberedMap<'m>>, AllocError> {
+    let mut list = Vec::with_capacity(alloc, maps.len())?;
+    for (name, map) in maps.iter() {
+        list.push(NumberedMap {
+            name,
+            number: 7,
+            map,
+        })?;
+    }
+    Ok(list)
+}
+
+/// Writes the numbers of an object's maps into its slots.
+pub(crate) fn write_numbers(
+    alloc: Global,
+    object: &mut Object<'_>,
+) -> Result<&'static str, ExerciseError> {
+    let maps = object.maps().try_clone()?;
+    let numbered = numbered(alloc, &maps)?;
+    let text_sections = object.text_sections()?;
+    let before = bytes_of(alloc, object)?;
+    let answer = match object.relocate_maps(&numbered, &text_sections) {
+        Ok(()) => Answer::Made,
+        Err(error) => match error.error() {
+            RelocationError::OutOfMemory => Answer::OutOfMemory,
+            _ => return Err(ExerciseError::Relocation(error)),
+        },
+    };
+    Ok(outcome(alloc, object, &before, answer)?)
+}
+
+/// Resolves an object's externs.
+pub(crate) fn resolve_externs(
+    alloc: Global,
+    object: &mut Object<'_>,
+    kernel: &Kernel<'_>,
+) -> Result<&'static str, ExerciseError> {
+    let before = bytes_of(alloc, object)?;
+    let mut symbols = Watched::new(kernel.symbols);
+    let answer = match object.resolve_externs(&kernel.types, &mut symbols) {
+        Ok(()) => Answer::Made,
+        Err(KsymsError::OutOfMemory) => Answer::OutOfMemory,
+        Err(_) => Answer::Refused,
+    };
+    Ok(outcome(alloc, object, &before, answer)?)
+}
+
+/// Writes what is known of an object's externs into its slots.
+pub(crate) fn write_externs(
+    alloc: Global,
+    object: &mut Object<'_>,
+) -> Result<&'static str, ExerciseError> {
+    let before = bytes_of(alloc, object)?;
+    let answer = match object.relocate_externs() {
+        Ok(()) => Answer::Made,
+        Err(error) => match error.error() {
+            RelocationError::OutOfMemory => Answer::OutOfMemory,
+            _ => Answer::Refused,
+        },
+    };
+    Ok(outcome(alloc, object, &before, answer)?)
+}

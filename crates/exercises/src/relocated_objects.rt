@@ -1,0 +1,94 @@
+//! Steps on objects while memory is refused. It makes as many requests for memory as the first word says, reads a kernel's
+//! types and symbols from the files that the next two name, parses the objects of the files that the others name, prints how
+//! much each holds, puts a value and numbers into it, resolves its externs and writes what is known of them, prints what became of
+//! it by each step, and makes two more requests. Where memory is refused to one of these steps, the object must be as it was;
+//! where it is refused elsewhere, status 3 says so.
+
+use crate::error::ExerciseError;
+use crate::object_steps::{Kernel, put_value, resolve_externs, write_externs, write_numbers};
+use crate::requests::requests;
+use btf::{Btf, Endianness};
+use ebpf_object::Object;
+use std::env::Args;
+use std::fs;
+
+/// Prints how much an object holds.
+fn print_object(rt: &HostRuntime, object: &Object<'_>) -> Result<(), ExerciseError> {
+    println!(rt;
+        "{} programs, {} functions, {} maps, {} externs",
+        object.programs().len(),
+        object.functions().len(),
+        object.maps().len(),
+        object.externs().len()
+    )?;
+    Ok(())
+}
+
+/// Makes the steps on an object, and prints what becomes of it by each.
+fn relocate(
+    rt: &HostRuntime,
+    object: &mut Object<'_>,
+    kernel: &Kernel<'_>,
+) -> Result<(), ExerciseError> {
+    let value = put_value(rt.alloc(), object)?;
+    println!(rt; "value: {value}")?;
+    let numbers = write_numbers(rt.alloc(), object)?;
+    println!(rt; "numbers: {numbers}")?;
+    let externs = resolve_externs(rt.alloc(), object, kernel)?;
+    println!(rt; "externs: {externs}")?;
+    let slots = write_externs(rt.alloc(), object)?;
+    println!(rt; "slots of externs: {slots}")?;
+    Ok(())
+}
+
+/// Parses the object of a file, and makes the steps on it.
+fn relocate_file(rt: &HostRuntime, name: &str, kernel: &Kernel<'_>) -> Result<(), ExerciseError> {
+    let bytes = fs::read(rt, name)?;
+    let mut object = Object::parse(rt.alloc(), bytes.as_slice())?;
+    print_object(rt, &object)?;
+    relocate(rt, &mut object, kernel)
+}
+
+/// Parses the objects that the words name, and makes the steps on them, for a kernel with these types and symbols.
+fn relocate_files(
+    rt: &HostRuntime,
+    words: &mut Args,
+    types: &[u8],
+    symbols: &[u8],
+) -> Result<(), ExerciseError> {
+    let mut kernel = Kernel {
+        types: Vec::new(rt.alloc()),
+        symbols,
+    };
+    kernel
+        .types
+        .push(Btf::parse(rt.alloc(), types, Endianness::Little)?)?;
+    for name in words {
+        relocate_file(rt, name.as_str(), &kernel)?;
+    }
+    Ok(())
+}
+
+/// The bytes of the file that the next word names.
+fn read_next(rt: &HostRuntime, words: &mut Args) -> Result<Vec<u8>, ExerciseError> {
+    match words.next() {
+        Some(name) => Ok(fs::read(rt, name.as_str())?),
+        None => Err(ExerciseError::Usage),
+    }
+}
+
+/// Parses the objects that the words name, and makes the steps on them.
+pub(crate) fn run(rt: &HostRuntime, words: &mut Args) -> Result<(), ExerciseError> {
+    let Some(count) = words.next() else {
+        return Err(ExerciseError::Usage);
+    };
+    let Ok(count) = count.parse::<u16>() else {
+        return Err(ExerciseError::Usage);
+    };
+    let _made = requests(rt.alloc(), count)?;
+    let types = read_next(rt, words)?;
+    let symbols = read_next(rt, words)?;
+    relocate_files(rt, words, types.as_slice(), symbols.as_slice())?;
+    let _last = requests(rt.alloc(), 1)?;
+    Ok(())
+}

@@ -1,0 +1,65 @@
+//! A table of 1,000 structs, parsed and with one more type: how many types it has and how many bytes. Before that as many
+//! requests for memory are made as the first word says, and behind it two more: status 2 where one of these is refused.
+
+use crate::requests::{asked_requests, requests};
+use btf::{Btf, BtfError, BtfType, Endianness, Int, IntEncoding};
+use std::env::Args;
+use std::process::ExitCode;
+
+const HEADER: [u8; 24] = [
+    0x9f, 0xeb, 1, 0, 24, 0, 0, 0, 0, 0, 0, 0, 0xc0, 0x5d, 0, 0, 0xc0, 0x5d, 0, 0, 1, 0, 0, 0,
+];
+
+/// A struct of four bytes with one member of type 1.
+const STRUCT: [u8; 24] = [
+    0, 0, 0, 0, 1, 0, 0, 4, 4, 0, 0, 0, 0, 0, 0, 0, 1, 0, 0, 0, 0, 0, 0, 0,
+];
+
+/// The bytes of a header, 1,000 records of 24 bytes, and the empty text.
+const LEN: usize = 24_025;
+
+/// The section at each place: it takes no memory.
+fn section_byte(at: usize) -> u8 {
+    if at < 24 {
+        HEADER[at]
+    } else if at < LEN - 1 {
+        STRUCT[at % 24]
+    } else {
+        0
+    }
+}
+
+/// The bytes of a table with one more type.
+fn grown(table: &mut Btf<'_>) -> Result<usize, BtfError> {
+    let name = table.add_string("count")?;
+    table.add_type(BtfType::Int(Int::new(name, 4, IntEncoding::None, 0)))?;
+    Ok(table.to_bytes()?.len())
+}
+
+/// Prints what the calls give, as far as memory reaches.
+fn print(rt: &HostRuntime, section: &[u8]) -> Result<(), BtfError> {
+    let mut table = Btf::parse(rt.alloc(), section, Endianness::Little)?;
+    let _ = println!(rt; "{}", table.types().count());
+    let len = grown(&mut table)?;
+    let _ = println!(rt; "{len}");
+    Ok(())
+}
+
+/// Prints the counts, between the requests.
+pub(crate) fn run(rt: &HostRuntime, words: &mut Args) -> ExitCode {
+    let Some(_made) = asked_requests(rt.alloc(), words) else {
+        return ExitCode::from(2);
+    };
+    let mut section = [0; LEN];
+    for at in 0..LEN {
+        section[at] = section_byte(at);
+    }
+    match print(rt, &section) {
+        Ok(()) if requests(rt.alloc(), 1).is_ok() => ExitCode::SUCCESS,
+        Ok(()) => ExitCode::from(2),
+        Err(error) => {
+            let _ = println!(rt; "{error}");
+            ExitCode::FAILURE
+        }
+    }
+}

@@ -1,0 +1,2 @@
+pub mod Externs
+pub mod Laws

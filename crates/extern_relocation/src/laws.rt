@@ -1,0 +1,18 @@
+//! What holds of functions after the relocations by externs inside them.
+
+ghost use Rattle.extern_relocation.specs.Laws.{ExternsAreWritten};
+
+use elf64::RelocView;
+use slot_relocation::{Fault, lengths_remain, unwritten_stay, writes_are_kept};
+
+/// After all relocations, a slot at which one by an extern stands and writes carries what is known of
+/// that extern, whatever the others write; a slot that none writes stays as it was; a function keeps its
+/// number of slots. It computes nothing: its contract is the theorem.
+#[tactic(auto, using(crate::proofs::Written::externs_are_written))]
+pub fn externs_are_written()
+    ensures { ExternsAreWritten }
+{
+    writes_are_kept();
+    unwritten_stay::<RelocView, Fault>();
+    lengths_remain::<RelocView, Fault>();
+}

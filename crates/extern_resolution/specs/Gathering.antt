@@ -1,0 +1,43 @@
+-- What was gathered of the kernel's table, of functions and variables.
+use Rattle.std.specs.Prelude.{◌≡◌, ℕ, List, ◌++◌}
+use Rattle.std.specs.List.{AllByRecursion}
+use Rattle.btf_records.specs.declared.kind.BtfKind.TheVariants as kinds
+use Rattle.btf_tables.specs.Tables.{Table}
+use Rattle.extern_resolution.specs.Wanted.{AreSaid, IsBegun, IsEntryWanted, SameNames}
+use Rattle.extern_resolution.specs.declared.kernel_records.KernelRecords.{KernelRecords}
+use Rattle.object_externs.specs.Externs.{ExternContent}
+
+-- nothing was gone through
+pub record AreBegun (r : KernelRecords) : Type 0 where
+  pub functions : IsBegun r.functions
+  pub variables : IsBegun r.variables
+  pub function_kind : r.functions.kind ≡ kinds.Func
+  pub variable_kind : r.variables.kind ≡ kinds.Var
+
+-- under each wanted name stands what the records below an id say
+pub record AreAllSaid (kernel : Table) (r : KernelRecords) (below : ℕ) : Type 0 where
+  pub functions : AreSaid kernel r.functions below
+  pub variables : AreSaid kernel r.variables below
+  pub function_kind : r.functions.kind ≡ kinds.Func
+  pub variable_kind : r.variables.kind ≡ kinds.Var
+
+-- the same names are wanted
+pub record SameWanted (old new : KernelRecords) : Type 0 where
+  pub functions : SameNames old.functions new.functions
+  pub variables : SameNames old.variables new.variables
+
+-- the name of each extern with a type is wanted
+pub record AreEntriesWanted (table : Table) (r : KernelRecords) (externs : List (List ℕ × ExternContent)) : Type 0 where
+  pub each : AllByRecursion (IsEntryWanted table r) externs
+
+-- the names of those before the rest are wanted
+pub record AreWantedBefore (table : Table) (r : KernelRecords) (all rest : List (List ℕ × ExternContent)) : Type 0 where
+  pub front : List (List ℕ × ExternContent)
+  pub split : all ≡ front ++ rest
+  pub each : AllByRecursion (IsEntryWanted table r) front
+
+-- one more extern's name is wanted, and those that were are
+pub record WantsEntry (table : Table) (old new : KernelRecords) (entry : List ℕ × ExternContent) : Type 0 where
+  pub begun : AreBegun old → AreBegun new
+  pub wanted : IsEntryWanted table new entry
+  pub kept : (other : List ℕ × ExternContent) → IsEntryWanted table old other → IsEntryWanted table new other

@@ -1,0 +1,114 @@
+-- What a kernel's table says of wanted names, as far as it was gone through.
+use Rattle.std.specs.Prelude.{◌≡◌, ◌≢◌, ℕ, ◌<◌, ◌⊎◌, All, Bool, true, false, ◌||◌, List, [], Option, None, Some, IfSome, is_some}
+use Rattle.std.specs.BTreeMap.{is_at}
+use Rattle.std.specs.BTreeSet.{insert_key}
+use Rattle.std.specs.Borrow.{Bor}
+use Rattle.std.specs.Cmp.Lexicographic.{slice_cmp}
+use Rattle.std.specs.List.{AllByRecursion}
+use Rattle.std.specs.Map.{lookup}
+use Rattle.std.specs.Option.{IsSomeAnd, MatchOption, option_flatten}
+use Rattle.std.specs.Ordering.{nat_cmp}
+use Rattle.std.specs.Str.{bytes_eq}
+use Rattle.btf_records.specs.Fields.{kind_of_type}
+use Rattle.btf_records.specs.declared.kind.BtfKind.{BtfKind}
+use Rattle.btf_records.specs.declared.kind.BtfKind.TheVariants as kinds
+use Rattle.btf_tables.specs.Tables.{Table, type_by_id}
+use Rattle.btf_tables.specs.TypesByName.{IsFirstNamed, IsNotNamed}
+use Rattle.extern_resolution.specs.Outcomes.{IsMissing, kernel_name}
+use Rattle.extern_resolution.specs.declared.kernel_records.KernelRecords.{KernelRecords}
+use Rattle.extern_resolution.specs.declared.named_records.NamedRecords.{NamedRecords}
+use Rattle.object_externs.specs.Externs.{ExternContent}
+use Rattle.string_table.specs.Texts.{text_at}
+
+-- what stands under a name: nothing where it isn't wanted
+abbrev pub ids_under : List (Bor (List ℕ) × Option ℕ) → List ℕ → Option (Option ℕ)
+ids_under entries name = lookup (is_at (λ key. slice_cmp nat_cmp name key.now)) entries
+
+abbrev pub under : NamedRecords → List ℕ → Option (Option ℕ)
+under r name = ids_under r.ids.entries name
+
+abbrev pub id_under : NamedRecords → List ℕ → Option ℕ
+id_under r name = option_flatten (under r name)
+
+-- the first id is kept
+abbrev pub entered : ℕ → Option (Option ℕ) → Option (Option ℕ)
+entered id None = None
+entered id (Some None) = Some (Some id)
+entered id (Some (Some first)) = Some (Some first)
+
+-- no record below an id has the kind and the name
+pub record AreNotNamed (kernel : Table) (name : List ℕ) (kind : BtfKind) (below : ℕ) : Type 0 where
+  pub each : (lesser : ℕ) → lesser < below → IsNotNamed kernel name kind lesser
+
+-- what the records below an id say of a name
+abbrev pub Says : Table → BtfKind → ℕ → Bool → List ℕ → Option ℕ → Type 0
+Says kernel kind below hidden name (Some id) = IsFirstNamed kernel name kind id
+Says kernel kind below true name None = IsMissing kernel kind name
+Says kernel kind below false name None = AreNotNamed kernel name kind below
+
+-- the text at this offset is a name that isn't wanted, or one that a record was met with
+abbrev pub IsLookedUp : List ℕ → List (Bor (List ℕ) × Option ℕ) → ℕ → Type 0
+IsLookedUp strings entries offset = IsSomeAnd (text_at strings offset) (λ name. ids_under entries name ≢ Some None)
+
+-- an offset is noted, or nothing is
+abbrev pub IsNoted : List ℕ → List ℕ → ℕ → Type 0
+IsNoted old new offset = (new ≡ old) ⊎ (new ≡ insert_key nat_cmp old offset)
+
+-- under each wanted name stands what the records below an id say
+pub record AreSaid (kernel : Table) (r : NamedRecords) (below : ℕ) : Type 0 where
+  pub each : (name : List ℕ) → IfSome (under r name) (Says kernel r.kind below r.is_hidden name)
+  pub looked_up : All (IsLookedUp kernel.strings r.ids.entries) r.looked_up.keys
+
+-- nothing was gone through
+pub record IsBegun (r : NamedRecords) : Type 0 where
+  pub fresh : (name : List ℕ) → IfSome (under r name) (λ found. found ≡ None)
+  pub none : r.looked_up.keys ≡ []
+  pub readable : r.is_hidden ≡ false
+
+-- one more name is wanted
+pub record Wants (old new : NamedRecords) (name : List ℕ) : Type 0 where
+  pub same_kind : new.kind ≡ old.kind
+  pub begun : IsBegun old → IsBegun new
+  pub wanted : (other : List ℕ) → is_some (under new other) ≡ (bytes_eq name other || is_some (under old other))
+
+-- the same names are wanted
+pub record SameNames (old new : NamedRecords) : Type 0 where
+  pub same_kind : new.kind ≡ old.kind
+  pub same : (name : List ℕ) → is_some (under new name) ≡ is_some (under old name)
+
+-- a name is wanted of a kind; of kinds that declare no extern none is
+abbrev pub IsWantedAs : KernelRecords → BtfKind → List ℕ → Type 0
+IsWantedAs r kinds.Func name = is_some (under r.functions (kernel_name kinds.Func name)) ≡ true
+IsWantedAs r kinds.Var name = is_some (under r.variables (kernel_name kinds.Var name)) ≡ true
+IsWantedAs r _ name = Unit {0}
+
+-- the name of an extern with a type is wanted of the kind of what declares it
+abbrev pub IsEntryWanted : Table → KernelRecords → (List ℕ × ExternContent) → Type 0
+IsEntryWanted table r entry = IfSome entry.1.type_id (λ _. IfSome (type_by_id table entry.1.btf_id) (λ t. IsWantedAs r (kind_of_type t) entry.0))
+
+-- the id that was found of a kind and a name
+abbrev pub id_of : KernelRecords → BtfKind → List ℕ → Option ℕ
+id_of r kinds.Func name = id_under r.functions name
+id_of r kinds.Var name = id_under r.variables name
+id_of r _ name = None
+
+-- it is the first that a kernel's table has of them
+abbrev pub IsKnown : Table → KernelRecords → BtfKind → List ℕ → Type 0
+IsKnown kernel r kind name = MatchOption (id_of r kind name) (IsMissing kernel kind name) (IsFirstNamed kernel name kind)
+
+-- of the kinds that declare externs, by the name of an extern
+abbrev pub IsKnownAs : Table → KernelRecords → BtfKind → List ℕ → Type 0
+IsKnownAs kernel r kinds.Func name = IsKnown kernel r kinds.Func (kernel_name kinds.Func name)
+IsKnownAs kernel r kinds.Var name = IsKnown kernel r kinds.Var (kernel_name kinds.Var name)
+IsKnownAs kernel r _ name = Unit {0}
+
+-- of an extern with a type, by what declares it
+abbrev pub IsDeclaredKnown : Table → Table → KernelRecords → List ℕ → ExternContent → Type 0
+IsDeclaredKnown table kernel r name e = IfSome (type_by_id table e.btf_id) (λ t. IsKnownAs kernel r (kind_of_type t) name)
+
+abbrev pub IsEntryKnown : Table → Table → KernelRecords → (List ℕ × ExternContent) → Type 0
+IsEntryKnown table kernel r entry = IfSome entry.1.type_id (λ _. IsDeclaredKnown table kernel r entry.0 entry.1)
+
+-- of each extern, where kernel types are given
+pub record AreKnown (table : Table) (kernel : Option Table) (r : KernelRecords) (externs : List (List ℕ × ExternContent)) : Type 0 where
+  pub each : IfSome kernel (λ kernel. AllByRecursion (IsEntryKnown table kernel r) externs)

@@ -1,0 +1,13 @@
+//! How what a program expects of the kernel is found there (libbpf's `bpf_object__resolve_externs`).
+#![tactic(auto)]
+
+mod addressed;
+mod error;
+mod kernel_records;
+mod named_records;
+mod records;
+mod resolving;
+mod typed;
+
+pub use error::KsymsError;
+pub use resolving::resolve_externs;

@@ -1,0 +1,46 @@
+-- Wanted names.
+use Rattle.std.proofs.Common.{◌≡◌, ℕ, ◌+◌, ◌<◌, Bool, true, false, cond, ◌||◌, List, length, take, get_or, Option, None, Some, Bor, refl, ap, sym, ◌∙◌, subst, Result, Ok, Err}
+use Rattle.std.specs.Prelude.{IfSome, is_some}
+use Rattle.std.specs.Result.{IfErr, IsErrAnd}
+use Rattle.std.specs.Cmp.Lexicographic.{same_text}
+use Rattle.std.specs.Str.{bytes_eq}
+use Rattle.kernel_symbols.specs.Reading.{AreWanted, HasNoAddress, under, with_address}
+use Rattle.std.proofs.lemmas.List.Folds.{list_any_more}
+use Rattle.kernel_symbols.specs.Texts.{is_among}
+use Rattle.kernel_symbols.specs.declared.error.SymbolsError.{SymbolsError}
+use Rattle.kernel_symbols.specs.declared.wanted.Wanted.{Wanted}
+
+-- an error that is passed on
+pub passed_on : {T : Type 0} (result : Result T SymbolsError) (e : SymbolsError) (P : SymbolsError → Type 0) → IsErrAnd result (λ f. f ≡ e) → P e → IfErr result P
+passed_on (Ok x) e P h p = tt
+passed_on (Err f) e P h p = subst P (sym h) p
+
+pub put_under : (name other : List ℕ) (address : Option ℕ) (w : Wanted) (old new : List (Bor (List ℕ) × Wanted)) → Some w ≡ under old name → under new other ≡ cond (bytes_eq name other) (Some (record { name = w.name; address = address })) (under old other) → under new other ≡ cond (bytes_eq name other) (with_address address (under old name)) (under old other)
+put_under name other address w old new known put = put ∙ ap (λ (o : Option Wanted). cond (bytes_eq name other) o (under old other)) (ap (with_address address) known)
+
+pub entered_under : (name key other : List ℕ) (w old new : Option Wanted) → key ≡ name → new ≡ cond (bytes_eq key other) w old → new ≡ cond (bytes_eq name other) w old
+entered_under name key other w old new same put = put ∙ ap (λ (k : List ℕ). cond (bytes_eq k other) w old) same
+
+-- ---- the names, one after another
+
+wanted_at : (name other : List ℕ) (w : Option Wanted) (old new : Option Wanted) (b c : Bool) → new ≡ cond (bytes_eq name other) w old → is_some w ≡ true → is_some old ≡ b → is_some new ≡ (b || bytes_eq name other)
+wanted_at name other w old new b c is some before = ap is_some is ∙ at (bytes_eq name other) b before
+  where
+    at : (e b : Bool) → is_some old ≡ b → is_some (cond e w old) ≡ (b || e)
+    at true true before = some
+    at true false before = some
+    at false true before = before
+    at false false before = before
+
+no_address : (name other : List ℕ) (n : Bor (List ℕ)) (old new : Option Wanted) → n.now ≡ name → new ≡ cond (bytes_eq name other) (Some (record { name = n; address = None })) old → IfSome old (λ w. (w.name.now ≡ other) × (w.address ≡ None)) → IfSome new (λ w. (w.name.now ≡ other) × (w.address ≡ None))
+no_address name other n old new here is before = rw is (at (bytes_eq name other) refl)
+  where
+    at : (e : Bool) → bytes_eq name other ≡ e → IfSome (cond e (Some (record { name = n; address = None })) old) (λ w. (w.name.now ≡ other) × (w.address ≡ None))
+    at true equal = (here ∙ same_text name other (sym equal), refl)
+    at false equal = before
+
+pub wanted_more : (names : List (Bor (List ℕ))) (k : ℕ) (d n : Bor (List ℕ)) (old new : List (Bor (List ℕ) × Wanted)) → k < length names → get_or names k d ≡ n → ((other : List ℕ) → under new other ≡ cond (bytes_eq n.now other) (Some (record { name = n; address = None })) (under old other)) → AreWanted (take k names) old → HasNoAddress old → AreWanted (take (k + 1) names) new × HasNoAddress new
+wanted_more names k d n old new within here put among none = (
+  record { among = λ name. wanted_at n.now name _ (under old name) (under new name) (is_among (take k names) name) true (put name) refl (among.among name) ∙ sym (list_any_more (λ n. bytes_eq n.now name) names k d within ∙ ap (λ (x : Bor (List ℕ)). is_among (take k names) name || bytes_eq x.now name) here) },
+  record { none = λ name. no_address n.now name n (under old name) (under new name) refl (put name) (none.none name) },
+)

@@ -1,0 +1,67 @@
+-- Words and the bytes that they stand in.
+use Rattle.std.proofs.Common.{◌≡◌, ℕ, zero, suc, ◌-◌, ◌<◌, ◌≤◌, Bool, true, false, cond, List, [], ◌∷◌, length, take, drop, refl, ap, sym, ◌∙◌, arith}
+use Rattle.std.specs.Prelude.{filter, ◌==◌}
+use Rattle.std.proofs.lemmas.Bool.Decides.{nat_tests}
+use Rattle.kernel_symbols.specs.Words.{words_of, pieces_behind, space_len, is_word, onto_first, IsPlain, EndsWord}
+
+-- the rest of a white space character is passed over
+skipped : (n : ℕ) (xs : List ℕ) → pieces_behind n xs ≡ pieces_behind 0 (drop n xs)
+unfolding pieces_behind
+skipped zero [] = refl
+skipped (suc n) [] = refl
+skipped zero (x ∷ xs) = refl
+skipped (suc n) (x ∷ xs) = skipped n xs
+
+not_zero : (n : ℕ) → (n ≡ 0 → ⊥) → (n == 0) ≡ false
+not_zero zero h = absurd (h refl)
+not_zero (suc n) h = grind (arith, nat_tests)
+
+behind_space : (x : ℕ) (xs : List ℕ) (n : ℕ) → space_len (x ∷ xs) ≡ suc n → words_of (x ∷ xs) ≡ words_of (drop n xs)
+unfolding pieces_behind
+behind_space x xs n is =
+    let less : suc n - 1 ≡ n = omega arith in
+    rw (is, not_zero (suc n) (λ h. omega (arith, h)), less) (ap (filter is_word) (skipped n xs))
+
+at_space : (bytes : List ℕ) (n : ℕ) → 0 < length bytes → space_len bytes ≡ n → (n ≡ 0 → ⊥) → words_of (drop n bytes) ≡ words_of bytes
+at_space [] n some is more = absurd (omega arith)
+at_space (x ∷ xs) zero some is more = absurd (more refl)
+at_space (x ∷ xs) (suc n) some is more = sym (behind_space x xs n is)
+
+-- words stay where white space at the front is passed over
+pub words_behind : (bytes rest : List ℕ) (n : ℕ) → 0 < length bytes → n ≡ space_len bytes → (n ≡ 0 → ⊥) → rest ≡ drop n bytes → words_of rest ≡ words_of bytes
+words_behind bytes rest n some is more left = ap words_of left ∙ at_space bytes n some (sym is) more
+
+after_word : List ℕ → List (List ℕ)
+after_word [] = []
+after_word (x ∷ xs) = pieces_behind (space_len (x ∷ xs) - 1) xs
+
+pieces_front : (bytes : List ℕ) (n : ℕ) → n ≤ length bytes → IsPlain n bytes → EndsWord (drop n bytes) → pieces_behind 0 bytes ≡ take n bytes ∷ after_word (drop n bytes)
+unfolding after_word pieces_behind
+pieces_front [] zero within plain ends = refl
+pieces_front [] (suc n) within plain ends = absurd (omega arith)
+pieces_front (x ∷ xs) zero within plain ends = rw (not_zero (space_len (x ∷ xs)) ends) refl
+pieces_front (x ∷ xs) (suc n) within plain ends =
+    rw (plain 0 (omega arith)) (ap (onto_first x) (pieces_front xs n (omega arith) (λ k h. plain (suc k) (omega arith)) ends))
+
+words_after : (rest : List ℕ) → EndsWord rest → words_of rest ≡ filter is_word (after_word rest)
+unfolding after_word pieces_behind
+words_after [] ends = refl
+words_after (x ∷ xs) ends = rw (not_zero (space_len (x ∷ xs)) ends) refl
+
+some_word : (bytes : List ℕ) (n : ℕ) → 0 < length bytes → n ≤ length bytes → EndsWord (drop n bytes) → space_len bytes ≡ 0 → is_word (take n bytes) ≡ true
+some_word [] n some within ends front = absurd (omega arith)
+some_word (x ∷ xs) zero some within ends front = absurd (ends front)
+some_word (x ∷ xs) (suc n) some within ends front = refl
+
+-- bytes that begin with no white space begin with a word
+pub words_split : (bytes : List ℕ) (n : ℕ) → 0 < length bytes → space_len bytes ≡ 0 → n ≤ length bytes → IsPlain n bytes → EndsWord (drop n bytes) → words_of bytes ≡ take n bytes ∷ words_of (drop n bytes)
+words_split bytes n some front within plain ends =
+    let word : is_word (take n bytes) ≡ true = some_word bytes n some within ends front in
+    ap (filter is_word) (pieces_front bytes n within plain ends)
+    ∙ ap (λ (b : Bool). cond b (take n bytes ∷ filter is_word (after_word (drop n bytes))) (filter is_word (after_word (drop n bytes)))) word
+    ∙ ap (λ ws. take n bytes ∷ ws) (sym (words_after (drop n bytes) ends))
+
+pub no_words : (bytes : List ℕ) → length bytes ≡ 0 → words_of bytes ≡ []
+unfolding pieces_behind
+no_words [] h = refl
+no_words (x ∷ xs) h = absurd (omega arith)

@@ -1,0 +1,4 @@
+pub mod Addresses
+pub mod Reading
+pub mod Texts
+pub mod Words

@@ -1,0 +1,162 @@
+-- How far a text of kernel symbols was read.
+use Rattle.std.specs.Prelude.{◌≡◌, ◌≢◌, ℕ, Bool, true, false, List, [], ◌∷◌, ◌++◌, Option, None, Some, IfSome, IsSome, is_some, slice_get}
+use Rattle.std.specs.BTreeMap.{is_at}
+use Rattle.std.specs.Borrow.{Bor}
+use Rattle.std.specs.Cmp.Lexicographic.{slice_cmp}
+use Rattle.std.specs.Io.KnownBytes.{Consumes}
+use Rattle.std.specs.List.{list_any}
+use Rattle.std.specs.Map.{lookup}
+use Rattle.std.specs.Ordering.{nat_cmp}
+use Rattle.std.specs.Option.{option_map}
+use Rattle.std.specs.Prelude.{◌==◌, if◌then◌else◌, option_and_then, Result, Ok, Err}
+use Rattle.kernel_symbols.specs.Texts.{IsAmong, is_among, IsGiven, LinesFault, TextFault, address_of, addresses_in, has_address, has_unreadable, is_foreign, lines_of, said}
+use Rattle.kernel_symbols.specs.declared.error.SymbolsError.{SymbolsError}
+use Rattle.kernel_symbols.specs.declared.error.SymbolsError.TheVariants.{Ambiguous, OutOfMemory, UnreadableAddress}
+use Rattle.kernel_symbols.specs.declared.reading.Reading.{Reading}
+use Rattle.kernel_symbols.specs.declared.wanted.Addresses.{Addresses}
+use Rattle.kernel_symbols.specs.declared.wanted.Wanted.{Wanted}
+
+-- what is known under a name
+abbrev pub under : List (Bor (List ℕ) × Wanted) → List ℕ → Option Wanted
+under entries name = lookup (is_at (λ key. slice_cmp nat_cmp name key.now)) entries
+
+abbrev pub IsWantedIn : List (Bor (List ℕ) × Wanted) → List ℕ → Type 0
+IsWantedIn entries name = IsSome (under entries name)
+
+-- the address is the only one that lines say
+pub record IsSettled (said_of : List (Option ℕ)) (address : Option ℕ) : Type 0 where
+  pub readable : has_unreadable said_of ≡ false
+  pub first : address ≡ slice_get (addresses_in said_of) 0
+  pub same : (other : ℕ) → has_address said_of other ≡ true → address ≡ Some other
+
+abbrev pub IsSettledAs : List ℕ → List (List ℕ) → Wanted → Type 0
+IsSettledAs name lines w = (w.name.now ≡ name) × IsSettled (said name lines) w.address
+
+-- each wanted name has the address that these lines say
+pub record AreSettled (entries : List (Bor (List ℕ) × Wanted)) (lines : List (List ℕ)) : Type 0 where
+  pub texts : list_any is_foreign lines ≡ false
+  pub found : (name : List ℕ) → IfSome (under entries name) (IsSettledAs name lines)
+
+-- these names are wanted, and no others
+pub record AreWanted (names : List (Bor (List ℕ))) (entries : List (Bor (List ℕ) × Wanted)) : Type 0 where
+  pub among : (name : List ℕ) → is_some (under entries name) ≡ is_among names name
+
+pub record HasNoAddress (entries : List (Bor (List ℕ) × Wanted)) : Type 0 where
+  pub none : (name : List ℕ) → IfSome (under entries name) (λ w. (w.name.now ≡ name) × (w.address ≡ None))
+
+-- a wanted name with this address
+abbrev pub with_address : Option ℕ → Option Wanted → Option Wanted
+with_address address wanted = option_map (λ w. record { name = w.name; address = address }) wanted
+
+-- the address of a wanted name after a line that says this one: the first is kept, and another is refused
+abbrev pub settled_beside : Wanted → ℕ → Option ℕ → Result (Option ℕ) SymbolsError
+settled_beside w address None = Ok (Some address)
+settled_beside w address (Some first) = if first == address then Ok (Some first) else Err (Ambiguous w.name first address)
+
+abbrev pub settled : Wanted → Option ℕ → Result (Option ℕ) SymbolsError
+settled w None = Err (UnreadableAddress w.name)
+settled w (Some address) = if address == 0 then Ok w.address else settled_beside w address w.address
+
+-- the same names are wanted
+pub record SameNames (old new : List (Bor (List ℕ) × Wanted)) : Type 0 where
+  pub same : (name : List ℕ) → is_some (under new name) ≡ is_some (under old name)
+
+-- one more line is taken
+pub record TakesLine (old new : List (Bor (List ℕ) × Wanted)) (line : List ℕ) : Type 0 where
+  pub settled : (lines : List (List ℕ)) → AreSettled old lines → AreSettled new (lines ++ line ∷ [])
+  pub names : SameNames old new
+
+-- one more line is refused: the fault stands whatever lines come behind it
+pub record RefusesLine (old : List (Bor (List ℕ) × Wanted)) (line : List ℕ) (e : SymbolsError) : Type 0 where
+  pub stands : e ≢ OutOfMemory → (failed : Bool) (lines more : List (List ℕ)) → AreSettled old lines → LinesFault failed (IsWantedIn old) (lines ++ line ∷ more) e
+
+abbrev pub is_break : ℕ → Bool
+is_break b = b == 10
+
+-- a line without its NL
+abbrev pub IsUnbroken : List ℕ → Type 0
+IsUnbroken line = list_any is_break line ≡ false
+
+abbrev pub AreUnbroken : List (List ℕ) → Type 0
+AreUnbroken [] = Unit {0}
+AreUnbroken (line ∷ lines) = IsUnbroken line × AreUnbroken lines
+
+-- the text of lines that all end in an NL
+abbrev pub text_of : List (List ℕ) → List ℕ
+text_of [] = []
+text_of (line ∷ lines) = line ++ 10 ∷ text_of lines
+
+-- so much of a text was taken: lines, and the beginning of another
+pub record IsAfter (text : List ℕ) (entries : List (Bor (List ℕ) × Wanted)) (partial : List ℕ) : Type 0 where
+  pub lines : List (List ℕ)
+  pub begun : text ≡ text_of lines ++ partial
+  pub whole : AreUnbroken lines
+  pub open_line : IsUnbroken partial
+  pub settled : AreSettled entries lines
+
+abbrev pub entries_of : Reading → List (Bor (List ℕ) × Wanted)
+entries_of r = r.by_name.entries
+
+abbrev pub HasRead : List ℕ → Reading → Type 0
+HasRead text r = IsAfter text r.by_name.entries r.partial.items
+
+-- of some bytes all but the rest are taken
+pub record TakesAllBut (old : Reading) (bytes rest : List ℕ) (new : Reading) : Type 0 where
+  pub taken : List ℕ
+  pub split : bytes ≡ taken ++ rest
+  pub after : (text : List ℕ) → HasRead text old → HasRead (text ++ taken) new
+  pub names : SameNames (entries_of old) (entries_of new)
+
+pub record Takes (old : Reading) (bytes : List ℕ) (new : Reading) : Type 0 where
+  pub after : (text : List ℕ) → HasRead text old → HasRead (text ++ bytes) new
+  pub names : SameNames (entries_of old) (entries_of new)
+
+pub record Refuses (old : Reading) (bytes : List ℕ) (e : SymbolsError) : Type 0 where
+  pub stands : e ≢ OutOfMemory → (failed : Bool) (text more : List ℕ) → HasRead text old → TextFault failed (IsWantedIn (entries_of old)) ((text ++ bytes) ++ more) e
+
+-- the reader's bytes are lost so far, and taken
+pub record ReadsSome (known left : Option (List ℕ)) (old new : Reading) : Type 0 where
+  pub text : List ℕ
+  pub lost : Consumes known left text
+  pub taken : Takes old text new
+
+-- the reader's whole text is taken
+pub record ReadsWhole (known : Option (List ℕ)) (old new : Reading) : Type 0 where
+  pub text : List ℕ
+  pub given : IsGiven known text
+  pub taken : Takes old text new
+
+-- a fault stands in what was read and what the reader gives
+pub record StandsBehind (known : Option (List ℕ)) (failed : Bool) (old : Reading) (text : List ℕ) (e : SymbolsError) : Type 0 where
+  pub more : List ℕ
+  pub given : IsGiven known more
+  pub stands : TextFault failed (IsWantedIn (entries_of old)) (text ++ more) e
+
+pub record RefusesReader (known : Option (List ℕ)) (failed : Bool) (old : Reading) (e : SymbolsError) : Type 0 where
+  pub behind : e ≢ OutOfMemory → (text : List ℕ) → HasRead text old → StandsBehind known failed old text e
+
+-- what was read is the whole text
+pub record Finishes (old : Reading) (found : Addresses) : Type 0 where
+  pub settled : (text : List ℕ) → HasRead text old → AreSettled found.by_name.entries (lines_of text)
+  pub names : SameNames (entries_of old) found.by_name.entries
+
+pub record CannotFinish (old : Reading) (e : SymbolsError) : Type 0 where
+  pub stands : e ≢ OutOfMemory → (failed : Bool) (text : List ℕ) → HasRead text old → TextFault failed (IsWantedIn (entries_of old)) text e
+
+-- why the addresses of these names can't be had from a reader with these bytes, which failed or didn't: the fault stands in
+-- its text
+pub record ReaderFault (names : List (Bor (List ℕ))) (known : Option (List ℕ)) (failed : Bool) (e : SymbolsError) : Type 0 where
+  pub text : List ℕ
+  pub given : IsGiven known text
+  pub stands : TextFault failed (IsAmong names) text e
+
+-- the address that was found under a name
+abbrev pub address_under : Addresses → List ℕ → Option ℕ
+address_under a name = option_and_then (λ w. w.address) (under a.by_name.entries name)
+
+-- the reader's text has no fault, and each of the names has the address that it says
+pub record AreAddresses (names : List (Bor (List ℕ))) (known : Option (List ℕ)) (found : Addresses) : Type 0 where
+  pub text : List ℕ
+  pub given : IsGiven known text
+  pub faultless : (e : SymbolsError) → TextFault false (IsAmong names) text e → ⊥
+  pub value : (name : List ℕ) → IsAmong names name → address_under found name ≡ address_of name text

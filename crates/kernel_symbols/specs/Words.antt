@@ -1,0 +1,65 @@
+-- Words of a text between white space: the characters that the Unicode standard gives the property White_Space, as UTF-8
+-- writes them.
+use Rattle.std.specs.Prelude.{◌≡◌, ℕ, zero, suc, ◌-◌, ◌<◌, drop, Bool, true, false, ◌&&◌, ◌||◌, ◌==◌, nat_le, if◌then◌else◌, List, [], ◌∷◌, filter, slice_index, Option, None, Some}
+use Rattle.std.specs.Borrow.{Bor}
+use Rattle.std.specs.Option.{option_map}
+
+-- TAB to CR, and SPACE
+abbrev pub is_ascii_space : ℕ → Bool
+is_ascii_space a = (nat_le 9 a && nat_le a 13) || (a == 32)
+
+-- U+0085 and U+00A0
+abbrev pub is_latin_space : ℕ → ℕ → Bool
+is_latin_space a b = (a == 194) && ((b == 133) || (b == 160))
+
+-- the last byte of U+2000 to U+200A, U+2028, U+2029 and U+202F
+abbrev pub ends_general_space : ℕ → Bool
+ends_general_space c = (nat_le 128 c && nat_le c 138) || (c == 168) || (c == 169) || (c == 175)
+
+-- these and U+205F
+abbrev pub is_general_space : ℕ → ℕ → Bool
+is_general_space b c = ((b == 128) && ends_general_space c) || ((b == 129) && (c == 159))
+
+-- U+1680, U+2000 to U+205F and U+3000
+abbrev pub is_wide_space : ℕ → ℕ → ℕ → Bool
+is_wide_space a b c = ((a == 225) && (b == 154) && (c == 128)) || ((a == 226) && is_general_space b c) || ((a == 227) && (b == 128) && (c == 128))
+
+-- how many bytes the white space character has with which these bytes begin; 0 where they begin with none
+unfoldable pub space_len : List ℕ → ℕ
+space_len bytes = if is_ascii_space (slice_index bytes 0) then 1 else (if is_latin_space (slice_index bytes 0) (slice_index bytes 1) then 2 else (if is_wide_space (slice_index bytes 0) (slice_index bytes 1) (slice_index bytes 2) then 3 else 0))
+
+-- a byte goes onto the first of some pieces
+abbrev pub onto_first : ℕ → List (List ℕ) → List (List ℕ)
+onto_first x [] = (x ∷ []) ∷ []
+onto_first x (piece ∷ pieces) = (x ∷ piece) ∷ pieces
+
+-- what stands between white space, empty pieces too; so many of the bytes still belong to a white space character
+unfoldable pub pieces_behind : ℕ → List ℕ → List (List ℕ)
+pieces_behind skipped [] = [] ∷ []
+pieces_behind (suc skipped) (x ∷ xs) = pieces_behind skipped xs
+pieces_behind zero (x ∷ xs) = if space_len (x ∷ xs) == 0 then onto_first x (pieces_behind 0 xs) else [] ∷ pieces_behind (space_len (x ∷ xs) - 1) xs
+
+abbrev pub is_word : List ℕ → Bool
+is_word [] = false
+is_word (x ∷ xs) = true
+
+abbrev pub words_of : List ℕ → List (List ℕ)
+words_of bytes = filter is_word (pieces_behind 0 bytes)
+
+-- no white space begins at the first so many bytes
+abbrev pub IsPlain : ℕ → List ℕ → Type 0
+IsPlain n bytes = (k : ℕ) → k < n → space_len (drop k bytes) ≡ 0
+
+-- nothing is left, or white space comes first
+abbrev pub EndsWord : List ℕ → Type 0
+EndsWord [] = Unit {0}
+EndsWord (x ∷ xs) = (space_len (x ∷ xs) ≡ 0) → ⊥
+
+-- the first and the third of some words, if there are three
+abbrev pub first_and_third : List (List ℕ) → Option (List ℕ × List ℕ)
+first_and_third (first ∷ second ∷ third ∷ more) = Some (first, third)
+first_and_third _ = None
+
+-- two lent words by their bytes
+abbrev pub word_bytes : Option (Bor (List ℕ) × Bor (List ℕ)) → Option (List ℕ × List ℕ)
+word_bytes words = option_map (λ p. (p.0.now, p.1.now)) words

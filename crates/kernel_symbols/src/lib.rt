@@ -1,0 +1,13 @@
+//! The addresses that a kernel gives its symbols, read from a text as /proc/kallsyms has it.
+#![tactic(auto)]
+
+mod address;
+mod error;
+mod line;
+mod reading;
+mod wanted;
+mod words;
+
+pub use error::SymbolsError;
+pub use reading::read_addresses;
+pub use wanted::Addresses;

@@ -1,0 +1,69 @@
+//! What a line says of the wanted symbols.
+
+ghost use Rattle.std.specs.Prelude.{◌≡◌, ℕ, List, if◌then◌else◌, IfErr, OnOk};
+ghost use Rattle.std.specs.Str.{bytes_eq, is_utf8};
+ghost use Rattle.kernel_symbols.specs.Addresses.{address_in};
+ghost use Rattle.kernel_symbols.specs.Reading.{RefusesLine, TakesLine, settled, under, with_address};
+
+use crate::address::address_in;
+use crate::error::SymbolsError;
+use crate::wanted::Wanted;
+use crate::words::first_and_third;
+use std::collections::BTreeMap;
+use std::io;
+use std::io::ErrorKind;
+
+fn is_text(line: &[u8]) -> bool
+    ensures { result ≡ is_utf8 line.now }
+{
+    str::from_utf8(line).is_ok()
+}
+
+/// The address of a wanted symbol after a line whose first word is its address.
+fn settled<'a>(wanted: &Wanted<'a>, word: &[u8]) -> Result<Option<u64>, SymbolsError<'a>>
+    ensures { result ≡ settled wanted.now (address_in word.now) }
+{
+    let name = wanted.name;
+    match (address_in(word), wanted.address) {
+        (None, _) => Err(SymbolsError::UnreadableAddress(name)),
+        (Some(0), found) => Ok(found),
+        (Some(address), None) => Ok(Some(address)),
+        (Some(address), Some(first)) if first == address => Ok(Some(first)),
+        (Some(second_addr), Some(first_addr)) => Err(SymbolsError::Ambiguous {
+            name,
+            first_addr,
+            second_addr,
+        }),
+    }
+}
+
+/// Puts an address in place under a name.
+fn put(by_name: &mut BTreeMap<&[u8], Wanted<'_>>, name: &[u8], address: Option<u64>)
+    ensures { (other : List ℕ) → under by_name.new.entries other ≡ (if bytes_eq name.now other then with_address address (under by_name.old.entries name.now) else under by_name.old.entries other) }
+{
+    if let Some(wanted) = by_name.get_mut(name) {
+        wanted.address = address;
+    }
+}
+
+/// Takes what a line says of the wanted symbols.
+pub(crate) fn take_line<'a>(
+    by_name: &mut BTreeMap<&'a [u8], Wanted<'a>>,
+    line: &[u8],
+) -> Result<(), SymbolsError<'a>>
+    ensures taken { OnOk result (TakesLine by_name.old.entries by_name.new.entries line.now) }
+    ensures refused { IfErr result (RefusesLine by_name.old.entries line.now) }
+{
+    if !is_text(line) {
+        return Err(SymbolsError::Access(io::Error::from(ErrorKind::InvalidData)));
+    }
+    let Some((word, name)) = first_and_third(line) else {
+        return Ok(());
+    };
+    let Some(wanted) = by_name.get(name).copied() else {
+        return Ok(());
+    };
+    let address = settled(&wanted, word)?;
+    put(by_name, name, address);
+    Ok(())
+}

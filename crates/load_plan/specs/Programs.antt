@@ -1,0 +1,141 @@
+-- The programs of a plan, each by itself.
+use Rattle.std.specs.Prelude.{◌≡◌, ◌⊎◌, ◌||◌, not, ℕ, ◌+◌, pos, Bool, true, false, is_some, if◌then◌else◌, List, [], ◌∷◌, None, Some, slice_get}
+use Rattle.btf_extension.specs.declared.record.bpf_func_info.{bpf_func_info}
+use Rattle.btf_extension.specs.declared.record.bpf_line_info.{bpf_line_info}
+use Rattle.btf_sanitizing.specs.Answers.{Answers}
+use Rattle.ebpf_items.specs.Instruction.{calls_newer_helper}
+use Rattle.ebpf_items.specs.declared.instruction.bpf_insn.{bpf_insn}
+use Rattle.elf64.specs.Relocations.{Relocation}
+use Rattle.function_layout.specs.Copies.{IsCopy}
+use Rattle.function_layout.specs.Layout.{IsLayout, Key, Table, linked, ref_at}
+use Rattle.function_layout.specs.Machines.{VisitsSame}
+use Rattle.function_layout.specs.Reached.{AreReached}
+use Rattle.function_layout.specs.Renamed.{renamed_table}
+use Rattle.function_types.specs.Rewritten.{is_denied}
+use Rattle.linker.specs.Records.{functions_of, lines_of}
+use Rattle.linker.specs.Unlinked.{Unlinked, table_of}
+use Rattle.object_parts.specs.Content.{FunctionContent, ProgramContent, function_at}
+use Rattle.object_plan.specs.Plans.{AllName}
+use Rattle.plan_text.specs.Content as plan
+use Rattle.plan_text.specs.Content.{MapContent, PlanContent}
+use Rattle.extern_relocation.specs.Laws as externs
+use Rattle.slot_relocation.specs.Laws as maps
+use Rattle.slot_relocation.specs.Laws.{CarriesNumber, map_of}
+use Rattle.slot_relocation.specs.Maps.{MapsGiven, NumberedMap}
+use Rattle.slot_relocation.specs.Writes.{place_of}
+use Rattle.slot_relocation.specs.declared.outcome.Write.{Write}
+use Rattle.load_plan.specs.Inputs.{Inputs, State, Under, keeps_helpers}
+use Rattle.load_plan.specs.Passes.{ExternSlots, Made, MapSlots, Pass, maps_given, patching, unlinked_of}
+
+-- the functions that a program's slots are copies of: those of a kernel that has the newer helpers, or lacks them
+abbrev pub source_for : Bool → Unlinked → Table
+source_for true u = table_of u
+source_for false u = renamed_table (table_of u)
+
+-- an object's functions after the passes that write their slots
+abbrev pub source : Under → State → Table
+source u patched = source_for (keeps_helpers u) (unlinked_of patched)
+
+-- the key of a program's own function
+abbrev pub own_key : ProgramContent → Key
+own_key p = (p.section_index, p.address)
+
+-- a kernel that takes no functions takes no records, and one that is given no types none of lines
+abbrev pub func_records_of : Answers → Unlinked → Key → List Key → List bpf_func_info
+func_records_of answers u own keys = if is_denied answers then [] else functions_of u own keys
+
+abbrev pub line_records_of : Answers → Bool → Unlinked → Key → List Key → List bpf_line_info
+line_records_of answers has_types u own keys = if is_denied answers || not has_types then [] else lines_of u own keys
+
+-- some map of a plan has this name and this number
+abbrev pub HasMap : List MapContent → NumberedMap → Type 0
+HasMap [] m = ⊥
+HasMap (p ∷ ps) m = ((p.name ≡ m.name) × (pos p.number ≡ m.number)) ⊎ HasMap ps m
+
+-- no older helper takes the place of a slot's
+abbrev pub IsKept : Bool → bpf_insn → Type 0
+IsKept has_helpers s = (has_helpers ≡ true) ⊎ (calls_newer_helper s ≡ false)
+
+-- a slot carries the number of a map that a relocation names, under which the map is one of these
+pub record NumbersMap (g : MapsGiven) (maps : List MapContent) (r : Relocation) (s : bpf_insn) : Type 0 where
+  pub carried : CarriesNumber g r s
+  pub among : (m : NumberedMap) → map_of g r ≡ Some m → HasMap maps m
+
+-- a relocation of a pass writes the slot at a place of a function, of an object as the pass finds it
+abbrev pub WritesSlot : Pass → Inputs → State → Key → ℕ → Type 0
+WritesSlot MapSlots i s key place = (f : FunctionContent) × (function_at s.functions key ≡ Some f) × maps.WritesAt (maps_given i.settings s) f place
+WritesSlot ExternSlots i s key place = (f : FunctionContent) × (function_at s.functions key ≡ Some f) × externs.WritesAt s.file s.externs.by_name f place
+WritesSlot _ i s key place = ⊥
+
+-- one of some passes that are made does
+abbrev pub IsWritten : (ps : List Pass) (i : Inputs) (u : Under) (s t : State) → Made ps i u s t → Key → ℕ → Type 0
+IsWritten [] i u s t made key place = ⊥
+IsWritten (p ∷ ps) i u s t made key place = WritesSlot p i s key place ⊎ IsWritten ps i u made.0 t made.2 key place
+
+-- a slot carries what a relocation of a pass that stands at it and writes it gives: a map's number in the plan, or what is known of an
+-- extern
+abbrev pub Carries : Pass → Inputs → List MapContent → State → Key → ℕ → bpf_insn → Type 0
+Carries MapSlots i whole s key place x = (f : FunctionContent) (r : ℕ × Relocation) (w : Write)
+    → function_at s.functions key ≡ Some f
+    → place ≡ place_of f r.0
+    → maps.Writes (maps_given i.settings s) f r w
+    → NumbersMap (maps_given i.settings s) whole r.1 x
+Carries ExternSlots i whole s key place x = (f : FunctionContent) (r : ℕ × Relocation) (w : Write)
+    → function_at s.functions key ≡ Some f
+    → place ≡ place_of f r.0
+    → externs.Writes s.file s.externs.by_name f r w
+    → externs.CarriesExtern s.file s.externs.by_name r.1 x
+Carries _ i whole s key place x = Unit {0}
+
+-- of some passes that are made: each by which it is written last
+abbrev pub CarriesLast : (ps : List Pass) (i : Inputs) (u : Under) (s t : State) → Made ps i u s t → List MapContent → Key → ℕ → bpf_insn → Type 0
+CarriesLast [] i u s t made whole key place x = Unit {0}
+CarriesLast (p ∷ ps) i u s t made whole key place x =
+    ((IsWritten ps i u made.0 t made.2 key place → ⊥) → Carries p i whole s key place x) × CarriesLast ps i u made.0 t made.2 whole key place x
+
+-- What has become of a slot of an object's function: one that no relocation writes and that isn't renamed is the object's, and another
+-- carries what the last that writes it gives.
+pub record HasBecome (i : Inputs) (u : Under) (object patched : State) (made : Made (patching i.order) i u object patched) (whole : List MapContent) (key : Key) (place : ℕ) (s x : bpf_insn) : Type 0 where
+  pub unwritten : (IsWritten (patching i.order) i u object patched made key place → ⊥) → IsKept (keeps_helpers u) s → x ≡ s
+  pub written : CarriesLast (patching i.order) i u object patched made whole key place x
+
+-- the slot at a place of a function whose copy begins at a slot of a program refers to no function
+pub record IsCopied (functions : List (Key × FunctionContent)) (t : Table) (own : Key) (keys : List Key) (key : Key) (start place : ℕ) (s : bpf_insn) : Type 0 where
+  pub copy : IsCopy t own keys key start
+  pub function : FunctionContent
+  pub here : function_at functions key ≡ Some function
+  pub slot : slice_get function.instructions place ≡ Some s
+  pub refers : ref_at t key place ≡ None
+
+-- the slots of a program, by those of the object's functions that it has copies of and that refer to no function
+pub record AreSlotsOf (i : Inputs) (u : Under) (object patched : State) (made : Made (patching i.order) i u object patched) (whole : List MapContent) (own : Key) (keys : List Key) (slots : List bpf_insn) : Type 0 where
+  pub each : (key : Key) (start place : ℕ) (s : bpf_insn)
+      → IsCopied object.functions (table_of (unlinked_of patched)) own keys key start place s
+      → (x : bpf_insn) × (slice_get slots (start + place) ≡ Some x) × HasBecome i u object patched made whole key place s x
+
+-- A program of a plan: what it is by an object, by the same after its functions' slots were written, and by what was answered about
+-- the kernel. All is told by one layout, the keys of the functions whose copies are appended to the program's own.
+pub record IsPlanProgram (i : Inputs) (u : Under) (object patched : State) (made : Made (patching i.order) i u object patched) (whole : PlanContent) (e : List ℕ × ProgramContent) (p : plan.ProgramContent) : Type 0 where
+  -- name and kind are the program's
+  pub name : p.name ≡ e.0
+  pub section : p.section ≡ e.1.section
+  -- each function that its own leads to is appended once, in order of its first mention
+  pub keys : List Key
+  pub layout : IsLayout (source u patched) (own_key e.1) keys
+  pub reached : AreReached (source u patched) (own_key e.1) keys
+  -- the slots are those of the copies, and so the object's but for what relocations write
+  pub slots : p.slots ≡ linked (source u patched) (own_key e.1) keys
+  pub carried : AreSlotsOf i u object patched made whole.maps (own_key e.1) keys p.slots
+  -- on each list of decisions they are visited as the functions are, run with a stack of calls
+  pub visits : VisitsSame (source u patched) (own_key e.1) keys p.slots
+  -- the records are those of the copies, moved with them
+  pub func_records : p.func_records ≡ func_records_of u.answers (unlinked_of patched) (own_key e.1) keys
+  pub line_records : p.line_records ≡ line_records_of u.answers (is_some whole.type_bytes) (unlinked_of patched) (own_key e.1) keys
+  -- each record of a function names, in the plan's types, the function that it names in the object's
+  pub names : AllName object.types whole.type_bytes p.func_records
+
+-- a plan's programs are those of an object, each of them so
+abbrev pub ArePlanPrograms : (i : Inputs) (u : Under) (object patched : State) → Made (patching i.order) i u object patched → PlanContent → List (List ℕ × ProgramContent) → List plan.ProgramContent → Type 0
+ArePlanPrograms i u object patched made whole [] [] = Unit {0}
+ArePlanPrograms i u object patched made whole (e ∷ es) (p ∷ ps) = IsPlanProgram i u object patched made whole e p × ArePlanPrograms i u object patched made whole es ps
+ArePlanPrograms i u object patched made whole _ _ = ⊥

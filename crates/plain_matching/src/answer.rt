@@ -1,0 +1,107 @@
+//! What type relocations come to, in values that can be compared.
+
+use access_paths::AccessError;
+use btf_records::BtfError;
+use relocation_values::{RelocationValue, WholeField};
+use type_match::{Outcome, RelocationOutcome, TypeRelocationError};
+
+/// Why something is refused.
+#[derive(Clone, Copy, Debug, PartialEq, Eq)]
+pub enum Fault {
+    InvalidAccessString,
+    /// The type, the index, and how many there are.
+    InvalidAccessIndex(u32, u64, usize),
+    InvalidKindForType(u32),
+    MaximumNestingLevelReached,
+    InvalidTypeInfo,
+    InvalidStringOffset(usize),
+    UnknownBtfType(u32),
+    UnexpectedBtfType(u32),
+    MaximumTypeDepthReached(u32),
+    Other,
+}
+
+impl Fault {
+    fn of_types(error: &BtfError) -> Fault {
+        match error {
+            BtfError::InvalidTypeInfo => Fault::InvalidTypeInfo,
+            BtfError::InvalidStringOffset { offset } => Fault::InvalidStringOffset(*offset),
+            BtfError::UnknownBtfType { type_id } => Fault::UnknownBtfType(*type_id),
+            BtfError::UnexpectedBtfType { type_id } => Fault::UnexpectedBtfType(*type_id),
+            BtfError::MaximumTypeDepthReached { type_id } => {
+                Fault::MaximumTypeDepthReached(*type_id)
+            }
+            _ => Fault::Other,
+        }
+    }
+
+    pub fn of(error: &AccessError) -> Fault {
+        match error {
+            AccessError::InvalidAccessString => Fault::InvalidAccessString,
+            AccessError::InvalidAccessIndex { place, len } => {
+                Fault::InvalidAccessIndex(place.type_id, place.index, *len)
+            }
+            AccessError::InvalidRelocationKindForType { type_id } => {
+                Fault::InvalidKindForType(*type_id)
+            }
+            AccessError::MaximumNestingLevelReached => Fault::MaximumNestingLevelReached,
+            AccessError::BtfError(error) => Fault::of_types(error),
+        }
+    }
+}
+
+/// What a type relocation comes to.
+#[derive(Clone, Copy, Debug, PartialEq, Eq)]
+pub enum Answer {
+    Value(u64),
+    /// An offset, and the type and the size of the field that is there.
+    Field(u64, u32, u32),
+    Poison,
+    ConflictingCandidates,
+    MissingTargetDefinition,
+    Local(Fault),
+    /// What is wrong with a type of an id in a table.
+    Kernel(usize, u32, Fault),
+    OutOfMemory,
+}
+
+impl Answer {
+    pub fn of_value(value: RelocationValue) -> Answer {
+        match value.field {
+            Some(WholeField { type_id, size }) => Answer::Field(value.value, type_id, size),
+            None => Answer::Value(value.value),
+        }
+    }
+
+    pub fn of_outcome(outcome: Outcome) -> Answer {
+        match outcome {
+            Outcome::Value(value) => Answer::of_value(value),
+            Outcome::Poison => Answer::Poison,
+        }
+    }
+
+    /// What an error is.
+    pub fn refused(error: &TypeRelocationError) -> Answer {
+        match error {
+            TypeRelocationError::Local(error) => Answer::Local(Fault::of(error)),
+            TypeRelocationError::UnreadableName { place, offset } => Answer::Kernel(
+                place.table,
+                place.type_id,
+                Fault::InvalidStringOffset(*offset as usize),
+            ),
+            TypeRelocationError::Kernel { place, error } => {
+                Answer::Kernel(place.table, place.type_id, Fault::of(error))
+            }
+            TypeRelocationError::ConflictingCandidates => Answer::ConflictingCandidates,
+            TypeRelocationError::MissingTargetDefinition => Answer::MissingTargetDefinition,
+            TypeRelocationError::OutOfMemory => Answer::OutOfMemory,
+        }
+    }
+
+    pub fn of(answer: &Result<RelocationOutcome, TypeRelocationError>) -> Answer {
+        match answer {
+            Ok(found) => Answer::of_outcome(found.outcome),
+            Err(error) => Answer::refused(error),
+        }
+    }
+}

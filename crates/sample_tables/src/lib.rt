@@ -1,0 +1,13 @@
+//! Tables of types for the tests of several crates, by the words of their records ("BTF Type and String
+//! Encoding" of the kernel's btf.rst): sections, and random tables.
+#![tactic(auto)]
+
+mod dice;
+mod random;
+mod sections;
+mod texts;
+
+pub use dice::Dice;
+pub use random::random_types;
+pub use sections::section;
+pub use texts::Texts;

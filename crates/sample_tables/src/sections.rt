@@ -1,0 +1,52 @@
+//! Sections by the words of their records.
+
+use btf_records::Endianness;
+use std::alloc::{AllocError, Global};
+
+/// The bytes of a section's header.
+const HEADER: u32 = 24;
+
+/// Writes a word.
+fn push_word(out: &mut Vec<u8>, order: Endianness, word: u32) -> Result<(), AllocError> {
+    match order {
+        Endianness::Little => out.extend_from_slice(&word.to_le_bytes()),
+        Endianness::Big => out.extend_from_slice(&word.to_be_bytes()),
+    }
+}
+
+/// Writes words.
+fn push_words(out: &mut Vec<u8>, order: Endianness, words: &[u32]) -> Result<(), AllocError> {
+    for word in words {
+        push_word(out, order, *word)?;
+    }
+    Ok(())
+}
+
+/// A length as a word, of which the greatest stands for all that are too long.
+pub(crate) fn length_word(len: usize) -> u32 {
+    u32::try_from(len).unwrap_or(u32::MAX)
+}
+
+/// The section of records with these words, of these strings and of those behind them. It holds no
+/// table where it is too long for the words of its header.
+pub fn section(
+    alloc: Global,
+    order: Endianness,
+    words: &[u32],
+    strings: &[u8],
+    added: &[u8],
+) -> Result<Vec<u8>, AllocError> {
+    let mut out = Vec::new(alloc);
+    match order {
+        Endianness::Little => out.extend_from_slice(&[0x9f, 0xeb, 1, 0])?,
+        Endianness::Big => out.extend_from_slice(&[0xeb, 0x9f, 1, 0])?,
+    }
+    let types_len = length_word(words.len().saturating_mul(4));
+    let strings_len = length_word(strings.len().saturating_add(added.len()));
+    let header = [HEADER, 0, types_len, types_len, strings_len];
+    push_words(&mut out, order, &header)?;
+    push_words(&mut out, order, words)?;
+    out.extend_from_slice(strings)?;
+    out.extend_from_slice(added)?;
+    Ok(out)
+}

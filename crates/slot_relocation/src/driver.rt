@@ -1,0 +1,135 @@
+//! The functions of an object, relocated.
+
+ghost use Rattle.std.specs.Prelude.{◌≡◌, map, true, IfErr, IfOk, OnErr, OnOk};
+ghost use Rattle.std.specs.Prelude.{List, ℕ};
+ghost use Rattle.std.specs.Map.{values_of};
+ghost use Rattle.object_parts.specs.Content.{AreKeyed};
+ghost use Rattle.object_parts.specs.Installed.{AreChanged};
+ghost use Rattle.slot_relocation.specs.Walks.{IsRefusal, IsStop, changed, first_of, is_sound};
+ghost use Rattle.slot_relocation.specs.Writes.{AreFaultless};
+
+use crate::rule::{Pass, Refusal};
+use object_parts::{Function, Functions};
+use std::alloc::{AllocError, AllocFailed, Global};
+
+/// A fault of the relocation of an offset in a function's section.
+#[derive(Clone, Copy, Debug)]
+pub struct FaultAt<'f, E> {
+    pub function: &'f str,
+    pub section_index: usize,
+    pub offset: u64,
+    pub fault: E,
+}
+
+/// Why functions aren't relocated.
+#[derive(Clone, Copy, Debug)]
+pub enum Stop<'f, E> {
+    /// A relocation has a fault.
+    Fault(FaultAt<'f, E>),
+    /// Memory ran out.
+    OutOfMemory,
+}
+
+impl<'f, E> From<AllocError> for Stop<'f, E> {
+    ghost use Rattle.slot_relocation.specs.declared.driver.Stop.TheVariants.{OutOfMemory};
+
+    ghost from_gives = { λ _ r. r ≡ OutOfMemory };
+
+    fn from(_error: AllocError) -> Stop<'f, E> {
+        Stop::OutOfMemory
+    }
+}
+
+impl<'f, E, T: Drop> From<AllocFailed<T>> for Stop<'f, E> {
+    ghost use Rattle.slot_relocation.specs.declared.driver.Stop.TheVariants.{OutOfMemory};
+
+    ghost from_gives = { λ _ r. r ≡ OutOfMemory };
+
+    fn from(_error: AllocFailed<T>) -> Stop<'f, E> {
+        Stop::OutOfMemory
+    }
+}
+
+impl<'f, E: Copy> FaultAt<'f, E> {
+    /// The first of two faults in order of section and offset; of two at one offset the earlier one.
+    fn or_earlier(self, earlier: Option<FaultAt<'f, E>>) -> FaultAt<'f, E>
+        ensures { result ≡ first_of earlier.entry self.entry }
+    {
+        let Some(earlier) = earlier else {
+            return self;
+        };
+        if (self.section_index, self.offset) < (earlier.section_index, earlier.offset) {
+            self
+        } else {
+            earlier
+        }
+    }
+}
+
+/// A function after the relocations inside it.
+fn relocated<'f, A, E: Copy, P: Pass<A, E>>(
+    pass: &P,
+    function: &Function<'f>,
+) -> Result<Function<'f>, Refusal<E>>
+    ensures value { IfOk result (λ f. f ≡ changed (P.rule pass.now) (P.inside pass.now) function.now) }
+    ensures sound { OnOk result (is_sound (P.rule pass.now) (P.inside pass.now function.now) function.now ≡ true) }
+    ensures refused { IfErr result (IsRefusal (P.rule pass.now) (P.inside pass.now function.now) function.now) }
+{
+    let slots = pass.slots_after(function)?;
+    let relocated = function.with_instructions(slots)?;
+    Ok(relocated)
+}
+
+/// The functions after the relocations inside them, in order of key. Of several faults the first in
+/// order of section and offset is answered.
+fn relocate_all<'g, 'f, A, E: Copy, P: Pass<A, E>>(
+    alloc: Global,
+    pass: &P,
+    functions: &'g Functions<'f>,
+) -> Result<Vec<Function<'f>>, Stop<'f, E>>
+    ensures value { IfOk result (λ list. list.items ≡ map (changed (P.rule pass.now) (P.inside pass.now)) (values_of functions.now)) }
+    ensures keyed { AreKeyed functions.now }
+    ensures sound { OnOk result (AreFaultless (P.rule pass.now) (P.inside pass.now) functions.now) }
+    ensures fault { IfErr result (IsStop (P.rule pass.now) (P.inside pass.now) functions.now) }
+{
+    let mut list = Vec::new(alloc);
+    let mut first = None;
+    for (_, function) in functions.iter() {
+        match relocated(pass, function) {
+            Ok(function) => list.push(function)?,
+            Err(Refusal::Fault { offset, fault }) => {
+                let met = FaultAt {
+                    function: function.name,
+                    section_index: function.section_index,
+                    offset,
+                    fault,
+                };
+                first = Some(met.or_earlier(first));
+            }
+            Err(Refusal::OutOfMemory) => return Err(Stop::OutOfMemory),
+        }
+    }
+    match first {
+        Some(at) => Err(Stop::Fault(at)),
+        None => Ok(list),
+    }
+}
+
+/// Makes the relocations of a pass in all functions, each function's in the pass's order: all new
+/// functions are made before the first is put in its place, so that they stay as they are where a
+/// fault stands or memory runs out. Of several faults the first in order of section and offset is
+/// answered.
+pub fn relocate_functions<'f, A, E: Copy, P: Pass<A, E>>(
+    alloc: Global,
+    pass: &P,
+    functions: &mut Functions<'f>,
+) -> Result<(), Stop<'f, E>>
+    ensures relocated { OnOk result (AreChanged (changed (P.rule pass.now) (P.inside pass.now)) functions.old functions.new) }
+    ensures sound { OnOk result (AreFaultless (P.rule pass.now) (P.inside pass.now) functions.old) }
+    ensures fault { IfErr result (IsStop (P.rule pass.now) (P.inside pass.now) functions.old) }
+    ensures unchanged { OnErr result (functions.new ≡ functions.old) }
+{
+    let list = relocate_all(alloc, pass, functions)?;
+    functions.install(list);
+    Ok(())
+}

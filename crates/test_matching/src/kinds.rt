@@ -1,0 +1,165 @@
+//! Variants of enums, by name.
+
+use crate::case::check;
+use crate::tables::{
+    A, ACCESS, B, C, ENUM_1, ENUM_2, ENUM64_1, ENUM64_2, FLAVOURED_C, INT, ORDERS, S, TYPEDEF,
+    UNION_1, UNREADABLE, parse, section_of,
+};
+use btf_records::BtfFeature;
+use btf_tables::Btf;
+use ebpf_items::RelocationKind;
+use plain_matching::{Answer, Fault};
+use std::alloc::{AllocError, Global};
+use std::collections::BTreeMap;
+use std::process::Abort;
+use type_match::{TypeRelocation, relocation_outcome};
+
+const EXISTS: RelocationKind = RelocationKind::EnumVariantExists;
+
+const VALUE: RelocationKind = RelocationKind::EnumVariantValue;
+
+/// `s` of `a` and `c`.
+const OBJECT: [u32; 7] = [S, ENUM_2, 4, A, 7, C, 9];
+
+/// Of `c` with a flavour and of `c`.
+const FLAVOURED: [u32; 7] = [S, ENUM_2, 4, FLAVOURED_C, 5, C, 6];
+
+/// Of `b` and `a`.
+const OTHER: [u32; 7] = [S, ENUM_2, 4, B, 1, A, 0xffff_ffff];
+
+const UNREADABLE_FIRST: [u32; 7] = [S, ENUM_2, 4, UNREADABLE, 1, A, 2];
+
+const UNREADABLE_LAST: [u32; 7] = [S, ENUM_2, 4, A, 2, UNREADABLE, 1];
+
+/// A 64-bit `s` of `b` and `a`.
+const LONG: [u32; 9] = [S, ENUM64_2, 8, B, 1, 2, A, 0x8000_0000, 0xf000_0000];
+
+/// A 64-bit `s` of `a` alone.
+const LONG_A: [u32; 6] = [S, ENUM64_1, 8, A, 5, 6];
+
+#[test]
+fn variants_have_names(rt: HostRuntime) {
+    let unreadable = Answer::Kernel(0, 1, Fault::InvalidStringOffset(23));
+    let tables: [(&[u32], &str, Answer, Answer); 8] = [
+        (&OBJECT, "1", Answer::Value(1), Answer::Value(9)),
+        (&FLAVOURED, "1", Answer::Value(1), Answer::Value(5)),
+        (&FLAVOURED, "0", Answer::Value(0), Answer::Poison),
+        (&OTHER, "0", Answer::Value(1), Answer::Value(0xffff_ffff)),
+        (&OTHER, "1", Answer::Value(0), Answer::Poison),
+        (&UNREADABLE_FIRST, "0", unreadable, unreadable),
+        (&UNREADABLE_LAST, "0", Answer::Value(1), Answer::Value(2)),
+        (&LONG, "0", Answer::Value(0), Answer::Poison),
+    ];
+    for (kernel, access, exists, value) in &tables {
+        let cases = [(EXISTS, 1, *access, *exists), (VALUE, 1, *access, *value)];
+        check(&rt, rt.alloc(), &OBJECT, &[*kernel], &cases);
+    }
+    let long = [
+        (VALUE, 1, "0", Answer::Value(0x0000_0002_0000_0001)),
+        (VALUE, 1, "1", Answer::Value(0xf000_0000_8000_0000)),
+    ];
+    check(&rt, rt.alloc(), &LONG, &[&LONG], &long);
+}
+
+/// An enum of `a`, and a TYPEDEF `s` of it; the same of 64 bits.
+const NAMED: [u32; 8] = [B, ENUM_1, 4, A, 3, S, TYPEDEF, 1];
+
+const NAMED_LONG: [u32; 9] = [B, ENUM64_1, 8, A, 4, 5, S, TYPEDEF, 1];
+
+/// A TYPEDEF `s` of an integer.
+const NAMED_INT: [u32; 7] = [B, INT, 4, 0x20, S, TYPEDEF, 1];
+
+#[test]
+fn enums_may_be_named_anew(rt: HostRuntime) {
+    let kernels: [(&[u32], Answer); 4] = [
+        (&NAMED, Answer::Value(3)),
+        (&NAMED_LONG, Answer::Value(0x0000_0005_0000_0004)),
+        (&NAMED_INT, Answer::Poison),
+        (&OBJECT, Answer::Poison),
+    ];
+    for (kernel, value) in &kernels {
+        check(
+            &rt,
+            rt.alloc(),
+            &NAMED,
+            &[*kernel],
+            &[(VALUE, 2, "0", *value)],
+        );
+    }
+}
+
+#[test]
+fn variants_are_counted(rt: HostRuntime) {
+    let kind = Answer::Local(Fault::InvalidKindForType(1));
+    let access = Answer::Local(Fault::InvalidAccessString);
+    let cases = [
+        (
+            VALUE,
+            1,
+            "2",
+            Answer::Local(Fault::InvalidAccessIndex(1, 2, 2)),
+        ),
+        (EXISTS, 1, "0:0", access),
+        (VALUE, 1, "x", access),
+    ];
+    check(&rt, rt.alloc(), &OBJECT, &[&OBJECT], &cases);
+    let cases = [
+        (VALUE, 1, "0", kind),
+        (EXISTS, 2, "0:0", kind),
+        (EXISTS, 1, "x", access),
+    ];
+    check(&rt, rt.alloc(), &NAMED_INT, &[&OBJECT], &cases);
+    let name = Answer::Local(Fault::InvalidStringOffset(23));
+    check(
+        &rt,
+        rt.alloc(),
+        &UNREADABLE_LAST,
+        &[&OBJECT],
+        &[(EXISTS, 1, "1", name)],
+    );
+}
+
+/// Makes a union of a 64-bit enum.
+fn deny_enum64(table: &mut Btf<'_>, alloc: Global) -> bool {
+    let sizes: BTreeMap<&str, u64> = BTreeMap::new(alloc);
+    let offsets: BTreeMap<&str, u64> = BTreeMap::new(alloc);
+    let answer = table.fixup_and_sanitize(&sizes, &offsets, None, |feature| {
+        feature != BtfFeature::Enum64
+    });
+    answer.is_ok()
+}
+
+/// A union `s` with a member `a`.
+const UNION: [u32; 10] = [B, INT, 4, 0x20, S, UNION_1, 8, A, 1, 0];
+
+/// A relocation of an object whose 64-bit enums stand as unions.
+fn answer_of_union(rt: &impl Abort, alloc: Global, kernel: &[u32], kind: RelocationKind) -> Answer {
+    let order = ORDERS[0];
+    let own = section_of(rt, alloc, order, &LONG_A, "0");
+    let mut own = parse(rt, alloc, own.as_slice(), order);
+    assert!(rt; deny_enum64(&mut own, alloc));
+    let section = section_of(rt, alloc, order, kernel, "");
+    let relocation = TypeRelocation {
+        kind,
+        type_id: 1,
+        access_str_off: ACCESS,
+    };
+    let table = parse(rt, alloc, section.as_slice(), order);
+    Answer::of(&relocation_outcome(&own, relocation, &[table]))
+}
+
+#[test]
+fn unions_stand_for_64_bit_enums(rt: HostRuntime) {
+    let cases: [(&[u32], RelocationKind, Answer); 6] = [
+        (&LONG, EXISTS, Answer::Value(1)),
+        (&LONG, VALUE, Answer::Value(0xf000_0000_8000_0000)),
+        (&UNION, VALUE, Answer::Poison),
+        (&OBJECT, VALUE, Answer::Poison),
+        (&LONG, RelocationKind::TypeExists, Answer::Value(0)),
+        (&UNION, RelocationKind::TypeExists, Answer::Value(1)),
+    ];
+    for (kernel, kind, wanted) in cases {
+        let found = answer_of_union(&rt, rt.alloc(), kernel, kind);
+        assert_eq!(rt; found, wanted, "{kind:?}");
+    }
+}

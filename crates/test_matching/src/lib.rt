@@ -1,0 +1,21 @@
+//! Tests of type relocations over tables of types: their paths, their matches and what they come to.
+#![tactic(auto)]
+
+#[cfg(test)]
+mod case;
+#[cfg(test)]
+mod fields;
+#[cfg(test)]
+mod kinds;
+#[cfg(test)]
+mod nesting;
+#[cfg(test)]
+mod paths;
+#[cfg(test)]
+mod refusals;
+#[cfg(test)]
+mod tables;
+#[cfg(test)]
+mod whole_types;
+#[cfg(test)]
+mod worked;

@@ -1,0 +1,5 @@
+//! Tests of the addresses of kernel symbols.
+#![tactic(auto)]
+
+#[cfg(test)]
+mod addresses;

@@ -1,0 +1,142 @@
+-- Candidates among the types of a name.
+use Rattle.std.proofs.Common.{◌≡◌, ℕ, Bool, true, false, cond, nat_eq, List, [], ◌∷◌, filter, find, Option, None, Some, refl, sym, ap, ◌∙◌, subst, arith, ◌⊎◌, inl, inr}
+use Rattle.std.proofs.lemmas.Bool.Decides.{nat_tests}
+use Rattle.std.specs.Prelude.{◌&&◌, ◌||◌, not, is_none, slice_get, slice_index_or}
+use Rattle.std.specs.Cmp.Lexicographic.{pointwise, same_text}
+use Rattle.std.specs.Borrow.{Bor}
+use Rattle.std.specs.Option.{IfSome, IsSomeAnd, option_map_or}
+use Rattle.btf_records.specs.Fields.{kind_of_type, name_offset_of}
+use Rattle.btf_records.specs.Kinds.{number_of}
+use Rattle.btf_records.specs.declared.kind.BtfKind.TheVariants.{Enum64}
+use Rattle.btf_records.specs.declared.types.BtfType.{BtfType}
+use Rattle.btf_tables.specs.EssentialNames.{essential_name}
+use Rattle.btf_tables.specs.Tables.{Table, type_by_id}
+use Rattle.string_table.specs.Texts.{text_at}
+use Rattle.type_candidates.specs.Candidates.{Wanted, all_types, asked_of, is_candidate, is_named, is_of_kind, is_unreadable, is_unreadable_at}
+use Rattle.type_candidates.specs.NamedTypes.{AreSeen, HoldCandidates, is_known, is_known_kind, is_under, is_unreadable_of, number_of_name, of_name, of_type, sighted}
+use Rattle.type_candidates.specs.declared.kernel_type.KernelType.{KernelType}
+use Rattle.type_candidates.specs.declared.sighting.Sighting.{Sighting}
+use Rattle.type_candidates.specs.declared.sighting.Sighting.TheVariants.{Other, Unreadable}
+use Rattle.type_candidates.proofs.SeenTypes.{true_or_false, equal}
+
+both : (a b : Bool) → (a && b) ≡ true → (a ≡ true) × (b ≡ true)
+both true b e = (refl, e)
+both false b e = absurd cc
+
+either : (a b : Bool) → (a || b) ≡ true → (a ≡ true) ⊎ (b ≡ true)
+either true b e = inl refl
+either false b e = inr e
+
+negated : (a : Bool) → not a ≡ true → a ≡ false
+negated true e = absurd cc
+negated false e = refl
+
+itself : (n : ℕ) → nat_eq n n ≡ true
+itself n = grind (arith, nat_tests)
+
+kind_known : (kinds unreadable : List Bool) (kind : ℕ) → is_known_kind kinds unreadable kind ≡ true → (slice_index_or kinds kind false ≡ true) × (slice_index_or unreadable kind true ≡ false)
+kind_known kinds unreadable kind e = let parts = both (slice_index_or kinds kind false) (not (slice_index_or unreadable kind true)) e in (parts.0, negated (slice_index_or unreadable kind true) parts.1)
+
+known_case : (known : ℕ → Bool) (a e k : ℕ) (more : Bool) → known a ≡ true → (not more || known e) ≡ true → (nat_eq k a ≡ true) ⊎ ((more && nat_eq k e) ≡ true) → known k ≡ true
+known_case known a e k more here there (inl same) = subst (λ (n : ℕ). known n ≡ true) (sym (equal k a same)) here
+known_case known a e k true here there (inr same) = subst (λ (n : ℕ). known n ≡ true) (sym (equal k e same)) there
+known_case known a e k false here there (inr same) = absurd cc
+
+-- a kind that is wanted is known
+known_by : (known : ℕ → Bool) (a e k : ℕ) (more : Bool) → (known a && (not more || known e)) ≡ true → (nat_eq k a || (more && nat_eq k e)) ≡ true → known k ≡ true
+known_by known a e k more all is = let parts = both (known a) (not more || known e) all in known_case known a e k more parts.0 parts.1 (either (nat_eq k a) (more && nat_eq k e) is)
+
+of_kind_known : (kinds unreadable : List Bool) (w : Wanted) (t : BtfType) → is_known kinds unreadable w ≡ true → is_of_kind w t ≡ true → is_known_kind kinds unreadable (number_of (kind_of_type t)) ≡ true
+of_kind_known kinds unreadable w t known is = known_by (is_known_kind kinds unreadable) (number_of w.kind) (number_of Enum64) (number_of (kind_of_type t)) w.or_enum64 known is
+
+under_text : (numbers : List (List ℕ × ℕ)) (name : List ℕ) (kind number : ℕ) (text : Option (List ℕ)) → number_of_name numbers name ≡ Some number → option_map_or (λ x. pointwise nat_eq (essential_name x) name) text false ≡ true → is_under number (of_name numbers kind text) ≡ true
+under_text numbers name kind number None here e = absurd cc
+under_text numbers name kind number (Some text) here e = let cut : essential_name text ≡ name = same_text (essential_name text) name (sym e) in rw (cut, here) (itself number)
+
+under_type : (kinds unreadable : List Bool) (numbers : List (List ℕ × ℕ)) (w : Wanted) (number : ℕ) (strings : List ℕ) (t : Option BtfType) → is_known kinds unreadable w ≡ true → number_of_name numbers w.name ≡ Some number → option_map_or (is_named w strings) t false ≡ true → is_under number (option_map_or (of_type kinds numbers strings) t Other) ≡ true
+under_type kinds unreadable numbers w number strings None known here e = absurd cc
+under_type kinds unreadable numbers w number strings (Some t) known here e =
+    let parts = both (is_of_kind w t) (option_map_or (λ x. pointwise nat_eq (essential_name x) w.name) (text_at strings (name_offset_of t)) false) e in
+    let kind = kind_known kinds unreadable (number_of (kind_of_type t)) (of_kind_known kinds unreadable w t known parts.0) in
+    rw kind.0 (under_text numbers w.name (number_of (kind_of_type t)) number (text_at strings (name_offset_of t)) here parts.1)
+
+under_target : (kinds unreadable : List Bool) (numbers : List (List ℕ × ℕ)) (w : Wanted) (number id : ℕ) (target : Option Table) → is_known kinds unreadable w ≡ true → number_of_name numbers w.name ≡ Some number → asked_of (is_named w) target id ≡ true → is_under number (option_map_or (λ (table : Table). option_map_or (of_type kinds numbers table.strings) (type_by_id table id) Other) target Other) ≡ true
+under_target kinds unreadable numbers w number id None known here e = absurd cc
+under_target kinds unreadable numbers w number id (Some table) known here e = under_type kinds unreadable numbers w number table.strings (type_by_id table id) known here e
+
+no_text : (numbers : List (List ℕ × ℕ)) (kind : ℕ) (text : Option (List ℕ)) → is_none text ≡ true → of_name numbers kind text ≡ Unreadable kind
+no_text numbers kind None e = refl
+no_text numbers kind (Some text) e = absurd cc
+
+-- of which of the two kinds it is
+which : (a e k : ℕ) (more : Bool) → (nat_eq k a ≡ true) ⊎ ((more && nat_eq k e) ≡ true) → (nat_eq k a ≡ true) ⊎ ((more ≡ true) × (nat_eq k e ≡ true))
+which a e k more (inl same) = inl same
+which a e k more (inr same) = inr (both more (nat_eq k e) same)
+
+abbrev IsUnread : Wanted → Sighting → Type 0
+IsUnread w s = (is_unreadable_of (number_of w.kind) s ≡ true) ⊎ ((w.or_enum64 ≡ true) × (is_unreadable_of (number_of Enum64) s ≡ true))
+
+unread_type : (kinds unreadable : List Bool) (numbers : List (List ℕ × ℕ)) (w : Wanted) (strings : List ℕ) (t : Option BtfType) → is_known kinds unreadable w ≡ true → option_map_or (is_unreadable w strings) t false ≡ true → IsUnread w (option_map_or (of_type kinds numbers strings) t Other)
+unread_type kinds unreadable numbers w strings None known e = absurd cc
+unread_type kinds unreadable numbers w strings (Some t) known e =
+    let parts = both (is_of_kind w t) (is_none (text_at strings (name_offset_of t))) e in
+    let kind = kind_known kinds unreadable (number_of (kind_of_type t)) (of_kind_known kinds unreadable w t known parts.0) in
+    let is : of_type kinds numbers strings t ≡ Unreadable (number_of (kind_of_type t)) = rw kind.0 (no_text numbers (number_of (kind_of_type t)) (text_at strings (name_offset_of t)) parts.1) in
+    subst (λ (s : Sighting). IsUnread w s) (sym is) (which (number_of w.kind) (number_of Enum64) (number_of (kind_of_type t)) w.or_enum64 (either (nat_eq (number_of (kind_of_type t)) (number_of w.kind)) (w.or_enum64 && nat_eq (number_of (kind_of_type t)) (number_of Enum64)) parts.0))
+
+unread_target : (kinds unreadable : List Bool) (numbers : List (List ℕ × ℕ)) (w : Wanted) (id : ℕ) (target : Option Table) → is_known kinds unreadable w ≡ true → asked_of (is_unreadable w) target id ≡ true → IsUnread w (option_map_or (λ (table : Table). option_map_or (of_type kinds numbers table.strings) (type_by_id table id) Other) target Other)
+unread_target kinds unreadable numbers w id None known e = absurd cc
+unread_target kinds unreadable numbers w id (Some table) known e = unread_type kinds unreadable numbers w table.strings (type_by_id table id) known e
+
+tail_by : (b : Bool) (x : KernelType) (r : Option KernelType) → cond b (Some x) r ≡ None → (b ≡ false) × (r ≡ None)
+tail_by true x r e = absurd cc
+tail_by false x r e = (refl, e)
+
+differ : {A : Type 0} (b : Bool) → b ≡ true → b ≡ false → A
+differ true e f = absurd cc
+differ false e f = absurd cc
+
+none_case : (u : KernelType → Bool) (x : KernelType) (xs : List KernelType) → u x ≡ false → find u xs ≡ None → find u (x ∷ xs) ≡ None
+none_case u x xs isnt none = rw isnt none
+
+here_by : {A : Type 0} (va vb : KernelType → Bool) (more : Bool) (x : KernelType) (xs : List KernelType) → find va (x ∷ xs) ≡ None → (more ≡ true → find vb (x ∷ xs) ≡ None) → (va x ≡ true) ⊎ ((more ≡ true) × (vb x ≡ true)) → A
+here_by va vb more x xs na nb (inl is) = differ (va x) is (tail_by (va x) x (find va xs) na).0
+here_by va vb more x xs na nb (inr is) = differ (vb x) is.1 (tail_by (vb x) x (find vb xs) (nb is.0)).0
+
+none_next : (u va vb : KernelType → Bool) (more : Bool) → ((x : KernelType) → u x ≡ true → (va x ≡ true) ⊎ ((more ≡ true) × (vb x ≡ true))) → (x : KernelType) (xs : List KernelType) → find va (x ∷ xs) ≡ None → (more ≡ true → find vb (x ∷ xs) ≡ None) → find u xs ≡ None → (u x ≡ true) ⊎ (u x ≡ false) → find u (x ∷ xs) ≡ None
+none_next u va vb more h x xs na nb rest (inl is) = here_by va vb more x xs na nb (h x is)
+none_next u va vb more h x xs na nb rest (inr isnt) = none_case u x xs isnt rest
+
+none_of : (u va vb : KernelType → Bool) (more : Bool) → ((x : KernelType) → u x ≡ true → (va x ≡ true) ⊎ ((more ≡ true) × (vb x ≡ true))) → (xs : List KernelType) → find va xs ≡ None → (more ≡ true → find vb xs ≡ None) → find u xs ≡ None
+none_of u va vb more h [] na nb = refl
+none_of u va vb more h (x ∷ xs) na nb = none_next u va vb more h x xs na nb (none_of u va vb more h xs (tail_by (va x) x (find va xs) na).1 (λ e. (tail_by (vb x) x (find vb xs) (nb e)).1)) (true_or_false (u x))
+
+kept_next : (p q : KernelType → Bool) → ((x : KernelType) → p x ≡ true → q x ≡ true) → (x : KernelType) (xs : List KernelType) → filter p (filter q xs) ≡ filter p xs → (q x ≡ true) ⊎ (q x ≡ false) → (p x ≡ true) ⊎ (p x ≡ false) → filter p (filter q (x ∷ xs)) ≡ filter p (x ∷ xs)
+kept_next p q h x xs rest (inl isq) (inl isp) = rw (isq, isp) (ap (λ (ys : List KernelType). x ∷ ys) rest)
+kept_next p q h x xs rest (inl isq) (inr isnt) = rw (isq, isnt) rest
+kept_next p q h x xs rest (inr isnt) (inl isp) = differ (q x) (h x isp) isnt
+kept_next p q h x xs rest (inr isntq) (inr isntp) = rw (isntq, isntp) rest
+
+kept_all : (p q : KernelType → Bool) → ((x : KernelType) → p x ≡ true → q x ≡ true) → (xs : List KernelType) → filter p (filter q xs) ≡ filter p xs
+kept_all p q h [] = refl
+kept_all p q h (x ∷ xs) = kept_next p q h x xs (kept_all p q h xs) (true_or_false (q x)) (true_or_false (p x))
+
+-- the types with the name hold all candidates
+pub holds : (targets : List Table) (kinds unreadable : List Bool) (numbers : List (List ℕ × ℕ)) (named : List (List KernelType)) (w : Wanted) (number : ℕ) (places : List KernelType) → AreSeen (sighted kinds numbers targets) (all_types targets) named unreadable → is_known kinds unreadable w ≡ true → number_of_name numbers w.name ≡ Some number → slice_get named number ≡ Some places
+    → HoldCandidates targets w places
+holds targets kinds unreadable numbers named w number places seen known here is =
+    let first = kind_known kinds unreadable (number_of w.kind) (both (is_known_kind kinds unreadable (number_of w.kind)) (not w.or_enum64 || is_known_kind kinds unreadable (number_of Enum64)) known).0 in
+    let second : w.or_enum64 ≡ true → is_known_kind kinds unreadable (number_of Enum64) ≡ true = λ e. known_case (is_known_kind kinds unreadable) (number_of w.kind) (number_of Enum64) (number_of Enum64) w.or_enum64 (both (is_known_kind kinds unreadable (number_of w.kind)) (not w.or_enum64 || is_known_kind kinds unreadable (number_of Enum64)) known).0 (both (is_known_kind kinds unreadable (number_of w.kind)) (not w.or_enum64 || is_known_kind kinds unreadable (number_of Enum64)) known).1 (inr (rw e refl)) in
+    record {
+      readable = none_of (is_unreadable_at w targets) (λ place. is_unreadable_of (number_of w.kind) (sighted kinds numbers targets place)) (λ place. is_unreadable_of (number_of Enum64) (sighted kinds numbers targets place)) w.or_enum64 (λ place e. unread_target kinds unreadable numbers w place.type_id (slice_get targets place.table) known e) (all_types targets) (seen.readable (number_of w.kind) first.1) (λ e. seen.readable (number_of Enum64) (kind_known kinds unreadable (number_of Enum64) (second e)).1);
+      all = ap (filter (is_candidate w targets)) (rw is at (seen.each number)) ∙ kept_all (is_candidate w targets) (λ place. is_under number (sighted kinds numbers targets place)) (λ place e. under_target kinds unreadable numbers w number place.type_id (slice_get targets place.table) known here e) (all_types targets);
+    }
+
+by_number : (targets : List Table) (kinds unreadable : List Bool) (numbers : List (List ℕ × ℕ)) (named : List (List KernelType)) (w : Wanted) (places : List KernelType) (number : Option ℕ) → AreSeen (sighted kinds numbers targets) (all_types targets) named unreadable → is_known kinds unreadable w ≡ true → number_of_name numbers w.name ≡ number → IsSomeAnd number (λ n. slice_get named n ≡ Some places) → HoldCandidates targets w places
+by_number targets kinds unreadable numbers named w places None seen known same here = absurd here
+by_number targets kinds unreadable numbers named w places (Some number) seen known same here = holds targets kinds unreadable numbers named w number places seen known same here
+
+pub holds_if : (targets : List Table) (kinds unreadable : List Bool) (numbers : List (List ℕ × ℕ)) (named : List (List KernelType)) (w : Wanted) (name : List ℕ) (found : Option (Bor (List KernelType))) → AreSeen (sighted kinds numbers targets) (all_types targets) named unreadable → is_known kinds unreadable w ≡ true → name ≡ w.name → IfSome found (λ places. IsSomeAnd (number_of_name numbers name) (λ n. slice_get named n ≡ Some places.now))
+    → IfSome found (λ places. HoldCandidates targets w places.now)
+holds_if targets kinds unreadable numbers named w name None seen known same here = tt
+holds_if targets kinds unreadable numbers named w name (Some places) seen known same here = by_number targets kinds unreadable numbers named w places.now (number_of_name numbers name) seen known (ap (number_of_name numbers) (sym same)) here

@@ -1,0 +1,5 @@
+pub mod ByBytes
+pub mod FoundCandidates
+pub mod Held
+pub mod PickedTypes
+pub mod SeenTypes

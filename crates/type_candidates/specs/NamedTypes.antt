@@ -1,0 +1,78 @@
+-- The types of a kernel that have wanted names, found in one walk over each table.
+use Rattle.std.specs.Prelude.{◌≡◌, ℕ, ◌==◌, ◌&&◌, ◌||◌, not, Bool, true, false, List, [], ◌∷◌, ◌++◌, filter, find, map, slice_get, slice_index_or, IfSome, Option, None, Some, if◌then◌else◌}
+use Rattle.std.specs.BTreeMap.{is_at}
+use Rattle.std.specs.Borrow.{Bor}
+use Rattle.std.specs.Cmp.Lexicographic.{slice_cmp}
+use Rattle.std.specs.List.{flat_map, range_with_len}
+use Rattle.std.specs.Map.{lookup}
+use Rattle.std.specs.Option.{IsSomeAnd, option_map_or}
+use Rattle.std.specs.Ordering.{nat_cmp}
+use Rattle.btf_records.specs.Fields.{kind_of_type, name_offset_of}
+use Rattle.btf_records.specs.Kinds.{number_of}
+use Rattle.btf_records.specs.declared.kind.BtfKind.TheVariants.{Enum64}
+use Rattle.btf_records.specs.declared.types.BtfType.{BtfType}
+use Rattle.btf_tables.specs.EssentialNames.{essential_name}
+use Rattle.btf_tables.specs.Tables.{Table, type_by_id}
+use Rattle.string_table.specs.Texts.{text_at}
+use Rattle.type_candidates.specs.Candidates.{Wanted, all_types, first_types, is_candidate, is_unreadable_at, types_at}
+use Rattle.type_candidates.specs.declared.kernel_type.KernelType.{KernelType}
+use Rattle.type_candidates.specs.declared.sighting.Sighting.{Sighting}
+use Rattle.type_candidates.specs.declared.sighting.Sighting.TheVariants.{Named, Other, Unreadable}
+
+-- maps whose keys are names: the entries by the bytes of their names
+abbrev pub by_bytes : {V : Type 0} → List (Bor (List ℕ) × V) → List (List ℕ × V)
+by_bytes entries = map (λ e. (e.0.now, e.1)) entries
+
+abbrev pub number_of_name : List (List ℕ × ℕ) → List ℕ → Option ℕ
+number_of_name numbers name = lookup (is_at (slice_cmp nat_cmp name)) numbers
+
+-- what a type is, of these kinds and these names
+abbrev pub of_number : Option ℕ → Sighting
+of_number None = Other
+of_number (Some number) = Named number
+
+abbrev pub of_name : List (List ℕ × ℕ) → ℕ → Option (List ℕ) → Sighting
+of_name numbers kind None = Unreadable kind
+of_name numbers kind (Some text) = of_number (number_of_name numbers (essential_name text))
+
+abbrev pub of_type : List Bool → List (List ℕ × ℕ) → List ℕ → BtfType → Sighting
+of_type kinds numbers strings t = if slice_index_or kinds (number_of (kind_of_type t)) false then of_name numbers (number_of (kind_of_type t)) (text_at strings (name_offset_of t)) else Other
+
+abbrev pub sighted : List Bool → List (List ℕ × ℕ) → List Table → KernelType → Sighting
+sighted kinds numbers targets place = option_map_or (λ table. option_map_or (of_type kinds numbers table.strings) (type_by_id table place.type_id) Other) (slice_get targets place.table) Other
+
+abbrev pub is_under : ℕ → Sighting → Bool
+is_under number (Named other) = other == number
+is_under number _ = false
+
+abbrev pub is_unreadable_of : ℕ → Sighting → Bool
+is_unreadable_of kind (Unreadable other) = other == kind
+is_unreadable_of kind _ = false
+
+-- by number, the types of that name among those that were seen; and of which kinds all names could be read
+pub record AreSeen (see : KernelType → Sighting) (seen : List KernelType) (named : List (List KernelType)) (unreadable : List Bool) : Type 0 where
+  pub each : (number : ℕ) → IfSome (slice_get named number) (λ places. places ≡ filter (λ place. is_under number (see place)) seen)
+  pub readable : (kind : ℕ) → slice_index_or unreadable kind true ≡ false → find (λ place. is_unreadable_of kind (see place)) seen ≡ None
+
+-- one more is seen
+pub record IsNamedNext (sighting : Sighting) (place : KernelType) (old new : List (List KernelType)) : Type 0 where
+  pub each : (number : ℕ) → IfSome (slice_get new number) (λ places. IsSomeAnd (slice_get old number) (λ before. places ≡ before ++ (if is_under number sighting then place ∷ [] else [])))
+
+pub record IsUnreadableNext (sighting : Sighting) (old new : List Bool) : Type 0 where
+  pub readable : (kind : ℕ) → slice_index_or new kind true ≡ false → (slice_index_or old kind true ≡ false) × (is_unreadable_of kind sighting ≡ false)
+
+-- the types of so many tables, and so many of the next
+abbrev pub types_before : List Table → ℕ → ℕ → List KernelType
+types_before targets table count = flat_map (types_at targets) (range_with_len 0 table) ++ first_types table count
+
+-- all names of a kind were looked at, and could be read
+abbrev pub is_known_kind : List Bool → List Bool → ℕ → Bool
+is_known_kind kinds unreadable kind = slice_index_or kinds kind false && not (slice_index_or unreadable kind true)
+
+abbrev pub is_known : List Bool → List Bool → Wanted → Bool
+is_known kinds unreadable wanted = is_known_kind kinds unreadable (number_of wanted.kind) && (not wanted.or_enum64 || is_known_kind kinds unreadable (number_of Enum64))
+
+-- these types hold all candidates, and no name of the kind is unreadable
+pub record HoldCandidates (targets : List Table) (wanted : Wanted) (places : List KernelType) : Type 0 where
+  pub readable : find (is_unreadable_at wanted targets) (all_types targets) ≡ None
+  pub all : filter (is_candidate wanted targets) places ≡ filter (is_candidate wanted targets) (all_types targets)

@@ -1,0 +1,209 @@
+//! The candidates of all types that are wanted.
+
+ghost use Rattle.std.specs.Prelude.{◌≡◌, ◌≢◌, [], true, All, IfOk, IfErr, IfSome, Ok, Err, Some, filter, slice_get};
+ghost use Rattle.std.specs.Option.{IsSomeAnd};
+ghost use Rattle.type_candidates.specs.Candidates.{candidates, is_candidate};
+ghost use Rattle.type_candidates.specs.NamedTypes.{HoldCandidates, is_known, is_known_kind, number_of_name};
+ghost use Rattle.type_candidates.specs.declared.error.CandidateError.TheVariants.{OutOfMemory};
+
+use crate::error::CandidateError;
+use crate::kernel_type::KernelType;
+use crate::places::Places;
+use crate::search::{candidates, is_candidate};
+use crate::walk::note_all;
+use crate::wanted::WantedType;
+use crate::wanted_names::WantedNames;
+use btf_records::BtfKind;
+use btf_tables::Btf;
+use std::alloc::{AllocError, Global};
+use std::marker::Model;
+
+/// The number of a 64-bit enum.
+const ENUM64: usize = BtfKind::Enum64 as usize;
+
+/// The types of a kernel's tables that may be taken for wanted ones, found in one walk over each
+/// table.
+#[derive(Debug, Drop)]
+pub struct Candidates<'c> {
+    targets: &'c [Btf<'c>],
+    names: WantedNames<'c>,
+    /// By number, which kinds are wanted.
+    kinds: [bool; 20],
+    /// By number, of which kinds a name can't be read.
+    unreadable: [bool; 20],
+    /// By the numbers of names, the types of wanted kinds.
+    named: Vec<Places>,
+}
+
+impl<'c> Model for Candidates<'c> {
+    ghost use Rattle.std.specs.Prelude.{List};
+    ghost use Rattle.btf_tables.specs.Tables.{Table};
+    ghost use Rattle.type_candidates.specs.Candidates.{all_types};
+    ghost use Rattle.type_candidates.specs.NamedTypes.{AreSeen, sighted};
+
+    ghost Value = { List Table };
+
+    ghost view = { λ c. c.targets.now };
+
+    ghost invariant = { λ c. AreSeen (sighted c.kinds c.names c.targets.now) (all_types c.targets.now) c.named.items c.unreadable };
+}
+
+/// So many empty lists.
+fn no_places(alloc: Global, count: usize) -> Result<Vec<Places>, AllocError>
+    ensures { IfOk result (λ named. All (λ places. places ≡ []) named.items) }
+{
+    let mut named = Vec::new(alloc);
+    for _ in 0..count {
+        named.push(Places::new(alloc))?;
+    }
+    Ok(named)
+}
+
+/// Adds what is wanted for local types that are there and whose names can be read.
+fn add_wanted<'l>(
+    local: &'l Btf<'_>,
+    type_ids: &[u32],
+    names: &mut WantedNames<'l>,
+    kinds: &mut [bool; 20],
+) -> Result<(), AllocError> {
+    for type_id in type_ids {
+        if let Ok(wanted) = WantedType::find(local, *type_id) {
+            kinds[wanted.kind() as usize] = true;
+            if wanted.or_enum64() {
+                kinds[ENUM64] = true;
+            }
+            names.add(wanted.name())?;
+        }
+    }
+    Ok(())
+}
+
+/// Whether all names of a kind, by its number, were looked at, and could be read.
+fn is_known_kind(kinds: &[bool], unreadable: &[bool], kind: usize) -> bool
+    ensures { result ≡ is_known_kind kinds.now unreadable.now kind }
+{
+    match (kinds.get(kind), unreadable.get(kind)) {
+        (Some(is_wanted), Some(is_unreadable)) => *is_wanted && !*is_unreadable,
+        _ => false,
+    }
+}
+
+/// Whether all names of the wanted kind were looked at, and could be read.
+fn is_known(kinds: &[bool], unreadable: &[bool], wanted: &WantedType<'_>) -> bool
+    ensures { result ≡ is_known kinds.now unreadable.now wanted.now }
+{
+    is_known_kind(kinds, unreadable, wanted.kind() as usize)
+        && (!wanted.or_enum64() || is_known_kind(kinds, unreadable, ENUM64))
+}
+
+/// The types that are entered under a name.
+fn places_of<'p>(
+    names: &WantedNames<'_>,
+    named: &'p [Places],
+    name: &str,
+) -> Option<&'p [KernelType]>
+    ensures { IfSome result (λ places. IsSomeAnd (number_of_name names.now name.now) (λ number. slice_get named.now number ≡ Some places.now)) }
+{
+    let number = names.number(name)?;
+    match named.get(number) {
+        Some(places) => Some(places.as_slice()),
+        None => None,
+    }
+}
+
+/// Whether a type is a candidate.
+fn is_listed(wanted: &WantedType<'_>, targets: &[Btf<'_>], place: KernelType) -> bool
+    ensures { result ≡ is_candidate wanted.now targets.now place }
+{
+    match is_candidate(wanted, targets, place) {
+        Ok(is) => is,
+        Err(_error) => false,
+    }
+}
+
+/// Those of some types that are candidates.
+#[tactic(auto, using(crate::proofs::PickedTypes::picked_on, crate::proofs::PickedTypes::picked_past, crate::proofs::PickedTypes::picked_end))]
+fn picked(
+    alloc: Global,
+    wanted: &WantedType<'_>,
+    targets: &[Btf<'_>],
+    places: &[KernelType],
+) -> Result<Vec<KernelType>, AllocError>
+    ensures { IfOk result (λ found. found.items ≡ filter (is_candidate wanted.now targets.now) places.now) }
+{
+    let mut found = Vec::new(alloc);
+    for place in places {
+        if is_listed(wanted, targets, *place) {
+            found.push(*place)?;
+        }
+    }
+    Ok(found)
+}
+
+impl<'c> Candidates<'c> {
+    /// The candidates for local types of these ids, in these tables.
+    #[tactic(auto, using(crate::proofs::SeenTypes::none_seen))]
+    pub fn collect(
+        local: &'c Btf<'c>,
+        type_ids: &[u32],
+        targets: &'c [Btf<'c>],
+    ) -> Result<Candidates<'c>, AllocError>
+        ensures { IfOk result (λ candidates. candidates ≡ targets.now) }
+    {
+        let alloc = local.allocator();
+        let mut names = WantedNames::new(alloc);
+        let mut kinds = [false; 20];
+        add_wanted(local, type_ids, &mut names, &mut kinds)?;
+        let mut named = no_places(alloc, names.len())?;
+        let mut unreadable = [false; 20];
+        note_all(
+            &kinds,
+            &names,
+            targets,
+            named.as_mut_slice(),
+            &mut unreadable,
+        )?;
+        Ok(Candidates {
+            targets,
+            names,
+            kinds,
+            unreadable,
+            named,
+        })
+    }
+
+    /// Types among which all candidates are, where these were found.
+    #[tactic(auto, using(crate::proofs::Held::holds))]
+    fn places(&self, wanted: &WantedType<'_>) -> Option<&[KernelType]>
+        ensures { IfSome result (λ places. HoldCandidates self.now wanted.now places.now) }
+    {
+        let is_known = is_known(&self.kinds, &self.unreadable, wanted);
+        if is_known {
+            places_of(&self.names, self.named.as_slice(), wanted.name())
+        } else {
+            None
+        }
+    }
+
+    /// The types of the tables that may be taken for a local one, table by table, and in each by
+    /// id. Looks at those with the name alone, where this was among the wanted ones and all names of
+    /// its kind can be read.
+    ///
+    /// `UnreadableName` where the name of a type of the kind can't be read.
+    pub fn of(
+        &self,
+        alloc: Global,
+        wanted: &WantedType<'_>,
+    ) -> Result<Vec<KernelType>, CandidateError>
+        ensures value { IfOk result (λ found. candidates wanted.now self.now ≡ Ok found.items) }
+        ensures refused { IfErr result (λ e. e ≢ OutOfMemory → candidates wanted.now self.now ≡ Err e) }
+    {
+        match self.places(wanted) {
+            Some(places) => {
+                let found = picked(alloc, wanted, self.targets, places)?;
+                Ok(found)
+            }
+            None => candidates(alloc, wanted, self.targets),
+        }
+    }
+}

@@ -1,0 +1,146 @@
+//! One walk over each table of a kernel, for all types that are wanted.
+
+ghost use Rattle.std.specs.Prelude.{◌≡◌, ◌+◌, false, slice_index_or, OnOk, []};
+ghost use Rattle.std.specs.List.{flat_map, range_with_len};
+ghost use Rattle.type_candidates.specs.Candidates.{all_types, types_at};
+ghost use Rattle.type_candidates.specs.NamedTypes.{AreSeen, IsNamedNext, IsUnreadableNext, of_type, sighted, types_before};
+
+use crate::kernel_type::KernelType;
+use crate::places::Places;
+use crate::search::type_count;
+use crate::sighting::Sighting;
+use crate::wanted_names::WantedNames;
+use btf_encoding::TypeRef;
+use btf_tables::Btf;
+use std::alloc::AllocError;
+
+/// Whether a kind, by its number, is wanted.
+fn is_wanted(kinds: &[bool], kind: usize) -> bool
+    ensures { result ≡ slice_index_or kinds.now kind false }
+{
+    match kinds.get(kind) {
+        Some(is) => *is,
+        None => false,
+    }
+}
+
+/// What a type of a table is.
+fn of_type(kinds: &[bool], names: &WantedNames<'_>, target: &Btf<'_>, t: &TypeRef<'_>) -> Sighting
+    ensures { result ≡ of_type kinds.now names.now target.now.strings t.now }
+{
+    let kind = t.kind() as usize;
+    if !is_wanted(kinds, kind) {
+        return Sighting::Other;
+    }
+    match target.string_at(t.name_offset()) {
+        Ok(name) => match names.essential_number(name) {
+            Some(number) => Sighting::Named(number),
+            None => Sighting::Other,
+        },
+        Err(_error) => Sighting::Unreadable(kind),
+    }
+}
+
+/// What the type at a place is.
+fn sighted(
+    kinds: &[bool],
+    names: &WantedNames<'_>,
+    targets: &[Btf<'_>],
+    place: KernelType,
+) -> Sighting
+    ensures { result ≡ sighted kinds.now names.now targets.now place }
+{
+    let Some(target) = targets.get(place.table) else {
+        return Sighting::Other;
+    };
+    match target.type_by_id(place.type_id) {
+        Ok(t) => of_type(kinds, names, target, &t),
+        Err(_error) => Sighting::Other,
+    }
+}
+
+/// Notes that a name of a kind can't be read.
+#[tactic(auto, using(crate::proofs::SeenTypes::marked, crate::proofs::SeenTypes::unmarked))]
+fn note_unreadable(sighting: Sighting, unreadable: &mut [bool])
+    ensures { IsUnreadableNext sighting unreadable.old unreadable.new }
+{
+    if let Sighting::Unreadable(kind) = sighting {
+        if kind < unreadable.len() {
+            unreadable[kind] = true;
+        }
+    }
+}
+
+/// Enters a type that has a wanted name.
+#[tactic(auto, using(crate::proofs::SeenTypes::entered, crate::proofs::SeenTypes::beyond))]
+fn note_named(sighting: Sighting, place: KernelType, named: &mut [Places]) -> Result<(), AllocError>
+    ensures { OnOk result (IsNamedNext sighting place named.old named.new) }
+{
+    if let Sighting::Named(number) = sighting {
+        if number < named.len() {
+            named[number].push(place)?;
+        }
+    }
+    Ok(())
+}
+
+/// Enters a type, behind those before it.
+fn note(
+    kinds: &[bool],
+    names: &WantedNames<'_>,
+    targets: &[Btf<'_>],
+    place: KernelType,
+    named: &mut [Places],
+    unreadable: &mut [bool],
+) -> Result<(), AllocError>
+    requires { AreSeen (sighted kinds.now names.now targets.now) (types_before targets.now place.table place.type_id) named.old unreadable.old }
+    ensures { OnOk result (AreSeen (sighted kinds.now names.now targets.now) (types_before targets.now place.table (place.type_id + 1)) named.new unreadable.new) }
+{
+    let sighting = sighted(kinds, names, targets, place);
+    note_unreadable(sighting, unreadable);
+    note_named(sighting, place, named)
+}
+
+/// Enters the types of a table, behind those of the tables before it.
+fn note_table(
+    kinds: &[bool],
+    names: &WantedNames<'_>,
+    targets: &[Btf<'_>],
+    table: usize,
+    named: &mut [Places],
+    unreadable: &mut [bool],
+) -> Result<(), AllocError>
+    requires { AreSeen (sighted kinds.now names.now targets.now) (flat_map (types_at targets.now) (range_with_len 0 table)) named.old unreadable.old }
+    ensures { OnOk result (AreSeen (sighted kinds.now names.now targets.now) (flat_map (types_at targets.now) (range_with_len 0 (table + 1))) named.new unreadable.new) }
+{
+    let count = type_count(targets, table);
+    for id in 0..count {
+        let type_id = id as u32;
+        note(
+            kinds,
+            names,
+            targets,
+            KernelType { table, type_id },
+            named,
+            unreadable,
+        )?;
+    }
+    Ok(())
+}
+
+/// Enters the types of all tables.
+pub(crate) fn note_all(
+    kinds: &[bool],
+    names: &WantedNames<'_>,
+    targets: &[Btf<'_>],
+    named: &mut [Places],
+    unreadable: &mut [bool],
+) -> Result<(), AllocError>
+    requires { AreSeen (sighted kinds.now names.now targets.now) [] named.old unreadable.old }
+    ensures { OnOk result (AreSeen (sighted kinds.now names.now targets.now) (all_types targets.now) named.new unreadable.new) }
+{
+    for table in 0..targets.len() {
+        note_table(kinds, names, targets, table, named, unreadable)?;
+    }
+    Ok(())
+}

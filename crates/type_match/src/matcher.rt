@@ -1,0 +1,172 @@
+//! Matches of an object's type relocations, for which each of a kernel's tables is gone over once.
+
+ghost use Rattle.std.specs.Prelude.{◌≡◌, ◌≢◌, [], IfOk, IfErr, IfSome, Ok, Err};
+ghost use Rattle.type_candidates.specs.Candidates.{candidates};
+ghost use Rattle.type_candidates.specs.declared.error.CandidateError.TheVariants.{OutOfMemory as NoMemory};
+ghost use Rattle.type_match.specs.Matches.{kernel_matches, searched_tables};
+ghost use Rattle.type_match.specs.RelocationOutcomes.{relocation_outcome};
+ghost use Rattle.type_match.specs.declared.error.TypeRelocationError.TheVariants.{OutOfMemory};
+
+use crate::error::TypeRelocationError;
+use crate::matches::{Match, matches_of, searched_tables};
+use crate::relocation::{RelocationOutcome, TypeRelocation, local_value, settled};
+use access_paths::{AccessError, AccessPath, local_path};
+use btf_tables::Btf;
+use ebpf_items::RelocationKind;
+use std::alloc::AllocError;
+use std::marker::Model;
+use type_candidates::{CandidateError, Candidates, KernelType, WantedType, candidates};
+
+/// An object's own types, and a kernel's, with the candidates of relocations.
+#[derive(Debug, Drop)]
+pub struct TypeMatcher<'m> {
+    local: &'m Btf<'m>,
+    targets: &'m [Btf<'m>],
+    /// Those in all tables, where they were collected.
+    in_all: Option<Candidates<'m>>,
+    /// Those of ids of a kernel's types, in the first table.
+    in_first: Option<Candidates<'m>>,
+}
+
+impl<'m> Model for TypeMatcher<'m> {
+    ghost use Rattle.std.specs.Prelude.{◌≡◌, IfSome, take};
+    ghost use Rattle.type_match.specs.RelocationOutcomes.{Matched};
+
+    ghost Value = { Matched };
+
+    ghost view = { λ m. record { local = m.local.now; targets = m.targets.now } };
+
+    ghost invariant = { λ m. (IfSome m.in_all (λ c. c ≡ m.targets.now)) × (IfSome m.in_first (λ c. c ≡ take 1 m.targets.now)) };
+}
+
+/// The local types of relocations that are looked for in all tables, or else of those that are in
+/// the first alone.
+fn wanted_types(
+    local: &Btf<'_>,
+    relocations: &[TypeRelocation],
+    is_in_all: bool,
+) -> Result<Vec<u32>, AllocError> {
+    let mut type_ids = Vec::new(local.allocator());
+    for relocation in relocations {
+        let is_wanted = match relocation.kind {
+            RelocationKind::TypeIdLocal => false,
+            RelocationKind::TypeIdTarget => !is_in_all,
+            _ => is_in_all,
+        };
+        if is_wanted {
+            type_ids.push(relocation.type_id)?;
+        }
+    }
+    Ok(type_ids)
+}
+
+/// The candidates for some local types; none where there are no such types.
+fn collected<'m>(
+    local: &'m Btf<'m>,
+    type_ids: &[u32],
+    targets: &'m [Btf<'m>],
+) -> Result<Option<Candidates<'m>>, AllocError>
+    ensures { IfOk result (λ found. IfSome found (λ c. c ≡ targets.now)) }
+{
+    if type_ids.is_empty() {
+        return Ok(None);
+    }
+    let found = Candidates::collect(local, type_ids, targets)?;
+    Ok(Some(found))
+}
+
+impl<'m> TypeMatcher<'m> {
+    /// The types of an object and of a kernel. Each relocation goes over the kernel's tables.
+    pub fn new(local: &'m Btf<'m>, targets: &'m [Btf<'m>]) -> TypeMatcher<'m>
+        ensures { result ≡ record { local = local.now; targets = targets.now } }
+    {
+        TypeMatcher {
+            local,
+            targets,
+            in_all: None,
+            in_first: None,
+        }
+    }
+
+    /// The types of an object and of a kernel, of which each table is gone over once for all of
+    /// these relocations, the first once more where ids of a kernel's types are asked for.
+    pub fn collect(
+        local: &'m Btf<'m>,
+        relocations: &[TypeRelocation],
+        targets: &'m [Btf<'m>],
+    ) -> Result<TypeMatcher<'m>, AllocError>
+        ensures { IfOk result (λ matcher. matcher ≡ record { local = local.now; targets = targets.now }) }
+    {
+        let in_all = wanted_types(local, relocations, true)?;
+        let in_first = wanted_types(local, relocations, false)?;
+        let first = searched_tables(RelocationKind::TypeIdTarget, targets);
+        let in_all = collected(local, in_all.as_slice(), targets)?;
+        let in_first = collected(local, in_first.as_slice(), first)?;
+        Ok(TypeMatcher {
+            local,
+            targets,
+            in_all,
+            in_first,
+        })
+    }
+
+    /// The candidates that were collected for a kind.
+    fn collected(&self, kind: RelocationKind) -> Option<&Candidates<'m>>
+        ensures { IfSome result (λ c. c.now ≡ searched_tables kind self.now.targets) }
+    {
+        match kind {
+            RelocationKind::TypeIdLocal => None,
+            RelocationKind::TypeIdTarget => self.in_first.as_ref(),
+            _ => self.in_all.as_ref(),
+        }
+    }
+
+    /// The candidates for a local type.
+    fn candidates(
+        &self,
+        kind: RelocationKind,
+        wanted: &WantedType<'_>,
+    ) -> Result<Vec<KernelType>, CandidateError>
+        ensures value { IfOk result (λ found. candidates wanted.now (searched_tables kind self.now.targets) ≡ Ok found.items) }
+        ensures refused { IfErr result (λ e. e ≢ NoMemory → candidates wanted.now (searched_tables kind self.now.targets) ≡ Err e) }
+    {
+        let alloc = self.local.allocator();
+        match self.collected(kind) {
+            Some(collected) => collected.of(alloc, wanted),
+            None => candidates(alloc, wanted, searched_tables(kind, self.targets)),
+        }
+    }
+
+    /// What `kernel_matches` answers.
+    pub fn kernel_matches(
+        &self,
+        kind: RelocationKind,
+        path: &AccessPath,
+    ) -> Result<Vec<Match>, TypeRelocationError>
+        ensures value { IfOk result (λ found. kernel_matches kind self.now.local path.now self.now.targets ≡ Ok found.items) }
+        ensures refused { IfErr result (λ e. e ≢ OutOfMemory → kernel_matches kind self.now.local path.now self.now.targets ≡ Err e) }
+    {
+        let wanted = match WantedType::find(self.local, path.type_id) {
+            Ok(wanted) => wanted,
+            Err(error) => return Err(TypeRelocationError::Local(AccessError::BtfError(error))),
+        };
+        let found = self.candidates(kind, &wanted)?;
+        matches_of(kind, self.local, path, self.targets, found.as_slice())
+    }
+
+    /// What `relocation_outcome` answers.
+    pub fn relocation_outcome(
+        &self,
+        relocation: TypeRelocation,
+    ) -> Result<RelocationOutcome, TypeRelocationError>
+        ensures value { IfOk result (λ outcome. relocation_outcome self.now.local relocation self.now.targets ≡ Ok outcome) }
+        ensures refused { IfErr result (λ e. e ≢ OutOfMemory → relocation_outcome self.now.local relocation self.now.targets ≡ Err e) }
+    {
+        let kind = relocation.kind;
+        let local = self.local;
+        let path = local_path(local, kind, relocation.type_id, relocation.access_str_off)?;
+        let matches = self.kernel_matches(kind, &path)?;
+        let value = local_value(local, kind, &path)?;
+        settled(kind, matches.as_slice(), value)
+    }
+}
