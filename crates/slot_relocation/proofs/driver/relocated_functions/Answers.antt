@@ -2,7 +2,7 @@ use Rattle.std.proofs.Common.{◌++◌, ◌∷◌, [], sym, ap, ◌∙◌, subst
 use Rattle.slot_relocation.specs.declared.driver.FaultAt.{FaultAt}
 use Rattle.slot_relocation.specs.Walks.{AllSound, AreWalked, IsFaultIn, IsRefusal}
 use Rattle.slot_relocation.proofs.Walk.{Entry, can_be, fault_met, walked_on}
-use Rattle.slot_relocation.proofs.driver.relocate_all.Goals as goal
+use Rattle.slot_relocation.proofs.driver.relocated_functions.Goals as goal
 
 pub loop-function-preserved-in-Continue-1 : goal.loop-function-preserved-in-Continue-1
 loop-function-preserved-in-Continue-1 g c =
@@ -24,7 +24,7 @@ loop-function-preserved g c =
       done ++ (e ∷ []),
       (
         append_assoc done (e ∷ []) c.next.new.self ∙ ap (λ l. done ++ l) (sym c.in-Some.ensures.steps) ∙ c.loop-function.invariant.1.0,
-        rw c.or_earlier.ensures (fault_met (g.P.Rule.rule c.args.pass.now) (g.P.Pass.inside c.args.pass.now) done e c.loop-function.list.items c.loop-function.first met c.loop-function.invariant.1.1 (ap (λ g. g.name) c.function.view_is, ap (λ g. g.section_index) c.function.view_is, subst (IsRefusal (g.P.Rule.rule c.args.pass.now) (g.P.Pass.inside c.args.pass.now e.1) e.1) c.in-Err-Fault.field-0-is c.in-Err-Fault.ensures.refused)),
+        rw c.first_of.ensures (fault_met (g.P.Rule.rule c.args.pass.now) (g.P.Pass.inside c.args.pass.now) done e c.loop-function.list.items (g.P.Pass.before c.args.pass.now) c.loop-function.first met c.loop-function.invariant.1.1 (ap (λ g. g.name) c.function.view_is, ap (λ g. g.section_index) c.function.view_is, subst (IsRefusal (g.P.Rule.rule c.args.pass.now) (g.P.Pass.inside c.args.pass.now e.1) e.1) c.in-Err-Fault.field-0-is c.in-Err-Fault.ensures.refused)),
       ),
     )
 

@@ -1,0 +1,205 @@
+//! Type relocations, looked up in functions and among a kernel's types.
+
+ghost use Rattle.std.specs.Prelude.{◌≡◌, ◌≢◌, ℕ, ◌++◌, Ok, Err, Some, IfOk, IfErr, IfSome, OnOk};
+ghost use Rattle.std.specs.Option.{option_copied};
+ghost use Rattle.object_names.specs.Named.{AreIndexes};
+ghost use Rattle.object_file.specs.Reading.{read_sections};
+ghost use Rattle.type_relocation.specs.Faults.{FaultOfGroup, GroupsFault, LacksOutcome, RecordsFault};
+ghost use Rattle.type_relocation.specs.Relocations.{all_placed, function_holding, outcome_of, patch_by, placed, placed_from, placed_group, section_at};
+ghost use Rattle.type_relocation.specs.Walks.{GroupFault, IsFront, RecordFault, StandsNone};
+ghost use Rattle.type_relocation.specs.declared.error.BtfRelocationCause.TheVariants.{OutOfMemory};
+
+use crate::cause::{Told, cause_of_match};
+use crate::error::{BtfRelocationCause, BtfRelocationError};
+use crate::groups::RelocationGroup;
+use crate::patch::{Patch, patch_of};
+use crate::placed::{Placed, Position};
+use crate::texts::section_name;
+use btf_extension::bpf_core_relo;
+use btf_records::BtfError;
+use btf_tables::Btf;
+use ebpf_items::RelocationKind;
+use object_file::ObjectFile;
+use object_parts::{Function, Functions};
+use std::alloc::Global;
+use std::collections::BTreeMap;
+use std::marker::Model;
+use type_match::{TypeMatcher, TypeRelocation};
+
+/// What type relocations are looked up in.
+#[derive(Drop)]
+pub(crate) struct Lookup<'r, 'o, 'f, 't, 'k> {
+    pub(crate) alloc: Global,
+    pub(crate) file: &'r ObjectFile<'o>,
+    /// The indexes of the file's sections, by name.
+    pub(crate) sections: &'r BTreeMap<&'o str, u64>,
+    pub(crate) functions: &'r Functions<'f>,
+    pub(crate) local: &'r Btf<'t>,
+    pub(crate) targets: &'r [Btf<'k>],
+    pub(crate) matcher: TypeMatcher<'r>,
+}
+
+impl<'r, 'o, 'f, 't, 'k> Model for Lookup<'r, 'o, 'f, 't, 'k> {
+    ghost use Rattle.std.specs.Prelude.{◌≡◌};
+    ghost use Rattle.object_file.specs.Reading.{read_sections};
+    ghost use Rattle.object_names.specs.Named.{AreIndexes};
+    ghost use Rattle.type_relocation.specs.Relocations.{TypesGiven};
+
+    ghost Value = { TypesGiven };
+
+    ghost view = { λ l. record { file = l.file.now; functions = l.functions.now; local = l.local.now; targets = l.targets.now } };
+
+    ghost invariant = { λ l. AreIndexes (read_sections l.file.now) l.sections.now.entries × (l.matcher ≡ record { local = l.local.now; targets = l.targets.now }) };
+}
+
+/// The first function, by key, of those of a section whose bytes hold an offset.
+fn function_holding<'g, 'f>(
+    functions: &'g Functions<'f>,
+    section_index: usize,
+    offset: u64,
+) -> Option<&'g Function<'f>>
+    ensures { option_copied result ≡ function_holding functions.entry.now section_index offset }
+{
+    let (_, function) = functions.iter().find(|(_, function)| {
+        function.section_index == section_index && function.is_inside(offset)
+    })?;
+    Some(function)
+}
+
+impl<'r, 'o, 'f, 't, 'k> Lookup<'r, 'o, 'f, 't, 'k> {
+    /// The section whose name stands at an offset of the strings.
+    fn section(&self, name_offset: u32) -> Result<usize, BtfRelocationCause>
+        ensures value { IfOk result (λ s. section_at self.now name_offset ≡ Some s) }
+        ensures accepted { OnOk result (StandsNone (FaultOfGroup self.now name_offset)) }
+        ensures refused { IfErr result (FaultOfGroup self.now name_offset) }
+    {
+        let Ok(name) = self.local.string_at(name_offset) else {
+            return Err(BtfRelocationCause::BtfError(BtfError::InvalidStringOffset {
+                offset: name_offset as usize,
+            }));
+        };
+        match self.sections.get(name) {
+            Some(index) => Ok(*index as usize),
+            None => Err(BtfRelocationCause::SectionNotFound),
+        }
+    }
+
+    /// What a relocation gives to its instruction. It is so many in its group.
+    fn patch(&self, number: usize, record: bpf_core_relo) -> Result<Patch, BtfRelocationCause>
+        ensures value { IfOk result (λ p. patch_by self.now (outcome_of self.now record) ≡ Some p) }
+        ensures accepted { OnOk result (StandsNone (LacksOutcome self.now record)) }
+        ensures refused { IfErr result (λ c. c ≢ OutOfMemory → LacksOutcome self.now record c) }
+    {
+        let kind = match RelocationKind::try_from(record.kind) {
+            Ok(kind) => kind,
+            Err(error) => return Err(BtfRelocationCause::BtfError(error)),
+        };
+        let asked = TypeRelocation {
+            kind,
+            type_id: record.type_id,
+            access_str_off: record.access_str_off,
+        };
+        match self.matcher.relocation_outcome(asked) {
+            Ok(outcome) => Ok(patch_of(self.local, self.targets, outcome)),
+            Err(error) => {
+                let told = Told {
+                    alloc: self.alloc,
+                    local: self.local,
+                    targets: self.targets,
+                    number,
+                    offset: u64::from(record.insn_off),
+                    asked,
+                };
+                Err(cause_of_match(&told, error))
+            }
+        }
+    }
+
+    /// A relocation of a section's group, in its function and with what it gives.
+    fn place(
+        &self,
+        section_index: usize,
+        position: Position,
+        record: bpf_core_relo,
+    ) -> Result<Placed, BtfRelocationCause>
+        ensures value { IfOk result (λ p. placed self.now position (Some section_index) record ≡ Some p) }
+        ensures accepted { OnOk result (StandsNone (RecordFault self.now (Some section_index) record)) }
+        ensures refused { IfErr result (λ c. c ≢ OutOfMemory → RecordFault self.now (Some section_index) record c) }
+    {
+        let offset = u64::from(record.insn_off);
+        let Some(function) = function_holding(self.functions, section_index, offset) else {
+            return Err(BtfRelocationCause::FunctionNotFound);
+        };
+        let patch = self.patch(position.number, record)?;
+        Ok(Placed {
+            key: function.key(),
+            offset,
+            position,
+            patch,
+        })
+    }
+
+    /// Places the relocations of a section's group one after the other, up to the first that can't
+    /// be placed.
+    fn place_records(
+        &self,
+        section_index: usize,
+        first: Position,
+        records: &[bpf_core_relo],
+        list: &mut Vec<Placed>,
+    ) -> Result<(), BtfRelocationCause>
+        requires { first.number ≡ 0 }
+        ensures ok { OnOk result (list.new.items ≡ list.old.items ++ placed_from self.now first.group first.name_offset (Some section_index) 0 records.now) }
+        ensures front { IsFront list.new.items (list.old.items ++ placed_from self.now first.group first.name_offset (Some section_index) 0 records.now) }
+        ensures accepted { OnOk result (StandsNone (RecordsFault self.now (Some section_index) records.now)) }
+        ensures refused { IfErr result (λ c. c ≢ OutOfMemory → RecordsFault self.now (Some section_index) records.now c) }
+    {
+        for (number, record) in records.iter().enumerate() {
+            let position = Position { number, ..first };
+            let placed = self.place(section_index, position, *record)?;
+            list.push(placed)?;
+        }
+        Ok(())
+    }
+
+    /// Places the relocations of a group, up to the first that can't be placed.
+    fn place_group(
+        &self,
+        number: usize,
+        group: &RelocationGroup,
+        list: &mut Vec<Placed>,
+    ) -> Result<(), BtfRelocationCause>
+        ensures ok { OnOk result (list.new.items ≡ list.old.items ++ placed_group self.now number group.now) }
+        ensures front { IsFront list.new.items (list.old.items ++ placed_group self.now number group.now) }
+        ensures accepted { OnOk result (StandsNone (GroupFault self.now group.now)) }
+        ensures refused { IfErr result (λ c. c ≢ OutOfMemory → GroupFault self.now group.now c) }
+    {
+        let section_index = self.section(group.name_offset)?;
+        let first = Position {
+            group: number,
+            name_offset: group.name_offset,
+            number: 0,
+        };
+        self.place_records(section_index, first, group.records.as_slice(), list)
+    }
+
+    /// Places the relocations of all groups, up to the first that can't be placed.
+    pub(crate) fn place_groups(
+        &self,
+        groups: &[RelocationGroup],
+        list: &mut Vec<Placed>,
+    ) -> Result<(), BtfRelocationError>
+        ensures ok { OnOk result (list.new.items ≡ list.old.items ++ all_placed self.now groups.now) }
+        ensures front { IsFront list.new.items (list.old.items ++ all_placed self.now groups.now) }
+        ensures accepted { OnOk result (StandsNone (GroupsFault self.now groups.now)) }
+        ensures refused { IfErr result (λ e. e.error ≢ OutOfMemory → GroupsFault self.now groups.now e.error) }
+    {
+        for (number, group) in groups.iter().enumerate() {
+            if let Err(cause) = self.place_group(number, group, list) {
+                let section = section_name(self.alloc, self.local, group.name_offset);
+                return Err(BtfRelocationError::new(section, cause));
+            }
+        }
+        Ok(())
+    }
+}
