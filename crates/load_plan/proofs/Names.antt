@@ -8,6 +8,7 @@ use Rattle.btf_records.specs.declared.types.BtfType.TheVariants as types
 use Rattle.btf_sanitizing.specs.Answers.{Answers}
 use Rattle.btf_tables.specs.Sanitizing.{stepped}
 use Rattle.btf_tables.specs.Tables.{Table}
+use Rattle.ebpf_items.specs.declared.instruction.bpf_insn.{bpf_insn}
 use Rattle.ebpf_object.specs.Helpers.{for_kernel}
 use Rattle.ebpf_object.specs.ParsedObject.{ObjectContent}
 use Rattle.ebpf_object.specs.Rewriting.{IsRewritten, IsRewrittenIf}
@@ -18,9 +19,10 @@ use Rattle.linker.specs.Linked.{AreLinked, program_keys}
 use Rattle.linker.specs.Records.{functions_in}
 use Rattle.linker.specs.Unlinked.{Unlinked}
 use Rattle.object_parts.specs.Content.{FunctionContent, ProgramContent, function_at}
+use Rattle.object_parts.specs.Geometry.{with_instructions}
+use Rattle.object_parts.specs.Installed.{AreChanged}
 use Rattle.object_plan.specs.Laws.{HaveRecordsOf, NamesAreCarried, RecordsName}
 use Rattle.object_plan.specs.Plans.{AllNamed, HoldsTypeBytes, Names, plan_program_of, type_bytes, type_bytes_of}
-use Rattle.slot_relocation.specs.Writes.{AreRelocated, Rule, relocated}
 
 abbrev Keyed : Type 0
 Keyed = List (Key × FunctionContent)
@@ -53,13 +55,13 @@ carried law file ksyms (Some table) answers None bytes h is holds denied id name
 carried law file ksyms (Some table) answers (Some new) bytes h is holds denied id named =
     carried_in law file ksyms table answers new bytes (length table.types == 0) refl h is holds denied id named
 
--- relocations leave the records
-same_records : (rule : Rule) (file : List ℕ) (o : Option FunctionContent) → functions_in (option_map (relocated rule file) o) ≡ functions_in o
-same_records rule file None = refl
-same_records rule file (Some f) = refl
+-- what writes slots alone leaves the records
+same_records : (slots : FunctionContent → List bpf_insn) (o : Option FunctionContent) → functions_in (option_map (λ f. with_instructions f (slots f)) o) ≡ functions_in o
+same_records slots None = refl
+same_records slots (Some f) = refl
 
-pub records_of : (rule : Rule) (file : List ℕ) (old new : Keyed) → AreRelocated rule file old new → HaveRecordsOf old new
-records_of rule file old new are = record { at = λ key. ap functions_in (are.at key) ∙ same_records rule file (function_at old key) }
+pub records_of : (slots : FunctionContent → List bpf_insn) (old new : Keyed) → AreChanged (λ f. with_instructions f (slots f)) old new → HaveRecordsOf old new
+records_of slots old new are = record { at = λ key. ap functions_in (are.at key) ∙ same_records slots (function_at old key) }
 
 pub records_through : (old between new : Keyed) → HaveRecordsOf old between → HaveRecordsOf between new → HaveRecordsOf old new
 records_through old between new first second = record { at = λ key. second.at key ∙ first.at key }
