@@ -1,6 +1,7 @@
 -- Relocations one after the other.
-use Rattle.std.proofs.Common.{arith, ◌≡◌, ℕ, suc, zero, ◌+◌, ◌<◌, length, take, drop, get_or, Bool, true, false, not, List, [], ◌∷◌, ◌++◌, Option, Some, None, refl, sym, ap, ◌∙◌, subst, inl, inr, append-nil, cond}
+use Rattle.std.proofs.Common.{◌≡◌, ℕ, ◌+◌, ◌<◌, length, take, drop, get_or, add-one, drop-cons, Bool, true, false, not, List, [], ◌∷◌, ◌++◌, Option, Some, None, refl, sym, ap, ◌∙◌, subst, inl, inr, append-nil, cond}
 use Rattle.std.specs.Prelude.{◌&&◌, fold, map, filter}
+use Rattle.std.proofs.lemmas.List.{take-append-drop}
 use Rattle.std.proofs.lemmas.List.Elements.{filter-append}
 use Rattle.std.specs.Map.{values_of}
 use Rattle.ebpf_items.specs.declared.instruction.bpf_insn.{bpf_insn}
@@ -47,10 +48,11 @@ pub sound_more : {A E : Type 0} (rule : RuleOf A E) (f : FunctionContent) (done 
 sound_more rule f done r old e h s = sound_from rule f f.instructions done r h (ap (λ l. is_refused (outcome_at rule f l r)) (sym e) ∙ s)
 
 -- those before one of a list, that one, and those after it
+this_one : {X : Type 0} (xs : List X) (i : ℕ) (d r : X) → i < length xs → r ≡ get_or xs i d → drop i xs ≡ r ∷ drop (i + 1) xs
+this_one xs i d r lt is = rw add-one (drop-cons xs i d lt) ∙ ap (λ y. y ∷ drop (i + 1) xs) (sym is)
+
 pub split_at : {X : Type 0} (xs : List X) (i : ℕ) (d r : X) → i < length xs → r ≡ get_or xs i d → take i xs ++ (r ∷ drop (i + 1) xs) ≡ xs
-split_at [] i d r h is = absurd (omega (arith, h))
-split_at (x ∷ xs) zero d r h is = ap (λ y. y ∷ xs) is
-split_at (x ∷ xs) (suc i) d r h is = let k : suc i < suc (length xs) = h in ap (λ l. x ∷ l) (split_at xs i d r (omega (arith, k)) is)
+split_at xs i d r lt is = ap (λ l. take i xs ++ l) (sym (this_one xs i d r lt is)) ∙ take-append-drop i xs
 
 -- a relocation that is refused is a function's fault
 pub refused_at : {A E : Type 0} (rule : RuleOf A E) (rs : List (ℕ × A)) (f : FunctionContent) (done : List (ℕ × A)) (r : ℕ × A) (rest : List (ℕ × A)) (old : List bpf_insn) (e : Refusal E) → done ++ (r ∷ rest) ≡ rs → old ≡ after_all rule f done → IsRefusalOf r.0 (outcome_at rule f old r) e → IsRefusal rule rs f e
