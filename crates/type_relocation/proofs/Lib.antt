@@ -1,3 +1,4 @@
+pub mod Lists
 pub mod Placing
 pub mod Writing
 pub mod Written

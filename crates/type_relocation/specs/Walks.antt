@@ -10,6 +10,7 @@ use Rattle.btf_extension.specs.declared.record.bpf_core_relo.{bpf_core_relo}
 use Rattle.object_parts.specs.Content.{key_cmp}
 use Rattle.slot_relocation.specs.declared.driver.Stop.{Stop}
 use Rattle.slot_relocation.specs.declared.driver.Stop.TheVariants as stop
+use Rattle.type_match.specs.RelocationOutcomes.{Matched}
 use Rattle.type_relocation.specs.Faults.{FaultOfGroup, LacksFunction, LacksOutcome, OfWrite, RecordsFault}
 use Rattle.type_relocation.specs.Relocations.{TypesGiven, section_at}
 use Rattle.type_relocation.specs.Writes.{placed_at}
@@ -20,6 +21,10 @@ use Rattle.type_relocation.specs.declared.placed.PlacedFault.{PlacedFault}
 -- no cause of these stands
 pub record StandsNone (Stands : BtfRelocationCause → Type 0) : Type 0 where
   pub none : (c : BtfRelocationCause) → Stands c → ⊥
+
+-- the object's own types and those of a kernel
+abbrev pub matched : TypesGiven → Matched
+matched g = record { local = g.local; targets = g.targets }
 
 -- what refuses one relocation before its instruction is looked at
 abbrev pub RecordFault : TypesGiven → Option ℕ → bpf_core_relo → BtfRelocationCause → Type 0

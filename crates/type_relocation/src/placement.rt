@@ -6,7 +6,7 @@ ghost use Rattle.object_names.specs.Named.{AreIndexes};
 ghost use Rattle.object_file.specs.Reading.{read_sections};
 ghost use Rattle.type_relocation.specs.Faults.{FaultOfGroup, GroupsFault, LacksOutcome, RecordsFault};
 ghost use Rattle.type_relocation.specs.Relocations.{all_placed, function_holding, outcome_of, patch_by, placed, placed_from, placed_group, section_at};
-ghost use Rattle.type_relocation.specs.Walks.{GroupFault, IsFront, RecordFault, StandsNone};
+ghost use Rattle.type_relocation.specs.Walks.{GroupFault, IsFront, RecordFault, StandsNone, matched};
 ghost use Rattle.type_relocation.specs.declared.error.BtfRelocationCause.TheVariants.{OutOfMemory};
 
 use crate::cause::{Told, cause_of_match};
@@ -36,7 +36,6 @@ pub(crate) struct Lookup<'r, 'o, 'f, 't, 'k> {
     pub(crate) functions: &'r Functions<'f>,
     pub(crate) local: &'r Btf<'t>,
     pub(crate) targets: &'r [Btf<'k>],
-    pub(crate) matcher: TypeMatcher<'r>,
 }
 
 impl<'r, 'o, 'f, 't, 'k> Model for Lookup<'r, 'o, 'f, 't, 'k> {
@@ -49,7 +48,7 @@ impl<'r, 'o, 'f, 't, 'k> Model for Lookup<'r, 'o, 'f, 't, 'k> {
 
     ghost view = { λ l. record { file = l.file.now; functions = l.functions.now; local = l.local.now; targets = l.targets.now } };
 
-    ghost invariant = { λ l. AreIndexes (read_sections l.file.now) l.sections.now.entries × (l.matcher ≡ record { local = l.local.now; targets = l.targets.now }) };
+    ghost invariant = { λ l. AreIndexes (read_sections l.file.now) l.sections.now.entries };
 }
 
 /// The first function, by key, of those of a section whose bytes hold an offset.
@@ -84,11 +83,18 @@ impl<'r, 'o, 'f, 't, 'k> Lookup<'r, 'o, 'f, 't, 'k> {
         }
     }
 
-    /// What a relocation gives to its instruction. It is so many in its group.
-    fn patch(&self, number: usize, record: bpf_core_relo) -> Result<Patch, BtfRelocationCause>
+    /// What a relocation of a number in its group gives to its instruction.
+    fn patch(
+        &self,
+        matcher: &mut TypeMatcher<'_>,
+        number: usize,
+        record: bpf_core_relo,
+    ) -> Result<Patch, BtfRelocationCause>
+        requires { matcher.old ≡ matched self.now }
         ensures value { IfOk result (λ p. patch_by self.now (outcome_of self.now record) ≡ Some p) }
         ensures accepted { OnOk result (StandsNone (LacksOutcome self.now record)) }
         ensures refused { IfErr result (λ c. c ≢ OutOfMemory → LacksOutcome self.now record c) }
+        ensures same { matcher.new ≡ matcher.old }
     {
         let kind = match RelocationKind::try_from(record.kind) {
             Ok(kind) => kind,
@@ -99,7 +105,7 @@ impl<'r, 'o, 'f, 't, 'k> Lookup<'r, 'o, 'f, 't, 'k> {
             type_id: record.type_id,
             access_str_off: record.access_str_off,
         };
-        match self.matcher.relocation_outcome(asked) {
+        match matcher.relocation_outcome(asked) {
             Ok(outcome) => Ok(patch_of(self.local, self.targets, outcome)),
             Err(error) => {
                 let told = Told {
@@ -118,19 +124,22 @@ impl<'r, 'o, 'f, 't, 'k> Lookup<'r, 'o, 'f, 't, 'k> {
     /// A relocation of a section's group, in its function and with what it gives.
     fn place(
         &self,
+        matcher: &mut TypeMatcher<'_>,
         section_index: usize,
         position: Position,
         record: bpf_core_relo,
     ) -> Result<Placed, BtfRelocationCause>
+        requires { matcher.old ≡ matched self.now }
         ensures value { IfOk result (λ p. placed self.now position (Some section_index) record ≡ Some p) }
         ensures accepted { OnOk result (StandsNone (RecordFault self.now (Some section_index) record)) }
         ensures refused { IfErr result (λ c. c ≢ OutOfMemory → RecordFault self.now (Some section_index) record c) }
+        ensures same { matcher.new ≡ matcher.old }
     {
         let offset = u64::from(record.insn_off);
         let Some(function) = function_holding(self.functions, section_index, offset) else {
             return Err(BtfRelocationCause::FunctionNotFound);
         };
-        let patch = self.patch(position.number, record)?;
+        let patch = self.patch(matcher, position.number, record)?;
         Ok(Placed {
             key: function.key(),
             offset,
@@ -143,20 +152,22 @@ impl<'r, 'o, 'f, 't, 'k> Lookup<'r, 'o, 'f, 't, 'k> {
     /// be placed.
     fn place_records(
         &self,
+        matcher: &mut TypeMatcher<'_>,
         section_index: usize,
         first: Position,
         records: &[bpf_core_relo],
         list: &mut Vec<Placed>,
     ) -> Result<(), BtfRelocationCause>
-        requires { first.number ≡ 0 }
+        requires { matcher.old ≡ matched self.now }
         ensures ok { OnOk result (list.new.items ≡ list.old.items ++ placed_from self.now first.group first.name_offset (Some section_index) 0 records.now) }
         ensures front { IsFront list.new.items (list.old.items ++ placed_from self.now first.group first.name_offset (Some section_index) 0 records.now) }
         ensures accepted { OnOk result (StandsNone (RecordsFault self.now (Some section_index) records.now)) }
         ensures refused { IfErr result (λ c. c ≢ OutOfMemory → RecordsFault self.now (Some section_index) records.now c) }
+        ensures same { matcher.new ≡ matcher.old }
     {
         for (number, record) in records.iter().enumerate() {
             let position = Position { number, ..first };
-            let placed = self.place(section_index, position, *record)?;
+            let placed = self.place(matcher, section_index, position, *record)?;
             list.push(placed)?;
         }
         Ok(())
@@ -165,14 +176,17 @@ impl<'r, 'o, 'f, 't, 'k> Lookup<'r, 'o, 'f, 't, 'k> {
     /// Places the relocations of a group, up to the first that can't be placed.
     fn place_group(
         &self,
+        matcher: &mut TypeMatcher<'_>,
         number: usize,
         group: &RelocationGroup,
         list: &mut Vec<Placed>,
     ) -> Result<(), BtfRelocationCause>
+        requires { matcher.old ≡ matched self.now }
         ensures ok { OnOk result (list.new.items ≡ list.old.items ++ placed_group self.now number group.now) }
         ensures front { IsFront list.new.items (list.old.items ++ placed_group self.now number group.now) }
         ensures accepted { OnOk result (StandsNone (GroupFault self.now group.now)) }
         ensures refused { IfErr result (λ c. c ≢ OutOfMemory → GroupFault self.now group.now c) }
+        ensures same { matcher.new ≡ matcher.old }
     {
         let section_index = self.section(group.name_offset)?;
         let first = Position {
@@ -180,22 +194,24 @@ impl<'r, 'o, 'f, 't, 'k> Lookup<'r, 'o, 'f, 't, 'k> {
             name_offset: group.name_offset,
             number: 0,
         };
-        self.place_records(section_index, first, group.records.as_slice(), list)
+        self.place_records(matcher, section_index, first, group.records.as_slice(), list)
     }
 
     /// Places the relocations of all groups, up to the first that can't be placed.
     pub(crate) fn place_groups(
         &self,
+        matcher: &mut TypeMatcher<'_>,
         groups: &[RelocationGroup],
         list: &mut Vec<Placed>,
     ) -> Result<(), BtfRelocationError>
+        requires { matcher.old ≡ matched self.now }
         ensures ok { OnOk result (list.new.items ≡ list.old.items ++ all_placed self.now groups.now) }
         ensures front { IsFront list.new.items (list.old.items ++ all_placed self.now groups.now) }
         ensures accepted { OnOk result (StandsNone (GroupsFault self.now groups.now)) }
         ensures refused { IfErr result (λ e. e.error ≢ OutOfMemory → GroupsFault self.now groups.now e.error) }
     {
         for (number, group) in groups.iter().enumerate() {
-            if let Err(cause) = self.place_group(number, group, list) {
+            if let Err(cause) = self.place_group(matcher, number, group, list) {
                 let section = section_name(self.alloc, self.local, group.name_offset);
                 return Err(BtfRelocationError::new(section, cause));
             }

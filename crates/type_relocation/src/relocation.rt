@@ -55,10 +55,10 @@ fn placement_of(
         functions,
         local,
         targets,
-        matcher: TypeMatcher::collect(local, asked.as_slice(), targets)?,
     };
+    let mut matcher = TypeMatcher::collect(local, asked.as_slice(), targets)?;
     let mut all = Vec::new(alloc);
-    let stopped = lookup.place_groups(groups, &mut all).err();
+    let stopped = lookup.place_groups(&mut matcher, groups, &mut all).err();
     Ok(Placement { all, stopped })
 }
 
