@@ -2,6 +2,7 @@
 #![tactic(auto)]
 
 mod address;
+mod blocks;
 mod error;
 mod line;
 mod reading;

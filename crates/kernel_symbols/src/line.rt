@@ -1,7 +1,7 @@
 //! What a line says of the wanted symbols.
 
-ghost use Rattle.std.specs.Prelude.{◌≡◌, ℕ, List, if◌then◌else◌, IfErr, OnOk};
-ghost use Rattle.std.specs.Str.{bytes_eq, is_utf8};
+ghost use Rattle.std.specs.Prelude.{◌≡◌, ℕ, List, true, if◌then◌else◌, IfErr, OnOk};
+ghost use Rattle.std.specs.Str.{IsAscii, bytes_eq, is_utf8};
 ghost use Rattle.kernel_symbols.specs.Addresses.{address_in};
 ghost use Rattle.kernel_symbols.specs.Reading.{RefusesLine, TakesLine, settled, under, with_address};
 
@@ -13,9 +13,14 @@ use std::collections::BTreeMap;
 use std::io;
 use std::io::ErrorKind;
 
-fn is_text(line: &[u8]) -> bool
+/// Whether a line is UTF-8. One that is known to be ASCII isn't looked at.
+fn is_text(line: &[u8], is_ascii: bool) -> bool
+    requires { is_ascii ≡ true → IsAscii line.now }
     ensures { result ≡ is_utf8 line.now }
 {
+    if is_ascii {
+        return true;
+    }
     str::from_utf8(line).is_ok()
 }
 
@@ -46,15 +51,17 @@ fn put(by_name: &mut BTreeMap<&[u8], Wanted<'_>>, name: &[u8], address: Option<u
     }
 }
 
-/// Takes what a line says of the wanted symbols.
+/// Takes what a line says of the wanted symbols, which may be known to be ASCII.
 pub(crate) fn take_line<'a>(
     by_name: &mut BTreeMap<&'a [u8], Wanted<'a>>,
     line: &[u8],
+    is_ascii: bool,
 ) -> Result<(), SymbolsError<'a>>
+    requires { is_ascii ≡ true → IsAscii line.now }
     ensures taken { OnOk result (TakesLine by_name.old.entries by_name.new.entries line.now) }
     ensures refused { IfErr result (RefusesLine by_name.old.entries line.now) }
 {
-    if !is_text(line) {
+    if !is_text(line, is_ascii) {
         return Err(SymbolsError::Access(io::Error::from(ErrorKind::InvalidData)));
     }
     let Some((word, name)) = first_and_third(line) else {

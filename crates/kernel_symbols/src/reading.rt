@@ -2,7 +2,7 @@
 
 ghost use Rattle.std.specs.Prelude.{◌≡◌, ◌≢◌, ◌+◌, ◌<◌, ◌++◌, ◌∷◌, ℕ, List, [], length, take, drop, true, false, Some, None, if◌then◌else◌, IfErr, IfOk, MatchOption, OnOk};
 ghost use Rattle.std.specs.Io.KnownBytes.{IsAtEnd};
-ghost use Rattle.std.specs.Str.{bytes_eq};
+ghost use Rattle.std.specs.Str.{IsAscii, bytes_eq};
 ghost use Rattle.watched.specs.Watched.{watched_inner, has_failed, calls_left};
 ghost use Rattle.kernel_symbols.specs.Reading.{AreAddresses, AreWanted, CannotFinish, Finishes, HasNoAddress, HasRead, IsUnbroken, ReaderFault, ReadsSome, ReadsWhole, Refuses, RefusesReader, Takes, entries_of, under};
 ghost use Rattle.kernel_symbols.specs.declared.error.SymbolsError.TheVariants.{OutOfMemory};
@@ -69,17 +69,18 @@ impl<'a> Reading<'a> {
         })
     }
 
-    /// Takes the end of a line.
-    fn end_line(&mut self, end: &[u8]) -> Result<(), SymbolsError<'a>>
-        requires { IsUnbroken end.now }
+    /// Takes the end of a line, which may be known to be ASCII.
+    fn end_line(&mut self, end: &[u8], is_ascii: bool) -> Result<(), SymbolsError<'a>>
+        requires unbroken { IsUnbroken end.now }
+        requires ascii { is_ascii ≡ true → IsAscii end.now }
         ensures taken { OnOk result (Takes self.old (end.now ++ 10 ∷ []) self.new) }
         ensures refused { IfErr result (Refuses self.old (end.now ++ 10 ∷ [])) }
     {
         if self.partial.is_empty() {
-            return take_line(&mut self.by_name, end);
+            return take_line(&mut self.by_name, end, is_ascii);
         }
         self.partial.extend_from_slice(end)?;
-        take_line(&mut self.by_name, &self.partial)?;
+        take_line(&mut self.by_name, &self.partial, false)?;
         self.partial.clear();
         Ok(())
     }
@@ -96,7 +97,7 @@ impl<'a> Reading<'a> {
         if partial.is_empty() {
             return Ok(Addresses { by_name });
         }
-        take_line(&mut by_name, &partial)?;
+        take_line(&mut by_name, &partial, false)?;
         Ok(Addresses { by_name })
     }
 }
@@ -109,9 +110,10 @@ impl<'a> TakeBytes<SymbolsError<'a>> for Reading<'a> {
     ghost refuses = { λ old bytes error. Refuses old bytes error };
 
     fn take_bytes(&mut self, bytes: &[u8]) -> Result<(), SymbolsError<'a>> {
+        let is_ascii = bytes.is_ascii();
         let mut rest = bytes;
         while let Some(at) = line_end(rest) {
-            self.end_line(&rest[..at])?;
+            self.end_line(&rest[..at], is_ascii)?;
             rest = behind(rest, at + 1);
         }
         self.partial.extend_from_slice(rest)?;
