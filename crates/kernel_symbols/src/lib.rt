@@ -7,6 +7,7 @@ mod error;
 mod line;
 mod reading;
 mod wanted;
+mod wanted_names;
 mod words;
 
 pub use error::SymbolsError;
