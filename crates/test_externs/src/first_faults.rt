@@ -33,21 +33,60 @@ fn declared(name: &'static str, sort: Sort) -> Declared {
 type Fault = ([(&'static str, Sort); 2], Refusal);
 
 static FAULTS: [Fault; 13] = [
-    ([("a", Sort::Function), ("g", Sort::Function)], Refusal::NoFunction("a")),
-    ([("g", Sort::Function), ("z", Sort::Function)], Refusal::Signature("g")),
-    ([("a", Sort::Variable), ("w", Sort::Variable)], Refusal::NoVariable("a")),
-    ([("w", Sort::Variable), ("z", Sort::Variable)], Refusal::VariableType("w")),
-    ([("a", Sort::Function), ("w", Sort::Variable)], Refusal::NoFunction("a")),
-    ([("a", Sort::Variable), ("g", Sort::Function)], Refusal::NoVariable("a")),
-    ([("a", Sort::Integer), ("g", Sort::Function)], Refusal::NoDeclaration("a")),
-    ([("g", Sort::Function), ("z", Sort::Integer)], Refusal::Signature("g")),
-    ([("a", Sort::Undeclared), ("w", Sort::Variable)], Refusal::NoType(NOTHING)),
-    ([("w", Sort::Variable), ("z", Sort::Undeclared)], Refusal::VariableType("w")),
+    (
+        [("a", Sort::Function), ("g", Sort::Function)],
+        Refusal::NoFunction("a"),
+    ),
+    (
+        [("g", Sort::Function), ("z", Sort::Function)],
+        Refusal::Signature("g"),
+    ),
+    (
+        [("a", Sort::Variable), ("w", Sort::Variable)],
+        Refusal::NoVariable("a"),
+    ),
+    (
+        [("w", Sort::Variable), ("z", Sort::Variable)],
+        Refusal::VariableType("w"),
+    ),
+    (
+        [("a", Sort::Function), ("w", Sort::Variable)],
+        Refusal::NoFunction("a"),
+    ),
+    (
+        [("a", Sort::Variable), ("g", Sort::Function)],
+        Refusal::NoVariable("a"),
+    ),
+    (
+        [("a", Sort::Integer), ("g", Sort::Function)],
+        Refusal::NoDeclaration("a"),
+    ),
+    (
+        [("g", Sort::Function), ("z", Sort::Integer)],
+        Refusal::Signature("g"),
+    ),
+    (
+        [("a", Sort::Undeclared), ("w", Sort::Variable)],
+        Refusal::NoType(NOTHING),
+    ),
+    (
+        [("w", Sort::Variable), ("z", Sort::Undeclared)],
+        Refusal::VariableType("w"),
+    ),
     // Names rise by bytes.
-    ([("Z", Sort::Function), ("a", Sort::Function)], Refusal::NoFunction("Z")),
-    ([("_", Sort::Variable), ("a", Sort::Variable)], Refusal::NoVariable("_")),
+    (
+        [("Z", Sort::Function), ("a", Sort::Function)],
+        Refusal::NoFunction("Z"),
+    ),
+    (
+        [("_", Sort::Variable), ("a", Sort::Variable)],
+        Refusal::NoVariable("_"),
+    ),
     // One without a type comes behind.
-    ([("a", Sort::Untyped), ("z", Sort::Function)], Refusal::NoFunction("z")),
+    (
+        [("a", Sort::Untyped), ("z", Sort::Function)],
+        Refusal::NoFunction("z"),
+    ),
 ];
 
 #[test]
@@ -79,11 +118,7 @@ type TextFault = (&'static [u8], usize, Refusal);
 const NEVER: usize = usize::MAX;
 
 static TEXT_FAULTS: [TextFault; 12] = [
-    (
-        b"xx D z\n1 D a\n2 D a\n",
-        NEVER,
-        Refusal::Address("z"),
-    ),
+    (b"xx D z\n1 D a\n2 D a\n", NEVER, Refusal::Address("z")),
     (
         b"1 D a\n2 D a\nxx D z\n",
         NEVER,

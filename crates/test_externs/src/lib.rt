@@ -8,6 +8,10 @@ mod declarations;
 #[cfg(test)]
 mod first_faults;
 #[cfg(test)]
+mod relocations;
+#[cfg(test)]
+mod sections;
+#[cfg(test)]
 mod symbols;
 #[cfg(test)]
 mod tables;

@@ -47,8 +47,8 @@ pub(crate) const NOTHING: u32 = 99;
 /// The types of a kernel: the function `f` as the object's (3), `g` of no parameter (5), the variable `v`
 /// of an integer (6), and `w` of a pointer (8).
 const KERNEL: &[u32] = &[
-    0, INT, 4, 0x20, 0, PROTO_1, 1, 0, 1, 1, FUNC, 2, 0, PROTO, 1, 3, FUNC, 4, 5, VAR, 1, 1, 0, PTR,
-    1, 7, VAR, 7, 1,
+    0, INT, 4, 0x20, 0, PROTO_1, 1, 0, 1, 1, FUNC, 2, 0, PROTO, 1, 3, FUNC, 4, 5, VAR, 1, 1, 0,
+    PTR, 1, 7, VAR, 7, 1,
 ];
 
 fn push_words(out: &mut Vec<u8>, words: &[u32]) -> Result<(), AllocError> {
@@ -65,7 +65,10 @@ fn section(alloc: Global, words: &[u32]) -> Result<Vec<u8>, AllocError>
     let types_len = 4 * words.len() as u32;
     let mut out = Vec::new(alloc);
     out.extend_from_slice(&[0x9f, 0xeb, 1, 0])?;
-    push_words(&mut out, &[24, 0, types_len, types_len, STRINGS.len() as u32])?;
+    push_words(
+        &mut out,
+        &[24, 0, types_len, types_len, STRINGS.len() as u32],
+    )?;
     push_words(&mut out, words)?;
     out.extend_from_slice(&STRINGS)?;
     Ok(out)
