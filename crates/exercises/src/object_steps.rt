@@ -14,13 +14,16 @@ pub(crate) struct Kernel<'k> {
     pub symbols: &'k [u8],
 }
 
-/// What a step answers.
+/// What a step answers; a refusal in a few words.
 #[derive(Clone, Copy)]
 enum Answer {
     Made,
-    Refused,
+    Refused(&'static str),
     OutOfMemory,
 }
+
+/// What becomes of an object by a step for which memory was refused.
+pub(crate) const AS_BEFORE: &str = "as before";
 
 /// Appends what is known of an object's externs.
 fn push_externs(object: &Object<'_>, bytes: &mut Vec<u8>) -> Result<(), AllocError> {
@@ -58,9 +61,9 @@ fn outcome(
     Ok(match (answer, bytes.as_slice() == before) {
         (Answer::Made, false) => "done",
         (Answer::Made, true) => "nothing to do",
-        (Answer::Refused, true) => "refused",
-        (Answer::OutOfMemory, true) => "as before",
-        (Answer::Refused | Answer::OutOfMemory, false) => "changed",
+        (Answer::Refused(why), true) => why,
+        (Answer::OutOfMemory, true) => AS_BEFORE,
+        (Answer::Refused(_) | Answer::OutOfMemory, false) => "changed",
     })
 }
 
@@ -112,6 +115,21 @@ pub(crate) fn write_numbers(
     Ok(outcome(alloc, object, &before, answer)?)
 }
 
+/// Why externs can't be resolved, in a few words.
+fn refusal(error: &KsymsError) -> Answer {
+    match error {
+        KsymsError::OutOfMemory => Answer::OutOfMemory,
+        KsymsError::VariableNotFound { name: _ } => Answer::Refused("no such variable"),
+        KsymsError::KallsymsParseError(_) => Answer::Refused("an address can't be read"),
+        KsymsError::AmbiguousResolution {
+            name: _,
+            first_addr: _,
+            second_addr: _,
+        } => Answer::Refused("two addresses"),
+        _ => Answer::Refused("refused"),
+    }
+}
+
 /// Resolves an object's externs.
 pub(crate) fn resolve_externs(
     alloc: Global,
@@ -122,8 +140,7 @@ pub(crate) fn resolve_externs(
     let mut symbols = Watched::new(kernel.symbols);
     let answer = match object.resolve_externs(&kernel.types, &mut symbols) {
         Ok(()) => Answer::Made,
-        Err(KsymsError::OutOfMemory) => Answer::OutOfMemory,
-        Err(_) => Answer::Refused,
+        Err(error) => refusal(&error),
     };
     Ok(outcome(alloc, object, &before, answer)?)
 }
@@ -138,7 +155,8 @@ pub(crate) fn write_externs(
         Ok(()) => Answer::Made,
         Err(error) => match error.error() {
             RelocationError::OutOfMemory => Answer::OutOfMemory,
-            _ => Answer::Refused,
+            RelocationError::UnresolvableSymbol { name: _ } => Answer::Refused("not resolved"),
+            _ => Answer::Refused("refused"),
         },
     };
     Ok(outcome(alloc, object, &before, answer)?)

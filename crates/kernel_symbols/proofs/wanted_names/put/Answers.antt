@@ -2,7 +2,7 @@ use Rattle.std.proofs.Common.{Some, rules}
 use Rattle.std.proofs.lemmas.Map.Text.{btree_map_updates_str}
 use Rattle.kernel_symbols.specs.declared.wanted.Wanted.{Wanted}
 use Rattle.kernel_symbols.proofs.WantedLemmas.{put_under}
-use Rattle.kernel_symbols.proofs.line.put.Goals as goal
+use Rattle.kernel_symbols.proofs.wanted_names.put.Goals as goal
 
 pub returns-in-Some : goal.returns-in-Some
 returns-in-Some c = λ other.
