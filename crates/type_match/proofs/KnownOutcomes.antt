@@ -39,4 +39,4 @@ known_outcome local targets known k relocation are among same =
     subst (λ (r : TypeRelocation). IsOutcome local targets r k.outcome) same here
 
 pub one_more : {K : Type 0} (cmp : K → K → Ordering) (entries : List (K × KnownOutcome)) (key : K) (k : KnownOutcome) (local : Table) (targets : List Table) → AreOutcomes local targets (values_of entries) → IsOutcome local targets k.relocation k.outcome → AreOutcomes local targets (values_of (insert_entry cmp entries key k))
-one_more cmp entries key k local targets are here = record { each = All-values-insert_entry cmp key k _ entries are.each here }
+one_more cmp entries key k local targets are here = record { each = All-values-insert_entry cmp key k (λ x. IsOutcome local targets x.relocation x.outcome) entries are.each here }

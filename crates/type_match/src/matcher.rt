@@ -195,7 +195,6 @@ impl<'m> TypeMatcher<'m> {
     }
 
     /// What `relocation_outcome` answers; what a relocation came to is remembered.
-    #[tactic(auto, using(crate::proofs::KnownOutcomes::one_more))]
     pub fn relocation_outcome(
         &mut self,
         relocation: TypeRelocation,

@@ -1,4 +1,5 @@
 pub mod Lists
 pub mod Placing
+pub mod Taken
 pub mod Writing
 pub mod Written

@@ -31,7 +31,10 @@ both_sides a b =
     ∙ reversed_then (nat_cmp b.0 a.0) (nat_cmp b.1 a.1)
 
 -- one more in a list by key, which adds itself to those of its function
-placed_last : (p : Placed) (b : Bool) → map (λ (p : Placed). (p.offset, p)) (cond b (p ∷ []) []) ≡ cond b ((p.offset, p) ∷ []) []
+abbrev with_offset : Placed → ℕ × Placed
+with_offset p = (p.offset, p)
+
+placed_last : (p : Placed) (b : Bool) → map with_offset (cond b (p ∷ []) []) ≡ cond b (with_offset p ∷ []) []
 placed_last p true = refl
 placed_last p false = refl
 

@@ -65,8 +65,8 @@ module _ (g : TypesGiven) (group name : ℕ) (section : Option ℕ) (records : L
   pub none_refused : (n : ℕ) (now : List Placed) → length records ≤ n → ArePlacedSo g group name section records n old now → StandsNone (RecordsFault g section records)
   none_refused n now le so = record { none = λ c h. subst (λ l. RecordsFault g section l c) (nothing_left records n le) (so.onward c h) }
 
-  pub refused_here : (n : ℕ) (now : List Placed) (r : bpf_core_relo) (c : BtfRelocationCause) → n < length records → r ≡ get_or records n r → ArePlacedSo g group name section records n old now → RecordFault g section r c → RecordsFault g section records c
-  refused_here n now r c lt here so fault = so.back c (subst (λ l. RecordsFault g section l c) (sym (this_one records n r r lt here)) (at_this fault))
+  pub refused_here : (n : ℕ) (now : List Placed) (d r : bpf_core_relo) (c : BtfRelocationCause) → n < length records → r ≡ get_or records n d → ArePlacedSo g group name section records n old now → RecordFault g section r c → RecordsFault g section records c
+  refused_here n now d r c lt here so fault = so.back c (subst (λ l. RecordsFault g section l c) (sym (this_one records n d r lt here)) (at_this fault))
 
 -- ---- the groups
 

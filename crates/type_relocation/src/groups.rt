@@ -31,8 +31,8 @@ fn records_of(alloc: Global, group: &SecInfo<'_>) -> Result<Vec<bpf_core_relo>, 
 {
     let mut records = Vec::new(alloc);
     for number in 0..group.num_info() {
-        if let Some(record) = group.get(number as usize) {
-            records.push(record)?;
+        if let Some(relocation) = group.get(number as usize) {
+            records.push(relocation)?;
         }
     }
     Ok(records)

@@ -41,7 +41,7 @@ fn size_of(field: Option<WholeField>) -> u32
 
 /// The record of a field's type.
 fn type_of<'b>(table: Option<&'b Btf<'_>>, field: Option<WholeField>) -> Option<TypeRef<'b>>
-    ensures { result ≡ type_of (option_copied table) field }
+    ensures { result ≡ type_of (option_copied table.entry) field }
 {
     let field = field?;
     let table = table?;
@@ -84,7 +84,7 @@ fn width_of(
     compiled: Option<WholeField>,
     field: Option<WholeField>,
 ) -> Width
-    ensures { result ≡ width_of local.now (option_copied target) compiled field }
+    ensures { result ≡ width_of local.now (option_copied target.entry) compiled field }
 {
     let size = size_of(field);
     if size_of(compiled) == size {

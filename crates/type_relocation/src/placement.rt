@@ -59,10 +59,12 @@ fn function_holding<'g, 'f>(
 ) -> Option<&'g Function<'f>>
     ensures { option_copied result ≡ function_holding functions.entry.now section_index offset }
 {
-    let (_, function) = functions.iter().find(|(_, function)| {
-        function.section_index == section_index && function.is_inside(offset)
-    })?;
-    Some(function)
+    for (_, function) in functions.iter() {
+        if function.section_index == section_index && function.is_inside(offset) {
+            return Some(function);
+        }
+    }
+    None
 }
 
 impl<'r, 'o, 'f, 't, 'k> Lookup<'r, 'o, 'f, 't, 'k> {
@@ -88,22 +90,22 @@ impl<'r, 'o, 'f, 't, 'k> Lookup<'r, 'o, 'f, 't, 'k> {
         &self,
         matcher: &mut TypeMatcher<'_>,
         number: usize,
-        record: bpf_core_relo,
+        relocation: bpf_core_relo,
     ) -> Result<Patch, BtfRelocationCause>
         requires { matcher.old ≡ matched self.now }
-        ensures value { IfOk result (λ p. patch_by self.now (outcome_of self.now record) ≡ Some p) }
-        ensures accepted { OnOk result (StandsNone (LacksOutcome self.now record)) }
-        ensures refused { IfErr result (λ c. c ≢ OutOfMemory → LacksOutcome self.now record c) }
+        ensures value { IfOk result (λ p. patch_by self.now (outcome_of self.now relocation) ≡ Some p) }
+        ensures accepted { OnOk result (StandsNone (LacksOutcome self.now relocation)) }
+        ensures refused { IfErr result (λ c. c ≢ OutOfMemory → LacksOutcome self.now relocation c) }
         ensures same { matcher.new ≡ matcher.old }
     {
-        let kind = match RelocationKind::try_from(record.kind) {
+        let kind = match RelocationKind::try_from(relocation.kind) {
             Ok(kind) => kind,
             Err(error) => return Err(BtfRelocationCause::BtfError(error)),
         };
         let asked = TypeRelocation {
             kind,
-            type_id: record.type_id,
-            access_str_off: record.access_str_off,
+            type_id: relocation.type_id,
+            access_str_off: relocation.access_str_off,
         };
         match matcher.relocation_outcome(asked) {
             Ok(outcome) => Ok(patch_of(self.local, self.targets, outcome)),
@@ -113,7 +115,7 @@ impl<'r, 'o, 'f, 't, 'k> Lookup<'r, 'o, 'f, 't, 'k> {
                     local: self.local,
                     targets: self.targets,
                     number,
-                    offset: u64::from(record.insn_off),
+                    offset: u64::from(relocation.insn_off),
                     asked,
                 };
                 Err(cause_of_match(&told, error))
@@ -127,19 +129,19 @@ impl<'r, 'o, 'f, 't, 'k> Lookup<'r, 'o, 'f, 't, 'k> {
         matcher: &mut TypeMatcher<'_>,
         section_index: usize,
         position: Position,
-        record: bpf_core_relo,
+        relocation: bpf_core_relo,
     ) -> Result<Placed, BtfRelocationCause>
         requires { matcher.old ≡ matched self.now }
-        ensures value { IfOk result (λ p. placed self.now position (Some section_index) record ≡ Some p) }
-        ensures accepted { OnOk result (StandsNone (RecordFault self.now (Some section_index) record)) }
-        ensures refused { IfErr result (λ c. c ≢ OutOfMemory → RecordFault self.now (Some section_index) record c) }
+        ensures value { IfOk result (λ p. placed self.now position (Some section_index) relocation ≡ Some p) }
+        ensures accepted { OnOk result (StandsNone (RecordFault self.now (Some section_index) relocation)) }
+        ensures refused { IfErr result (λ c. c ≢ OutOfMemory → RecordFault self.now (Some section_index) relocation c) }
         ensures same { matcher.new ≡ matcher.old }
     {
-        let offset = u64::from(record.insn_off);
+        let offset = u64::from(relocation.insn_off);
         let Some(function) = function_holding(self.functions, section_index, offset) else {
             return Err(BtfRelocationCause::FunctionNotFound);
         };
-        let patch = self.patch(matcher, position.number, record)?;
+        let patch = self.patch(matcher, position.number, relocation)?;
         Ok(Placed {
             key: function.key(),
             offset,
@@ -165,9 +167,9 @@ impl<'r, 'o, 'f, 't, 'k> Lookup<'r, 'o, 'f, 't, 'k> {
         ensures refused { IfErr result (λ c. c ≢ OutOfMemory → RecordsFault self.now (Some section_index) records.now c) }
         ensures same { matcher.new ≡ matcher.old }
     {
-        for (number, record) in records.iter().enumerate() {
+        for (number, relocation) in records.iter().enumerate() {
             let position = Position { number, ..first };
-            let placed = self.place(matcher, section_index, position, *record)?;
+            let placed = self.place(matcher, section_index, position, *relocation)?;
             list.push(placed)?;
         }
         Ok(())
@@ -211,9 +213,12 @@ impl<'r, 'o, 'f, 't, 'k> Lookup<'r, 'o, 'f, 't, 'k> {
         ensures refused { IfErr result (λ e. e.error ≢ OutOfMemory → GroupsFault self.now groups.now e.error) }
     {
         for (number, group) in groups.iter().enumerate() {
-            if let Err(cause) = self.place_group(matcher, number, group, list) {
-                let section = section_name(self.alloc, self.local, group.name_offset);
-                return Err(BtfRelocationError::new(section, cause));
+            match self.place_group(matcher, number, group, list) {
+                Ok(()) => {}
+                Err(cause) => {
+                    let section = section_name(self.alloc, self.local, group.name_offset);
+                    return Err(BtfRelocationError::new(section, cause));
+                }
             }
         }
         Ok(())

@@ -152,8 +152,9 @@ pub fn relocate_types<'f>(
 {
     let groups = groups_of(alloc, extension)?;
     let placement = placement_of(alloc, file, functions, local, targets, groups.as_slice())?;
-    match placement.stopped {
-        None => write_all(alloc, local, placement.all, functions),
-        Some(stopped) => Err(first_error(alloc, local, placement.all, stopped, functions)),
+    let Placement { all, stopped } = placement;
+    match stopped {
+        None => write_all(alloc, local, all, functions),
+        Some(stopped) => Err(first_error(alloc, local, all, stopped, functions)),
     }
 }

@@ -56,8 +56,9 @@ pub(crate) fn kind_name(
     table: &Btf<'_>,
     type_id: u32,
 ) -> Result<String, AllocError> {
-    match table.type_by_id(type_id) {
-        Ok(t) => format!(in alloc; "{}", t.kind()),
-        Err(_) => Ok(String::new(alloc)),
-    }
+    let kind = match table.type_by_id(type_id) {
+        Ok(t) => t.kind(),
+        Err(_) => return Ok(String::new(alloc)),
+    };
+    format!(in alloc; "{kind}")
 }
