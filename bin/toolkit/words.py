@@ -19,7 +19,7 @@ import tempfile
 WITH_OPTIONS = ("bpf_prepare",)
 # The options before a file, and those before another word.
 FILE_OPTIONS = (b"--types", b"--symbols", b"--settings")
-VALUE_OPTIONS = (b"--types-order", b"--map", b"--global")
+VALUE_OPTIONS = (b"--types-order", b"--deny", b"--map", b"--global")
 
 # Files that are opened here get descriptors from this one on: lower ones may be named by the caller.
 FIRST_DESCRIPTOR = 200

@@ -1,2 +1,5 @@
 pub mod AccessStrings
 pub mod FieldPaths
+pub mod Held
+pub mod LookupsAlike
+pub mod PathsAlike

@@ -5,6 +5,7 @@
 
 mod error;
 mod fields;
+mod laws;
 mod local;
 mod numbers;
 mod path;
@@ -13,6 +14,7 @@ mod variants;
 
 pub use error::AccessError;
 pub use fields::{bits_after, elements_after, is_in_array};
+pub use laws::{lookups_rest, paths_rest};
 pub use local::local_path;
 pub use path::{AccessPath, Place, Step, Steps};
 pub use subject::{Subject, subject_of};

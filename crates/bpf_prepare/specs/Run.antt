@@ -5,13 +5,13 @@ use Rattle.load_plan.specs.Inputs.{Inputs, Predicate, SettingsContent, Table, in
 use Rattle.load_plan.specs.PlanGrammar as grammar
 use Rattle.load_plan.specs.Planned.{IsPlanned, IsRefusal}
 use Rattle.load_plan.specs.declared.error.PrepareError.TheVariants as prepare
-use Rattle.load_plan.specs.declared.order.Order.TheVariants.{RelocateFirst}
+use Rattle.load_plan.specs.declared.order.Order.{Order}
 use Rattle.bpf_prepare.specs.declared.error.RunError.{RunError}
 use Rattle.bpf_prepare.specs.declared.error.RunError.TheVariants.{Output, Refused}
 
 -- the inputs of a run: the bytes of the symbols' reader, if they are known, and whether reading them failed
-abbrev pub inputs_of : List ℕ → List Table → Option (List ℕ) → Bool → SettingsContent → Inputs
-inputs_of file kernel_types symbols failed settings = inputs file kernel_types (symbols_given symbols failed) settings RelocateFirst
+abbrev pub inputs_of : List ℕ → List Table → Option (List ℕ) → Bool → SettingsContent → Order → Inputs
+inputs_of file kernel_types symbols failed settings order = inputs file kernel_types (symbols_given symbols failed) settings order
 
 -- something holds of the text of the plan of these inputs, for a kernel of which the predicate and the probe tell
 pub record HoldsOfText {F : Type 0} (predicate : Predicate F) (before : F) (Says : Bool → Type 0) (inputs : Inputs) (Holds : List ℕ → Type 0) : Type 0 where

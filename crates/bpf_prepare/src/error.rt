@@ -33,7 +33,7 @@ impl From<PrepareError> for RunError {
 #[derive(Debug, Drop, Error)]
 pub enum ProgramError {
     /// It was called with other words.
-    #[error("usage: bpf_prepare OBJECT [--types FILE].. [--types-order little|big] [--symbols FILE] [--map NAME=NUMBER].. [--global NAME=HEX].. [--older-helpers]")]
+    #[error("usage: bpf_prepare OBJECT [--types FILE].. [--types-order little|big] [--symbols FILE] [--map NAME=NUMBER].. [--global NAME=HEX].. [--deny FEATURE].. [--rewrite-first] [--older-helpers]")]
     Usage,
     /// A file can't be read.
     #[error("can't read {name:?}: {error}")]

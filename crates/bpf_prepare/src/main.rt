@@ -124,7 +124,8 @@ fn print_plan<R: BufRead>(
         &types,
         symbols,
         settings,
-        |_feature| true,
+        words.order,
+        |feature| words.grants(feature),
         || words.has_newer_helpers,
         &mut out,
     );

@@ -12,7 +12,9 @@ use std::alloc::Global;
 use std::io::{BufRead, Write};
 
 /// Writes the text of an object's plan, or nothing where the object is refused. `kernel_types` are
-/// the kernel's types, `symbols` its symbols as `/proc/kallsyms` lists them, and `predicate` says which features of types the kernel grants, and `probe` whether it has the newer
+/// the kernel's types, `symbols` its symbols as `/proc/kallsyms` lists them; `order` says whether type
+/// relocations are looked up in the object's types before these are rewritten or after that;
+/// `predicate` says which features of types the kernel grants, and `probe` whether it has the newer
 /// helpers that read memory.
 ///
 /// # Errors
@@ -25,6 +27,7 @@ pub fn run<R: BufRead, F: FnMut(BtfFeature) -> bool, P: FnOnce() -> bool, W: Wri
     kernel_types: &[Btf<'_>],
     symbols: &mut Watched<R>,
     settings: &Settings<'_>,
+    order: Order,
     predicate: F,
     probe: P,
     out: &mut Watched<W>,
@@ -34,14 +37,14 @@ pub fn run<R: BufRead, F: FnMut(BtfFeature) -> bool, P: FnOnce() -> bool, W: Wri
 
     // Exactly the text of the plan went out, of an object in which no fault stands.
     ensures well { OnOk result (has_failed out.new ≡ false) }
-    ensures written { OnOk result (HoldsOfText F.FnMut predicate (P.post probe) (inputs_of object.now kernel_types.now (R.remaining (watched_inner symbols.old)) (has_failed symbols.new) settings.now) (λ text. Appends (W.contents (watched_inner out.old)) (W.contents (watched_inner out.new)) text)) }
+    ensures written { OnOk result (HoldsOfText F.FnMut predicate (P.post probe) (inputs_of object.now kernel_types.now (R.remaining (watched_inner symbols.old)) (has_failed symbols.new) settings.now order) (λ text. Appends (W.contents (watched_inner out.old)) (W.contents (watched_inner out.new)) text)) }
 
     // A refusal names a fault that stands, and writes nothing.
-    ensures refused { IfErr result (IsRunRefusal F.FnMut predicate (inputs_of object.now kernel_types.now (R.remaining (watched_inner symbols.old)) (has_failed symbols.new) settings.now)) }
+    ensures refused { IfErr result (IsRunRefusal F.FnMut predicate (inputs_of object.now kernel_types.now (R.remaining (watched_inner symbols.old)) (has_failed symbols.new) settings.now order)) }
     ensures unwritten { IfErr result (λ e. e ≢ Output → out.new ≡ out.old) }
 
     // Of an object that isn't refused, a beginning of the text went out, and the writer failed.
-    ensures part { result ≡ Err Output → HoldsOfText F.FnMut predicate (P.post probe) (inputs_of object.now kernel_types.now (R.remaining (watched_inner symbols.old)) (has_failed symbols.new) settings.now) (λ text. AppendsPart (W.contents (watched_inner out.old)) (W.contents (watched_inner out.new)) text) }
+    ensures part { result ≡ Err Output → HoldsOfText F.FnMut predicate (P.post probe) (inputs_of object.now kernel_types.now (R.remaining (watched_inner symbols.old)) (has_failed symbols.new) settings.now order) (λ text. AppendsPart (W.contents (watched_inner out.old)) (W.contents (watched_inner out.new)) text) }
     ensures failed { result ≡ Err Output → has_failed out.new ≡ true }
     ensures at_once { has_failed out.old ≡ true → out.new ≡ out.old }
 {
@@ -51,7 +54,7 @@ pub fn run<R: BufRead, F: FnMut(BtfFeature) -> bool, P: FnOnce() -> bool, W: Wri
         kernel_types,
         symbols,
         settings,
-        Order::RelocateFirst,
+        order,
         predicate,
         probe,
     )?;

@@ -4,7 +4,7 @@ ghost use Rattle.std.specs.Prelude.{◌<◌, ◌^◌, IfSome};
 
 use crate::error::ProgramError;
 use hex::FromHexError;
-use load_plan::{Endianness, Settings};
+use load_plan::{BtfFeature, Endianness, Order, Settings};
 use std::alloc::Global;
 
 /// A global variable's name and bytes.
@@ -21,6 +21,10 @@ pub struct Words<'w> {
     pub object: &'w str,
     /// Whether the kernel has the newer helpers that read memory.
     pub has_newer_helpers: bool,
+    /// The order of the passes over types.
+    pub order: Order,
+    /// The features that the kernel doesn't grant.
+    denied: Vec<BtfFeature>,
     /// The names of files with kernel types, in order.
     pub types: Vec<&'w str>,
     /// The byte order of all of them.
@@ -68,6 +72,21 @@ fn order_of(word: &str) -> Result<Endianness, ProgramError> {
     }
 }
 
+/// The feature of a name.
+fn feature_of(word: &str) -> Result<BtfFeature, ProgramError> {
+    match word {
+        "Func" => Ok(BtfFeature::Func),
+        "FuncGlobal" => Ok(BtfFeature::FuncGlobal),
+        "DataSec" => Ok(BtfFeature::DataSec),
+        "DataSecZero" => Ok(BtfFeature::DataSecZero),
+        "Float" => Ok(BtfFeature::Float),
+        "DeclTag" => Ok(BtfFeature::DeclTag),
+        "TypeTag" => Ok(BtfFeature::TypeTag),
+        "Enum64" => Ok(BtfFeature::Enum64),
+        _ => Err(ProgramError::Usage),
+    }
+}
+
 /// Sets what may be set once.
 fn set_once<T: Drop>(place: &mut Option<T>, value: T) -> Result<(), ProgramError> {
     match place.replace(value) {
@@ -86,6 +105,8 @@ impl<'w> Words<'w> {
     pub fn read(alloc: Global, words: &'w [String]) -> Result<Words<'w>, ProgramError> {
         let mut object = None;
         let mut has_newer_helpers = true;
+        let mut order = Order::RelocateFirst;
+        let mut denied = Vec::new(alloc);
         let mut types = Vec::new(alloc);
         let mut types_order = None;
         let mut symbols = None;
@@ -109,6 +130,11 @@ impl<'w> Words<'w> {
                     globals.push(global_value(alloc, value)?)?;
                 }
                 "--older-helpers" => has_newer_helpers = false,
+                "--rewrite-first" => order = Order::RewriteFirst,
+                "--deny" => {
+                    let name = rest.next().ok_or(ProgramError::Usage)?;
+                    denied.push(feature_of(name)?)?;
+                }
                 name if object.is_none() && !name.starts_with("--") => object = Some(name),
                 _ => return Err(ProgramError::Usage),
             }
@@ -116,12 +142,19 @@ impl<'w> Words<'w> {
         Ok(Words {
             object: object.ok_or(ProgramError::Usage)?,
             has_newer_helpers,
+            order,
+            denied,
             types,
             types_order: types_order.unwrap_or(Endianness::Little),
             symbols,
             maps,
             globals,
         })
+    }
+
+    /// Whether the kernel grants a feature of types.
+    pub fn grants(&self, feature: BtfFeature) -> bool {
+        !self.denied.iter().any(|denied| *denied == feature)
     }
 
     /// The numbers of maps and the values of global variables.

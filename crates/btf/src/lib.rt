@@ -7,7 +7,6 @@ pub use btf_extension::{
     BtfExt, FuncInfo, FuncSecInfo, LineSecInfo, SecInfo, SecInfoIter, bpf_core_relo, bpf_func_info,
     bpf_line_info,
 };
-pub use btf_index::{TypeIds, TypeIndex};
 pub use btf_records::{
     Array, BtfArray, BtfEnum, BtfEnum64, BtfError, BtfFeature, BtfKind, BtfMember, BtfParam,
     BtfType, Const, DataSec, DataSecEntry, DeclTag, Endianness, Enum, Enum64, Enum64Fallback,

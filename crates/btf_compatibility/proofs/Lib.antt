@@ -9,6 +9,7 @@ pub mod FieldsAgreed
 pub mod FieldsExchanged
 pub mod FreePairs
 pub mod Held
+pub mod LocalsAgreed
 pub mod OpenPairs
 pub mod Parts
 pub mod Rounds

@@ -4,7 +4,9 @@
 
 mod compatibility;
 mod fields;
+mod laws;
 mod pairs;
 
 pub use compatibility::types_are_compatible;
 pub use fields::fields_are_compatible;
+pub use laws::comparisons_rest;

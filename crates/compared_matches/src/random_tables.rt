@@ -99,14 +99,15 @@ fn details(
     }
 }
 
-/// Compares what relocations come to with what the definition says, one by one and all at once.
+/// Compares what relocations come to with what the definition says, one by one, all at once, and each
+/// a second time.
 fn compare_outcomes<'m>(
     local: &'m Btf<'m>,
     relocations: &[TypeRelocation],
     kernel: &'m [Btf<'m>],
     tally: &mut Tally,
 ) -> Result<(), AllocError> {
-    let matcher = TypeMatcher::collect(local, relocations, kernel)?;
+    let mut matcher = TypeMatcher::collect(local, relocations, kernel)?;
     for relocation in relocations {
         let plain = plain_outcome(local, *relocation, kernel);
         let answer = Answer::of(&plain);
@@ -115,7 +116,9 @@ fn compare_outcomes<'m>(
         let is_found = answer == Answer::of(&found) && details(&plain) == details(&found);
         let is_collected = answer == Answer::of(&collected)
             && details(&plain) == details(&collected);
-        tally.count(sort_of(answer), is_found && is_collected)?;
+        let again = matcher.relocation_outcome(*relocation);
+        let is_remembered = answer == Answer::of(&again) && details(&plain) == details(&again);
+        tally.count(sort_of(answer), is_found && is_collected && is_remembered)?;
     }
     Ok(())
 }

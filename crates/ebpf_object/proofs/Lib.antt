@@ -1,3 +1,4 @@
 pub mod Faultless
 pub mod Linked
+pub mod NoTypeRelocations
 pub mod RefusedTables

@@ -8,6 +8,7 @@ use Rattle.std.proofs.lemmas.Map.Made.{is_some-lookup}
 use Rattle.object_parts.specs.Content.{FunctionContent, HaveFunctions, ProgramContent, has_function, key_cmp, with_older_helpers}
 use Rattle.linker.specs.Linked.{AreLinked}
 use Rattle.linker.specs.Unlinked.{Unlinked}
+use Rattle.object_parts.specs.Installed.{AreChanged}
 use Rattle.slot_relocation.specs.Writes.{AreRelocated, Rule}
 
 abbrev Keyed : Type 0
@@ -29,7 +30,12 @@ pub functions_stay : {T E : Type 0} (r : Result T E) (programs : List (List ℕ 
 functions_stay (Ok x) programs u keys old new is linked same have = keys-stay programs old new (linked.stay ∙ ap keys_of is) have
 functions_stay (Err e) programs u keys old new is linked same have = rw same have
 
--- so it is behind an attempt to relocate
+-- so it is behind an attempt to change them
+pub functions_stay_changed : {T E : Type 0} (r : Result T E) (programs : List (List ℕ × ProgramContent)) (change : FunctionContent → FunctionContent) (old new : Keyed) → OnOk r (AreChanged change old new) → OnErr r (new ≡ old) → HaveFunctions programs old → HaveFunctions programs new
+functions_stay_changed (Ok x) programs change old new is same have = keys-stay programs old new is.keys have
+functions_stay_changed (Err e) programs change old new is same have = rw same have
+
+-- to relocate them
 pub functions_stay_relocated : {T E : Type 0} (r : Result T E) (programs : List (List ℕ × ProgramContent)) (rule : Rule) (file : List ℕ) (old new : Keyed) → OnOk r (AreRelocated rule file old new) → OnErr r (new ≡ old) → HaveFunctions programs old → HaveFunctions programs new
 functions_stay_relocated (Ok x) programs rule file old new is same have = keys-stay programs old new is.keys have
 functions_stay_relocated (Err e) programs rule file old new is same have = rw same have

@@ -4,4 +4,5 @@ pub mod Helpers
 pub mod ParsedObject
 pub mod Places
 pub mod Rewriting
+pub mod TypeRelocations
 pub mod Types

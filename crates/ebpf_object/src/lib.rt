@@ -8,6 +8,7 @@ mod object;
 mod places;
 mod rewriting;
 mod slots;
+mod type_relocations;
 mod types;
 
 pub use ebpf_items::{
@@ -28,3 +29,4 @@ pub use places::{function_without_code, name_at};
 pub use relocation_errors::{EbpfRelocationError, RelocationError};
 pub use settings::Settings;
 pub use slot_relocation::NumberedMap;
+pub use type_relocation::{BtfRelocationCause, BtfRelocationError, RelocationPlace};

@@ -52,7 +52,7 @@ pub struct Object<'a> {
     pub(crate) alloc: Global,
     pub(crate) file: ObjectFile<'a>,
     pub(crate) btf: Option<Btf<'a>>,
-    btf_ext: Option<BtfExt<'a>>,
+    pub(crate) btf_ext: Option<BtfExt<'a>>,
     pub(crate) maps: Maps<'a>,
     programs: Programs<'a>,
     pub(crate) functions: Functions<'a>,

@@ -6,8 +6,8 @@
 //! - `matchings COUNT [counts]`: type relocations over random tables of types, beside the plain definitions;
 //! - `refused-objects COUNT TYPES SYMBOLS OBJECT..`, `refused-structs COUNT`, `refused-tables COUNT`: steps while a
 //!   request for memory is refused, so many requests before them;
-//! - `measure-types FILE [STRUCT..]`, `measure-symbols FILE [NAME..]`, `measure-object OBJECT [COUNT]`: how long
-//!   calls take.
+//! - `measure-types FILE [STRUCT..]`, `measure-matching FILE STRUCT..`, `measure-symbols FILE [NAME..]`,
+//!   `measure-object OBJECT [COUNT]`: how long calls take.
 #![tactic(auto)]
 
 mod changed_objects;
@@ -15,6 +15,7 @@ mod error;
 mod linked_objects;
 mod matchings;
 mod measured_maps;
+mod measured_matching;
 mod measured_objects;
 mod measured_symbols;
 mod measured_types;
@@ -53,6 +54,7 @@ fn run(rt: &HostRuntime, exercise: &str, words: &mut Args) -> ExitCode {
         "refused-structs" => thousand_structs::run(rt, words),
         "refused-tables" => rewritten_tables::run(rt, words),
         "measure-types" => status_of(rt, measured_types::run(rt, words)),
+        "measure-matching" => status_of(rt, measured_matching::run(rt, words)),
         "measure-symbols" => status_of(rt, measured_symbols::run(rt, words)),
         "measure-object" => status_of(rt, measured_objects::run(rt, words)),
         _ => status_of(rt, Err(ExerciseError::Usage)),

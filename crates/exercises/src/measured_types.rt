@@ -1,9 +1,9 @@
 //! How long it takes to parse a file of type information, to write the table again, to rewrite it to what
-//! a kernel grants, to make an index over it, and to find structs in it by name.
+//! a kernel grants, and to find structs in it by name.
 
 use crate::error::ExerciseError;
 use crate::times::{micros, print_times};
-use btf::{Btf, BtfKind, Endianness, TypeIndex};
+use btf::{Btf, BtfKind, Endianness};
 use std::collections::BTreeMap;
 use std::env::Args;
 use std::fs;
@@ -90,17 +90,6 @@ fn measure_step(rt: &HostRuntime, table: &Btf<'_>) -> Result<(), ExerciseError> 
     print_times(rt, "stepped on a section", times)
 }
 
-fn measure_indexing<'t>(rt: &HostRuntime, table: &'t Btf<'t>) -> Result<(), ExerciseError> {
-    let mut times = Vec::with_capacity(rt.alloc(), ROUNDS as usize)?;
-    for _ in 0..ROUNDS {
-        let start = Instant::now(rt)?;
-        let index = TypeIndex::new(rt.alloc(), table)?;
-        times.push(micros(rt, start)?)?;
-        drop(index);
-    }
-    print_times(rt, "indexed", times)
-}
-
 /// The first 40 characters of a name.
 fn beginning(name: &str) -> &str {
     match name.char_indices().nth(40) {
@@ -109,37 +98,7 @@ fn beginning(name: &str) -> &str {
     }
 }
 
-/// The last struct of a name by index.
-fn last_candidate(index: &TypeIndex<'_>, name: &str) -> Option<u32> {
-    let ids = index.candidates(BtfKind::Struct, name).ok()?;
-    let mut last = None;
-    for id in ids {
-        last = Some(id);
-    }
-    last
-}
-
-/// Finds the structs of a name by index.
-fn measure_candidates(
-    rt: &HostRuntime,
-    index: &TypeIndex<'_>,
-    name: &str,
-) -> Result<(), ExerciseError> {
-    match last_candidate(index, name) {
-        Some(id) => println!(rt; "by index, the last of them: id {id}")?,
-        None => println!(rt; "by index: not found")?,
-    }
-    let mut times = Vec::with_capacity(rt.alloc(), ROUNDS as usize)?;
-    for _ in 0..ROUNDS {
-        let start = Instant::now(rt)?;
-        let last = last_candidate(index, name);
-        times.push(micros(rt, start)?)?;
-        drop(last);
-    }
-    print_times(rt, "looked up by index", times)
-}
-
-/// Finds the first struct of a name by scan.
+/// Finds the first struct of a name.
 fn measure_name(rt: &HostRuntime, table: &Btf<'_>, name: &str) -> Result<(), ExerciseError> {
     match table.id_by_type_name_kind(name, BtfKind::Struct) {
         Ok(id) => println!(rt; "{}: id {id}", beginning(name))?,
@@ -152,7 +111,7 @@ fn measure_name(rt: &HostRuntime, table: &Btf<'_>, name: &str) -> Result<(), Exe
         times.push(micros(rt, start)?)?;
         drop(found);
     }
-    print_times(rt, "looked up by scan", times)
+    print_times(rt, "looked up", times)
 }
 
 /// Parses the file of the first word, and finds the structs of the other words.
@@ -167,11 +126,8 @@ pub(crate) fn run(rt: &HostRuntime, words: &mut Args) -> Result<(), ExerciseErro
     measure_rewriting(rt, &table, "rewritten, all features granted", true)?;
     measure_rewriting(rt, &table, "rewritten, no feature granted", false)?;
     measure_step(rt, &table)?;
-    measure_indexing(rt, &table)?;
-    let index = TypeIndex::new(rt.alloc(), &table)?;
     for name in words {
         measure_name(rt, &table, name.as_str())?;
-        measure_candidates(rt, &index, name.as_str())?;
     }
     Ok(())
 }

@@ -1,7 +1,7 @@
 //! The calls that take memory, and what they give. Status 3 is want of memory.
 
 use btf::{
-    Btf, BtfError, BtfExt, BtfKind, BtfType, Endianness, Int, IntEncoding, Ptr, TypeIndex,
+    Btf, BtfError, BtfExt, BtfKind, BtfType, Endianness, Int, IntEncoding, Ptr,
     types_are_compatible,
 };
 use ebpf_items::{Slots, bpf_insn};
@@ -46,10 +46,8 @@ fn types(alloc: Global, section: &[u8]) -> Result<usize, BtfError> {
 /// itself.
 fn look_ups(alloc: Global, section: &[u8]) -> Result<(u32, bool), BtfError> {
     let table = Btf::parse(alloc, section, Endianness::Little)?.try_clone()?;
-    let index = TypeIndex::new(alloc, &table)?;
-    let found = index.candidates(BtfKind::Int, "int")?.next();
     Ok((
-        found.unwrap_or(0),
+        table.id_by_type_name_kind("int", BtfKind::Int)?,
         types_are_compatible(&table, 2, &table, 2)?,
     ))
 }

@@ -2,7 +2,9 @@
 
 use crate::error::ExerciseError;
 use btf::Btf;
-use ebpf_object::{KsymsError, Maps, NumberedMap, Object, ParseError, Watched};
+use ebpf_object::{
+    BtfRelocationCause, Function, KsymsError, Maps, NumberedMap, Object, ParseError, Watched,
+};
 use relocation_errors::RelocationError;
 use settings::Settings;
 use std::alloc::{AllocError, Global};
@@ -14,13 +16,16 @@ pub(crate) struct Kernel<'k> {
     pub symbols: &'k [u8],
 }
 
-/// What a step answers.
+/// What a step answers; a refusal in a few words.
 #[derive(Clone, Copy)]
 enum Answer {
     Made,
-    Refused,
+    Refused(&'static str),
     OutOfMemory,
 }
+
+/// What becomes of an object by a step for which memory was refused.
+pub(crate) const AS_BEFORE: &str = "as before";
 
 /// Appends what is known of an object's externs.
 fn push_externs(object: &Object<'_>, bytes: &mut Vec<u8>) -> Result<(), AllocError> {
@@ -32,7 +37,16 @@ fn push_externs(object: &Object<'_>, bytes: &mut Vec<u8>) -> Result<(), AllocErr
     Ok(())
 }
 
-/// The bytes of an object's maps and of its functions' slots, and what is known of its externs.
+/// Appends the kernel tables in which a function's type relocations have matches.
+fn push_tables(function: &Function<'_>, bytes: &mut Vec<u8>) -> Result<(), AllocError> {
+    for table in function.matched_tables.iter() {
+        bytes.extend_from_slice(&table.to_le_bytes())?;
+    }
+    Ok(())
+}
+
+/// The bytes of an object's maps and of its functions' slots, with the kernel tables that these matched,
+/// and what is known of its externs.
 fn bytes_of(alloc: Global, object: &Object<'_>) -> Result<Vec<u8>, AllocError> {
     let mut bytes = Vec::new(alloc);
     for (_name, map) in object.maps().iter() {
@@ -42,6 +56,7 @@ fn bytes_of(alloc: Global, object: &Object<'_>) -> Result<Vec<u8>, AllocError> {
         for slot in function.instructions.iter() {
             bytes.extend_from_slice(&slot.to_bytes())?;
         }
+        push_tables(function, &mut bytes)?;
     }
     push_externs(object, &mut bytes)?;
     Ok(bytes)
@@ -58,9 +73,9 @@ fn outcome(
     Ok(match (answer, bytes.as_slice() == before) {
         (Answer::Made, false) => "done",
         (Answer::Made, true) => "nothing to do",
-        (Answer::Refused, true) => "refused",
-        (Answer::OutOfMemory, true) => "as before",
-        (Answer::Refused | Answer::OutOfMemory, false) => "changed",
+        (Answer::Refused(why), true) => why,
+        (Answer::OutOfMemory, true) => AS_BEFORE,
+        (Answer::Refused(_) | Answer::OutOfMemory, false) => "changed",
     })
 }
 
@@ -112,6 +127,21 @@ pub(crate) fn write_numbers(
     Ok(outcome(alloc, object, &before, answer)?)
 }
 
+/// Why externs can't be resolved, in a few words.
+fn refusal(error: &KsymsError) -> Answer {
+    match error {
+        KsymsError::OutOfMemory => Answer::OutOfMemory,
+        KsymsError::VariableNotFound { name: _ } => Answer::Refused("no such variable"),
+        KsymsError::KallsymsParseError(_) => Answer::Refused("an address can't be read"),
+        KsymsError::AmbiguousResolution {
+            name: _,
+            first_addr: _,
+            second_addr: _,
+        } => Answer::Refused("two addresses"),
+        _ => Answer::Refused("refused"),
+    }
+}
+
 /// Resolves an object's externs.
 pub(crate) fn resolve_externs(
     alloc: Global,
@@ -122,8 +152,27 @@ pub(crate) fn resolve_externs(
     let mut symbols = Watched::new(kernel.symbols);
     let answer = match object.resolve_externs(&kernel.types, &mut symbols) {
         Ok(()) => Answer::Made,
-        Err(KsymsError::OutOfMemory) => Answer::OutOfMemory,
-        Err(_) => Answer::Refused,
+        Err(error) => refusal(&error),
+    };
+    Ok(outcome(alloc, object, &before, answer)?)
+}
+
+/// Writes what an object's type relocations come to into its slots.
+pub(crate) fn relocate_types(
+    alloc: Global,
+    object: &mut Object<'_>,
+    kernel: &Kernel<'_>,
+) -> Result<&'static str, ExerciseError> {
+    let before = bytes_of(alloc, object)?;
+    let answer = match object.relocate_btf(&kernel.types) {
+        Ok(()) => Answer::Made,
+        Err(error) => match error.error() {
+            BtfRelocationCause::OutOfMemory => Answer::OutOfMemory,
+            BtfRelocationCause::ConflictingCandidates { .. } => {
+                Answer::Refused("conflicting candidates")
+            }
+            _ => Answer::Refused("refused"),
+        },
     };
     Ok(outcome(alloc, object, &before, answer)?)
 }
@@ -138,7 +187,8 @@ pub(crate) fn write_externs(
         Ok(()) => Answer::Made,
         Err(error) => match error.error() {
             RelocationError::OutOfMemory => Answer::OutOfMemory,
-            _ => Answer::Refused,
+            RelocationError::UnresolvableSymbol { name: _ } => Answer::Refused("not resolved"),
+            _ => Answer::Refused("refused"),
         },
     };
     Ok(outcome(alloc, object, &before, answer)?)

@@ -1,14 +1,17 @@
 //! Steps on objects while memory is refused. It makes as many requests for memory as the first word says, reads a kernel's
 //! types and symbols from the files that the next two name, parses the objects of the files that the others name, prints how
-//! much each holds, puts a value and numbers into it, resolves its externs and writes what is known of them, prints what became of
-//! it by each step, and makes two more requests. Where memory is refused to one of these steps, the object must be as it was;
-//! where it is refused elsewhere, status 3 says so.
+//! much each holds, puts a value and numbers into it, resolves its externs, writes what its type relocations come to and what
+//! is known of its externs, prints what became of it by each step, and makes two more requests. Where memory is refused to one
+//! of these steps, the object must be as it was, and the step is made again; where it is refused elsewhere, status 3 says so.
 
 use crate::error::ExerciseError;
-use crate::object_steps::{Kernel, put_value, resolve_externs, write_externs, write_numbers};
+use crate::object_steps::{
+    AS_BEFORE, Kernel, put_value, relocate_types, resolve_externs, write_externs, write_numbers,
+};
 use crate::requests::requests;
 use btf::{Btf, Endianness};
 use ebpf_object::Object;
+use std::alloc::Global;
 use std::env::Args;
 use std::fs;
 
@@ -24,20 +27,55 @@ fn print_object(rt: &HostRuntime, object: &Object<'_>) -> Result<(), ExerciseErr
     Ok(())
 }
 
-/// Makes the steps on an object, and prints what becomes of it by each.
+#[derive(Clone, Copy)]
+enum Step {
+    Value,
+    Numbers,
+    Externs,
+    Types,
+    Slots,
+}
+
+/// The steps, by what is printed of them.
+const STEPS: [(&str, Step); 5] = [
+    ("value", Step::Value),
+    ("numbers", Step::Numbers),
+    ("externs", Step::Externs),
+    ("slots of types", Step::Types),
+    ("slots of externs", Step::Slots),
+];
+
+/// Makes a step on an object.
+fn make(
+    alloc: Global,
+    step: Step,
+    object: &mut Object<'_>,
+    kernel: &Kernel<'_>,
+) -> Result<&'static str, ExerciseError> {
+    match step {
+        Step::Value => put_value(alloc, object),
+        Step::Numbers => write_numbers(alloc, object),
+        Step::Externs => resolve_externs(alloc, object, kernel),
+        Step::Types => relocate_types(alloc, object, kernel),
+        Step::Slots => write_externs(alloc, object),
+    }
+}
+
+/// Makes the steps on an object, and prints what becomes of it by each. One to which memory was refused is
+/// made again.
 fn relocate(
     rt: &HostRuntime,
     object: &mut Object<'_>,
     kernel: &Kernel<'_>,
 ) -> Result<(), ExerciseError> {
-    let value = put_value(rt.alloc(), object)?;
-    println!(rt; "value: {value}")?;
-    let numbers = write_numbers(rt.alloc(), object)?;
-    println!(rt; "numbers: {numbers}")?;
-    let externs = resolve_externs(rt.alloc(), object, kernel)?;
-    println!(rt; "externs: {externs}")?;
-    let slots = write_externs(rt.alloc(), object)?;
-    println!(rt; "slots of externs: {slots}")?;
+    for (name, step) in STEPS {
+        let outcome = make(rt.alloc(), step, object, kernel)?;
+        println!(rt; "{name}: {outcome}")?;
+        if outcome == AS_BEFORE {
+            let outcome = make(rt.alloc(), step, object, kernel)?;
+            println!(rt; "{name} again: {outcome}")?;
+        }
+    }
     Ok(())
 }
 

@@ -18,7 +18,7 @@ use Rattle.slot_relocation.specs.declared.outcome.Outcome.TheVariants.{Skipped, 
 use Rattle.slot_relocation.specs.declared.outcome.Write.{Write}
 use Rattle.slot_relocation.specs.BySymbol.{symbol_index}
 use Rattle.slot_relocation.specs.Slots.{with_number}
-use Rattle.slot_relocation.specs.WriteLaws.{LengthsRemain, UnwrittenStay, WritesAreKept}
+use Rattle.slot_relocation.specs.WriteLaws.{LengthsRemain, OneWrites, UnwrittenStay, WritesAreKept}
 use Rattle.slot_relocation.specs.Writes.{AreRelocated, place_of, relocated, relocations_inside}
 use Rattle.extern_relocation.specs.declared.extern_rule.Resolution.{Resolution}
 use Rattle.extern_relocation.specs.declared.extern_rule.Resolution.TheVariants.{Id, Address, Missing, Unresolved}
@@ -109,12 +109,17 @@ carry keep file externs f r w m =
     let k = keep.each file (extern_outcome externs) f r w m in
     (w.first, k.kept, carries file externs r.1 k.slot k.next k.symbol w k.known k.made)
 
-have_externs : WritesAreKept → UnwrittenStay Relocation Fault → LengthsRemain Relocation Fault → (file : List ℕ) (externs : ByName) (old new : List ((ℕ × ℕ) × FunctionContent)) → AreRelocated (extern_rule file externs) file old new → HaveExterns file externs old new
-have_externs keep stay lengths file externs old new are key f at = (
+have_externs : WritesAreKept → OneWrites Relocation Fault → UnwrittenStay Relocation Fault → LengthsRemain Relocation Fault → (file : List ℕ) (externs : ByName) (old new : List ((ℕ × ℕ) × FunctionContent)) → AreRelocated (extern_rule file externs) file old new → HaveExterns file externs old new
+have_externs keep one stay lengths file externs old new are key f at = (
   relocated (extern_rule file externs) file f,
   are.at key ∙ ap (option_map (relocated (extern_rule file externs) file)) at,
-  record { carry = carry keep file externs f; others = stay.each (extern_rule file externs) f (relocations_inside file f); as_many = lengths.each (extern_rule file externs) f (relocations_inside file f) },
+  record {
+    carry = carry keep file externs f;
+    alone = λ place s p within. one.each (extern_rule file externs) f (relocations_inside file f) p.relocation p.write place s p.made p.puts within p.alone;
+    others = stay.each (extern_rule file externs) f (relocations_inside file f);
+    as_many = lengths.each (extern_rule file externs) f (relocations_inside file f);
+  },
 )
 
-pub externs_are_written : WritesAreKept → UnwrittenStay Relocation Fault → LengthsRemain Relocation Fault → ExternsAreWritten
-externs_are_written keep stay lengths = record { each = have_externs keep stay lengths }
+pub externs_are_written : WritesAreKept → OneWrites Relocation Fault → UnwrittenStay Relocation Fault → LengthsRemain Relocation Fault → ExternsAreWritten
+externs_are_written keep one stay lengths = record { each = have_externs keep one stay lengths }

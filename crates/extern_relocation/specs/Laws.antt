@@ -1,5 +1,5 @@
 -- What holds of a function after the relocations by externs inside it.
-use Rattle.std.specs.Prelude.{◌≡◌, ◌⊎◌, ℕ, ◌%◌, ◌^◌, List, length, slice_get, Some, Option, option_and_then, pos}
+use Rattle.std.specs.Prelude.{◌≡◌, ◌⊎◌, ◌<◌, ℕ, ◌%◌, ◌^◌, List, length, slice_get, Some, Option, option_and_then, pos}
 use Rattle.std.specs.Option.{option_map}
 use Rattle.ebpf_items.specs.Instruction.{src_reg_of}
 use Rattle.ebpf_items.specs.declared.instruction.bpf_insn.{bpf_insn}
@@ -9,7 +9,7 @@ use Rattle.object_file.specs.Symbols.{symbol_at}
 use Rattle.object_parts.specs.Content.{FunctionContent, function_at}
 use Rattle.slot_relocation.specs.declared.outcome.Write.{Write}
 use Rattle.slot_relocation.specs.BySymbol.{symbol_index}
-use Rattle.slot_relocation.specs.WriteLaws.{IsWritten, Makes}
+use Rattle.slot_relocation.specs.WriteLaws.{IsWritten, Makes, WritesAlone}
 use Rattle.slot_relocation.specs.Writes.{AreRelocated, place_of, relocations_inside}
 use Rattle.extern_relocation.specs.declared.extern_rule.Resolution.{Resolution}
 use Rattle.extern_relocation.specs.declared.extern_rule.Resolution.TheVariants.{Id, Address, Missing, Unresolved}
@@ -25,6 +25,10 @@ Writes file externs f r w = Makes (extern_rule file externs) f (relocations_insi
 -- some relocation writes the slot at a place: its own, or the next one
 abbrev pub WritesAt : List ℕ → ByName → FunctionContent → ℕ → Type 0
 WritesAt file externs f place = IsWritten (extern_rule file externs) f (relocations_inside file f) place
+
+-- one alone does, and puts this into it
+abbrev pub PutsAt : List ℕ → ByName → FunctionContent → ℕ → bpf_insn → Type 0
+PutsAt file externs f place s = WritesAlone (extern_rule file externs) f (relocations_inside file f) place s
 
 -- what is known of the extern that a relocation names
 abbrev pub resolution_of : List ℕ → ByName → Relocation → Option Resolution
@@ -50,9 +54,10 @@ pub record CarriesExtern (file : List ℕ) (externs : ByName) (r : Relocation) (
   pub carried : ((s.code ≡ 0x85) × CallCarries s (symbol_index r) resolution) ⊎ ((s.code ≡ 0x18) × LoadCarries s resolution)
 
 -- what holds of a function's slots after all relocations: one at which a relocation stands and writes carries its extern,
--- whatever the others write, and one that none writes is as it was
+-- whatever the others write; one that one alone writes is what that one puts there; and one that none writes is as it was
 pub record HasExterns (file : List ℕ) (externs : ByName) (old new : FunctionContent) : Type 0 where
   pub carry : (r : ℕ × Relocation) (w : Write) → Writes file externs old r w → (s : bpf_insn) × (slice_get new.instructions (place_of old r.0) ≡ Some s) × CarriesExtern file externs r.1 s
+  pub alone : (place : ℕ) (s : bpf_insn) → PutsAt file externs old place s → place < length old.instructions → slice_get new.instructions place ≡ Some s
   pub others : (place : ℕ) → (WritesAt file externs old place → ⊥) → slice_get new.instructions place ≡ slice_get old.instructions place
   pub as_many : length new.instructions ≡ length old.instructions
 

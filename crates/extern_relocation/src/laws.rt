@@ -3,7 +3,7 @@
 ghost use Rattle.extern_relocation.specs.Laws.{ExternsAreWritten};
 
 use elf64::RelocView;
-use slot_relocation::{Fault, lengths_remain, unwritten_stay, writes_are_kept};
+use slot_relocation::{Fault, lengths_remain, one_writes, unwritten_stay, writes_are_kept};
 
 /// After all relocations, a slot at which one by an extern stands and writes carries what is known of
 /// that extern, whatever the others write; a slot that none writes stays as it was; a function keeps its
@@ -13,6 +13,7 @@ pub fn externs_are_written()
     ensures { ExternsAreWritten }
 {
     writes_are_kept();
+    one_writes::<RelocView, Fault>();
     unwritten_stay::<RelocView, Fault>();
     lengths_remain::<RelocView, Fault>();
 }

@@ -60,6 +60,7 @@ caller = record {
   line_info = [];
   func_info_rec_size = 0;
   line_info_rec_size = 0;
+  matched_tables = [];
 }
 
 own_section : called_by caller 1 (record { code = 133; registers = 16; off = pos 0; imm = negsuc 2 }) ≡ Function 3 (pos 0)

@@ -1,3 +1,4 @@
+pub mod BlockLemmas
 pub mod ReaderLemmas
 pub mod SaidLemmas
 pub mod TextLemmas

@@ -6,7 +6,8 @@ use Rattle.std.proofs.KnownBytes.{Consumes-nil, Consumes-trans, starts_with_rest
 use Rattle.std.proofs.lemmas.Bool.Decides.{nat_tests}
 use Rattle.watched.specs.Handing.{HasAtHand}
 use Rattle.kernel_symbols.proofs.TextLemmas.{lines_front, no_lines, one_line, wanted_as}
-use Rattle.kernel_symbols.specs.Reading.{AreAddresses, AreSettled, AreWanted, CannotFinish, Finishes, HasRead, IsSettledAs, IsWantedIn, ReaderFault, ReadsSome, ReadsWhole, Refuses, RefusesLine, RefusesReader, StandsBehind, Takes, TakesLine, address_under, entries_of, text_of, under}
+use Rattle.kernel_symbols.specs.Reading.{AreAddresses, AreSettled, AreWanted, CannotFinish, Finishes, HasRead, IsSettledAs, IsWantedIn, ReaderFault, ReadsSome, ReadsWhole, Refuses, RefusesLine, RefusesReader, StandsBehind, Takes, TakesLine, address_under, entries_of, text_of}
+use Rattle.kernel_symbols.specs.Wanted.{under}
 use Rattle.kernel_symbols.specs.Texts.{IsAmong, IsGiven, LinesFault, TextFault, address_of, is_among, lines_of}
 use Rattle.kernel_symbols.specs.declared.error.SymbolsError.{SymbolsError}
 use Rattle.kernel_symbols.specs.declared.error.SymbolsError.TheVariants as error

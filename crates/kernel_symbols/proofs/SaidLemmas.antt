@@ -8,7 +8,8 @@ use Rattle.std.proofs.lemmas.Bool.Decides.{nat_tests}
 use Rattle.std.proofs.lemmas.List.Concat.{flat_map-append}
 use Rattle.std.proofs.lemmas.List.Folds.{list_any-append}
 use Rattle.kernel_symbols.specs.Addresses.{address_in}
-use Rattle.kernel_symbols.specs.Reading.{IsSettled, IsSettledAs, IsWantedIn, RefusesLine, TakesLine, settled, settled_beside, under, with_address}
+use Rattle.kernel_symbols.specs.Reading.{IsSettled, IsSettledAs, IsWantedIn, RefusesLine, TakesLine, settled, settled_beside}
+use Rattle.kernel_symbols.specs.Wanted.{under, with_address}
 use Rattle.kernel_symbols.specs.Texts.{LinesFault, addresses_in, has_unreadable, is_foreign, said, said_by, said_in, shown}
 use Rattle.kernel_symbols.specs.Words.{first_and_third, words_of}
 use Rattle.kernel_symbols.specs.declared.error.SymbolsError.{SymbolsError}

@@ -1,11 +1,14 @@
 -- Lines and the text that they stand in.
 use Rattle.std.proofs.Common.{◌≡◌, ℕ, zero, suc, ◌+◌, ◌<◌, ◌≤◌, Bool, true, false, ◌||◌, List, [], ◌∷◌, ◌++◌, length, take, drop, get_or, zero-le, Result, Ok, Err, Option, None, Some, refl, ap, sym, ◌∙◌, subst, arith, append_assoc, append-nil}
-use Rattle.std.specs.Prelude.{◌==◌, MatchOption}
+use Rattle.std.specs.Prelude.{◌==◌, MatchBool, MatchOption}
+use Rattle.std.specs.Str.{IsAscii, IsNotAscii}
 use Rattle.std.specs.Result.{IfErr, OnOk}
 use Rattle.memchr.specs.Find.{IsFirstByte, is_byte}
 use Rattle.std.proofs.lemmas.Bool.Decides.{nat_tests}
 use Rattle.std.specs.List.{list_any}
 use Rattle.std.proofs.lemmas.List.Folds.{list_any-append}
+use Rattle.std.proofs.Math.Seq.{drop-append_seam}
+use Rattle.std.proofs.lemmas.Str.{IsAscii-drop, IsAscii-take}
 use Rattle.kernel_symbols.specs.Reading.{AreUnbroken, HasRead, IsUnbroken, IsWantedIn, Refuses, RefusesLine, SameNames, Takes, TakesAllBut, TakesLine, entries_of, is_break, text_of}
 use Rattle.kernel_symbols.specs.Texts.{TextFault, lines_of}
 use Rattle.kernel_symbols.specs.Words.{onto_first}
@@ -186,6 +189,16 @@ takes_rest old between new bytes rest before whole same grown = record {
       };
   names = rw same before.names;
 }
+
+-- ---- bytes of ASCII
+
+ascii_rest : (bytes taken rest : List ℕ) → IsAscii bytes → bytes ≡ taken ++ rest → IsAscii rest
+ascii_rest bytes taken rest ascii split = subst IsAscii (ap (drop (length taken)) split ∙ drop-append_seam taken rest) (IsAscii-drop bytes (length taken) ascii)
+
+-- each line of them is ASCII
+pub ascii_line : (b : Bool) (bytes taken rest : List ℕ) (at : ℕ) → MatchBool b (IsAscii bytes) (IsNotAscii bytes) → bytes ≡ taken ++ rest → b ≡ true → IsAscii (take at rest)
+ascii_line true bytes taken rest at ascii split is = IsAscii-take rest at (ascii_rest bytes taken rest ascii split)
+ascii_line false bytes taken rest at ascii split is = absurd cc
 
 -- ---- a fault among other names
 

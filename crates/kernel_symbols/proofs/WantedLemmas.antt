@@ -1,10 +1,13 @@
 -- Wanted names.
-use Rattle.std.proofs.Common.{◌≡◌, ℕ, ◌+◌, ◌<◌, Bool, true, false, cond, ◌||◌, List, length, take, get_or, Option, None, Some, Bor, refl, ap, sym, ◌∙◌, subst, Result, Ok, Err}
+use Rattle.std.proofs.Common.{◌≡◌, ℕ, ◌+◌, ◌<◌, ◌⊎◌, Bool, true, false, cond, ◌||◌, List, [], length, take, get_or, set, inl, inr, Option, None, Some, Bor, refl, ap, sym, ◌∙◌, subst, arith, Result, Ok, Err}
 use Rattle.std.specs.Prelude.{IfSome, is_some}
-use Rattle.std.specs.Result.{IfErr, IsErrAnd}
+use Rattle.std.specs.Result.{IfErr, IsErrAnd, OnErr, OnOk}
 use Rattle.std.specs.Cmp.Lexicographic.{same_text}
 use Rattle.std.specs.Str.{bytes_eq}
-use Rattle.kernel_symbols.specs.Reading.{AreWanted, HasNoAddress, under, with_address}
+use Rattle.kernel_symbols.specs.Reading.{AreWanted, HasNoAddress, IsAfter, IsSettledAs}
+use Rattle.kernel_symbols.specs.Wanted.{AreMarked, mark, under, with_address}
+use Rattle.std.proofs.lemmas.Bool.{cases_eq}
+use Rattle.std.proofs.lemmas.List.{get_or-set_other, get_or-set_same, length-set}
 use Rattle.std.proofs.lemmas.List.Folds.{list_any_more}
 use Rattle.kernel_symbols.specs.Texts.{is_among}
 use Rattle.kernel_symbols.specs.declared.error.SymbolsError.{SymbolsError}
@@ -21,7 +24,49 @@ put_under name other address w old new known put = put ∙ ap (λ (o : Option Wa
 pub entered_under : (name key other : List ℕ) (w old new : Option Wanted) → key ≡ name → new ≡ cond (bytes_eq key other) w old → new ≡ cond (bytes_eq name other) w old
 entered_under name key other w old new same put = put ∙ ap (λ (k : List ℕ). cond (bytes_eq k other) w old) same
 
+-- ---- marks
+
+set_there : (marks : List Bool) (at other : ℕ) → at < length marks → (other ≡ at) ⊎ (get_or marks other false ≡ true) → get_or (set marks at true) other false ≡ true
+set_there marks at other within (inl same) = rw same (get_or-set_same marks at true false within)
+set_there marks at other within (inr there) = elim (cases_eq other at) [ inl same ↦ rw same (get_or-set_same marks at true false within) | inr apart ↦ get_or-set_other marks at other true false apart ∙ there ]
+
+-- a name is marked once it is wanted
+marked_more : (name : List ℕ) (w : Wanted) (marks : List Bool) (old new : List (Bor (List ℕ) × Wanted)) (at : ℕ) → at ≡ mark name → at < 256 → ((other : List ℕ) → under new other ≡ cond (bytes_eq name other) (Some w) (under old other)) → AreMarked old marks → AreMarked new (set marks at true)
+marked_more name w marks old new at marked within put before = record {
+  long = length-set marks at true ∙ before.long;
+  each = λ other known. set_there marks at (mark other) (omega (arith, within, before.long)) (by other (bytes_eq name other) refl (sym (ap is_some (put other)) ∙ known));
+}
+  where
+    by : (other : List ℕ) (e : Bool) → bytes_eq name other ≡ e → is_some (cond e (Some w) (under old other)) ≡ true → (mark other ≡ at) ⊎ (get_or marks (mark other) false ≡ true)
+    by other true equal known = inl (ap mark (sym (same_text name other (sym equal))) ∙ sym marked)
+    by other false equal known = inr (before.each other known)
+
+-- a further mark hides no name
+marked_besides : (marks : List Bool) (old new : List (Bor (List ℕ) × Wanted)) (at : ℕ) → at < 256 → new ≡ old → AreMarked old marks → AreMarked new (set marks at true)
+marked_besides marks old new at within same before = rw same (record {
+  long = length-set marks at true ∙ before.long;
+  each = λ other known. set_there marks at (mark other) (omega (arith, within, before.long)) (inr (before.each other known));
+})
+
+pub marked : {T E : Type 0} (r : Result T E) (name : List ℕ) (w : Wanted) (marks : List Bool) (old new : List (Bor (List ℕ) × Wanted)) (at : ℕ) → at ≡ mark name → at < 256 → OnOk r ((other : List ℕ) → under new other ≡ cond (bytes_eq name other) (Some w) (under old other)) → OnErr r (new ≡ old) → AreMarked old marks → AreMarked new (set marks at true)
+marked (Ok x) name w marks old new at is within put same before = marked_more name w marks old new at is within put before
+marked (Err x) name w marks old new at is within put same before = marked_besides marks old new at within same before
+
 -- ---- the names, one after another
+
+-- nothing is said by no lines
+pub begun : (entries : List (Bor (List ℕ) × Wanted)) (partial : List ℕ) → partial ≡ [] → HasNoAddress entries → IsAfter [] entries partial
+begun entries partial none fresh = record {
+  lines = [];
+  begun = sym none;
+  whole = tt;
+  open_line = rw none refl;
+  settled = record { texts = refl; found = λ name. at name (under entries name) (fresh.none name) };
+}
+  where
+    at : (name : List ℕ) (o : Option Wanted) → IfSome o (λ w. (w.name.now ≡ name) × (w.address ≡ None)) → IfSome o (IsSettledAs name [])
+    at name None h = tt
+    at name (Some w) h = (h.0, record { readable = refl; first = h.1; same = λ other said. absurd cc })
 
 wanted_at : (name other : List ℕ) (w : Option Wanted) (old new : Option Wanted) (b c : Bool) → new ≡ cond (bytes_eq name other) w old → is_some w ≡ true → is_some old ≡ b → is_some new ≡ (b || bytes_eq name other)
 wanted_at name other w old new b c is some before = ap is_some is ∙ at (bytes_eq name other) b before

@@ -1,8 +1,39 @@
 -- Words and the bytes that they stand in.
-use Rattle.std.proofs.Common.{◌≡◌, ℕ, zero, suc, ◌-◌, ◌<◌, ◌≤◌, Bool, true, false, cond, List, [], ◌∷◌, length, take, drop, refl, ap, sym, ◌∙◌, arith}
-use Rattle.std.specs.Prelude.{filter, ◌==◌}
+use Rattle.std.proofs.Common.{◌≡◌, ℕ, zero, suc, ◌-◌, ◌<◌, ◌≤◌, Bool, true, false, cond, List, [], ◌∷◌, length, take, drop, zero-le, refl, ap, sym, ◌∙◌, arith, inl, inr}
+use Rattle.std.specs.Prelude.{filter, slice_index, ◌==◌}
+use Rattle.std.proofs.lemmas.Bool.{cases_lt}
 use Rattle.std.proofs.lemmas.Bool.Decides.{nat_tests}
-use Rattle.kernel_symbols.specs.Words.{words_of, pieces_behind, space_len, is_word, onto_first, IsPlain, EndsWord}
+use Rattle.std.proofs.lemmas.List.{get_or-drop}
+use Rattle.kernel_symbols.specs.Words.{ArePlain, is_ascii_space, is_plain, words_of, pieces_behind, space_len, is_word, onto_first, IsPlain, EndsWord}
+
+plain_byte : (b : ℕ) → is_plain b ≡ true → (is_ascii_space b ≡ false) × ((b == 194) ≡ false) × ((b == 225) ≡ false) × ((b == 226) ≡ false) × ((b == 227) ≡ false)
+plain_byte b plain = grind (arith, nat_tests)
+
+-- a plain byte begins no white space
+no_space : (bytes : List ℕ) → is_plain (slice_index bytes 0) ≡ true → space_len bytes ≡ 0
+unfolding space_len
+no_space bytes plain =
+    let other = plain_byte (slice_index bytes 0) plain in
+    rw (other.0, other.1, other.2, other.3, other.4) refl
+
+no_space_at : (bytes : List ℕ) (k : ℕ) → is_plain (slice_index bytes k) ≡ true → space_len (drop k bytes) ≡ 0
+no_space_at bytes k plain =
+    let same : slice_index (drop k bytes) 0 ≡ slice_index bytes k = get_or-drop k bytes 0 0 ∙ ap (slice_index bytes) (omega arith) in
+    no_space (drop k bytes) (rw same plain)
+
+pub front_plain : (bytes : List ℕ) (n : ℕ) → ArePlain bytes 0 n → IsPlain n bytes
+front_plain bytes n plain k within = no_space_at bytes k (plain.each k zero-le within)
+
+-- a block that begins among plain bytes
+pub plain_last : (bytes : List ℕ) (len last end : ℕ) → last ≤ len → ArePlain bytes 0 len → ArePlain bytes last end → ArePlain bytes 0 end
+plain_last bytes len last end before front back = record {
+  each = λ k from to. elim (cases_lt k len) [ inl early ↦ front.each k from early | inr late ↦ back.each k (omega (arith, before, late)) to ];
+}
+
+pub plain_more : (bytes : List ℕ) (start between end : ℕ) → ArePlain bytes start between → ArePlain bytes between end → ArePlain bytes start end
+plain_more bytes start between end front back = record {
+  each = λ k from to. elim (cases_lt k between) [ inl early ↦ front.each k from early | inr late ↦ back.each k late to ];
+}
 
 -- the rest of a white space character is passed over
 skipped : (n : ℕ) (xs : List ℕ) → pieces_behind n xs ≡ pieces_behind 0 (drop n xs)

@@ -1,24 +1,16 @@
 -- How far a text of kernel symbols was read.
 use Rattle.std.specs.Prelude.{◌≡◌, ◌≢◌, ℕ, Bool, true, false, List, [], ◌∷◌, ◌++◌, Option, None, Some, IfSome, IsSome, is_some, slice_get}
-use Rattle.std.specs.BTreeMap.{is_at}
 use Rattle.std.specs.Borrow.{Bor}
-use Rattle.std.specs.Cmp.Lexicographic.{slice_cmp}
 use Rattle.std.specs.Io.KnownBytes.{Consumes}
 use Rattle.std.specs.List.{list_any}
-use Rattle.std.specs.Map.{lookup}
-use Rattle.std.specs.Ordering.{nat_cmp}
-use Rattle.std.specs.Option.{option_map}
 use Rattle.std.specs.Prelude.{◌==◌, if◌then◌else◌, option_and_then, Result, Ok, Err}
+use Rattle.kernel_symbols.specs.Wanted.{under}
 use Rattle.kernel_symbols.specs.Texts.{IsAmong, is_among, IsGiven, LinesFault, TextFault, address_of, addresses_in, has_address, has_unreadable, is_foreign, lines_of, said}
 use Rattle.kernel_symbols.specs.declared.error.SymbolsError.{SymbolsError}
 use Rattle.kernel_symbols.specs.declared.error.SymbolsError.TheVariants.{Ambiguous, OutOfMemory, UnreadableAddress}
 use Rattle.kernel_symbols.specs.declared.reading.Reading.{Reading}
 use Rattle.kernel_symbols.specs.declared.wanted.Addresses.{Addresses}
 use Rattle.kernel_symbols.specs.declared.wanted.Wanted.{Wanted}
-
--- what is known under a name
-abbrev pub under : List (Bor (List ℕ) × Wanted) → List ℕ → Option Wanted
-under entries name = lookup (is_at (λ key. slice_cmp nat_cmp name key.now)) entries
 
 abbrev pub IsWantedIn : List (Bor (List ℕ) × Wanted) → List ℕ → Type 0
 IsWantedIn entries name = IsSome (under entries name)
@@ -43,10 +35,6 @@ pub record AreWanted (names : List (Bor (List ℕ))) (entries : List (Bor (List 
 
 pub record HasNoAddress (entries : List (Bor (List ℕ) × Wanted)) : Type 0 where
   pub none : (name : List ℕ) → IfSome (under entries name) (λ w. (w.name.now ≡ name) × (w.address ≡ None))
-
--- a wanted name with this address
-abbrev pub with_address : Option ℕ → Option Wanted → Option Wanted
-with_address address wanted = option_map (λ w. record { name = w.name; address = address }) wanted
 
 -- the address of a wanted name after a line that says this one: the first is kept, and another is refused
 abbrev pub settled_beside : Wanted → ℕ → Option ℕ → Result (Option ℕ) SymbolsError
@@ -95,10 +83,10 @@ pub record IsAfter (text : List ℕ) (entries : List (Bor (List ℕ) × Wanted))
   pub settled : AreSettled entries lines
 
 abbrev pub entries_of : Reading → List (Bor (List ℕ) × Wanted)
-entries_of r = r.by_name.entries
+entries_of r = r.by_name
 
 abbrev pub HasRead : List ℕ → Reading → Type 0
-HasRead text r = IsAfter text r.by_name.entries r.partial.items
+HasRead text r = IsAfter text r.by_name r.partial.items
 
 -- of some bytes all but the rest are taken
 pub record TakesAllBut (old : Reading) (bytes rest : List ℕ) (new : Reading) : Type 0 where

@@ -1,7 +1,8 @@
 -- Words of a text between white space: the characters that the Unicode standard gives the property White_Space, as UTF-8
 -- writes them.
-use Rattle.std.specs.Prelude.{◌≡◌, ℕ, zero, suc, ◌-◌, ◌<◌, drop, Bool, true, false, ◌&&◌, ◌||◌, ◌==◌, nat_le, if◌then◌else◌, List, [], ◌∷◌, filter, slice_index, Option, None, Some}
+use Rattle.std.specs.Prelude.{◌≡◌, ℕ, zero, suc, ◌-◌, ◌<◌, ◌≤◌, drop, Bool, true, false, ◌&&◌, ◌||◌, ◌==◌, nat_le, nat_lt, if◌then◌else◌, List, [], ◌∷◌, filter, slice_index, Option, None, Some}
 use Rattle.std.specs.Borrow.{Bor}
+use Rattle.std.specs.Int.{trailing_zeros, w64}
 use Rattle.std.specs.Option.{option_map}
 
 -- TAB to CR, and SPACE
@@ -45,6 +46,18 @@ is_word (x ∷ xs) = true
 
 abbrev pub words_of : List ℕ → List (List ℕ)
 words_of bytes = filter is_word (pieces_behind 0 bytes)
+
+-- a byte of ASCII past SPACE, which belongs to no white space
+abbrev pub is_plain : ℕ → Bool
+is_plain b = nat_lt 32 b && nat_lt b 128
+
+-- the bytes from one place up to another are such
+pub record ArePlain (bytes : List ℕ) (start end : ℕ) : Type 0 where
+  pub each : (k : ℕ) → start ≤ k → k < end → is_plain (slice_index bytes k) ≡ true
+
+-- the lowest bit of 16 that is set; 16 where none is
+abbrev pub first_set : ℕ → ℕ
+first_set mask = if mask == 0 then 16 else trailing_zeros w64 mask
 
 -- no white space begins at the first so many bytes
 abbrev pub IsPlain : ℕ → List ℕ → Type 0

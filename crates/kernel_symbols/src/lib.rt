@@ -2,10 +2,12 @@
 #![tactic(auto)]
 
 mod address;
+mod blocks;
 mod error;
 mod line;
 mod reading;
 mod wanted;
+mod wanted_names;
 mod words;
 
 pub use error::SymbolsError;

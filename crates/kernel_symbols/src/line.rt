@@ -1,21 +1,26 @@
 //! What a line says of the wanted symbols.
 
-ghost use Rattle.std.specs.Prelude.{◌≡◌, ℕ, List, if◌then◌else◌, IfErr, OnOk};
-ghost use Rattle.std.specs.Str.{bytes_eq, is_utf8};
+ghost use Rattle.std.specs.Prelude.{◌≡◌, true, IfErr, OnOk};
+ghost use Rattle.std.specs.Str.{IsAscii, is_utf8};
 ghost use Rattle.kernel_symbols.specs.Addresses.{address_in};
-ghost use Rattle.kernel_symbols.specs.Reading.{RefusesLine, TakesLine, settled, under, with_address};
+ghost use Rattle.kernel_symbols.specs.Reading.{RefusesLine, TakesLine, settled};
 
 use crate::address::address_in;
 use crate::error::SymbolsError;
 use crate::wanted::Wanted;
+use crate::wanted_names::WantedByName;
 use crate::words::first_and_third;
-use std::collections::BTreeMap;
 use std::io;
 use std::io::ErrorKind;
 
-fn is_text(line: &[u8]) -> bool
+/// Whether a line is UTF-8. One that is known to be ASCII isn't looked at.
+fn is_text(line: &[u8], is_ascii: bool) -> bool
+    requires { is_ascii ≡ true → IsAscii line.now }
     ensures { result ≡ is_utf8 line.now }
 {
+    if is_ascii {
+        return true;
+    }
     str::from_utf8(line).is_ok()
 }
 
@@ -37,33 +42,26 @@ fn settled<'a>(wanted: &Wanted<'a>, word: &[u8]) -> Result<Option<u64>, SymbolsE
     }
 }
 
-/// Puts an address in place under a name.
-fn put(by_name: &mut BTreeMap<&[u8], Wanted<'_>>, name: &[u8], address: Option<u64>)
-    ensures { (other : List ℕ) → under by_name.new.entries other ≡ (if bytes_eq name.now other then with_address address (under by_name.old.entries name.now) else under by_name.old.entries other) }
-{
-    if let Some(wanted) = by_name.get_mut(name) {
-        wanted.address = address;
-    }
-}
-
-/// Takes what a line says of the wanted symbols.
+/// Takes what a line says of the wanted symbols, which may be known to be ASCII.
 pub(crate) fn take_line<'a>(
-    by_name: &mut BTreeMap<&'a [u8], Wanted<'a>>,
+    by_name: &mut WantedByName<'a>,
     line: &[u8],
+    is_ascii: bool,
 ) -> Result<(), SymbolsError<'a>>
-    ensures taken { OnOk result (TakesLine by_name.old.entries by_name.new.entries line.now) }
-    ensures refused { IfErr result (RefusesLine by_name.old.entries line.now) }
+    requires { is_ascii ≡ true → IsAscii line.now }
+    ensures taken { OnOk result (TakesLine by_name.old by_name.new line.now) }
+    ensures refused { IfErr result (RefusesLine by_name.old line.now) }
 {
-    if !is_text(line) {
+    if !is_text(line, is_ascii) {
         return Err(SymbolsError::Access(io::Error::from(ErrorKind::InvalidData)));
     }
     let Some((word, name)) = first_and_third(line) else {
         return Ok(());
     };
-    let Some(wanted) = by_name.get(name).copied() else {
+    let Some(wanted) = by_name.get(name) else {
         return Ok(());
     };
     let address = settled(&wanted, word)?;
-    put(by_name, name, address);
+    by_name.put(name, address);
     Ok(())
 }

@@ -2,25 +2,25 @@
 
 ghost use Rattle.std.specs.Prelude.{◌≡◌, ◌≢◌, ◌+◌, ◌<◌, ◌++◌, ◌∷◌, ℕ, List, [], length, take, drop, true, false, Some, None, if◌then◌else◌, IfErr, IfOk, MatchOption, OnOk};
 ghost use Rattle.std.specs.Io.KnownBytes.{IsAtEnd};
-ghost use Rattle.std.specs.Str.{bytes_eq};
+ghost use Rattle.std.specs.Str.{IsAscii};
 ghost use Rattle.watched.specs.Watched.{watched_inner, has_failed, calls_left};
-ghost use Rattle.kernel_symbols.specs.Reading.{AreAddresses, AreWanted, CannotFinish, Finishes, HasNoAddress, HasRead, IsUnbroken, ReaderFault, ReadsSome, ReadsWhole, Refuses, RefusesReader, Takes, entries_of, under};
+ghost use Rattle.kernel_symbols.specs.Reading.{AreAddresses, AreWanted, CannotFinish, Finishes, HasNoAddress, HasRead, IsUnbroken, ReaderFault, ReadsSome, ReadsWhole, Refuses, RefusesReader, Takes, entries_of};
 ghost use Rattle.kernel_symbols.specs.declared.error.SymbolsError.TheVariants.{OutOfMemory};
 
 use crate::error::SymbolsError;
 use crate::line::take_line;
-use crate::wanted::{Addresses, Wanted};
+use crate::wanted::Addresses;
+use crate::wanted_names::WantedByName;
 use crate::words::behind;
 use memchr::memchr;
 use std::alloc::{AllocError, Global};
-use std::collections::BTreeMap;
 use std::io::BufRead;
 use watched::{TakeBytes, Watched};
 
 /// Wanted symbols as far as a text was read, and the beginning of a line whose end is still to come.
 #[derive(Drop)]
 pub(crate) struct Reading<'a> {
-    pub(crate) by_name: BTreeMap<&'a [u8], Wanted<'a>>,
+    pub(crate) by_name: WantedByName<'a>,
     pub(crate) partial: Vec<u8>,
 }
 
@@ -31,28 +31,13 @@ fn line_end(bytes: &[u8]) -> Option<usize>
     memchr(b'\n', bytes)
 }
 
-/// Wants a name.
-fn want<'a>(by_name: &mut BTreeMap<&'a [u8], Wanted<'a>>, name: &'a str) -> Result<(), AllocError>
-    ensures { OnOk result ((other : List ℕ) → under by_name.new.entries other ≡ (if bytes_eq name.now other then Some (record { name = name.entry; address = None }) else under by_name.old.entries other)) }
-{
-    let wanted = Wanted {
-        name,
-        address: None,
-    };
-    by_name.insert(name.as_bytes(), wanted)?;
-    Ok(())
-}
-
 /// The names as wanted symbols without an address.
-fn wanted<'a>(
-    alloc: Global,
-    names: &[&'a str],
-) -> Result<BTreeMap<&'a [u8], Wanted<'a>>, AllocError>
-    ensures { IfOk result (λ by_name. AreWanted names.now by_name.entries × HasNoAddress by_name.entries) }
+fn wanted<'a>(alloc: Global, names: &[&'a str]) -> Result<WantedByName<'a>, AllocError>
+    ensures { IfOk result (λ by_name. AreWanted names.now by_name × HasNoAddress by_name) }
 {
-    let mut by_name = BTreeMap::new(alloc);
+    let mut by_name = WantedByName::new(alloc);
     for name in names {
-        want(&mut by_name, name)?;
+        by_name.want(name)?;
     }
     Ok(by_name)
 }
@@ -69,17 +54,18 @@ impl<'a> Reading<'a> {
         })
     }
 
-    /// Takes the end of a line.
-    fn end_line(&mut self, end: &[u8]) -> Result<(), SymbolsError<'a>>
-        requires { IsUnbroken end.now }
+    /// Takes the end of a line, which may be known to be ASCII.
+    fn end_line(&mut self, end: &[u8], is_ascii: bool) -> Result<(), SymbolsError<'a>>
+        requires unbroken { IsUnbroken end.now }
+        requires ascii { is_ascii ≡ true → IsAscii end.now }
         ensures taken { OnOk result (Takes self.old (end.now ++ 10 ∷ []) self.new) }
         ensures refused { IfErr result (Refuses self.old (end.now ++ 10 ∷ [])) }
     {
         if self.partial.is_empty() {
-            return take_line(&mut self.by_name, end);
+            return take_line(&mut self.by_name, end, is_ascii);
         }
         self.partial.extend_from_slice(end)?;
-        take_line(&mut self.by_name, &self.partial)?;
+        take_line(&mut self.by_name, &self.partial, false)?;
         self.partial.clear();
         Ok(())
     }
@@ -94,10 +80,10 @@ impl<'a> Reading<'a> {
             partial,
         } = self;
         if partial.is_empty() {
-            return Ok(Addresses { by_name });
+            return Ok(by_name.into_addresses());
         }
-        take_line(&mut by_name, &partial)?;
-        Ok(Addresses { by_name })
+        take_line(&mut by_name, &partial, false)?;
+        Ok(by_name.into_addresses())
     }
 }
 
@@ -109,9 +95,10 @@ impl<'a> TakeBytes<SymbolsError<'a>> for Reading<'a> {
     ghost refuses = { λ old bytes error. Refuses old bytes error };
 
     fn take_bytes(&mut self, bytes: &[u8]) -> Result<(), SymbolsError<'a>> {
+        let is_ascii = bytes.is_ascii();
         let mut rest = bytes;
         while let Some(at) = line_end(rest) {
-            self.end_line(&rest[..at])?;
+            self.end_line(&rest[..at], is_ascii)?;
             rest = behind(rest, at + 1);
         }
         self.partial.extend_from_slice(rest)?;

@@ -1,7 +1,9 @@
 //! Words between white space.
 
 ghost use Rattle.std.specs.Prelude.{◌≡◌, ◌==◌, ◌∷◌, ◌≤◌, ◌<◌, [], false, true, length, drop, slice_index, MatchOption};
-ghost use Rattle.kernel_symbols.specs.Words.{EndsWord, IsPlain, ends_general_space, first_and_third, is_ascii_space, is_general_space, is_latin_space, is_wide_space, space_len, word_bytes, words_of};
+ghost use Rattle.kernel_symbols.specs.Words.{ArePlain, EndsWord, IsPlain, ends_general_space, first_and_third, is_ascii_space, is_general_space, is_latin_space, is_plain, is_wide_space, space_len, word_bytes, words_of};
+
+use crate::blocks::plain_blocks;
 
 /// A byte; 0 past the end.
 fn byte_at(bytes: &[u8], index: usize) -> u8
@@ -47,10 +49,9 @@ fn is_wide_space(a: u8, b: u8, c: u8) -> bool
         || (a == 0xe3 && b == 0x80 && c == 0x80)
 }
 
-/// Whether a byte of ASCII is no white space.
+/// Whether a byte is one of ASCII past SPACE.
 fn is_plain(a: u8) -> bool
-    ensures ascii { result ≡ true → is_ascii_space a ≡ false }
-    ensures beginnings { result ≡ true → ((a == 194) ≡ false) × ((a == 225) ≡ false) × ((a == 226) ≡ false) × ((a == 227) ≡ false) }
+    ensures { result ≡ is_plain a }
 {
     b' ' < a && a < 0x80
 }
@@ -104,13 +105,25 @@ fn skip_spaces(bytes: &[u8]) -> &[u8]
     rest
 }
 
+/// How many bytes of ASCII past SPACE stand at the front.
+fn plain_len(bytes: &[u8]) -> usize
+    ensures within { result ≤ length bytes.now }
+    ensures plain { ArePlain bytes.now 0 result }
+{
+    let mut len = plain_blocks(bytes);
+    while len < bytes.len() && is_plain(bytes[len]) {
+        len += 1;
+    }
+    len
+}
+
 /// How many bytes stand before the first white space.
 fn word_len(bytes: &[u8]) -> usize
     ensures within { result ≤ length bytes.now }
     ensures plain { IsPlain result bytes.now }
     ensures ends { EndsWord (drop result bytes.now) }
 {
-    let mut len = 0;
+    let mut len = plain_len(bytes);
     while len < bytes.len() && space_len(&bytes[len..]) == 0 {
         len += 1;
     }

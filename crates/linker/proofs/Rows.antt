@@ -27,6 +27,7 @@ function_of section slots functions lines = record {
   line_info = lines;
   func_info_rec_size = 8;
   line_info_rec_size = 16;
+  matched_tables = [];
 }
 
 abbrev main : FunctionContent

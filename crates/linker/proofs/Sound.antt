@@ -16,7 +16,7 @@ use Rattle.function_references.specs.declared.target.Target.{Target}
 use Rattle.function_references.specs.declared.target.Target.TheVariants as target
 use Rattle.linker.specs.declared.order.Order.{Order}
 use Rattle.linker.specs.Unlinked.{Unlinked, function_in, table_of, target_at}
-use Rattle.linker.specs.Records.{functions_of, lines_of, mismatches}
+use Rattle.linker.specs.Records.{functions_of, lines_of, mismatches, tables_of}
 use Rattle.linker.specs.Faults.{CanBeLinked, HasMismatch, HasTargetFaultAt, IsLastFault, IsTargetFault, are_sound, is_sound, last_of}
 use Rattle.linker.specs.Walks.{AllFit, AllSound, Fits, IsOrdered, SoundAt}
 
@@ -96,8 +96,8 @@ can_be_linked orders u own g o at h sound = record {
 }
 
 -- a program that was written is linked
-pub is_linked : (reached : ReachedAreAppended) (visits : LinkedVisitsSame) (u : Unlinked) (own : Key) (g : FunctionContent) (o : Order) (f : FunctionContent) (slots : List bpf_insn) (functions : List bpf_func_info) (lines : List bpf_line_info) → function_at u.functions own ≡ Some g → key_of g ≡ own → IsOrdered u own g o → f ≡ with_copies g slots functions lines → slots ≡ linked (table_of u) own (reverse o.keys.items) → functions ≡ functions_of u own (reverse o.keys.items) → lines ≡ lines_of u own (reverse o.keys.items) → IsLinked u own f
-is_linked reached visits u own g o f slots functions lines at k h e s fs ls =
+pub is_linked : (reached : ReachedAreAppended) (visits : LinkedVisitsSame) (u : Unlinked) (own : Key) (g : FunctionContent) (o : Order) (f : FunctionContent) (slots : List bpf_insn) (functions : List bpf_func_info) (lines : List bpf_line_info) (tables : List ℕ) → function_at u.functions own ≡ Some g → key_of g ≡ own → IsOrdered u own g o → f ≡ with_copies g slots functions lines tables → slots ≡ linked (table_of u) own (reverse o.keys.items) → functions ≡ functions_of u own (reverse o.keys.items) → lines ≡ lines_of u own (reverse o.keys.items) → tables ≡ tables_of u own (reverse o.keys.items) → IsLinked u own f
+is_linked reached visits u own g o f slots functions lines tables at k h e s fs ls ts =
     let ks = reverse o.keys.items in
     let t = table_of u in
     record {
@@ -107,6 +107,10 @@ is_linked reached visits u own g o f slots functions lines at k h e s fs ls =
       function = g;
       before = at;
       keyed = ap key_of e ∙ k;
-      content = e ∙ ap (λ x. with_copies g x functions lines) s ∙ ap (λ x. with_copies g (linked t own ks) x lines) fs ∙ ap (λ x. with_copies g (linked t own ks) (functions_of u own ks) x) ls;
+      content = e
+          ∙ ap (λ x. with_copies g x functions lines tables) s
+          ∙ ap (λ x. with_copies g (linked t own ks) x lines tables) fs
+          ∙ ap (λ x. with_copies g (linked t own ks) (functions_of u own ks) x tables) ls
+          ∙ ap (with_copies g (linked t own ks) (functions_of u own ks) (lines_of u own ks)) ts;
       visits = subst (VisitsSame t own ks) (sym (ap (λ x. x.instructions) e ∙ s)) (visits.each t own ks h.layout);
     }

@@ -10,16 +10,16 @@ use Rattle.function_layout.specs.Layout.{Key, IsLayout, linked, has}
 use Rattle.function_layout.specs.Machines.{VisitsSame}
 use Rattle.function_layout.specs.Reached.{AreReached}
 use Rattle.linker.specs.Unlinked.{Unlinked, table_of}
-use Rattle.linker.specs.Records.{functions_of, lines_of}
+use Rattle.linker.specs.Records.{functions_of, lines_of, tables_of}
 use Rattle.linker.specs.Faults.{CanBeLinked, HasLinkFault}
 
--- a function with these slots and records in place of its own
-abbrev pub with_copies : FunctionContent → List bpf_insn → List bpf_func_info → List bpf_line_info → FunctionContent
-with_copies f slots functions lines = record f { instructions = slots; func_info = functions; line_info = lines }
+-- a function with these slots, records and kernel tables in place of its own
+abbrev pub with_copies : FunctionContent → List bpf_insn → List bpf_func_info → List bpf_line_info → List ℕ → FunctionContent
+with_copies f slots functions lines tables = record f { instructions = slots; func_info = functions; line_info = lines; matched_tables = tables }
 
 -- a program's function with its copies appended
 abbrev pub linked_function : Unlinked → Key → List Key → FunctionContent → FunctionContent
-linked_function u own ks f = with_copies f (linked (table_of u) own ks) (functions_of u own ks) (lines_of u own ks)
+linked_function u own ks f = with_copies f (linked (table_of u) own ks) (functions_of u own ks) (lines_of u own ks) (tables_of u own ks)
 
 -- The function of a key is linked: by its layout, whose appended copies are those of the functions that it leads to, and the
 -- linked slots are visited as its functions are.

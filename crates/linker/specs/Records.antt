@@ -1,9 +1,10 @@
--- The records of a linked program: those of its copies, moved with them.
+-- The records of a linked program: those of its copies, moved with them; and the kernel tables that its copies' relocations matched.
 use Rattle.std.specs.Prelude.{ℕ, ◌+◌, ◌-◌, ◌==◌, ◌||◌, not, nat_lt, Bool, false, if◌then◌else◌, List, [], ◌∷◌, ◌++◌, length, map, Option, Some, None}
 use Rattle.std.specs.List.{list_any}
 use Rattle.btf_extension.specs.declared.record.bpf_func_info.{bpf_func_info}
 use Rattle.btf_extension.specs.declared.record.bpf_line_info.{bpf_line_info}
 use Rattle.object_parts.specs.Content.{FunctionContent, function_at}
+use Rattle.object_parts.specs.MatchedTables.{with_tables}
 use Rattle.function_layout.specs.Layout.{Key, end_of}
 use Rattle.linker.specs.Unlinked.{Unlinked, table_of}
 
@@ -38,6 +39,18 @@ abbrev pub lines_of : Unlinked → Key → List Key → List bpf_line_info
 lines_of u own [] = lines_in (function_at u.functions own)
 lines_of u own (k ∷ ks) =
     lines_of u own ks ++ moved_lines (end_of (table_of u) own ks) (lines_in (function_at u.functions k))
+
+abbrev pub tables_in : Option FunctionContent → List ℕ
+tables_in None = []
+tables_in (Some f) = f.matched_tables
+
+-- the kernel tables that the relocations in these functions matched, those of the program's own entered first
+abbrev pub with_matched : Unlinked → List ℕ → Key → List ℕ
+with_matched u tables key = with_tables tables (tables_in (function_at u.functions key))
+
+abbrev pub tables_of : Unlinked → Key → List Key → List ℕ
+tables_of u own [] = with_matched u [] own
+tables_of u own (k ∷ ks) = with_matched u (tables_of u own ks) k
 
 -- whether a record of a line stands before the first
 abbrev pub goes_back : List bpf_line_info → Bool

@@ -1,11 +1,12 @@
 //! Programs are linked, and take the place of their functions.
 
-ghost use Rattle.std.specs.Prelude.{[], ◌≡◌, ◌≢◌, true, Some, IfOk, IfErr, OnOk, OnErr};
+ghost use Rattle.std.specs.Prelude.{[], ◌≡◌, ◌≢◌, true, reverse, Some, IfOk, IfErr, OnOk, OnErr};
 ghost use Rattle.relocation_errors.specs.declared.error.RelocationError.TheVariants.{OutOfMemory};
 ghost use Rattle.object_parts.specs.Content.{HaveFunctions, has_function};
 ghost use Rattle.linker.specs.Faults.{CanBeLinked, HasLinkFault};
 ghost use Rattle.linker.specs.Installed.{AreLinkedTo};
 ghost use Rattle.linker.specs.Linked.{AllCanBeLinked, AreLinked, HasFaultOf, IsLinked, program_keys, unlinked, with_copies};
+ghost use Rattle.linker.specs.Records.{tables_of, with_matched};
 ghost use Rattle.std.specs.Option.{option_map};
 ghost use Rattle.std.specs.String.{string_bytes};
 
@@ -16,7 +17,7 @@ use btf_extension::{FuncSecInfo, LineSecInfo};
 use ebpf_items::{Slots, bpf_insn};
 use function_layout::{linked_visits_same, order_laws, reached_are_appended};
 use object_file::ObjectFile;
-use object_parts::{Function, Functions, Program, Programs};
+use object_parts::{Function, Functions, MatchedTables, Program, Programs};
 use relocation_errors::{EbpfRelocationError, RelocationError};
 use std::alloc::{AllocError, Global};
 use std::collections::BTreeSet;
@@ -44,15 +45,17 @@ fn program_slots<'f>(
     Ok(Slots::owned(slots))
 }
 
-/// A function with the slots and records of a linked program in place of its own. More records
-/// than 32 bits count can't be held: this is want of memory.
+/// A function with the slots and records of a linked program, and the kernel tables that its
+/// relocations matched, in place of its own. More records than 32 bits count can't be held: this is
+/// want of memory.
 fn with_copies<'f>(
     function: &Function<'f>,
     is_alone: bool,
     copies: Copies,
+    matched_tables: MatchedTables,
 ) -> Result<Function<'f>, AllocError>
     requires { is_alone ≡ true → copies.slots.items ≡ function.now.instructions }
-    ensures { IfOk result (λ f. f ≡ with_copies function.now copies.slots.items copies.records.functions.items copies.records.lines.items) }
+    ensures { IfOk result (λ f. f ≡ with_copies function.now copies.slots.items copies.records.functions.items copies.records.lines.items matched_tables) }
 {
     let Copies { slots, records } = copies;
     if records.functions.len() > u32::MAX as usize || records.lines.len() > u32::MAX as usize {
@@ -68,10 +71,33 @@ fn with_copies<'f>(
         line_info: LineSecInfo::from_records(records.lines),
         func_info_rec_size: function.func_info_rec_size,
         line_info_rec_size: function.line_info_rec_size,
+        matched_tables,
     })
 }
 
 impl<'s, 'o, 'f> Source<'s, 'o, 'f> {
+    /// Enters the kernel tables that the relocations in the function of a key matched.
+    fn enter_tables(&self, tables: &mut MatchedTables, key: Key) -> Result<(), AllocError>
+        ensures { OnOk result (tables.new ≡ with_matched self.now tables.old key) }
+    {
+        match self.functions.get(key) {
+            Some(function) => tables.enter_all(&function.matched_tables),
+            None => Ok(()),
+        }
+    }
+
+    /// The kernel tables that the relocations in a program's functions matched.
+    fn matched_tables(&self, own: Key, order: &Order) -> Result<MatchedTables, AllocError>
+        ensures { IfOk result (λ tables. tables ≡ tables_of self.now own (reverse order.now.keys.items)) }
+    {
+        let mut tables = MatchedTables::new(self.alloc);
+        self.enter_tables(&mut tables, own)?;
+        for key in &order.keys {
+            self.enter_tables(&mut tables, *key)?;
+        }
+        Ok(tables)
+    }
+
     /// The function of a key with all that it leads to linked to it.
     pub(crate) fn link(&self, own: Key) -> Result<Function<'f>, RelocationError>
         requires { has_function self.now.functions own ≡ true }
@@ -85,7 +111,8 @@ impl<'s, 'o, 'f> Source<'s, 'o, 'f> {
         let function = self.function(own);
         let order = self.order_of(own, function)?;
         let copies = self.write_all(own, function, &order)?;
-        let linked = with_copies(function, is_alone(&order), copies)?;
+        let tables = self.matched_tables(own, &order)?;
+        let linked = with_copies(function, is_alone(&order), copies, tables)?;
         Ok(linked)
     }
 

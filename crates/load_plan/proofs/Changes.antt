@@ -2,28 +2,63 @@
 use Rattle.std.proofs.Common.{◌≡◌, ℕ, List, [], map, Bool, true, false, Option, Some, None, refl, sym, ap, ◌∙◌, subst}
 use Rattle.std.specs.Prelude.{is_some, unwrap_or}
 use Rattle.btf_sanitizing.specs.Answers.{Answers}
+use Rattle.btf_tables.specs.Tables.{Table}
 use Rattle.ebpf_object.specs.Helpers.{IsSanitized, IsSanitizedIf, for_kernel}
+use Rattle.ebpf_object.specs.Rewriting.{IsRewritten}
+use Rattle.ebpf_object.specs.TypeRelocations.{type_groups, types_of}
 use Rattle.function_layout.specs.Layout.{Key}
 use Rattle.function_types.specs.Named.{all_named}
 use Rattle.object_parts.specs.Content.{FunctionContent, has_newer_helper}
 use Rattle.load_plan.specs.Inputs.{Inputs, IsSaid, State, Under, keeps_helpers}
-use Rattle.load_plan.specs.Passes.{LinksPrograms, Made, PutsValues, RenamesHelpers, ResolvesExterns, RewritesTypes, WritesExterns, WritesNumbers, first_table, linking, patching}
+use Rattle.load_plan.specs.Passes.{LinksPrograms, Made, Makes, PutsValues, RenamesHelpers, ResolvesExterns, WritesExterns, WritesNumbers, first_of, first_table, linking, patching, second_of}
+use Rattle.load_plan.specs.declared.order.Order.{Order}
+use Rattle.load_plan.specs.declared.order.Order.TheVariants.{RelocateFirst, RewriteFirst}
+use Rattle.type_relocation.specs.Writes as types
 
 abbrev Keyed : Type 0
 Keyed = List (Key × FunctionContent)
 
+-- the object as type relocations find it: before its types are rewritten, or after that
+abbrev pub relocating_in : Order → State → State → State
+relocating_in RelocateFirst resolved middle = resolved
+relocating_in RewriteFirst resolved middle = middle
+
+-- what the two passes over types make of an object, in either order
+pub record TypePasses (i : Inputs) (u : Under) (resolved typed relocating : State) : Type 0 where
+  pub before : relocating.functions ≡ resolved.functions
+  pub written : types.AreRelocated (types_of relocating i.kernel_types) (type_groups relocating) typed.functions
+  pub rewritten : IsRewritten u.answers resolved.file resolved.externs.ksyms resolved.types typed.types
+  pub others : typed ≡ record resolved { functions = typed.functions; types = typed.types }
+
+type_passes : (order : Order) (i : Inputs) (u : Under) (resolved middle typed : State) → Makes (first_of order) i u resolved middle → Makes (second_of order) i u middle typed → TypePasses i u resolved typed (relocating_in order resolved middle)
+type_passes RelocateFirst i u resolved middle typed a b =
+    let functions = ap (λ (o : State). o.functions) b.others in
+    record {
+      before = refl;
+      written = subst (λ (fs : Keyed). types.AreRelocated (types_of resolved i.kernel_types) (type_groups resolved) fs) (sym functions) a.functions;
+      rewritten = subst (λ (m : State). IsRewritten u.answers m.file m.externs.ksyms m.types typed.types) a.others b.types;
+      others = b.others ∙ ap (λ (m : State). record m { types = typed.types }) a.others ∙ ap (λ (fs : Keyed). record resolved { functions = fs; types = typed.types }) (sym functions);
+    }
+type_passes RewriteFirst i u resolved middle typed a b =
+    let tables = ap (λ (o : State). o.types) b.others in
+    record {
+      before = ap (λ (o : State). o.functions) a.others;
+      written = b.functions;
+      rewritten = subst (λ (t : Option Table). IsRewritten u.answers resolved.file resolved.externs.ksyms resolved.types t) (sym tables) a.types;
+      others = b.others ∙ ap (λ (m : State). record m { functions = typed.functions }) a.others ∙ ap (λ (t : Option Table). record resolved { functions = typed.functions; types = t }) (sym tables);
+    }
+
 -- the states between the passes that change an object before its programs are linked
-pub record Changes (i : Inputs) (u : Under) (s t : State) (typed mapped : State) : Type 0 where
+pub record Changes (i : Inputs) (u : Under) (s t resolved typed mapped relocating : State) : Type 0 where
   pub named : all_named s.types s.functions ≡ true
   pub valued : State
   pub values : PutsValues i.settings s valued
-  pub resolved : State
   pub externs : ResolvesExterns (first_table i) i.symbols valued resolved
-  pub types : RewritesTypes u.answers resolved typed
+  pub types : TypePasses i u resolved typed relocating
   pub numbers : WritesNumbers i.settings typed mapped
   pub slots : WritesExterns mapped t
 
-pub changes_of : (i : Inputs) (u : Under) (s t : State) (made : Made (patching i.order) i u s t) → Changes i u s t made.2.2.2.2.2.0 made.2.2.2.2.2.2.0
+pub changes_of : (i : Inputs) (u : Under) (s t : State) (made : Made (patching i.order) i u s t) → Changes i u s t made.2.2.2.2.0 made.2.2.2.2.2.2.0 made.2.2.2.2.2.2.2.0 (relocating_in i.order made.2.2.2.2.0 made.2.2.2.2.2.0)
 changes_of i u s t made =
     let a = made.2 in
     let b = a.2 in
@@ -32,15 +67,15 @@ changes_of i u s t made =
     let e = d.2 in
     let f = e.2 in
     let g = f.2 in
+    let h = g.2 in
     record {
       named = made.1.0;
-      valued = c.0;
-      values = subst (λ (m : State). PutsValues i.settings m c.0) (b.1.1 ∙ a.1.1 ∙ made.1.1) c.1;
-      resolved = d.0;
-      externs = d.1;
-      types = e.1;
-      numbers = f.1;
-      slots = subst (λ (m : State). WritesExterns f.0 m) (sym g.2) g.1;
+      valued = b.0;
+      values = subst (λ (m : State). PutsValues i.settings m b.0) (a.1.1 ∙ made.1.1) b.1;
+      externs = subst (λ (m : State). ResolvesExterns (first_table i) i.symbols m d.0) c.1.1 d.1;
+      types = type_passes i.order i u d.0 e.0 f.0 e.1 f.1;
+      numbers = g.1;
+      slots = subst (λ (m : State). WritesExterns g.0 m) (sym h.2) h.1;
     }
 
 -- the states between the passes that make programs whole

@@ -18,9 +18,9 @@ use Rattle.linker.specs.Linked.{AreLinked, program_keys}
 use Rattle.linker.specs.Records.{functions_in}
 use Rattle.linker.specs.Unlinked.{Unlinked}
 use Rattle.object_parts.specs.Content.{FunctionContent, ProgramContent, function_at}
+use Rattle.object_parts.specs.Installed.{AreChanged}
 use Rattle.object_plan.specs.Laws.{HaveRecordsOf, NamesAreCarried, RecordsName}
 use Rattle.object_plan.specs.Plans.{AllNamed, HoldsTypeBytes, Names, plan_program_of, type_bytes, type_bytes_of}
-use Rattle.slot_relocation.specs.Writes.{AreRelocated, Rule, relocated}
 
 abbrev Keyed : Type 0
 Keyed = List (Key × FunctionContent)
@@ -53,13 +53,13 @@ carried law file ksyms (Some table) answers None bytes h is holds denied id name
 carried law file ksyms (Some table) answers (Some new) bytes h is holds denied id named =
     carried_in law file ksyms table answers new bytes (length table.types == 0) refl h is holds denied id named
 
--- relocations leave the records
-same_records : (rule : Rule) (file : List ℕ) (o : Option FunctionContent) → functions_in (option_map (relocated rule file) o) ≡ functions_in o
-same_records rule file None = refl
-same_records rule file (Some f) = refl
+-- what leaves the records of each function leaves them all
+same_records : (change : FunctionContent → FunctionContent) → ((f : FunctionContent) → (change f).func_info ≡ f.func_info) → (o : Option FunctionContent) → functions_in (option_map change o) ≡ functions_in o
+same_records change keeps None = refl
+same_records change keeps (Some f) = keeps f
 
-pub records_of : (rule : Rule) (file : List ℕ) (old new : Keyed) → AreRelocated rule file old new → HaveRecordsOf old new
-records_of rule file old new are = record { at = λ key. ap functions_in (are.at key) ∙ same_records rule file (function_at old key) }
+pub records_of : (change : FunctionContent → FunctionContent) (old new : Keyed) → ((f : FunctionContent) → (change f).func_info ≡ f.func_info) → AreChanged change old new → HaveRecordsOf old new
+records_of change old new keeps are = record { at = λ key. ap functions_in (are.at key) ∙ same_records change keeps (function_at old key) }
 
 pub records_through : (old between new : Keyed) → HaveRecordsOf old between → HaveRecordsOf between new → HaveRecordsOf old new
 records_through old between new first second = record { at = λ key. second.at key ∙ first.at key }

@@ -9,6 +9,7 @@ use Rattle.elf64.specs.Relocations.{Relocation}
 use Rattle.ebpf_object.specs.Calls.{text_sections}
 use Rattle.ebpf_object.specs.Helpers.{for_kernel}
 use Rattle.ebpf_object.specs.Rewriting.{IsRewritten, IsRewrittenIf}
+use Rattle.ebpf_object.specs.TypeRelocations.{type_groups, types_of}
 use Rattle.extern_relocation.specs.Laws.{ExternsAreWritten}
 use Rattle.extern_resolution.specs.Resolution.{AreResolved}
 use Rattle.object_externs.specs.Externs.{ExternsContent}
@@ -26,6 +27,9 @@ use Rattle.plan_text.specs.Content.{MapContent, PlanContent}
 use Rattle.plan_text.specs.Content as plan
 use Rattle.slot_relocation.specs.Laws.{NumbersAreWritten, map_of}
 use Rattle.slot_relocation.specs.Maps.{NumberedMap, map_rule}
+use Rattle.slot_relocation.specs.Writes.{relocated}
+use Rattle.type_relocation.specs.Laws.{TypesAreWritten}
+use Rattle.type_relocation.specs.Writes.{with_types}
 use Rattle.load_plan.specs.Inputs.{Inputs, Predicate, State, Symbols, Under, keeps_helpers}
 use Rattle.load_plan.specs.Made.{IsMade}
 use Rattle.load_plan.specs.Passes.{Made, ResolvesExterns, first_table, linking, maps_given, patching, rule_of_externs, unlinked_of}
@@ -33,7 +37,7 @@ use Rattle.load_plan.specs.Granted.{AreGranted}
 use Rattle.load_plan.specs.Planned.{IsPlanOf, IsPlannedObject}
 use Rattle.load_plan.specs.Programs.{ArePlanPrograms, HasMap}
 use Rattle.load_plan.proofs.Carried.{Stands}
-use Rattle.load_plan.proofs.Changes.{Changes, Linked, changes_of, linked_of}
+use Rattle.load_plan.proofs.Changes.{Changes, Linked, changes_of, linked_of, relocating_in}
 use Rattle.load_plan.proofs.Names.{names, records_of, records_through}
 use Rattle.load_plan.proofs.Numbers.{named_maps}
 use Rattle.load_plan.proofs.Granted.{granted_of}
@@ -44,6 +48,7 @@ Keyed = List (Key × FunctionContent)
 
 -- the laws that a plan rests on
 pub record Laws : Type 0 where
+  pub types : TypesAreWritten
   pub written : NumbersAreWritten
   pub externs : ExternsAreWritten
   pub copies : SlotsAreCopied
@@ -52,18 +57,18 @@ pub record Laws : Type 0 where
   pub records : RecordsName
   pub carry : NamesAreCarried
 
-module _ (i : Inputs) (u : Under) (s t typed mapped : State) (c : Changes i u s t typed mapped) where
+module _ (i : Inputs) (u : Under) (s t resolved typed mapped relocating : State) (c : Changes i u s t resolved typed mapped relocating) where
   -- what stays of an object until its programs are linked
-  same_functions : typed.functions ≡ s.functions
+  same_functions : relocating.functions ≡ s.functions
   same_functions =
-      ap (λ (o : State). o.functions) c.types.others ∙ ap (λ (o : State). o.functions) c.externs.others ∙ ap (λ (o : State). o.functions) c.values.maps
+      c.types.before ∙ ap (λ (o : State). o.functions) c.externs.others ∙ ap (λ (o : State). o.functions) c.values.maps
 
   same_programs : t.programs ≡ s.programs
   same_programs =
       ap (λ (o : State). o.programs) c.slots.others ∙ ap (λ (o : State). o.programs) c.numbers.others
       ∙ ap (λ (o : State). o.programs) c.types.others ∙ ap (λ (o : State). o.programs) c.externs.others ∙ ap (λ (o : State). o.programs) c.values.maps
 
-  same_types : c.resolved.types ≡ s.types
+  same_types : resolved.types ≡ s.types
   same_types = ap (λ (o : State). o.types) c.externs.others ∙ ap (λ (o : State). o.types) c.values.maps
 
   same_maps : t.maps ≡ typed.maps
@@ -72,9 +77,10 @@ module _ (i : Inputs) (u : Under) (s t typed mapped : State) (c : Changes i u s 
   typed_types : t.types ≡ typed.types
   typed_types = ap (λ (o : State). o.types) c.slots.others ∙ ap (λ (o : State). o.types) c.numbers.others
 
-  stands_of : Laws → Stands i s typed mapped t
+  stands_of : Laws → Stands i s relocating typed mapped t
   stands_of laws = record {
     same = same_functions;
+    types = laws.types.each (types_of relocating i.kernel_types) (type_groups relocating) typed.functions c.types.written;
     numbers = laws.written.each (maps_given i.settings typed) typed.functions mapped.functions c.numbers.functions;
     externs = laws.externs.each mapped.file mapped.externs.by_name mapped.functions t.functions c.slots.functions;
   }
@@ -82,9 +88,11 @@ module _ (i : Inputs) (u : Under) (s t typed mapped : State) (c : Changes i u s 
   same_records_of : HaveRecordsOf s.functions t.functions
   same_records_of =
       subst (λ (fs : Keyed). HaveRecordsOf fs t.functions) same_functions
+      (records_through relocating.functions typed.functions t.functions
+      (records_of (with_types (types_of relocating i.kernel_types) (type_groups relocating)) relocating.functions typed.functions (λ f. refl) c.types.written)
       (records_through typed.functions mapped.functions t.functions
-      (records_of (map_rule (maps_given i.settings typed)) typed.file typed.functions mapped.functions c.numbers.functions)
-      (records_of (rule_of_externs mapped) mapped.file mapped.functions t.functions c.slots.functions))
+      (records_of (relocated (map_rule (maps_given i.settings typed)) typed.file) typed.functions mapped.functions (λ f. refl) c.numbers.functions)
+      (records_of (relocated (rule_of_externs mapped) mapped.file) mapped.functions t.functions (λ f. refl) c.slots.functions)))
 
 -- the section of externs stays while they are resolved
 same_section_by : (kernel : Option Table) (symbols : Symbols) (types : Option Table) (old new : ExternsContent) → MatchOption types (new ≡ old) (λ table. AreResolved table kernel symbols.bytes symbols.failed old new) → new.ksyms ≡ old.ksyms
@@ -113,17 +121,17 @@ functions_are u s t l = ap (λ (o : State). o.functions) l.helpers.functions
 abbrev plan_programs : Under → State → Keyed → List (List ℕ × ProgramContent) → List plan.ProgramContent
 plan_programs u t functions programs = map (plan_program_of u.answers (is_some (type_bytes t.types)) functions) programs
 
-names_of : RecordsName → NamesAreCarried → (i : Inputs) (u : Under) (object s t typed mapped : State) (c : Changes i u object s typed mapped) (l : Linked u s t) → HoldsTypeBytes t.types (type_bytes t.types) → AllNamed object.types (type_bytes t.types) (plan_programs u t t.functions object.programs)
-names_of records carry i u object s t typed mapped c l holds =
-    let stay = types_stay u s t l ∙ typed_types i u object s typed mapped c in
+names_of : RecordsName → NamesAreCarried → (i : Inputs) (u : Under) (object s t resolved typed mapped relocating : State) (c : Changes i u object s resolved typed mapped relocating) (l : Linked u s t) → HoldsTypeBytes t.types (type_bytes t.types) → AllNamed object.types (type_bytes t.types) (plan_programs u t t.functions object.programs)
+names_of records carry i u object s t resolved typed mapped relocating c l holds =
+    let stay = types_stay u s t l ∙ typed_types i u object s resolved typed mapped relocating c in
     subst (λ (fs : Keyed). AllNamed object.types (type_bytes t.types) (plan_programs u t fs object.programs)) (sym (functions_are u s t l))
-    (names records carry c.resolved.file c.resolved.externs.ksyms object.types typed.types u.answers (keeps_helpers u) (type_bytes t.types)
+    (names records carry resolved.file resolved.externs.ksyms object.types typed.types u.answers (keeps_helpers u) (type_bytes t.types)
     object.functions s.functions l.linked.functions (unlinked_of s) (program_keys s.programs) object.programs
     c.named
-    (subst (λ (old : Option Table). IsRewritten u.answers c.resolved.file c.resolved.externs.ksyms old typed.types) (same_types i u object s typed mapped c) c.types.types)
+    (subst (λ (old : Option Table). IsRewritten u.answers resolved.file resolved.externs.ksyms old typed.types) (same_types i u object s resolved typed mapped relocating c) c.types.rewritten)
     (ap type_bytes stay)
     (subst (λ (new : Option Table). HoldsTypeBytes new (type_bytes t.types)) stay holds)
-    (same_records_of i u object s typed mapped c) refl l.links.programs)
+    (same_records_of i u object s resolved typed mapped relocating c) refl l.links.programs)
 
 -- the plan of an object that all passes were made on
 abbrev plan_under : Inputs → Under → State → PlanContent
@@ -131,37 +139,41 @@ plan_under i u t = plan_of u.answers (map (plan_map i.settings) t.maps) t
 
 known_of : Laws → (i : Inputs) (u : Under) (object s t : State) (made : Made (patching i.order) i u object s) (l : Linked u s t) → Known i u object s made (plan_under i u t) t.functions l.linked.functions
 known_of laws i u object s t made l =
-    let typed = made.2.2.2.2.2.0 in
-    let mapped = made.2.2.2.2.2.2.0 in
+    let resolved = made.2.2.2.2.0 in
+    let typed = made.2.2.2.2.2.2.0 in
+    let mapped = made.2.2.2.2.2.2.2.0 in
+    let relocating = relocating_in i.order made.2.2.2.2.0 made.2.2.2.2.2.0 in
     let c = changes_of i u object s made in
     record {
       reach = laws.reach;
       renamed = laws.renamed;
       copies = laws.copies;
       is = functions_are u s t l;
-      stands = stands_of i u object s typed mapped c laws;
-      among = among_maps i u s t typed l (map (plan_map i.settings) t.maps) refl (same_maps i u object s typed mapped c);
+      stands = stands_of i u object s resolved typed mapped relocating c laws;
+      among = among_maps i u s t typed l (map (plan_map i.settings) t.maps) refl (same_maps i u object s resolved typed mapped relocating c);
     }
 
 programs_of : Laws → (i : Inputs) (u : Under) (object s t : State) (made : Made (patching i.order) i u object s) (l : Linked u s t) → HoldsTypeBytes t.types (type_bytes t.types) → ArePlanPrograms i u object s made (plan_under i u t) object.programs (plan_programs u t t.functions t.programs)
 programs_of laws i u object s t made l holds =
-    let typed = made.2.2.2.2.2.0 in
-    let mapped = made.2.2.2.2.2.2.0 in
+    let resolved = made.2.2.2.2.0 in
+    let typed = made.2.2.2.2.2.2.0 in
+    let mapped = made.2.2.2.2.2.2.2.0 in
+    let relocating = relocating_in i.order made.2.2.2.2.0 made.2.2.2.2.2.0 in
     let c = changes_of i u object s made in
-    let same = same_programs i u object s typed mapped c in
+    let same = same_programs i u object s resolved typed mapped relocating c in
     subst (λ (ps : List (List ℕ × ProgramContent)). ArePlanPrograms i u object s made (plan_under i u t) object.programs (plan_programs u t t.functions ps))
     (sym (programs_stay u s t l ∙ same))
     (planned_programs i u object s made (plan_under i u t) t.functions l.linked.functions (known_of laws i u object s t made l) object.programs
     (subst (λ (ps : List (List ℕ × ProgramContent)). (key : Key) → has (program_keys ps) key ≡ true → IsLinkedIn (unlinked_of s) l.linked.functions key) same l.links.programs.programs)
-    (names_of laws.records laws.carry i u object s t typed mapped c l holds))
+    (names_of laws.records laws.carry i u object s t resolved typed mapped relocating c l holds))
 
-granted : (i : Inputs) (u : Under) (object s t typed mapped : State) (c : Changes i u object s typed mapped) (l : Linked u s t) → AreGranted u.answers object.externs.ksyms object.types t.types
-granted i u object s t typed mapped c l =
-    subst (λ (new : Option Table). AreGranted u.answers object.externs.ksyms object.types new) (sym (types_stay u s t l ∙ typed_types i u object s typed mapped c))
-    (subst (λ (old : Option Table). AreGranted u.answers object.externs.ksyms old typed.types) (same_types i u object s typed mapped c)
-    (subst (λ (ksyms : Option (ℕ × Option ℕ)). AreGranted u.answers ksyms c.resolved.types typed.types)
-    (same_section (first_table i) i.symbols c.valued c.resolved c.externs ∙ ap (λ (o : State). o.externs.ksyms) c.values.maps)
-    (granted_of u.answers c.resolved.file c.resolved.externs.ksyms c.resolved.types typed.types c.types.types)))
+granted : (i : Inputs) (u : Under) (object s t resolved typed mapped relocating : State) (c : Changes i u object s resolved typed mapped relocating) (l : Linked u s t) → AreGranted u.answers object.externs.ksyms object.types t.types
+granted i u object s t resolved typed mapped relocating c l =
+    subst (λ (new : Option Table). AreGranted u.answers object.externs.ksyms object.types new) (sym (types_stay u s t l ∙ typed_types i u object s resolved typed mapped relocating c))
+    (subst (λ (old : Option Table). AreGranted u.answers object.externs.ksyms old typed.types) (same_types i u object s resolved typed mapped relocating c)
+    (subst (λ (ksyms : Option (ℕ × Option ℕ)). AreGranted u.answers ksyms resolved.types typed.types)
+    (same_section (first_table i) i.symbols c.valued resolved c.externs ∙ ap (λ (o : State). o.externs.ksyms) c.values.maps)
+    (granted_of u.answers resolved.file resolved.externs.ksyms resolved.types typed.types c.types.rewritten)))
 
 plan_is : Laws → (i : Inputs) (u : Under) (object s t : State) (made : Made (patching i.order) i u object s) (joined : Made linking i u s t) → HoldsTypeBytes t.types (type_bytes t.types) → IsPlanOf i u object (plan_under i u t)
 plan_is laws i u object s t made joined holds =
@@ -174,7 +186,7 @@ plan_is laws i u object s t made joined holds =
       linking = joined;
       is = refl;
       types = holds;
-      granted = granted i u object s t made.2.2.2.2.2.0 made.2.2.2.2.2.2.0 c l;
+      granted = granted i u object s t made.2.2.2.2.0 made.2.2.2.2.2.2.0 made.2.2.2.2.2.2.2.0 (relocating_in i.order made.2.2.2.2.0 made.2.2.2.2.2.0) c l;
       programs = programs_of laws i u object s t made l holds;
     }
 
@@ -200,9 +212,10 @@ distinct_in answers file ksyms None (Some new) are = absurd are
 
 distinct : (i : Inputs) (u : Under) (object s : State) → Made (patching i.order) i u object s → AreDistinct (features u.answers)
 distinct i u object s made =
-    let typed = made.2.2.2.2.2.0 in
+    let resolved = made.2.2.2.2.0 in
+    let typed = made.2.2.2.2.2.2.0 in
     let c = changes_of i u object s made in
-    distinct_in u.answers c.resolved.file c.resolved.externs.ksyms c.resolved.types typed.types c.types.types
+    distinct_in u.answers resolved.file resolved.externs.ksyms resolved.types typed.types c.types.rewritten
 
 -- what was made of an object
 module _ {F : Type 0} {predicate : Predicate F} {before : F} {Says : Bool → Type 0} {i : Inputs} {answers : Answers} {object final : State} (made : IsMade predicate before Says i answers object final) where

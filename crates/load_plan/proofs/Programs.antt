@@ -14,7 +14,6 @@ use Rattle.btf_sanitizing.specs.Answers.{Answers}
 use Rattle.ebpf_items.specs.Instruction.{with_older_helper}
 use Rattle.ebpf_items.specs.declared.instruction.bpf_insn.{bpf_insn}
 use Rattle.ebpf_object.specs.Helpers.{for_kernel}
-use Rattle.elf64.specs.Relocations.{Relocation}
 use Rattle.function_layout.specs.Copies.{SlotsAreCopied}
 use Rattle.function_layout.specs.Layout.{IsLayout, Key, has, linked, same}
 use Rattle.function_layout.specs.Machines.{VisitsSame}
@@ -29,12 +28,10 @@ use Rattle.object_parts.specs.Content.{FunctionContent, ProgramContent, function
 use Rattle.object_plan.specs.Plans.{AllName, AllNamed, func_records_of, line_records_of, plan_program_of, program_of}
 use Rattle.plan_text.specs.Content as plan
 use Rattle.plan_text.specs.Content.{PlanContent}
-use Rattle.slot_relocation.specs.Laws.{map_of}
-use Rattle.slot_relocation.specs.Maps.{NumberedMap}
 use Rattle.load_plan.specs.Inputs.{Inputs, State, Under, keeps_helpers}
-use Rattle.load_plan.specs.Passes.{Made, maps_given, patching, unlinked_of}
-use Rattle.load_plan.specs.Programs.{ArePlanPrograms, HasMap, IsPlanProgram, own_key, source_for}
-use Rattle.load_plan.proofs.Carried.{Stands, kernel_slots, slots_carried}
+use Rattle.load_plan.specs.Passes.{Made, patching, unlinked_of}
+use Rattle.load_plan.specs.Programs.{ArePlanPrograms, IsPlanProgram, own_key, source_for}
+use Rattle.load_plan.proofs.Carried.{AreAmong, StandsIn, kernel_slots, slots_carried}
 
 abbrev Keyed : Type 0
 Keyed = List (Key × FunctionContent)
@@ -87,8 +84,8 @@ pub record Known (i : Inputs) (u : Under) (object patched : State) (made : Made 
   pub renamed : RenamedVisitsSame
   pub copies : SlotsAreCopied
   pub is : functions ≡ for_kernel (keeps_helpers u) before
-  pub stands : Stands i object made.2.2.2.2.2.0 made.2.2.2.2.2.2.0 patched
-  pub among : (r : Relocation) (m : NumberedMap) → map_of (maps_given i.settings made.2.2.2.2.2.0) r ≡ Some m → HasMap whole.maps m
+  pub stands : StandsIn i u object patched made
+  pub among : AreAmong i u object patched made whole.maps
 
 -- a program that stands for a function
 planned_as : (i : Inputs) (u : Under) (object patched : State) (made : Made (patching i.order) i u object patched) (whole : PlanContent) (functions before : Keyed) (known : Known i u object patched made whole functions before) (e : List ℕ × ProgramContent) (f : FunctionContent) (keys : List Key) → IsLaidOut (keeps_helpers u) (unlinked_of patched) (own_key e.1) keys f.instructions → f.func_info ≡ functions_of (unlinked_of patched) (own_key e.1) keys → f.line_info ≡ lines_of (unlinked_of patched) (own_key e.1) keys → AllName object.types whole.type_bytes (program_of u.answers (is_some whole.type_bytes) e.0 e.1.section (Some f)).func_records → IsPlanProgram i u object patched made whole e (program_of u.answers (is_some whole.type_bytes) e.0 e.1.section (Some f))

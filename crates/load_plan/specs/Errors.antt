@@ -8,6 +8,9 @@ use Rattle.extern_resolution.specs.declared.error.KsymsError.TheVariants as ksym
 use Rattle.relocation_errors.specs.declared.error.EbpfRelocationError.{EbpfRelocationError}
 use Rattle.relocation_errors.specs.declared.error.RelocationError.{RelocationError}
 use Rattle.relocation_errors.specs.declared.error.RelocationError.TheVariants as relocation
+use Rattle.type_relocation.specs.declared.error.BtfRelocationCause.{BtfRelocationCause}
+use Rattle.type_relocation.specs.declared.error.BtfRelocationCause.TheVariants as cause
+use Rattle.type_relocation.specs.declared.error.BtfRelocationError.{BtfRelocationError}
 use Rattle.load_plan.specs.declared.error.PrepareError.{PrepareError}
 use Rattle.load_plan.specs.declared.error.PrepareError.TheVariants as prepare
 
@@ -22,6 +25,13 @@ of_ksyms error = prepare.Ksyms error
 abbrev pub of_types : BtfError → PrepareError
 of_types btf.OutOfMemory = prepare.OutOfMemory
 of_types error = prepare.Types error
+
+abbrev pub of_type_relocation_by : BtfRelocationCause → BtfRelocationError → PrepareError
+of_type_relocation_by cause.OutOfMemory error = prepare.OutOfMemory
+of_type_relocation_by _ error = prepare.BtfRelocation error
+
+abbrev pub of_type_relocation : BtfRelocationError → PrepareError
+of_type_relocation error = of_type_relocation_by error.error error
 
 abbrev pub of_relocation_by : RelocationError → EbpfRelocationError → PrepareError
 of_relocation_by relocation.OutOfMemory error = prepare.OutOfMemory

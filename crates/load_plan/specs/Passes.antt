@@ -1,5 +1,5 @@
 -- The passes over an object, in order: what each makes of it, and what each refuses.
-use Rattle.std.specs.Prelude.{◌≡◌, ◌⊎◌, ◌==◌, not, ℕ, length, List, [], ◌∷◌, ◌++◌, map, Bool, true, false, Option, None, Some, is_some, slice_get}
+use Rattle.std.specs.Prelude.{◌≡◌, ◌⊎◌, ◌==◌, ◌&&◌, not, ℕ, length, List, [], ◌∷◌, ◌++◌, map, Bool, true, false, Option, None, Some, is_some, slice_get}
 use Rattle.std.specs.Option.{IsSomeAnd, MatchOption, option_map, option_map_or}
 use Rattle.std.specs.String.{string_bytes}
 use Rattle.btf_extension.specs.Extensions.{Extension}
@@ -10,6 +10,7 @@ use Rattle.ebpf_items.specs.declared.error.ParseError.{ParseError}
 use Rattle.ebpf_object.specs.Calls.{text_sections}
 use Rattle.ebpf_object.specs.Helpers.{for_kernel}
 use Rattle.ebpf_object.specs.Rewriting.{CannotRewrite, IsRewritten}
+use Rattle.ebpf_object.specs.TypeRelocations.{type_groups, types_of}
 use Rattle.extern_relocation.specs.Externs.{extern_rule}
 use Rattle.extern_resolution.specs.Resolution.{AreResolved}
 use Rattle.extern_resolution.specs.Resolution as resolution
@@ -28,19 +29,25 @@ use Rattle.load_plan.specs.Inputs.{Inputs, State, Symbols, Under, keeps_helpers}
 use Rattle.load_plan.specs.declared.error.PrepareError.{PrepareError}
 use Rattle.load_plan.specs.declared.error.PrepareError.TheVariants as error
 use Rattle.load_plan.specs.declared.order.Order.{Order}
+use Rattle.load_plan.specs.declared.order.Order.TheVariants.{RelocateFirst, RewriteFirst}
+use Rattle.type_relocation.specs.Faults as faults
+use Rattle.type_relocation.specs.Writes as types
+use Rattle.type_relocation.specs.declared.error.BtfRelocationCause.{BtfRelocationCause}
 
 -- the names of the passes
 pub data Pass : Type 0 where
   -- each record that a function keeps names a function
   FunctionRecords : Pass
-  -- there are no type relocations: the pass that resolves them doesn't exist yet
-  NoTypeRelocations : Pass
   -- each map has a number
   MapNumbers : Pass
   -- values of global variables are put into maps
   GlobalValues : Pass
+  -- where there are type relocations, kernel types are given
+  KernelTypes : Pass
   -- externs are resolved by the kernel's types and symbols
   Externs : Pass
+  -- slots get what type relocations come to in the kernel's types
+  TypeSlots : Pass
   -- types are rewritten to the features that the kernel grants
   Types : Pass
   -- slots get the numbers of maps
@@ -77,8 +84,12 @@ KeepsNamed s t = (all_named s.types s.functions ≡ true) × (t ≡ s)
 abbrev pub has_type_relocations : Option Extension → Bool
 has_type_relocations extension = option_map_or (λ x. not (length x.relocations == 0)) extension false
 
-abbrev pub HasNoTypeRelocations : State → State → Type 0
-HasNoTypeRelocations s t = (has_type_relocations s.extension ≡ false) × (t ≡ s)
+-- type relocations, and no kernel types that they could be looked up in
+abbrev pub lacks_kernel_types : List Table → State → Bool
+lacks_kernel_types kernel s = has_type_relocations s.extension && (length kernel == 0)
+
+abbrev pub HasKernelTypes : List Table → State → State → Type 0
+HasKernelTypes kernel s t = (lacks_kernel_types kernel s ≡ false) × (t ≡ s)
 
 abbrev pub IsNumbered : SettingsContent → State → State → Type 0
 IsNumbered settings s t = (are_numbered settings s.maps ≡ true) × (t ≡ s)
@@ -91,6 +102,11 @@ pub record PutsValues (settings : SettingsContent) (s t : State) : Type 0 where
 pub record ResolvesExterns (kernel : Option Table) (symbols : Symbols) (s t : State) : Type 0 where
   pub externs : MatchOption s.types (t.externs ≡ s.externs) (λ table. AreResolved table kernel symbols.bytes symbols.failed s.externs t.externs)
   pub others : t ≡ record s { externs = t.externs }
+
+pub record RelocatesTypes (kernel : List Table) (s t : State) : Type 0 where
+  pub functions : types.AreRelocated (types_of s kernel) (type_groups s) t.functions
+  pub sound : faults.CanBeRelocated (types_of s kernel) (type_groups s)
+  pub others : t ≡ record s { functions = t.functions }
 
 pub record RewritesTypes (answers : Answers) (s t : State) : Type 0 where
   pub types : IsRewritten answers s.file s.externs.ksyms s.types t.types
@@ -118,10 +134,11 @@ pub record RenamesHelpers (u : Under) (s t : State) : Type 0 where
 
 abbrev pub Makes : Pass → Inputs → Under → State → State → Type 0
 Makes FunctionRecords i u s t = KeepsNamed s t
-Makes NoTypeRelocations i u s t = HasNoTypeRelocations s t
 Makes MapNumbers i u s t = IsNumbered i.settings s t
 Makes GlobalValues i u s t = PutsValues i.settings s t
+Makes KernelTypes i u s t = HasKernelTypes i.kernel_types s t
 Makes Externs i u s t = ResolvesExterns (first_table i) i.symbols s t
+Makes TypeSlots i u s t = RelocatesTypes i.kernel_types s t
 Makes Types i u s t = RewritesTypes u.answers s t
 Makes MapSlots i u s t = WritesNumbers i.settings s t
 Makes ExternSlots i u s t = WritesExterns s t
@@ -134,13 +151,13 @@ abbrev pub HasNamelessRecord : State → PrepareError → Type 0
 HasNamelessRecord s (error.FunctionRecordType function id) = IsNameless s.types s.functions (string_bytes function) id
 HasNamelessRecord s _ = ⊥
 
-abbrev pub IsNotYet : State → PrepareError → Type 0
-IsNotYet s error.NotYet = has_type_relocations s.extension ≡ true
-IsNotYet s _ = ⊥
-
 abbrev pub LacksNumber : SettingsContent → State → PrepareError → Type 0
 LacksNumber settings s (error.MapNumberMissing name) = lacks_number settings s.maps (string_bytes name) ≡ true
 LacksNumber settings s _ = ⊥
+
+abbrev pub LacksKernelTypes : List Table → State → PrepareError → Type 0
+LacksKernelTypes kernel s error.KernelTypesRequired = lacks_kernel_types kernel s ≡ true
+LacksKernelTypes kernel s _ = ⊥
 
 abbrev pub OfParse : (ParseError → Type 0) → PrepareError → Type 0
 OfParse Stands (error.Parse e) = Stands e
@@ -149,6 +166,10 @@ OfParse Stands _ = ⊥
 abbrev pub OfKsyms : (KsymsError → Type 0) → PrepareError → Type 0
 OfKsyms Stands (error.Ksyms e) = Stands e
 OfKsyms Stands _ = ⊥
+
+abbrev pub OfTypeRelocation : (BtfRelocationCause → Type 0) → PrepareError → Type 0
+OfTypeRelocation Stands (error.BtfRelocation e) = Stands e.error
+OfTypeRelocation Stands _ = ⊥
 
 abbrev pub OfTypes : (BtfError → Type 0) → PrepareError → Type 0
 OfTypes Stands (error.Types e) = Stands e
@@ -164,6 +185,9 @@ CannotPutValues settings s e = Says (first_fault s.file s.maps settings.globals)
 abbrev pub CannotResolve : Option Table → Symbols → State → KsymsError → Type 0
 CannotResolve kernel symbols s e = IsSomeAnd s.types (λ table. resolution.CannotResolve table kernel symbols.bytes symbols.failed s.externs e)
 
+abbrev pub CannotRelocateTypes : List Table → State → BtfRelocationCause → Type 0
+CannotRelocateTypes kernel s c = faults.HasTypesFault (types_of s kernel) (type_groups s) c
+
 abbrev pub CannotWriteNumbers : SettingsContent → State → EbpfRelocationError → Type 0
 CannotWriteNumbers settings s e = HasErrorIn (map_rule (maps_given settings s)) s.file s.functions (option_map string_bytes e.function) e.error
 
@@ -175,10 +199,11 @@ CannotLink s e = HasFaultOf (unlinked_of s) s.programs (option_map string_bytes 
 
 abbrev pub Refuses : Pass → Inputs → Under → State → PrepareError → Type 0
 Refuses FunctionRecords i u s e = HasNamelessRecord s e
-Refuses NoTypeRelocations i u s e = IsNotYet s e
 Refuses MapNumbers i u s e = LacksNumber i.settings s e
 Refuses GlobalValues i u s e = OfParse (CannotPutValues i.settings s) e
+Refuses KernelTypes i u s e = LacksKernelTypes i.kernel_types s e
 Refuses Externs i u s e = OfKsyms (CannotResolve (first_table i) i.symbols s) e
+Refuses TypeSlots i u s e = OfTypeRelocation (CannotRelocateTypes i.kernel_types s) e
 Refuses Types i u s e = OfTypes (CannotRewrite u.answers s.file s.externs.ksyms s.types) e
 Refuses MapSlots i u s e = OfRelocation (CannotWriteNumbers i.settings s) e
 Refuses ExternSlots i u s e = OfRelocation (CannotWriteExterns s) e
@@ -187,9 +212,19 @@ Refuses Helpers i u s e = ⊥
 
 -- ---- the passes in order
 
+-- the two passes whose order is chosen
+abbrev pub first_of : Order → Pass
+first_of RelocateFirst = TypeSlots
+first_of RewriteFirst = Types
+
+abbrev pub second_of : Order → Pass
+second_of RelocateFirst = Types
+second_of RewriteFirst = TypeSlots
+
 -- those that check an object, and change its maps, its externs, its types and the slots of its functions
 abbrev pub patching : Order → List Pass
-patching order = FunctionRecords ∷ NoTypeRelocations ∷ MapNumbers ∷ GlobalValues ∷ Externs ∷ Types ∷ MapSlots ∷ ExternSlots ∷ []
+patching order =
+    FunctionRecords ∷ MapNumbers ∷ GlobalValues ∷ KernelTypes ∷ Externs ∷ first_of order ∷ second_of order ∷ MapSlots ∷ ExternSlots ∷ []
 
 -- those that make its programs whole
 abbrev pub linking : List Pass

@@ -3,8 +3,9 @@ use Rattle.std.specs.Prelude.{◌≡◌, ◌⊎◌, ◌||◌, not, ℕ, ◌+◌,
 use Rattle.btf_extension.specs.declared.record.bpf_func_info.{bpf_func_info}
 use Rattle.btf_extension.specs.declared.record.bpf_line_info.{bpf_line_info}
 use Rattle.btf_sanitizing.specs.Answers.{Answers}
-use Rattle.ebpf_items.specs.Instruction.{calls_newer_helper}
+use Rattle.ebpf_items.specs.Instruction.{with_older_helper}
 use Rattle.ebpf_items.specs.declared.instruction.bpf_insn.{bpf_insn}
+use Rattle.ebpf_object.specs.TypeRelocations.{type_groups, types_of}
 use Rattle.elf64.specs.Relocations.{Relocation}
 use Rattle.function_layout.specs.Copies.{IsCopy}
 use Rattle.function_layout.specs.Layout.{IsLayout, Key, Table, linked, ref_at}
@@ -24,8 +25,9 @@ use Rattle.slot_relocation.specs.Laws.{CarriesNumber, map_of}
 use Rattle.slot_relocation.specs.Maps.{MapsGiven, NumberedMap}
 use Rattle.slot_relocation.specs.Writes.{place_of}
 use Rattle.slot_relocation.specs.declared.outcome.Write.{Write}
+use Rattle.type_relocation.specs.Laws as types
 use Rattle.load_plan.specs.Inputs.{Inputs, State, Under, keeps_helpers}
-use Rattle.load_plan.specs.Passes.{ExternSlots, Made, MapSlots, Pass, maps_given, patching, unlinked_of}
+use Rattle.load_plan.specs.Passes.{ExternSlots, Made, MapSlots, Pass, TypeSlots, maps_given, patching, unlinked_of}
 
 -- the functions that a program's slots are copies of: those of a kernel that has the newer helpers, or lacks them
 abbrev pub source_for : Bool → Unlinked → Table
@@ -52,28 +54,41 @@ abbrev pub HasMap : List MapContent → NumberedMap → Type 0
 HasMap [] m = ⊥
 HasMap (p ∷ ps) m = ((p.name ≡ m.name) × (pos p.number ≡ m.number)) ⊎ HasMap ps m
 
--- no older helper takes the place of a slot's
-abbrev pub IsKept : Bool → bpf_insn → Type 0
-IsKept has_helpers s = (has_helpers ≡ true) ⊎ (calls_newer_helper s ≡ false)
+-- a slot for a kernel that has the newer helpers, or lacks them
+abbrev pub for_helpers : Bool → bpf_insn → bpf_insn
+for_helpers true s = s
+for_helpers false s = with_older_helper s
 
 -- a slot carries the number of a map that a relocation names, under which the map is one of these
 pub record NumbersMap (g : MapsGiven) (maps : List MapContent) (r : Relocation) (s : bpf_insn) : Type 0 where
   pub carried : CarriesNumber g r s
   pub among : (m : NumberedMap) → map_of g r ≡ Some m → HasMap maps m
 
+-- a function of an object has a key, and this holds of it
+abbrev pub OfFunction : State → Key → (FunctionContent → Type 0) → Type 0
+OfFunction s key Holds = (f : FunctionContent) × (function_at s.functions key ≡ Some f) × Holds f
+
 -- a relocation of a pass writes the slot at a place of a function, of an object as the pass finds it
 abbrev pub WritesSlot : Pass → Inputs → State → Key → ℕ → Type 0
-WritesSlot MapSlots i s key place = (f : FunctionContent) × (function_at s.functions key ≡ Some f) × maps.WritesAt (maps_given i.settings s) f place
-WritesSlot ExternSlots i s key place = (f : FunctionContent) × (function_at s.functions key ≡ Some f) × externs.WritesAt s.file s.externs.by_name f place
+WritesSlot TypeSlots i s key place = OfFunction s key (λ f. types.WritesAt (types_of s i.kernel_types) (type_groups s) f place)
+WritesSlot MapSlots i s key place = OfFunction s key (λ f. maps.WritesAt (maps_given i.settings s) f place)
+WritesSlot ExternSlots i s key place = OfFunction s key (λ f. externs.WritesAt s.file s.externs.by_name f place)
 WritesSlot _ i s key place = ⊥
 
--- one of some passes that are made does
+-- one alone does, and puts this into it
+abbrev pub PutsSlot : Pass → Inputs → State → Key → ℕ → bpf_insn → Type 0
+PutsSlot TypeSlots i s key place y = OfFunction s key (λ f. types.PutsAt (types_of s i.kernel_types) (type_groups s) f place y)
+PutsSlot MapSlots i s key place y = OfFunction s key (λ f. maps.PutsAt (maps_given i.settings s) f place y)
+PutsSlot ExternSlots i s key place y = OfFunction s key (λ f. externs.PutsAt s.file s.externs.by_name f place y)
+PutsSlot _ i s key place y = ⊥
+
+-- one of some passes that are made writes the slot
 abbrev pub IsWritten : (ps : List Pass) (i : Inputs) (u : Under) (s t : State) → Made ps i u s t → Key → ℕ → Type 0
 IsWritten [] i u s t made key place = ⊥
 IsWritten (p ∷ ps) i u s t made key place = WritesSlot p i s key place ⊎ IsWritten ps i u made.0 t made.2 key place
 
--- a slot carries what a relocation of a pass that stands at it and writes it gives: a map's number in the plan, or what is known of an
--- extern
+-- a slot at which a relocation by a map stands carries the map's number in the plan, and one at which one by an extern stands what is
+-- known of the extern, whatever other relocations of the pass write
 abbrev pub Carries : Pass → Inputs → List MapContent → State → Key → ℕ → bpf_insn → Type 0
 Carries MapSlots i whole s key place x = (f : FunctionContent) (r : ℕ × Relocation) (w : Write)
     → function_at s.functions key ≡ Some f
@@ -87,17 +102,22 @@ Carries ExternSlots i whole s key place x = (f : FunctionContent) (r : ℕ × Re
     → externs.CarriesExtern s.file s.externs.by_name r.1 x
 Carries _ i whole s key place x = Unit {0}
 
--- of some passes that are made: each by which it is written last
-abbrev pub CarriesLast : (ps : List Pass) (i : Inputs) (u : Under) (s t : State) → Made ps i u s t → List MapContent → Key → ℕ → bpf_insn → Type 0
-CarriesLast [] i u s t made whole key place x = Unit {0}
-CarriesLast (p ∷ ps) i u s t made whole key place x =
-    ((IsWritten ps i u made.0 t made.2 key place → ⊥) → Carries p i whole s key place x) × CarriesLast ps i u made.0 t made.2 whole key place x
+-- what a slot is by the last pass that writes it: what one relocation alone puts there, older helpers aside, and what else it carries
+pub record IsWrittenBy (p : Pass) (i : Inputs) (has_helpers : Bool) (whole : List MapContent) (s : State) (key : Key) (place : ℕ) (x : bpf_insn) : Type 0 where
+  pub alone : (y : bpf_insn) → PutsSlot p i s key place y → x ≡ for_helpers has_helpers y
+  pub carries : Carries p i whole s key place x
 
--- What has become of a slot of an object's function: one that no relocation writes and that isn't renamed is the object's, and another
--- carries what the last that writes it gives.
+-- of some passes that are made: each by which it is written last
+abbrev pub AreWrittenLast : (ps : List Pass) (i : Inputs) (u : Under) (s t : State) → Made ps i u s t → List MapContent → Key → ℕ → bpf_insn → Type 0
+AreWrittenLast [] i u s t made whole key place x = Unit {0}
+AreWrittenLast (p ∷ ps) i u s t made whole key place x =
+    ((IsWritten ps i u made.0 t made.2 key place → ⊥) → IsWrittenBy p i (keeps_helpers u) whole s key place x) × AreWrittenLast ps i u made.0 t made.2 whole key place x
+
+-- What has become of a slot of an object's function: one that no relocation writes is the object's, older helpers aside, and another is
+-- what the last pass that writes it gives.
 pub record HasBecome (i : Inputs) (u : Under) (object patched : State) (made : Made (patching i.order) i u object patched) (whole : List MapContent) (key : Key) (place : ℕ) (s x : bpf_insn) : Type 0 where
-  pub unwritten : (IsWritten (patching i.order) i u object patched made key place → ⊥) → IsKept (keeps_helpers u) s → x ≡ s
-  pub written : CarriesLast (patching i.order) i u object patched made whole key place x
+  pub unwritten : (IsWritten (patching i.order) i u object patched made key place → ⊥) → x ≡ for_helpers (keeps_helpers u) s
+  pub written : AreWrittenLast (patching i.order) i u object patched made whole key place x
 
 -- the slot at a place of a function whose copy begins at a slot of a program refers to no function
 pub record IsCopied (functions : List (Key × FunctionContent)) (t : Table) (own : Key) (keys : List Key) (key : Key) (start place : ℕ) (s : bpf_insn) : Type 0 where

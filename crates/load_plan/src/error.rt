@@ -1,12 +1,12 @@
 //! Why an object gets no plan.
 
 ghost use Rattle.std.specs.Prelude.{◌≡◌};
-ghost use Rattle.load_plan.specs.Errors.{of_ksyms, of_parse, of_relocation, of_types};
+ghost use Rattle.load_plan.specs.Errors.{of_ksyms, of_parse, of_relocation, of_type_relocation, of_types};
 ghost use Rattle.load_plan.specs.declared.error.PrepareError.TheVariants.{OutOfMemory};
 
 use btf_records::BtfError;
 use ebpf_items::ParseError;
-use ebpf_object::KsymsError;
+use ebpf_object::{BtfRelocationCause, BtfRelocationError, KsymsError};
 use relocation_errors::{EbpfRelocationError, RelocationError};
 use std::alloc::{AllocError, AllocFailed};
 use thiserror::Error;
@@ -25,18 +25,21 @@ pub enum PrepareError {
         /// The record's type.
         type_id: u32,
     },
-    /// The object has type relocations: the pass that resolves them doesn't exist yet.
-    #[error("not yet: type relocations")]
-    NotYet,
     /// No number is set for a map.
     #[error("map {name:?} has no number")]
     MapNumberMissing {
         /// The map's name.
         name: String,
     },
+    /// The object has type relocations, and no kernel types are given.
+    #[error("type relocations need kernel types")]
+    KernelTypesRequired,
     /// An extern can't be resolved by the kernel's types and symbols.
     #[error("{0}")]
     Ksyms(KsymsError),
+    /// A type relocation can't be made.
+    #[error("{0}")]
+    BtfRelocation(BtfRelocationError),
     /// The object's types can't be rewritten to the kernel's features.
     #[error("{0}")]
     Types(BtfError),
@@ -82,6 +85,18 @@ impl From<BtfError> for PrepareError {
             BtfError::OutOfMemory => PrepareError::OutOfMemory,
             error => PrepareError::Types(error),
         }
+    }
+}
+
+/// Want of memory stays want of memory.
+impl From<BtfRelocationError> for PrepareError {
+    ghost from_gives = { λ error e. e ≡ of_type_relocation error };
+
+    fn from(error: BtfRelocationError) -> PrepareError {
+        if let BtfRelocationCause::OutOfMemory = error.error() {
+            return PrepareError::OutOfMemory;
+        }
+        PrepareError::BtfRelocation(error)
     }
 }
 

@@ -4,8 +4,8 @@ ghost use Rattle.std.specs.Prelude.{◌≡◌, ◌≢◌, ℕ, List, slice_get, 
 ghost use Rattle.ebpf_object.specs.Calls as calls;
 ghost use Rattle.ebpf_object.specs.Rewriting.{AreAnswered};
 ghost use Rattle.load_plan.specs.Inputs.{inputs, symbols_given};
-ghost use Rattle.load_plan.specs.Made.{IsMade, IsRefusedTypes};
-ghost use Rattle.load_plan.specs.Passes.{CannotLink, CannotPutValues, CannotResolve, CannotWriteExterns, CannotWriteNumbers, HasNamelessRecord, HasNoTypeRelocations, IsNotYet, IsNumbered, KeepsNamed, LacksNumber, LinksPrograms, OfKsyms, OfParse, OfRelocation, PutsValues, ResolvesExterns, RewritesTypes, WritesExterns, WritesNumbers};
+ghost use Rattle.load_plan.specs.Made.{AreTypesMade, AreTypesRefused, IsMade, IsRefusedTypes};
+ghost use Rattle.load_plan.specs.Passes.{CannotLink, CannotPutValues, CannotResolve, CannotWriteExterns, CannotWriteNumbers, HasNamelessRecord, CannotRelocateTypes, HasKernelTypes, IsNumbered, KeepsNamed, LacksKernelTypes, LacksNumber, LinksPrograms, OfKsyms, OfParse, OfRelocation, OfTypeRelocation, PutsValues, RelocatesTypes, ResolvesExterns, RewritesTypes, WritesExterns, WritesNumbers};
 ghost use Rattle.load_plan.specs.Planned.{IsRefusedObject};
 ghost use Rattle.load_plan.specs.declared.error.PrepareError.TheVariants.{OutOfMemory};
 ghost use Rattle.watched.specs.Watched.{has_failed, watched_inner};
@@ -37,17 +37,6 @@ fn require_named(alloc: Global, object: &Object<'_>) -> Result<(), PrepareError>
     }
 }
 
-/// Refuses an object with type relocations: the pass that resolves them doesn't exist yet.
-fn require_no_type_relocations(object: &Object<'_>) -> Result<(), PrepareError>
-    ensures made { OnOk result (HasNoTypeRelocations object.now object.now) }
-    ensures refused { IfErr result (IsNotYet object.now) }
-{
-    if object.has_btf_relocations() {
-        return Err(PrepareError::NotYet);
-    }
-    Ok(())
-}
-
 /// Refuses an object with a map for which no number is set.
 fn require_numbered(
     alloc: Global,
@@ -74,6 +63,17 @@ fn put_values(settings: &Settings<'_>, object: &mut Object<'_>) -> Result<(), Pr
     Ok(())
 }
 
+/// Refuses an object with type relocations where no kernel types are given.
+fn require_kernel_types(kernel_types: &[Btf<'_>], object: &Object<'_>) -> Result<(), PrepareError>
+    ensures made { OnOk result (HasKernelTypes kernel_types.now object.now object.now) }
+    ensures refused { IfErr result (LacksKernelTypes kernel_types.now object.now) }
+{
+    if object.has_btf_relocations() && kernel_types.is_empty() {
+        return Err(PrepareError::KernelTypesRequired);
+    }
+    Ok(())
+}
+
 /// Resolves an object's externs by a kernel's types and symbols.
 fn resolve<R: BufRead>(
     kernel_types: &[Btf<'_>],
@@ -84,6 +84,15 @@ fn resolve<R: BufRead>(
     ensures refused { IfErr result (λ e. e ≢ OutOfMemory → OfKsyms (CannotResolve (slice_get kernel_types.now 0) (symbols_given (R.remaining (watched_inner symbols.old)) (has_failed symbols.new)) object.old) e) }
 {
     object.resolve_externs(kernel_types, symbols)?;
+    Ok(())
+}
+
+/// Writes what an object's type relocations come to into its slots.
+fn relocate_types(kernel_types: &[Btf<'_>], object: &mut Object<'_>) -> Result<(), PrepareError>
+    ensures made { OnOk result (RelocatesTypes kernel_types.now object.old object.new) }
+    ensures refused { IfErr result (λ e. e ≢ OutOfMemory → OfTypeRelocation (CannotRelocateTypes kernel_types.now object.old) e) }
+{
+    object.relocate_btf(kernel_types)?;
     Ok(())
 }
 
@@ -153,6 +162,32 @@ fn link(object: &mut Object<'_>, text_sections: &BTreeSet<usize>) -> Result<(), 
     Ok(())
 }
 
+/// Relocates by an object's types and rewrites these, in either order, and answers what was answered
+/// about the kernel's features.
+fn make_types<F: FnMut(BtfFeature) -> bool>(
+    kernel_types: &[Btf<'_>],
+    order: Order,
+    object: &mut Object<'_>,
+    predicate: F,
+) -> Result<Answers, PrepareError>
+    requires { F.IsAlwaysCallable predicate }
+    ensures made { IfOk result (λ answers. AreTypesMade F.FnMut predicate kernel_types.now order answers.items object.old object.new) }
+    ensures refused { IfErr result (λ e. e ≢ OutOfMemory → AreTypesRefused F.FnMut predicate kernel_types.now order object.old e) }
+{
+    match order {
+        Order::RelocateFirst => {
+            relocate_types(kernel_types, object)?;
+            let answers = rewrite_types(object, predicate)?;
+            Ok(answers)
+        }
+        Order::RewriteFirst => {
+            let answers = rewrite_types(object, predicate)?;
+            relocate_types(kernel_types, object)?;
+            Ok(answers)
+        }
+    }
+}
+
 /// Makes the passes over an object, of whose result its plan is made, and answers what was answered
 /// about the kernel's features.
 pub(crate) fn make<R: BufRead, F: FnMut(BtfFeature) -> bool, P: FnOnce() -> bool>(
@@ -170,14 +205,13 @@ pub(crate) fn make<R: BufRead, F: FnMut(BtfFeature) -> bool, P: FnOnce() -> bool
     ensures made { IfOk result (λ answers. (file : List ℕ) → IsMade F.FnMut predicate (P.post probe) (inputs file kernel_types.now (symbols_given (R.remaining (watched_inner symbols.old)) (has_failed symbols.new)) settings.now order) answers.items object.old object.new) }
     ensures refused { IfErr result (λ e. e ≢ OutOfMemory → (file : List ℕ) → IsRefusedObject F.FnMut predicate (inputs file kernel_types.now (symbols_given (R.remaining (watched_inner symbols.old)) (has_failed symbols.new)) settings.now order) object.old e) }
 {
-    let _ = order;
     require_named(alloc, object)?;
-    require_no_type_relocations(object)?;
     require_numbered(alloc, settings, object)?;
     put_values(settings, object)?;
+    require_kernel_types(kernel_types, object)?;
     resolve(kernel_types, symbols, object)?;
     let text_sections = object.text_sections()?;
-    let answers = rewrite_types(object, predicate)?;
+    let answers = make_types(kernel_types, order, object, predicate)?;
     write_numbers(alloc, settings, object, &text_sections)?;
     write_externs(object)?;
     link(object, &text_sections)?;

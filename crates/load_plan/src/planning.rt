@@ -23,6 +23,7 @@ use settings::Settings;
 use slot_relocation::numbers_are_written;
 use std::alloc::Global;
 use std::io::BufRead;
+use type_relocation::types_are_written;
 
 /// The object that a file holds.
 fn parse<'a>(alloc: Global, file: &'a [u8]) -> Result<Object<'a>, PrepareError>
@@ -48,6 +49,7 @@ fn plan_object<'a, R: BufRead, F: FnMut(BtfFeature) -> bool, P: FnOnce() -> bool
     ensures planned { IfOk result (λ plan. (file : List ℕ) → IsPlannedObject F.FnMut predicate (P.post probe) (inputs file kernel_types.now (symbols_given (R.remaining (watched_inner symbols.old)) (has_failed symbols.new)) settings.now order) object.old plan) }
     ensures refused { IfErr result (λ e. e ≢ OutOfMemory → (file : List ℕ) → IsRefusedObject F.FnMut predicate (inputs file kernel_types.now (symbols_given (R.remaining (watched_inner symbols.old)) (has_failed symbols.new)) settings.now order) object.old e) }
 {
+    types_are_written();
     numbers_are_written();
     externs_are_written();
     slots_are_copied();
@@ -74,21 +76,23 @@ fn plan_object<'a, R: BufRead, F: FnMut(BtfFeature) -> bool, P: FnOnce() -> bool
 /// grants; and its programs, whose slots name the maps by these numbers and the kernel's functions and
 /// variables by what is known of them, each linked to the functions that it leads to.
 ///
-/// `kernel_types` are the kernel's types, of which the first table has its functions and variables;
+/// `kernel_types` are the kernel's types, in which type relocations are looked up, and of which the
+/// first table has its functions and variables;
 /// `symbols` are its symbols as `/proc/kallsyms` lists them, which are read only where a variable
 /// without a type is looked for; `predicate` says whether it takes a feature of types, and `probe`
-/// whether it has the newer helpers that read memory: where it lacks them, older ones are called. The
-/// pass that resolves type relocations doesn't exist yet: an object with type relocations is refused,
-/// and the order says nothing. A number that is set for a map that the object hasn't is ignored.
+/// whether it has the newer helpers that read memory: where it lacks them, older ones are called.
+/// `order` says whether type relocations are looked up in the object's types as they are or as they
+/// are rewritten. A number that is set for a map that the object hasn't is ignored.
 ///
 /// # Errors
 ///
 /// The earliest pass that refuses: [`PrepareError::Parse`] where the file isn't an object that can
 /// be parsed, [`PrepareError::FunctionRecordType`] where a record of a function names none,
-/// [`PrepareError::NotYet`] where the object has type relocations,
 /// [`PrepareError::MapNumberMissing`] where no number is set for a map, [`PrepareError::Parse`] where
-/// a value of a global variable can't be put into the maps, [`PrepareError::Ksyms`] where an extern
-/// can't be resolved, [`PrepareError::Types`] where the types can't be rewritten, and
+/// a value of a global variable can't be put into the maps, [`PrepareError::KernelTypesRequired`] where
+/// the object has type relocations and no kernel types are given, [`PrepareError::Ksyms`] where an
+/// extern can't be resolved, [`PrepareError::BtfRelocation`] where a type relocation can't be made and
+/// [`PrepareError::Types`] where the types can't be rewritten, in the order given, and
 /// [`PrepareError::Relocation`] where a slot can't get a map's number or what is known of an extern, or
 /// a program can't be linked.
 pub fn prepare<'a, R: BufRead, F: FnMut(BtfFeature) -> bool, P: FnOnce() -> bool>(

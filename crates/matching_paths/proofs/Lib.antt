@@ -1,2 +1,3 @@
 pub mod FieldMatches
+pub mod MatchesAlike
 pub mod Variants

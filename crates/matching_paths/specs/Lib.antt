@@ -1,3 +1,4 @@
+pub mod Laws
 pub mod Matches
 pub mod Steps
 pub mod VariantMatches

@@ -3,7 +3,9 @@
 #![tactic(auto)]
 
 mod candidate;
+mod laws;
 mod step;
 mod variant;
 
 pub use candidate::matching_path;
+pub use laws::matches_rest;

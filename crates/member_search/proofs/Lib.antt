@@ -1,5 +1,10 @@
+pub mod EmptyTypes
 pub mod Followed
+pub mod Free
 pub mod Members
+pub mod Nesting
+pub mod Passed
 pub mod Rests
+pub mod SearchesAlike
 pub mod Turns
 pub mod Work

@@ -1,20 +1,13 @@
 -- What stacks give, by what stands above.
-use Rattle.std.proofs.Common.{◌≡◌, ℕ, zero, suc, ◌+◌, ◌-◌, true, false, List, [], ◌∷◌, ◌++◌, length, map, None, Some, Ok, Err, Option, Result, refl, sym, ap, ◌∙◌, arith, append_assoc}
+use Rattle.std.proofs.Common.{◌≡◌, ℕ, zero, suc, ◌+◌, ◌-◌, true, false, List, [], ◌∷◌, ◌++◌, length, None, Some, Ok, Err, Option, Result, refl, sym, ap, ◌∙◌, arith, append_assoc}
 use Rattle.std.proofs.lemmas.Grind.{common_steps}
 use Rattle.access_paths.specs.declared.error.AccessError.{AccessError}
 use Rattle.access_paths.specs.declared.error.AccessError.TheVariants.{MaximumNestingLevelReached}
 use Rattle.member_search.specs.Looks.{Search}
 use Rattle.member_search.specs.Searches.{found_in, is_among, member_found, most_open, or_next}
-use Rattle.member_search.specs.Stacks.{inside, is_open, rest_of, stack_value, value_above}
+use Rattle.member_search.specs.Stacks.{ids, inside, is_open, opened, rest_of, stack_value, value_above}
 use Rattle.member_search.specs.declared.search.Found.{Found}
-use Rattle.member_search.specs.declared.search.Frame.{Frame}
-
-abbrev pub ids : List Frame → List ℕ
-ids stack = map (λ f. f.type_id) stack
-
--- the open ones where this one is the innermost
-abbrev pub opened : List Frame → Frame → List ℕ
-opened below f = ids below ++ f.type_id ∷ []
+use Rattle.member_search.specs.declared.turn.Frame.{Frame}
 
 pub next-next : (a b c : Result (Option Found) AccessError) → or_next (or_next a b) c ≡ or_next a (or_next b c)
 next-next (Ok None) b c = refl

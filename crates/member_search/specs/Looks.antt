@@ -1,6 +1,7 @@
 -- What one member of a struct or union says in a search for a member (`bpf_core_match_member`, tools/lib/bpf/relo_core.c).
-use Rattle.std.specs.Prelude.{ℕ, Bool, false, true, nat_eq, List, [], ◌∷◌, Result, Ok, if◌then◌else◌}
+use Rattle.std.specs.Prelude.{ℕ, ⊤, Bool, false, true, nat_eq, List, [], ◌∷◌, Result, Ok, if◌then◌else◌}
 use Rattle.std.specs.Cmp.Lexicographic.{pointwise}
+use Rattle.std.specs.Option.{IsSomeAnd}
 use Rattle.access_paths.specs.Lookups.{with_found, with_text, with_type}
 use Rattle.access_paths.specs.declared.error.AccessError.{AccessError}
 use Rattle.btf_compatibility.specs.FieldCompatibility.{fields_compatible}
@@ -8,7 +9,7 @@ use Rattle.btf_records.specs.declared.item.BtfMember.{BtfMember}
 use Rattle.btf_records.specs.declared.types.BtfType.{BtfType}
 use Rattle.btf_records.specs.declared.types.BtfType.TheVariants as types
 use Rattle.btf_tables.specs.ResolvedTypes.{resolved_type}
-use Rattle.btf_tables.specs.Tables.{Table}
+use Rattle.btf_tables.specs.Tables.{Table, type_by_id}
 use Rattle.member_search.specs.declared.look.Look.{Look}
 use Rattle.member_search.specs.declared.look.Look.TheVariants.{GoOn, Here, Inside, NotHere}
 
@@ -41,3 +42,8 @@ look_by_name search m (b ∷ bs) = if pointwise nat_eq (b ∷ bs) search.name th
 
 abbrev pub look_at : Search → BtfMember → Result Look AccessError
 look_at search m = with_text search.target m.name_offset (look_by_name search m)
+
+-- a look leads inside types that are there
+abbrev pub LeadsInside : Table → Look → Type 0
+LeadsInside target (Inside id) = IsSomeAnd (type_by_id target id) (λ _. ⊤)
+LeadsInside target _ = ⊤

@@ -1,18 +1,23 @@
--- A search by a stack of the structs and unions that are open, the innermost last.
-use Rattle.std.specs.Prelude.{◌≡◌, ℕ, suc, ◌+◌, ◌<◌, ◌≤◌, ◌⊎◌, true, false, ◌-◌, ◌*◌, ◌^◌, ◌==◌, Bool, List, [], ◌∷◌, ◌++◌, drop, length, IfSome, Option, None, Some, Result, Ok}
+-- A search by the structs and unions that are open, the innermost last.
+use Rattle.std.specs.Prelude.{◌≡◌, ℕ, zero, suc, ◌+◌, ◌<◌, ◌≤◌, ◌⊎◌, ⊤, true, false, ◌-◌, ◌*◌, ◌^◌, ◌==◌, ◌||◌, Bool, List, [], ◌∷◌, ◌++◌, drop, length, map, IfSome, Option, None, Some, Result, Ok}
 use Rattle.std.specs.List.{list_any}
 use Rattle.std.specs.Option.{option_map_or}
 use Rattle.access_paths.specs.Lookups.{with_type}
 use Rattle.access_paths.specs.declared.error.AccessError.{AccessError}
 use Rattle.access_paths.specs.declared.error.AccessError.TheVariants.{MaximumNestingLevelReached}
 use Rattle.btf_records.specs.Fields.{members_of}
+use Rattle.btf_records.specs.declared.item.BtfMember.{BtfMember}
+use Rattle.btf_records.specs.declared.types.BtfType.{BtfType}
 use Rattle.btf_tables.specs.Tables.{Table, type_by_id}
-use Rattle.member_search.specs.Looks.{Search}
+use Rattle.member_search.specs.EmptyTypes.{AreApart, HoldNothing, NotesOne, free, is_noted}
+use Rattle.member_search.specs.Looks.{Search, look_at}
 use Rattle.member_search.specs.Searches.{found_in, members_found, most_open, or_next}
 use Rattle.member_search.specs.declared.look.Look.{Look}
 use Rattle.member_search.specs.declared.look.Look.TheVariants.{GoOn, Here, Inside, NotHere}
 use Rattle.member_search.specs.declared.search.Found.{Found}
-use Rattle.member_search.specs.declared.search.Frame.{Frame}
+use Rattle.member_search.specs.declared.turn.Frame.{Frame}
+use Rattle.member_search.specs.declared.turn.Turn.{Turn}
+use Rattle.member_search.specs.declared.turn.Turn.TheVariants as turns
 
 -- a struct or union before its members are looked at
 abbrev pub inside : ℕ → Option ℕ → Frame
@@ -20,6 +25,13 @@ inside id bits = record { type_id = id; next = 0; bits = bits }
 
 abbrev pub is_open : List Frame → ℕ → Bool
 is_open stack id = list_any (λ f. f.type_id == id) stack
+
+abbrev pub ids : List Frame → List ℕ
+ids stack = map (λ f. f.type_id) stack
+
+-- the open ones where this one is the innermost
+abbrev pub opened : List Frame → Frame → List ℕ
+opened outer f = ids outer ++ f.type_id ∷ []
 
 -- what the members that are left of the last of the open ones give
 unfoldable pub rest_of : Search → List ℕ → Frame → Result (Option Found) AccessError
@@ -50,17 +62,81 @@ pub record IsTurn (search : Search) (before : List Frame) (found : Option Found)
   pub here : IfSome found (λ f. stack_value search before ≡ Ok (Some f))
   pub same : found ≡ None → stack_value search after ≡ stack_value search before
   pub smaller : found ≡ None → work search.target after < work search.target before
-  pub within : found ≡ None → length after ≤ most_open search.target
 
--- what a look at a member makes of the stack without the innermost, and what was found: `after` is the innermost after
--- that member
-abbrev pub IsFollowed : Table → Look → Found → Frame → List Frame → Option Found → List Frame → Type 0
-IsFollowed target GoOn here after old found new = (found ≡ None) × (new ≡ old ++ after ∷ [])
-IsFollowed target NotHere here after old found new = (found ≡ None) × (new ≡ old)
-IsFollowed target Here here after old found new = found ≡ Some here
-IsFollowed target (Inside id) here after old found new = (found ≡ None) × (new ≡ (old ++ after ∷ []) ++ inside id here.bits ∷ []) × (is_open (old ++ after ∷ []) id ≡ false) × (length old + 1 < most_open target) × (left_of target (inside id here.bits) < 65536)
+-- what a turn has found
+abbrev pub found_of : Turn → Option Found
+found_of (turns.Found found) = Some found
+found_of _ = None
+
+-- and where it goes on
+abbrev pub frames_of : Turn → List Frame
+frames_of (turns.On f) = f ∷ []
+frames_of _ = []
+
+-- the innermost goes on as this
+abbrev pub GoesOn : Frame → List Frame → List ℕ → Turn → List Frame → List ℕ → Type 0
+GoesOn f old before turn new after = (turn ≡ turns.On f) × (new ≡ old) × (after ≡ before)
+
+-- nothing was found in the innermost, and the one that it lies in goes on
+abbrev pub IsLeft : ℕ → List Frame → List ℕ → Turn → List Frame → List ℕ → Type 0
+IsLeft id old before (turns.Found found) new after = ⊥
+IsLeft id old before (turns.On f) new after = (old ≡ new ++ f ∷ []) × NotesOne before after id
+IsLeft id old before turns.Over new after = (length old ≡ 0) × (length new ≡ 0)
+
+-- one that isn't open is entered
+abbrev pub IsEntered : Table → ℕ → Option ℕ → Frame → List Frame → List ℕ → Turn → List Frame → List ℕ → Type 0
+IsEntered target id bits f old before turn new after = (turn ≡ turns.On (inside id bits)) × (new ≡ old ++ f ∷ []) × (after ≡ before) × (is_noted before id ≡ false) × (is_open (old ++ f ∷ []) id ≡ false) × (length old + 1 < most_open target) × (left_of target (inside id bits) < 65536)
+
+-- what a look at a member makes of the stack without the innermost: `f` is the innermost after that member. One that is
+-- known to hold nothing isn't entered
+abbrev pub IsFollowed : Table → Look → Found → Frame → List Frame → List ℕ → Turn → List Frame → List ℕ → Type 0
+IsFollowed target GoOn here f old before turn new after = GoesOn f old before turn new after
+IsFollowed target NotHere here f old before turn new after = IsLeft f.type_id old before turn new after
+IsFollowed target Here here f old before turn new after = turn ≡ turns.Found here
+IsFollowed target (Inside id) here f old before turn new after = ((is_noted before id ≡ true) × GoesOn f old before turn new after) ⊎ IsEntered target id here.bits f old before turn new after
 
 -- why it is refused
 abbrev pub IsTooDeep : Table → Look → List Frame → AccessError → Type 0
 IsTooDeep target (Inside id) stack e = (e ≡ MaximumNestingLevelReached) × ((is_open stack id ≡ true) ⊎ (most_open target ≤ length stack))
 IsTooDeep target _ stack e = ⊥
+
+-- a member that is passed isn't the one, or has no name, and holds nothing
+abbrev pub Passes : (ℕ → Bool) → Result Look AccessError → Type 0
+Passes holds_nothing (Ok GoOn) = ⊤
+Passes holds_nothing (Ok (Inside id)) = holds_nothing id ≡ true
+Passes holds_nothing _ = ⊥
+
+-- the first ones, so many
+abbrev pub ArePassed : Search → (ℕ → Bool) → ℕ → List BtfMember → Type 0
+ArePassed search holds_nothing zero members = ⊤
+ArePassed search holds_nothing (suc n) [] = ⊤
+ArePassed search holds_nothing (suc n) (m ∷ ms) = Passes holds_nothing (look_at search m) × ArePassed search holds_nothing n ms
+
+pub record IsPassed (search : Search) (holds_nothing : ℕ → Bool) (f : Frame) : Type 0 where
+  pub members : (t : BtfType) → type_by_id search.target f.type_id ≡ Some t → ArePassed search holds_nothing f.next (members_of t)
+
+-- besides those that are noted the one that is being searched
+abbrev pub or_noted : List ℕ → ℕ → ℕ → Bool
+or_noted noted top id = (id == top) || is_noted noted id
+
+abbrev pub first_id : List Frame → ℕ → ℕ
+first_id [] top = top
+first_id (f ∷ fs) top = f.type_id
+
+-- each of those around the innermost has passed what lies before the one that it is around
+abbrev pub AllPassed : Search → List ℕ → List Frame → ℕ → Type 0
+AllPassed search noted [] top = ⊤
+AllPassed search noted (f ∷ fs) top = IsPassed search (or_noted noted (first_id fs top)) f × AllPassed search noted fs top
+
+-- what holds between turns
+pub record IsSound (search : Search) (noted : List ℕ) (outer : List Frame) (f : Frame) : Type 0 where
+  pub nothing : HoldNothing search noted
+  pub apart : AreApart noted (opened outer f)
+  pub few : free (most_open search.target) (opened outer f) + length (opened outer f) ≤ most_open search.target
+  pub passed : IsPassed search (is_noted noted) f
+  pub around : AllPassed search noted outer f.type_id
+
+abbrev pub IsSoundTurn : Search → Turn → List ℕ → List Frame → Type 0
+IsSoundTurn search (turns.On f) noted outer = IsSound search noted outer f
+IsSoundTurn search turns.Over noted outer = outer ≡ []
+IsSoundTurn search (turns.Found found) noted outer = ⊤

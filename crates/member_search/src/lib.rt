@@ -2,7 +2,11 @@
 //! (`bpf_core_match_member`, tools/lib/bpf/relo_core.c).
 #![tactic(auto)]
 
+mod empty_types;
+mod laws;
 mod look;
 mod search;
+mod turn;
 
+pub use laws::{nesting_never_decides, searches_rest};
 pub use search::{Found, find_member};

@@ -1,7 +1,7 @@
 //! What one member says.
 
-ghost use Rattle.std.specs.Prelude.{◌≡◌};
-ghost use Rattle.member_search.specs.Looks.{is_composite, look_at, look_at_type, look_inside, searched};
+ghost use Rattle.std.specs.Prelude.{◌≡◌, IfOk};
+ghost use Rattle.member_search.specs.Looks.{LeadsInside, is_composite, look_at, look_at_type, look_inside, searched};
 
 use access_paths::AccessError;
 use btf_compatibility::fields_are_compatible;
@@ -30,7 +30,8 @@ fn is_composite(t: &TypeRef<'_>) -> bool
 
 /// A member without a name.
 fn look_inside(target: &Btf<'_>, member: BtfMember) -> Result<Look, AccessError>
-    ensures { result ≡ look_inside target.now member }
+    ensures value { result ≡ look_inside target.now member }
+    ensures inside { IfOk result (LeadsInside target.now) }
 {
     let type_id = target.resolve_type(member.btf_type)?;
     let t = target.type_by_id(type_id)?;
@@ -48,7 +49,8 @@ fn look_at_type<'t>(
     target: &Btf<'t>,
     member: BtfMember,
 ) -> Result<Look, AccessError>
-    ensures { result ≡ look_at_type local.now type_id target.now member }
+    ensures value { result ≡ look_at_type local.now type_id target.now member }
+    ensures inside { IfOk result (LeadsInside target.now) }
 {
     if fields_are_compatible(local, type_id, target, member.btf_type)? {
         Ok(Look::Here)
@@ -68,7 +70,8 @@ pub(crate) fn look_at<'t>(
     target: &Btf<'t>,
     member: BtfMember,
 ) -> Result<Look, AccessError>
-    ensures { result ≡ look_at (searched local.now type_id name.now target.now) member }
+    ensures value { result ≡ look_at (searched local.now type_id name.now target.now) member }
+    ensures inside { IfOk result (LeadsInside target.now) }
 {
     let member_name = target.string_at(member.name_offset)?;
     if member_name.is_empty() {

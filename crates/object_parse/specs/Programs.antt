@@ -80,6 +80,7 @@ function_of info section s = record {
   line_info = kept_lines true (first_slot section s) (s.size / 8) info.lines;
   func_info_rec_size = info.func_size;
   line_info_rec_size = info.line_size;
+  matched_tables = [];
 }
 
 -- the programs with that of one more function: it takes the place of an earlier one of its name

@@ -88,6 +88,7 @@ text_function_of info section offset s = record {
   line_info = kept_lines false (offset / 8) (s.size / 8) info.lines;
   func_info_rec_size = info.func_size;
   line_info_rec_size = info.line_size;
+  matched_tables = [];
 }
 
 -- the functions with that of one more place: it takes the place of an earlier one of its key

@@ -13,7 +13,7 @@ use crate::code::{code_of, first_slot, function_name};
 use crate::section_info::SectionInfo;
 use ebpf_items::{ParseError, ProgramSection, Slots};
 use object_file::{ObjectFile, ReadSection, ReadSymbol};
-use object_parts::{Code, Function, Program};
+use object_parts::{Code, Function, MatchedTables, Program};
 use std::alloc::{AllocError, Global};
 
 /// The function of a symbol of a program section, under its name and with its code.
@@ -48,6 +48,7 @@ fn function<'a>(
         line_info: info.records.lines_in(alloc, start, slots, true)?,
         func_info_rec_size: info.func_info_rec_size,
         line_info_rec_size: info.line_info_rec_size,
+        matched_tables: MatchedTables::new(alloc),
     })
 }
 

@@ -15,7 +15,7 @@ use crate::addresses::{by_address, repeated_address};
 use crate::section_info::SectionInfo;
 use ebpf_items::{ParseError, Slots};
 use object_file::{ObjectFile, ReadSection, ReadSymbol};
-use object_parts::{Code, Function};
+use object_parts::{Code, Function, MatchedTables};
 use std::alloc::{AllocError, Global};
 use std::collections::BTreeMap;
 
@@ -108,6 +108,7 @@ fn function<'a>(
         line_info: info.records.lines_in(alloc, start, slots, false)?,
         func_info_rec_size: info.func_info_rec_size,
         line_info_rec_size: info.line_info_rec_size,
+        matched_tables: MatchedTables::new(alloc),
     })
 }
 

@@ -1,3 +1,4 @@
 pub mod ByBytes
+pub mod Changed
 pub mod Installs
 pub mod Keyed

@@ -19,7 +19,7 @@ pub record ProgramContent : Type 0 where
   pub section_index : ℕ
   pub address : ℕ
 
--- a function, its slots and its records; the sizes of records are in bytes
+-- a function, its slots and its records, and the kernel tables that its type relocations matched; the sizes of records are in bytes
 pub record FunctionContent : Type 0 where
   pub address : ℕ
   pub name : List ℕ
@@ -30,6 +30,7 @@ pub record FunctionContent : Type 0 where
   pub line_info : List bpf_line_info
   pub func_info_rec_size : ℕ
   pub line_info_rec_size : ℕ
+  pub matched_tables : List ℕ
 
 -- keys by section index, then by address
 abbrev pub key_cmp : (ℕ × ℕ) → (ℕ × ℕ) → Ordering

@@ -1,4 +1,5 @@
 pub mod Content
 pub mod Geometry
 pub mod Installed
+pub mod MatchedTables
 pub mod Names

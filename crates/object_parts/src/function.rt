@@ -3,6 +3,7 @@
 ghost use Rattle.std.specs.Prelude.{◌≡◌, ◌≤◌, IfOk};
 ghost use Rattle.object_parts.specs.Geometry.{end_of, is_inside, with_instructions};
 
+use crate::matched_tables::MatchedTables;
 use btf_extension::{FuncSecInfo, LineSecInfo};
 use ebpf_items::Slots;
 use std::alloc::AllocError;
@@ -33,6 +34,9 @@ pub struct Function<'a> {
     pub func_info_rec_size: usize,
     /// The size of a line's record in bytes, as the object gives it; 0 where it has none.
     pub line_info_rec_size: usize,
+    /// The kernel tables in which its type relocations have their first matches; of a linked program
+    /// those of all functions that it has copies of.
+    pub matched_tables: MatchedTables,
 }
 
 impl<'a> Model for Function<'a> {
@@ -40,7 +44,7 @@ impl<'a> Model for Function<'a> {
 
     ghost Value = { FunctionContent };
 
-    ghost view = { λ f. record { address = f.address; name = f.name.now; section_index = f.section_index; section_offset = f.section_offset; instructions = f.instructions; func_info = f.func_info; line_info = f.line_info; func_info_rec_size = f.func_info_rec_size; line_info_rec_size = f.line_info_rec_size } };
+    ghost view = { λ f. record { address = f.address; name = f.name.now; section_index = f.section_index; section_offset = f.section_offset; instructions = f.instructions; func_info = f.func_info; line_info = f.line_info; func_info_rec_size = f.func_info_rec_size; line_info_rec_size = f.line_info_rec_size; matched_tables = f.matched_tables } };
 }
 
 impl<'a> Function<'a> {
@@ -80,6 +84,7 @@ impl<'a> Function<'a> {
             line_info: self.line_info.try_clone()?,
             func_info_rec_size: self.func_info_rec_size,
             line_info_rec_size: self.line_info_rec_size,
+            matched_tables: self.matched_tables.try_clone()?,
         })
     }
 

@@ -1,4 +1,5 @@
 pub mod Extents
 pub mod FieldValues
+pub mod Laws
 pub mod PathValues
 pub mod VariantValues

@@ -4,8 +4,10 @@
 
 mod extent;
 mod field;
+mod laws;
 mod value;
 mod variant;
 
 pub use field::WholeField;
+pub use laws::values_rest;
 pub use value::{RelocationValue, path_value};

@@ -3,7 +3,6 @@ pub mod BySymbol
 pub mod Fitting
 pub mod Indexes
 pub mod Inside
-pub mod Installs
 pub mod Numbers
 pub mod Rising
 pub mod Standing

@@ -1,6 +1,7 @@
 -- Relocations one after the other.
-use Rattle.std.proofs.Common.{◌≡◌, ℕ, Bool, true, false, not, List, [], ◌∷◌, ◌++◌, Option, Some, None, refl, sym, ap, ◌∙◌, subst, inl, inr, append-nil, cond}
+use Rattle.std.proofs.Common.{◌≡◌, ℕ, ◌+◌, ◌<◌, length, take, drop, get_or, add-one, drop-cons, Bool, true, false, not, List, [], ◌∷◌, ◌++◌, Option, Some, None, refl, sym, ap, ◌∙◌, subst, inl, inr, append-nil, cond}
 use Rattle.std.specs.Prelude.{◌&&◌, fold, map, filter}
+use Rattle.std.proofs.lemmas.List.{take-append-drop}
 use Rattle.std.proofs.lemmas.List.Elements.{filter-append}
 use Rattle.std.specs.Map.{values_of}
 use Rattle.ebpf_items.specs.declared.instruction.bpf_insn.{bpf_insn}
@@ -15,7 +16,7 @@ use Rattle.slot_relocation.specs.declared.driver.FaultAt.{FaultAt}
 use Rattle.slot_relocation.specs.declared.driver.Stop.{Stop}
 use Rattle.slot_relocation.specs.declared.driver.Stop.TheVariants as stop
 use Rattle.slot_relocation.specs.Writes.{AreFaultless, HasErrorIn, HasFaultAmong, HasFaultInside, IsErrorOf, Rule, RuleOf, after_all, after_one, outcome_at, relocations_inside}
-use Rattle.slot_relocation.specs.Walks.{AllSound, AreWalked, IsErrorFor, IsFaultAt, IsFaultIn, IsRefusal, IsRefusalOf, IsStop, are_sound, changed, first_of, is_before, is_refused, is_sound}
+use Rattle.slot_relocation.specs.Walks.{AllSound, AreWalked, IsErrorFor, IsFaultAt, IsFaultIn, IsRefusal, IsRefusalOf, IsStop, are_sound, changed, first_of, is_refused, is_sound}
 
 abbrev pub Entry : Type 0
 Entry = (ℕ × ℕ) × FunctionContent
@@ -45,6 +46,13 @@ sound_from rule f slots (d ∷ done) r h e =
 
 pub sound_more : {A E : Type 0} (rule : RuleOf A E) (f : FunctionContent) (done : List (ℕ × A)) (r : ℕ × A) (old : List bpf_insn) → old ≡ after_all rule f done → are_sound rule f f.instructions done ≡ true → is_refused (outcome_at rule f old r) ≡ false → are_sound rule f f.instructions (done ++ (r ∷ [])) ≡ true
 sound_more rule f done r old e h s = sound_from rule f f.instructions done r h (ap (λ l. is_refused (outcome_at rule f l r)) (sym e) ∙ s)
+
+-- those before one of a list, that one, and those after it
+this_one : {X : Type 0} (xs : List X) (i : ℕ) (d r : X) → i < length xs → r ≡ get_or xs i d → drop i xs ≡ r ∷ drop (i + 1) xs
+this_one xs i d r lt is = rw add-one (drop-cons xs i d lt) ∙ ap (λ y. y ∷ drop (i + 1) xs) (sym is)
+
+pub split_at : {X : Type 0} (xs : List X) (i : ℕ) (d r : X) → i < length xs → r ≡ get_or xs i d → take i xs ++ (r ∷ drop (i + 1) xs) ≡ xs
+split_at xs i d r lt is = ap (λ l. take i xs ++ l) (sym (this_one xs i d r lt is)) ∙ take-append-drop i xs
 
 -- a relocation that is refused is a function's fault
 pub refused_at : {A E : Type 0} (rule : RuleOf A E) (rs : List (ℕ × A)) (f : FunctionContent) (done : List (ℕ × A)) (r : ℕ × A) (rest : List (ℕ × A)) (old : List bpf_insn) (e : Refusal E) → done ++ (r ∷ rest) ≡ rs → old ≡ after_all rule f done → IsRefusalOf r.0 (outcome_at rule f old r) e → IsRefusal rule rs f e
@@ -115,10 +123,10 @@ one_of : {A E : Type 0} (rule : RuleOf A E) (inside : FunctionContent → List (
 one_of rule inside es true met earlier h k = h
 one_of rule inside es false met earlier h k = k
 
-pub fault_met : {A E : Type 0} (rule : RuleOf A E) (inside : FunctionContent → List (ℕ × A)) (done : List Entry) (e : Entry) (list : List FunctionContent) (first : Option (FaultAt E)) (met : FaultAt E) → AreWalked rule inside done list first → IsFaultAt rule inside e.1 met → AreWalked rule inside (done ++ (e ∷ [])) list (Some (first_of first met))
-fault_met rule inside done e list None met h is = fault_here rule inside done e met is
-fault_met rule inside done e list (Some earlier) met h is =
-    one_of rule inside (done ++ (e ∷ [])) (is_before met earlier) met earlier (fault_here rule inside done e met is) (fault_stays rule inside done e earlier h)
+pub fault_met : {A E : Type 0} (rule : RuleOf A E) (inside : FunctionContent → List (ℕ × A)) (done : List Entry) (e : Entry) (list : List FunctionContent) (before : FaultAt E → FaultAt E → Bool) (first : Option (FaultAt E)) (met : FaultAt E) → AreWalked rule inside done list first → IsFaultAt rule inside e.1 met → AreWalked rule inside (done ++ (e ∷ [])) list (Some (first_of before first met))
+fault_met rule inside done e list before None met h is = fault_here rule inside done e met is
+fault_met rule inside done e list before (Some earlier) met h is =
+    one_of rule inside (done ++ (e ∷ [])) (before met earlier) met earlier (fault_here rule inside done e met is) (fault_stays rule inside done e earlier h)
 
 -- ---- relocations that the file holds
 

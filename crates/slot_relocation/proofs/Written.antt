@@ -10,7 +10,7 @@ use Rattle.slot_relocation.specs.declared.outcome.Fault.{Fault}
 use Rattle.slot_relocation.specs.declared.outcome.Write.{Write}
 use Rattle.slot_relocation.specs.Laws.{CarriesNumber, HaveNumbers, NumbersAreWritten, SlotsCarryNumbers, Writes, slots_after}
 use Rattle.slot_relocation.specs.Maps.{MapsGiven, map_rule, outcome_by}
-use Rattle.slot_relocation.specs.WriteLaws.{LengthsRemain, UnwrittenStay, WritesAreKept}
+use Rattle.slot_relocation.specs.WriteLaws.{LengthsRemain, OneWrites, UnwrittenStay, WritesAreKept}
 use Rattle.slot_relocation.specs.Writes.{AreRelocated, after_all, distance, place_of, relocated, relocations_inside}
 use Rattle.slot_relocation.proofs.Numbers.{made_by, source_marks}
 use Rattle.slot_relocation.proofs.Standing.{is_kept}
@@ -34,12 +34,17 @@ carries g f r w m =
 pub slots_carry_numbers : SlotsCarryNumbers
 slots_carry_numbers = record { each = carries }
 
-have_numbers : SlotsCarryNumbers → UnwrittenStay Relocation Fault → LengthsRemain Relocation Fault → (g : MapsGiven) (old new : List ((ℕ × ℕ) × FunctionContent)) → AreRelocated (map_rule g) g.file old new → HaveNumbers g old new
-have_numbers carry stay lengths g old new are key f at = (
+have_numbers : SlotsCarryNumbers → OneWrites Relocation Fault → UnwrittenStay Relocation Fault → LengthsRemain Relocation Fault → (g : MapsGiven) (old new : List ((ℕ × ℕ) × FunctionContent)) → AreRelocated (map_rule g) g.file old new → HaveNumbers g old new
+have_numbers carry one stay lengths g old new are key f at = (
   relocated (map_rule g) g.file f,
   are.at key ∙ ap (option_map (relocated (map_rule g) g.file)) at,
-  record { numbers = carry.each g f; others = stay.each (map_rule g) f (relocations_inside g.file f); as_many = lengths.each (map_rule g) f (relocations_inside g.file f) },
+  record {
+    numbers = carry.each g f;
+    alone = λ place s p within. one.each (map_rule g) f (relocations_inside g.file f) p.relocation p.write place s p.made p.puts within p.alone;
+    others = stay.each (map_rule g) f (relocations_inside g.file f);
+    as_many = lengths.each (map_rule g) f (relocations_inside g.file f);
+  },
 )
 
-pub numbers_are_written : SlotsCarryNumbers → UnwrittenStay Relocation Fault → LengthsRemain Relocation Fault → NumbersAreWritten
-numbers_are_written carry stay lengths = record { each = have_numbers carry stay lengths }
+pub numbers_are_written : SlotsCarryNumbers → OneWrites Relocation Fault → UnwrittenStay Relocation Fault → LengthsRemain Relocation Fault → NumbersAreWritten
+numbers_are_written carry one stay lengths = record { each = have_numbers carry one stay lengths }

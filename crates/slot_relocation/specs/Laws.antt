@@ -1,5 +1,5 @@
 -- What holds of a function after the relocations by maps inside it.
-use Rattle.std.specs.Prelude.{◌≡◌, ℕ, List, [], ◌∷◌, length, slice_get, Some, Option, option_and_then}
+use Rattle.std.specs.Prelude.{◌≡◌, ◌<◌, ℕ, List, [], ◌∷◌, length, slice_get, Some, Option, option_and_then}
 use Rattle.ebpf_items.specs.Instruction.{src_reg_of}
 use Rattle.ebpf_items.specs.declared.instruction.bpf_insn.{bpf_insn}
 use Rattle.elf64.specs.Relocations.{Relocation}
@@ -9,7 +9,7 @@ use Rattle.object_parts.specs.Content.{FunctionContent, function_at}
 use Rattle.slot_relocation.specs.declared.outcome.Write.{Write}
 use Rattle.slot_relocation.specs.BySymbol.{symbol_index}
 use Rattle.slot_relocation.specs.Maps.{MapsGiven, NumberedMap, map_for, map_rule}
-use Rattle.slot_relocation.specs.WriteLaws.{IsWritten, Makes}
+use Rattle.slot_relocation.specs.WriteLaws.{IsWritten, Makes, WritesAlone}
 use Rattle.slot_relocation.specs.Writes.{AreRelocated, place_of, relocated, relocations_inside}
 
 -- the slots of a function after the relocations inside it
@@ -23,6 +23,10 @@ Writes g f r w = Makes (map_rule g) f (relocations_inside g.file f) r w
 -- some relocation writes the slot at a place: its own, or the next one
 abbrev pub WritesAt : MapsGiven → FunctionContent → ℕ → Type 0
 WritesAt g f place = IsWritten (map_rule g) f (relocations_inside g.file f) place
+
+-- one alone does, and puts this into it
+abbrev pub PutsAt : MapsGiven → FunctionContent → ℕ → bpf_insn → Type 0
+PutsAt g f place s = WritesAlone (map_rule g) f (relocations_inside g.file f) place s
 
 -- the map that a symbol names, and that a relocation names where it isn't skipped
 abbrev pub map_by : MapsGiven → ℕ → Symbol → Option NumberedMap
@@ -50,6 +54,7 @@ pub record SlotsCarryNumbers : Type 0 where
 -- what holds of a function's slots after all relocations
 pub record HasNumbers (g : MapsGiven) (old new : FunctionContent) : Type 0 where
   pub numbers : (r : ℕ × Relocation) (w : Write) → Writes g old r w → (s : bpf_insn) × (slice_get new.instructions (place_of old r.0) ≡ Some s) × CarriesNumber g r.1 s
+  pub alone : (place : ℕ) (s : bpf_insn) → PutsAt g old place s → place < length old.instructions → slice_get new.instructions place ≡ Some s
   pub others : (place : ℕ) → (WritesAt g old place → ⊥) → slice_get new.instructions place ≡ slice_get old.instructions place
   pub as_many : length new.instructions ≡ length old.instructions
 

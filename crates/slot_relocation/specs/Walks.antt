@@ -90,14 +90,14 @@ abbrev pub AreWalked : {A E : Type 0} → RuleOf A E → (FunctionContent → Li
 AreWalked rule inside functions list None = (list ≡ map (changed rule inside) (values_of functions)) × AllSound rule inside functions
 AreWalked rule inside functions list (Some x) = IsFaultIn rule inside functions x
 
--- whether a fault stands before another, by section and then by offset
+-- whether a fault of a relocation that the file holds stands before another, by section and then by offset
 abbrev pub is_before : {E : Type 0} → FaultAt E → FaultAt E → Bool
 is_before a b = is_lt (ordering_then (nat_cmp a.section_index b.section_index) (nat_cmp a.offset b.offset))
 
--- the first of two faults; of two at one offset the earlier one
-abbrev pub first_of : {E : Type 0} → Option (FaultAt E) → FaultAt E → FaultAt E
-first_of None met = met
-first_of (Some earlier) met = if is_before met earlier then met else earlier
+-- the first of two faults in some order; where neither stands before the other the earlier one
+abbrev pub first_of : {E : Type 0} → (FaultAt E → FaultAt E → Bool) → Option (FaultAt E) → FaultAt E → FaultAt E
+first_of before None met = met
+first_of before (Some earlier) met = if before met earlier then met else earlier
 
 -- the error, with a function's name, for what stopped the relocations that a file holds
 abbrev pub IsErrorFor : List ℕ → Stop Fault → Option (List ℕ) → RelocationError → Type 0

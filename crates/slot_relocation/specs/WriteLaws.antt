@@ -41,6 +41,14 @@ pub record UnwrittenStay (A E : Type 0) : Type 0 where
 pub record OneWrites (A E : Type 0) : Type 0 where
   pub each : (rule : RuleOf A E) (f : FunctionContent) (rs : List (ℕ × A)) (r : ℕ × A) (w : Write) (place : ℕ) (s : bpf_insn) → (m : Makes rule f rs r w) → Puts (place_of f r.0) w place s → place < length f.instructions → ((o : IsWritten rule f rs place) → o.made.before ≡ m.before) → slice_get (after_all rule f rs) place ≡ Some s
 
+-- one relocation alone writes the slot of a place, and puts this into it
+pub record WritesAlone {A E : Type 0} (rule : RuleOf A E) (f : FunctionContent) (rs : List (ℕ × A)) (place : ℕ) (s : bpf_insn) : Type 0 where
+  pub relocation : ℕ × A
+  pub write : Write
+  pub made : Makes rule f rs relocation write
+  pub puts : Puts (place_of f relocation.0) write place s
+  pub alone : (o : IsWritten rule f rs place) → o.made.before ≡ made.before
+
 -- a function keeps its number of slots
 pub record LengthsRemain (A E : Type 0) : Type 0 where
   pub each : (rule : RuleOf A E) (f : FunctionContent) (rs : List (ℕ × A)) → length (after_all rule f rs) ≡ length f.instructions

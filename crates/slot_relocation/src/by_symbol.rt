@@ -2,9 +2,10 @@
 
 ghost use Rattle.std.specs.Prelude.{◌≡◌, true, IfErr, IfOk, OnOk};
 ghost use Rattle.slot_relocation.specs.BySymbol.{Does, outcome_of, symbol_rule};
-ghost use Rattle.slot_relocation.specs.Walks.{IsRefusal, NextFits, is_sound};
+ghost use Rattle.slot_relocation.specs.Walks.{IsRefusal, NextFits, is_before, is_sound};
 ghost use Rattle.slot_relocation.specs.Writes.{after_all, relocations_inside};
 
+use crate::driver::FaultAt;
 use crate::outcome::{Fault, Outcome};
 use crate::rule::{Pass, Refusal, Rule, relocate_at, relocate_each};
 use ebpf_items::{Slots, bpf_insn};
@@ -117,7 +118,13 @@ fn slots_after<'f, R: Rule<RelocView, Fault>>(
 }
 
 impl<'r, 'o, S: SymbolRule> Pass<RelocView, Fault> for BySymbol<'r, 'o, S> {
+    ghost before = { λ _. is_before };
+
     ghost inside = { λ r. relocations_inside r.file.now };
+
+    fn is_before(&self, one: &FaultAt<'_, Fault>, other: &FaultAt<'_, Fault>) -> bool {
+        (one.section_index, one.offset) < (other.section_index, other.offset)
+    }
 
     fn slots_after<'f>(&self, function: &Function<'f>) -> Result<Slots<'f>, Refusal<Fault>> {
         slots_after(self, self.file, function)

@@ -9,7 +9,7 @@ ghost use Rattle.slot_relocation.specs.Walks.{IsRefusal, IsStop, changed, first_
 ghost use Rattle.slot_relocation.specs.Writes.{AreFaultless};
 
 use crate::rule::{Pass, Refusal};
-use object_parts::{Function, Functions};
+use object_parts::{Function, Functions, changes_are_installed};
 use std::alloc::{AllocError, AllocFailed, Global};
 
 /// A fault of the relocation of an offset in a function's section.
@@ -50,19 +50,21 @@ impl<'f, E, T: Drop> From<AllocFailed<T>> for Stop<'f, E> {
     }
 }
 
-impl<'f, E: Copy> FaultAt<'f, E> {
-    /// The first of two faults in order of section and offset; of two at one offset the earlier one.
-    fn or_earlier(self, earlier: Option<FaultAt<'f, E>>) -> FaultAt<'f, E>
-        ensures { result ≡ first_of earlier.entry self.entry }
-    {
-        let Some(earlier) = earlier else {
-            return self;
-        };
-        if (self.section_index, self.offset) < (earlier.section_index, earlier.offset) {
-            self
-        } else {
-            earlier
-        }
+/// The first of two faults in a pass's order; where neither stands before the other the earlier one.
+fn first_of<'f, A, E: Copy, P: Pass<A, E>>(
+    pass: &P,
+    earlier: Option<FaultAt<'f, E>>,
+    met: FaultAt<'f, E>,
+) -> FaultAt<'f, E>
+    ensures { result ≡ first_of (P.before pass.now) earlier.entry met.entry }
+{
+    let Some(earlier) = earlier else {
+        return met;
+    };
+    if pass.is_before(&met, &earlier) {
+        met
+    } else {
+        earlier
     }
 }
 
@@ -81,8 +83,8 @@ fn relocated<'f, A, E: Copy, P: Pass<A, E>>(
 }
 
 /// The functions after the relocations inside them, in order of key. Of several faults the first in
-/// order of section and offset is answered.
-fn relocate_all<'g, 'f, A, E: Copy, P: Pass<A, E>>(
+/// the pass's order is answered.
+pub fn relocated_functions<'g, 'f, A, E: Copy, P: Pass<A, E>>(
     alloc: Global,
     pass: &P,
     functions: &'g Functions<'f>,
@@ -104,7 +106,7 @@ fn relocate_all<'g, 'f, A, E: Copy, P: Pass<A, E>>(
                     offset,
                     fault,
                 };
-                first = Some(met.or_earlier(first));
+                first = Some(first_of(pass, first, met));
             }
             Err(Refusal::OutOfMemory) => return Err(Stop::OutOfMemory),
         }
@@ -117,8 +119,7 @@ fn relocate_all<'g, 'f, A, E: Copy, P: Pass<A, E>>(
 
 /// Makes the relocations of a pass in all functions, each function's in the pass's order: all new
 /// functions are made before the first is put in its place, so that they stay as they are where a
-/// fault stands or memory runs out. Of several faults the first in order of section and offset is
-/// answered.
+/// fault stands or memory runs out. Of several faults the first in the pass's order is answered.
 pub fn relocate_functions<'f, A, E: Copy, P: Pass<A, E>>(
     alloc: Global,
     pass: &P,
@@ -129,7 +130,8 @@ pub fn relocate_functions<'f, A, E: Copy, P: Pass<A, E>>(
     ensures fault { IfErr result (IsStop (P.rule pass.now) (P.inside pass.now) functions.old) }
     ensures unchanged { OnErr result (functions.new ≡ functions.old) }
 {
-    let list = relocate_all(alloc, pass, functions)?;
+    changes_are_installed();
+    let list = relocated_functions(alloc, pass, functions)?;
     functions.install(list);
     Ok(())
 }

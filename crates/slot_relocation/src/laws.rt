@@ -42,6 +42,7 @@ pub fn numbers_are_written()
     ensures { NumbersAreWritten }
 {
     slots_carry_numbers();
+    one_writes::<RelocView, Fault>();
     unwritten_stay::<RelocView, Fault>();
     lengths_remain::<RelocView, Fault>();
 }

@@ -1,7 +1,6 @@
 //! The writes that relocations make into the slots of an object's functions.
 //!
-//! A pass goes over the relocations inside each function in order of their offsets. By the slots as
-//! they then stand its rule says of each whether it is skipped, what it writes, or why it is refused.
+//! A pass goes over the relocations inside each function in its order. By the slots as they then stand its rule says of each whether it is skipped, what it writes, or why it is refused.
 //! The driver is the same for all passes ([`relocate_functions`]), and so is what they have in common
 //! that go by the relocations that the file holds ([`relocate_by_symbol`]); here stands that for maps.
 #![tactic(auto)]
@@ -16,7 +15,7 @@ mod outcome;
 mod rule;
 
 pub use by_symbol::SymbolRule;
-pub use driver::{FaultAt, Stop, relocate_functions};
+pub use driver::{FaultAt, Stop, relocate_functions, relocated_functions};
 pub use errors::relocate_by_symbol;
 pub use laws::{
     lengths_remain, numbers_are_written, one_writes, slots_carry_numbers, unwritten_stay,
@@ -25,4 +24,4 @@ pub use laws::{
 pub use map_index::NumberedMap;
 pub use map_rule::relocate_maps;
 pub use outcome::{Fault, Outcome, Write, with_number};
-pub use rule::{Pass, Refusal, Rule, relocate_each};
+pub use rule::{Pass, Refusal, Rule, relocate_each, relocate_list};

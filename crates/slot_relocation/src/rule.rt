@@ -1,11 +1,13 @@
 //! Rules of relocations, and the walk over those of one function.
 
 ghost use Rattle.std.specs.Prelude.{◌≡◌, ◌/◌, false, true, IfOk, IfErr, OnOk};
-ghost use Rattle.std.specs.Prelude.{List, ℕ};
+ghost use Rattle.std.specs.Prelude.{Bool, List, ℕ};
 ghost use Rattle.object_parts.specs.Content.{FunctionContent};
+ghost use Rattle.slot_relocation.specs.declared.driver.FaultAt.{FaultAt};
 ghost use Rattle.slot_relocation.specs.Walks.{FitsIn, IsRefusal, IsRefusalOf, is_refused, is_sound};
 ghost use Rattle.slot_relocation.specs.Writes.{RuleOf, after_all, after_one, outcome_at};
 
+use crate::driver::FaultAt;
 use crate::outcome::Outcome;
 use ebpf_items::Slots;
 use object_parts::Function;
@@ -44,9 +46,16 @@ pub trait Rule<A, E> {
 
 /// The relocations of functions, made by a rule.
 pub trait Pass<A, E>: Rule<A, E> {
+    /// Which of two faults stands before the other in the pass's order.
+    ghost before: { Self → FaultAt E → FaultAt E → Bool };
+
     /// The relocations inside a function, with their offsets in its section, in the order in which
     /// they are made.
     ghost inside: { Self → FunctionContent → List (ℕ × A) };
+
+    /// Whether a fault stands before another in the pass's order.
+    fn is_before(&self, one: &FaultAt<'_, E>, other: &FaultAt<'_, E>) -> bool
+        ensures { result ≡ before self.now one.now other.now };
 
     /// The slots of a function after the relocations inside it. Slots in which nothing is written
     /// stay in the file.
@@ -92,6 +101,24 @@ pub fn relocate_each<'f, A, E: Copy, R: Rule<A, E>>(
     let mut slots = function.instructions.try_clone()?;
     for (offset, relocation) in relocations {
         relocate_at(rule, function, &mut slots, *offset, relocation)?;
+    }
+    Ok(slots)
+}
+
+/// The slots of a function after some relocations inside it, one after the other, each with its offset
+/// in the function's section.
+pub fn relocate_list<'f, A, E: Copy, R: Rule<A, E>>(
+    rule: &R,
+    function: &Function<'f>,
+    relocations: &[(u64, A)],
+) -> Result<Slots<'f>, Refusal<E>>
+    ensures value { IfOk result (λ s. s ≡ after_all (R.rule rule.now) function.now relocations.now) }
+    ensures sound { OnOk result (is_sound (R.rule rule.now) relocations.now function.now ≡ true) }
+    ensures refused { IfErr result (IsRefusal (R.rule rule.now) relocations.now function.now) }
+{
+    let mut slots = function.instructions.try_clone()?;
+    for placed in relocations {
+        relocate_at(rule, function, &mut slots, placed.0, &placed.1)?;
     }
     Ok(slots)
 }

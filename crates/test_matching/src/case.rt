@@ -50,7 +50,7 @@ fn outcome_in<'m>(
 ) -> Result<(Answer, Option<usize>), AllocError> {
     let found = relocation_outcome(local, relocation, kernel);
     let answer = Answer::of(&found);
-    let matcher = TypeMatcher::collect(local, &[relocation], kernel)?;
+    let mut matcher = TypeMatcher::collect(local, &[relocation], kernel)?;
     let collected = matcher.relocation_outcome(relocation);
     assert_eq!(rt; Answer::of(&collected), answer);
     let table = found.ok().and_then(|found| found.table);

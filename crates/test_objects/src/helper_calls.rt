@@ -2,7 +2,7 @@
 
 use btf_extension::{FuncSecInfo, LineSecInfo};
 use ebpf_items::Slots;
-use object_parts::{Function, Functions};
+use object_parts::{Function, Functions, MatchedTables};
 use std::alloc::Global;
 
 /// A function of one slot, which stands in the file.
@@ -17,6 +17,7 @@ fn functions<'a>(alloc: Global, slot: &'a [u8]) -> Option<Functions<'a>> {
         line_info: LineSecInfo::from_records(Vec::new(alloc)),
         func_info_rec_size: 0,
         line_info_rec_size: 0,
+        matched_tables: MatchedTables::new(alloc),
     };
     let mut functions = Functions::new(alloc);
     functions.insert(function).ok()?;

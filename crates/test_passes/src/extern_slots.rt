@@ -5,7 +5,7 @@ use ebpf_items::Slots;
 use extern_relocation::relocate_externs;
 use object_externs::{ExternDesc, Externs};
 use object_file::ObjectFile;
-use object_parts::{Function, Functions};
+use object_parts::{Function, Functions, MatchedTables};
 use relocation_errors::{EbpfRelocationError, RelocationError};
 use sample_objects::with_bytes;
 use std::alloc::Global;
@@ -326,6 +326,7 @@ fn function<'a>(
         line_info: LineSecInfo::from_records(Vec::new(alloc)),
         func_info_rec_size: 0,
         line_info_rec_size: 0,
+        matched_tables: MatchedTables::new(alloc),
     })
 }
 

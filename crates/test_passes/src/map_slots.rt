@@ -3,7 +3,7 @@
 use btf_extension::{FuncSecInfo, LineSecInfo};
 use ebpf_items::{EbpfSectionKind, LegacyMap, Map, Slots, bpf_map_def};
 use object_file::ObjectFile;
-use object_parts::{Function, Functions};
+use object_parts::{Function, Functions, MatchedTables};
 use relocation_errors::{EbpfRelocationError, RelocationError};
 use sample_objects::with_bytes;
 use slot_relocation::{NumberedMap, relocate_maps};
@@ -305,6 +305,7 @@ fn function<'a>(
         line_info: LineSecInfo::from_records(Vec::new(alloc)),
         func_info_rec_size: 0,
         line_info_rec_size: 0,
+        matched_tables: MatchedTables::new(alloc),
     })
 }
 

@@ -6,8 +6,6 @@ mod answer;
 #[cfg(test)]
 mod asking;
 #[cfg(test)]
-mod candidates;
-#[cfg(test)]
 mod comparisons;
 #[cfg(test)]
 mod encoding;

@@ -1,2 +1,4 @@
 pub mod DifferingMatches
+pub mod KnownOutcomes
 pub mod MatchesOf
+pub mod OutcomesAlike

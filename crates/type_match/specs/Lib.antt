@@ -1,3 +1,4 @@
+pub mod KnownOutcomes
 pub mod Laws
 pub mod Matches
 pub mod Outcomes

@@ -1,8 +1,23 @@
 //! Laws of type relocations. The functions here compute nothing: their contracts are the theorems.
 
-ghost use Rattle.type_match.specs.Laws.{ListsOfOneTable};
+ghost use Rattle.type_match.specs.Laws.{ListsOfOneTable, OutcomesRest};
+
+use access_paths::{lookups_rest, paths_rest};
+use matching_paths::matches_rest;
+use relocation_values::values_rest;
 
 /// A list of one table is searched as that table is.
 pub fn lists_of_one_table()
     ensures { ListsOfOneTable }
 {}
+
+/// What a type relocation comes to rests, of the object's own types, on the records that are reached
+/// from its type, on their texts, and on the access string.
+pub fn outcomes_rest()
+    ensures { OutcomesRest }
+{
+    lookups_rest();
+    paths_rest();
+    values_rest();
+    matches_rest();
+}

@@ -3,6 +3,7 @@
 #![tactic(auto)]
 
 mod error;
+mod known;
 mod laws;
 mod matcher;
 mod matches;
@@ -10,7 +11,7 @@ mod outcome;
 mod relocation;
 
 pub use error::TypeRelocationError;
-pub use laws::lists_of_one_table;
+pub use laws::{lists_of_one_table, outcomes_rest};
 pub use matcher::TypeMatcher;
 pub use matches::{Match, kernel_matches};
 pub use outcome::{Outcome, conflicts, outcome_of};

@@ -3,17 +3,20 @@
 ghost use Rattle.std.specs.Prelude.{◌≡◌, ◌≢◌, [], IfOk, IfErr, IfSome, Ok, Err};
 ghost use Rattle.type_candidates.specs.Candidates.{candidates};
 ghost use Rattle.type_candidates.specs.declared.error.CandidateError.TheVariants.{OutOfMemory as NoMemory};
+ghost use Rattle.type_match.specs.KnownOutcomes.{IsOutcome};
 ghost use Rattle.type_match.specs.Matches.{kernel_matches, searched_tables};
 ghost use Rattle.type_match.specs.RelocationOutcomes.{relocation_outcome};
 ghost use Rattle.type_match.specs.declared.error.TypeRelocationError.TheVariants.{OutOfMemory};
 
 use crate::error::TypeRelocationError;
+use crate::known::{AccessKey, KnownOutcome, access_key, is_same};
 use crate::matches::{Match, matches_of, searched_tables};
 use crate::relocation::{RelocationOutcome, TypeRelocation, local_value, settled};
 use access_paths::{AccessError, AccessPath, local_path};
 use btf_tables::Btf;
 use ebpf_items::RelocationKind;
 use std::alloc::AllocError;
+use std::collections::BTreeMap;
 use std::marker::Model;
 use type_candidates::{CandidateError, Candidates, KernelType, WantedType, candidates};
 
@@ -26,17 +29,21 @@ pub struct TypeMatcher<'m> {
     in_all: Option<Candidates<'m>>,
     /// Those of ids of a kernel's types, in the first table.
     in_first: Option<Candidates<'m>>,
+    /// What relocations came to.
+    known: BTreeMap<AccessKey, KnownOutcome>,
 }
 
 impl<'m> Model for TypeMatcher<'m> {
     ghost use Rattle.std.specs.Prelude.{◌≡◌, IfSome, take};
+    ghost use Rattle.std.specs.Map.{values_of};
+    ghost use Rattle.type_match.specs.KnownOutcomes.{AreOutcomes};
     ghost use Rattle.type_match.specs.RelocationOutcomes.{Matched};
 
     ghost Value = { Matched };
 
     ghost view = { λ m. record { local = m.local.now; targets = m.targets.now } };
 
-    ghost invariant = { λ m. (IfSome m.in_all (λ c. c ≡ m.targets.now)) × (IfSome m.in_first (λ c. c ≡ take 1 m.targets.now)) };
+    ghost invariant = { λ m. (IfSome m.in_all (λ c. c ≡ m.targets.now)) × (IfSome m.in_first (λ c. c ≡ take 1 m.targets.now)) × AreOutcomes m.local.now m.targets.now (values_of m.known.entries) };
 }
 
 /// The local types of relocations that are looked for in all tables, or else of those that are in
@@ -77,6 +84,7 @@ fn collected<'m>(
 
 impl<'m> TypeMatcher<'m> {
     /// The types of an object and of a kernel. Each relocation goes over the kernel's tables.
+    #[tactic(auto, using(crate::proofs::KnownOutcomes::none_known))]
     pub fn new(local: &'m Btf<'m>, targets: &'m [Btf<'m>]) -> TypeMatcher<'m>
         ensures { result ≡ record { local = local.now; targets = targets.now } }
     {
@@ -85,11 +93,13 @@ impl<'m> TypeMatcher<'m> {
             targets,
             in_all: None,
             in_first: None,
+            known: BTreeMap::new(local.allocator()),
         }
     }
 
     /// The types of an object and of a kernel, of which each table is gone over once for all of
     /// these relocations, the first once more where ids of a kernel's types are asked for.
+    #[tactic(auto, using(crate::proofs::KnownOutcomes::none_known))]
     pub fn collect(
         local: &'m Btf<'m>,
         relocations: &[TypeRelocation],
@@ -107,6 +117,7 @@ impl<'m> TypeMatcher<'m> {
             targets,
             in_all,
             in_first,
+            known: BTreeMap::new(local.allocator()),
         })
     }
 
@@ -155,7 +166,7 @@ impl<'m> TypeMatcher<'m> {
     }
 
     /// What `relocation_outcome` answers.
-    pub fn relocation_outcome(
+    pub fn found_outcome(
         &self,
         relocation: TypeRelocation,
     ) -> Result<RelocationOutcome, TypeRelocationError>
@@ -168,5 +179,39 @@ impl<'m> TypeMatcher<'m> {
         let matches = self.kernel_matches(kind, &path)?;
         let value = local_value(local, kind, &path)?;
         settled(kind, matches.as_slice(), value)
+    }
+
+    /// What a relocation came to.
+    #[tactic(auto, using(crate::proofs::KnownOutcomes::known_outcome))]
+    fn known_outcome(&self, relocation: TypeRelocation) -> Option<RelocationOutcome>
+        ensures { IfSome result (IsOutcome self.now.local self.now.targets relocation) }
+    {
+        let known = self.known.get(&access_key(relocation))?;
+        if is_same(known.relocation, relocation) {
+            Some(known.outcome)
+        } else {
+            None
+        }
+    }
+
+    /// What `relocation_outcome` answers; what a relocation came to is remembered.
+    pub fn relocation_outcome(
+        &mut self,
+        relocation: TypeRelocation,
+    ) -> Result<RelocationOutcome, TypeRelocationError>
+        ensures value { IfOk result (λ outcome. relocation_outcome self.old.local relocation self.old.targets ≡ Ok outcome) }
+        ensures refused { IfErr result (λ e. e ≢ OutOfMemory → relocation_outcome self.old.local relocation self.old.targets ≡ Err e) }
+        ensures same { self.new ≡ self.old }
+    {
+        if let Some(outcome) = self.known_outcome(relocation) {
+            return Ok(outcome);
+        }
+        let outcome = self.found_outcome(relocation)?;
+        let known = KnownOutcome {
+            relocation,
+            outcome,
+        };
+        self.known.insert(access_key(relocation), known)?;
+        Ok(outcome)
     }
 }

@@ -106,5 +106,5 @@ pub fn relocation_outcome<'t>(
     ensures value { IfOk result (λ outcome. relocation_outcome local.now relocation targets.now ≡ Ok outcome) }
     ensures refused { IfErr result (λ e. e ≢ OutOfMemory → relocation_outcome local.now relocation targets.now ≡ Err e) }
 {
-    TypeMatcher::new(local, targets).relocation_outcome(relocation)
+    TypeMatcher::new(local, targets).found_outcome(relocation)
 }

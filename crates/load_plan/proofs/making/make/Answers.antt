@@ -1,6 +1,8 @@
-use Rattle.std.proofs.Common.{refl}
+use Rattle.std.proofs.Common.{[], ◌∷◌, refl}
 use Rattle.std.proofs.lemmas.Result.{err_from_is_err_and}
-use Rattle.load_plan.proofs.Chain.{in_extern_slots, in_externs, in_links, in_map_slots, in_numbers, in_records, in_type_relocations, in_types, in_values}
+use Rattle.load_plan.specs.Inputs.{Under}
+use Rattle.load_plan.specs.Passes.{ExternSlots, MapSlots}
+use Rattle.load_plan.proofs.Chain.{in_extern_slots, in_externs, in_kernel_types, in_links, in_map_slots, in_numbers, in_records, in_types, in_values, types_made}
 use Rattle.load_plan.proofs.Changes.{kernel_of, renames}
 use Rattle.load_plan.proofs.making.make.Goals as goal
 
@@ -11,21 +13,12 @@ returns-in_err-require_named-clause-refused g c =
     (λ other file. in_records g.F.FnMut c.args.predicate _ c.args.object.now _
     (c.in_err-require_named.ensures.refused other))
 
-pub returns-in_err-require_no_type_relocations-clause-refused : goal.returns-in_err-require_no_type_relocations-clause-refused
-returns-in_err-require_no_type_relocations-clause-refused g c =
-    let p = err_from_is_err_and c.from_residual-in_err-require_no_type_relocations.result c.from_residual-in_err-require_no_type_relocations.ensures.1 in
-    rw (p.1, p.2)
-    (λ other file. in_type_relocations g.F.FnMut c.args.predicate _ c.args.object.now _
-    c.in_ok-require_named.ensures.made
-    c.in_err-require_no_type_relocations.ensures.refused)
-
 pub returns-in_err-require_numbered-clause-refused : goal.returns-in_err-require_numbered-clause-refused
 returns-in_err-require_numbered-clause-refused g c =
     let p = err_from_is_err_and c.from_residual-in_err-require_numbered.result c.from_residual-in_err-require_numbered.ensures.1 in
     rw (p.1, p.2)
     (λ other file. in_numbers g.F.FnMut c.args.predicate _ c.args.object.now _
     c.in_ok-require_named.ensures.made
-    c.in_ok-require_no_type_relocations.ensures.made
     (c.in_err-require_numbered.ensures.refused other))
 
 pub returns-in_err-put_values-clause-refused : goal.returns-in_err-put_values-clause-refused
@@ -34,9 +27,18 @@ returns-in_err-put_values-clause-refused g c =
     rw (p.1, p.2)
     (λ other file. in_values g.F.FnMut c.args.predicate _ c.args.object.now _
     c.in_ok-require_named.ensures.made
-    c.in_ok-require_no_type_relocations.ensures.made
     c.in_ok-require_numbered.ensures.made
     (c.in_err-put_values.ensures.refused other))
+
+pub returns-in_err-require_kernel_types-clause-refused : goal.returns-in_err-require_kernel_types-clause-refused
+returns-in_err-require_kernel_types-clause-refused g c =
+    let p = err_from_is_err_and c.from_residual-in_err-require_kernel_types.result c.from_residual-in_err-require_kernel_types.ensures.1 in
+    rw (p.1, p.2)
+    (λ other file. in_kernel_types g.F.FnMut c.args.predicate _ c.args.object.now _
+    c.in_ok-require_named.ensures.made
+    c.in_ok-require_numbered.ensures.made
+    c.put_values.new.object c.in_ok-put_values.ensures.made
+    c.in_err-require_kernel_types.ensures.refused)
 
 pub returns-in_err-resolve-clause-refused : goal.returns-in_err-resolve-clause-refused
 returns-in_err-resolve-clause-refused g c =
@@ -44,9 +46,9 @@ returns-in_err-resolve-clause-refused g c =
     rw (p.1, p.2)
     (λ other file. in_externs g.F.FnMut c.args.predicate _ c.args.object.now _
     c.in_ok-require_named.ensures.made
-    c.in_ok-require_no_type_relocations.ensures.made
     c.in_ok-require_numbered.ensures.made
     c.put_values.new.object c.in_ok-put_values.ensures.made
+    c.in_ok-require_kernel_types.ensures.made
     (c.in_err-resolve.ensures.refused other))
 
 pub returns-in_err-answers-clause-refused : goal.returns-in_err-answers-clause-refused
@@ -55,9 +57,9 @@ returns-in_err-answers-clause-refused g c =
     rw (p.1, p.2)
     (λ other file. in_types g.F.FnMut c.args.predicate _ c.args.object.now _
     c.in_ok-require_named.ensures.made
-    c.in_ok-require_no_type_relocations.ensures.made
     c.in_ok-require_numbered.ensures.made
     c.put_values.new.object c.in_ok-put_values.ensures.made
+    c.in_ok-require_kernel_types.ensures.made
     c.resolve.new.object c.in_ok-resolve.ensures.made
     (c.in_err-answers.ensures.refused other))
 
@@ -67,11 +69,11 @@ returns-in_err-write_numbers-clause-refused g c =
     rw (p.1, p.2)
     (λ other file. in_map_slots g.F.FnMut c.args.predicate _ c.args.object.now _
     c.in_ok-require_named.ensures.made
-    c.in_ok-require_no_type_relocations.ensures.made
     c.in_ok-require_numbered.ensures.made
     c.put_values.new.object c.in_ok-put_values.ensures.made
+    c.in_ok-require_kernel_types.ensures.made
     c.resolve.new.object c.in_ok-resolve.ensures.made
-    c.in_ok-answers.answers.items c.in_ok-answers.ensures.answered c.rewrite_types.new.object c.in_ok-answers.ensures.made
+    c.in_ok-answers.answers.items c.make_types.new.object c.in_ok-answers.ensures.made
     (c.in_err-write_numbers.ensures.refused other))
 
 pub returns-in_err-write_externs-clause-refused : goal.returns-in_err-write_externs-clause-refused
@@ -80,11 +82,11 @@ returns-in_err-write_externs-clause-refused g c =
     rw (p.1, p.2)
     (λ other file. in_extern_slots g.F.FnMut c.args.predicate _ c.args.object.now _
     c.in_ok-require_named.ensures.made
-    c.in_ok-require_no_type_relocations.ensures.made
     c.in_ok-require_numbered.ensures.made
     c.put_values.new.object c.in_ok-put_values.ensures.made
+    c.in_ok-require_kernel_types.ensures.made
     c.resolve.new.object c.in_ok-resolve.ensures.made
-    c.in_ok-answers.answers.items c.in_ok-answers.ensures.answered c.rewrite_types.new.object c.in_ok-answers.ensures.made
+    c.in_ok-answers.answers.items c.make_types.new.object c.in_ok-answers.ensures.made
     c.write_numbers.new.object c.in_ok-write_numbers.ensures.made
     (c.in_err-write_externs.ensures.refused other))
 
@@ -94,11 +96,11 @@ returns-in_err-link-clause-refused g c =
     rw (p.1, p.2)
     (λ other file. in_links g.F.FnMut c.args.predicate _ c.args.object.now _
     c.in_ok-require_named.ensures.made
-    c.in_ok-require_no_type_relocations.ensures.made
     c.in_ok-require_numbered.ensures.made
     c.put_values.new.object c.in_ok-put_values.ensures.made
+    c.in_ok-require_kernel_types.ensures.made
     c.resolve.new.object c.in_ok-resolve.ensures.made
-    c.in_ok-answers.answers.items c.in_ok-answers.ensures.answered c.rewrite_types.new.object c.in_ok-answers.ensures.made
+    c.in_ok-answers.answers.items c.make_types.new.object c.in_ok-answers.ensures.made
     c.write_numbers.new.object c.in_ok-write_numbers.ensures.made
     c.write_externs.new.object c.in_ok-write_externs.ensures.made
     (c.in_err-link.ensures.refused other))
@@ -106,35 +108,33 @@ returns-in_err-link-clause-refused g c =
 pub returns-clause-made : goal.returns-clause-made
 returns-clause-made g c = λ file.
     let kernel = kernel_of (g.P.FnOnce.post c.args.probe tt) c.link.new.object.functions c.sanitize_functions.new.self.functions c.sanitize_functions.ensures.sanitized in
+    let under : Under = record { answers = c.in_ok-answers.answers.items; has_helpers = kernel.answer } in
     record {
-      under = record { answers = c.in_ok-answers.answers.items; has_helpers = kernel.answer };
+      under = under;
       features = refl;
-      said = record { features = c.in_ok-answers.ensures.answered; helpers = kernel.said };
+      said = record { features = c.in_ok-answers.ensures.made.answered; helpers = kernel.said };
       patched = c.write_externs.new.object;
       patching = (
         c.args.object.now,
         c.in_ok-require_named.ensures.made,
         (
           c.args.object.now,
-          c.in_ok-require_no_type_relocations.ensures.made,
+          c.in_ok-require_numbered.ensures.made,
           (
-            c.args.object.now,
-            c.in_ok-require_numbered.ensures.made,
+            c.put_values.new.object,
+            c.in_ok-put_values.ensures.made,
             (
               c.put_values.new.object,
-              c.in_ok-put_values.ensures.made,
+              c.in_ok-require_kernel_types.ensures.made,
               (
                 c.resolve.new.object,
                 c.in_ok-resolve.ensures.made,
-                (
-                  c.rewrite_types.new.object,
-                  c.in_ok-answers.ensures.made,
-                  (
-                    c.write_numbers.new.object,
-                    c.in_ok-write_numbers.ensures.made,
-                    (c.write_externs.new.object, c.in_ok-write_externs.ensures.made, refl),
-                  ),
-                ),
+                types_made c.args.order (MapSlots ∷ ExternSlots ∷ []) _ under c.resolve.new.object c.make_types.new.object c.write_externs.new.object
+                    c.in_ok-answers.ensures.made.made (
+                      c.write_numbers.new.object,
+                      c.in_ok-write_numbers.ensures.made,
+                      (c.write_externs.new.object, c.in_ok-write_externs.ensures.made, refl),
+                    ),
               ),
             ),
           ),

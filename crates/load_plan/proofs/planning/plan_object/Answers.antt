@@ -12,6 +12,7 @@ pub returns-clause-planned : goal.returns-clause-planned
 returns-clause-planned g c = λ file.
     planned_made (c.in_ok-answers.ensures.made file)
     (record {
+      types = c.types_are_written.ensures;
       written = c.numbers_are_written.ensures;
       externs = c.externs_are_written.ensures;
       copies = c.slots_are_copied.ensures;

@@ -1,14 +1,14 @@
-use Rattle.std.proofs.Common.{◌≡◌, ◌≤◌, length}
+use Rattle.std.proofs.Common.{◌≡◌, [], ◌∷◌, ◌++◌}
 use Rattle.member_search.specs.Looks.{searched}
-use Rattle.member_search.specs.Searches.{member_found, most_open}
-use Rattle.member_search.specs.Stacks.{stack_value, work}
+use Rattle.member_search.specs.Searches.{member_found}
+use Rattle.member_search.specs.Stacks.{IsSound, stack_value, work}
 use Rattle.member_search.proofs.search.find_member.Given as goal
 
-abbrev pub invariant-loop-frame : goal.invariant-loop-frame
-invariant-loop-frame l = record {
-  same : stack_value (searched l.local l.type_id l.name l.target) l.stack.items ≡ member_found (searched l.local l.type_id l.name l.target) l.root l.fn.bits;
-  within : length l.stack.items ≤ most_open l.target;
+abbrev pub invariant-loop-memory : goal.invariant-loop-memory
+invariant-loop-memory l = record {
+  same : stack_value (searched l.local l.type_id l.name l.target) (l.memory.outer.items ++ l.frame ∷ []) ≡ member_found (searched l.local l.type_id l.name l.target) l.root l.fn.bits;
+  sound : IsSound (searched l.local l.type_id l.name l.target) l.memory.nothing l.memory.outer.items l.frame;
 }
 
-abbrev pub decreases-loop-frame : goal.decreases-loop-frame
-decreases-loop-frame l = work l.target l.stack.items
+abbrev pub decreases-loop-memory : goal.decreases-loop-memory
+decreases-loop-memory l = work l.target (l.memory.outer.items ++ l.frame ∷ [])

@@ -1,0 +1,18 @@
+-- The type relocations of an object.
+use Rattle.std.specs.Prelude.{List, [], Option, Some, unwrap_or}
+use Rattle.btf_extension.specs.Extensions.{Extension}
+use Rattle.btf_tables.specs.Tables.{Table, new_table}
+use Rattle.type_relocation.specs.Relocations.{Groups, TypesGiven, types_given}
+use Rattle.ebpf_object.specs.ParsedObject.{ObjectContent}
+
+-- the groups that stand beside an object's types; without types there are none
+abbrev pub groups_beside : Option Table → Option Extension → Groups
+groups_beside (Some table) (Some extension) = extension.relocations
+groups_beside _ _ = []
+
+abbrev pub type_groups : ObjectContent → Groups
+type_groups o = groups_beside o.types o.extension
+
+-- what they rest on, beside the tables of a kernel: the types as they stand
+abbrev pub types_of : ObjectContent → List Table → TypesGiven
+types_of o targets = types_given o.file o.functions (unwrap_or o.types new_table) targets

@@ -1,0 +1,192 @@
+//! What declares externs, with and without a table of the object and the kernel's types.
+
+use crate::answers::{Answer, Declared, Known, MISSING, Refusal, UNKNOWN, answer_of};
+use crate::tables::{
+    FUNCTION, INTEGER, NOTHING, OBJECT, POINTER, SIGNATURE, VARIABLE, kernel_section, section_of,
+    table,
+};
+use std::io;
+use watched::Watched;
+
+/// Two externs by name, what is then known of them, and why that is all.
+type Case = (&'static [Declared; 2], [Known; 2], Option<Refusal>);
+
+// An extern that is resolved without being looked for.
+const WEAK: Declared = ("z", NOTHING, None, true, Some(7));
+
+const RESOLVED: Known = (true, None, Some(7));
+
+const STRONG: bool = false;
+
+const MAY_MISS: bool = true;
+
+static WITH_KERNEL_TYPES: [Case; 15] = [
+    (
+        &[("f", FUNCTION, Some(SIGNATURE), STRONG, None), WEAK],
+        [(true, Some(3), None), RESOLVED],
+        None,
+    ),
+    // A function of a flavour.
+    (
+        &[("f___x", FUNCTION, Some(SIGNATURE), STRONG, None), WEAK],
+        [(true, Some(3), None), RESOLVED],
+        None,
+    ),
+    (
+        &[("v", VARIABLE, Some(INTEGER), MAY_MISS, None), WEAK],
+        [(true, Some(6), None), RESOLVED],
+        None,
+    ),
+    // A variable's name isn't cut.
+    (
+        &[("v___x", VARIABLE, Some(INTEGER), STRONG, None), WEAK],
+        [UNKNOWN, RESOLVED],
+        Some(Refusal::NoVariable("v___x")),
+    ),
+    (
+        &[("v___x", VARIABLE, Some(INTEGER), MAY_MISS, None), WEAK],
+        [MISSING, RESOLVED],
+        None,
+    ),
+    // A function isn't looked for among the variables, nor a variable among the functions.
+    (
+        &[("v", FUNCTION, Some(SIGNATURE), STRONG, None), WEAK],
+        [UNKNOWN, RESOLVED],
+        Some(Refusal::NoFunction("v")),
+    ),
+    (
+        &[("f", VARIABLE, Some(INTEGER), STRONG, None), WEAK],
+        [UNKNOWN, RESOLVED],
+        Some(Refusal::NoVariable("f")),
+    ),
+    // The extern's type counts, and not what declares it.
+    (
+        &[("f", FUNCTION, Some(INTEGER), STRONG, None), WEAK],
+        [UNKNOWN, RESOLVED],
+        Some(Refusal::Signature("f")),
+    ),
+    (
+        &[("w", VARIABLE, Some(POINTER), STRONG, None), WEAK],
+        [(true, Some(8), None), RESOLVED],
+        None,
+    ),
+    // What declares an extern with a type must be there and be one of the two, be the extern weak or not.
+    (
+        &[("f", INTEGER, Some(INTEGER), STRONG, None), WEAK],
+        [UNKNOWN, RESOLVED],
+        Some(Refusal::NoDeclaration("f")),
+    ),
+    (
+        &[("f___x", POINTER, Some(SIGNATURE), MAY_MISS, None), WEAK],
+        [UNKNOWN, RESOLVED],
+        Some(Refusal::NoDeclaration("f___x")),
+    ),
+    (
+        &[("f", 0, Some(SIGNATURE), MAY_MISS, None), WEAK],
+        [UNKNOWN, RESOLVED],
+        Some(Refusal::NoDeclaration("f")),
+    ),
+    (
+        &[("f", NOTHING, Some(SIGNATURE), STRONG, None), WEAK],
+        [UNKNOWN, RESOLVED],
+        Some(Refusal::NoType(NOTHING)),
+    ),
+    (
+        &[("f", NOTHING, Some(SIGNATURE), MAY_MISS, None), WEAK],
+        [UNKNOWN, RESOLVED],
+        Some(Refusal::NoType(NOTHING)),
+    ),
+    // An extern without a type needs none, and is looked for by its name.
+    (
+        &[("f", NOTHING, None, MAY_MISS, None), WEAK],
+        [MISSING, RESOLVED],
+        None,
+    ),
+];
+
+static WITHOUT_KERNEL_TYPES: [Case; 6] = [
+    (
+        &[("f", FUNCTION, Some(SIGNATURE), STRONG, None), WEAK],
+        [UNKNOWN, RESOLVED],
+        Some(Refusal::NoKernelTypes),
+    ),
+    (
+        &[("f", INTEGER, Some(INTEGER), STRONG, None), WEAK],
+        [UNKNOWN, RESOLVED],
+        Some(Refusal::NoKernelTypes),
+    ),
+    (
+        &[("f", NOTHING, Some(INTEGER), STRONG, None), WEAK],
+        [UNKNOWN, RESOLVED],
+        Some(Refusal::NoKernelTypes),
+    ),
+    // A weak one stays, whatever declares it.
+    (
+        &[("f", FUNCTION, Some(SIGNATURE), MAY_MISS, None), WEAK],
+        [MISSING, RESOLVED],
+        None,
+    ),
+    (
+        &[("f", INTEGER, Some(INTEGER), MAY_MISS, None), WEAK],
+        [MISSING, RESOLVED],
+        None,
+    ),
+    (
+        &[("f", NOTHING, Some(INTEGER), MAY_MISS, None), WEAK],
+        [MISSING, RESOLVED],
+        None,
+    ),
+];
+
+#[test]
+fn declarations_are_looked_at(rt: HostRuntime) {
+    let alloc = rt.alloc();
+    let section = section_of(&rt, alloc, OBJECT);
+    let object = table(&rt, alloc, section.as_slice());
+    let kernel = kernel_section(&rt, alloc);
+    let kernel = [table(&rt, alloc, kernel.as_slice())];
+    for (declared, known, refusal) in &WITH_KERNEL_TYPES {
+        let mut symbols = Watched::new(io::empty());
+        let answer = answer_of(alloc, declared, Some(&object), &kernel, &mut symbols);
+        let expected = Answer {
+            known: [Some(known[0]), Some(known[1])],
+            has_failed: false,
+            refusal: *refusal,
+        };
+        assert_eq!(rt; answer, Some(expected));
+    }
+}
+
+#[test]
+fn kernel_types_are_needed(rt: HostRuntime) {
+    let alloc = rt.alloc();
+    let section = section_of(&rt, alloc, OBJECT);
+    let object = table(&rt, alloc, section.as_slice());
+    for (declared, known, refusal) in &WITHOUT_KERNEL_TYPES {
+        let mut symbols = Watched::new(io::empty());
+        let answer = answer_of(alloc, declared, Some(&object), &[], &mut symbols);
+        let expected = Answer {
+            known: [Some(known[0]), Some(known[1])],
+            has_failed: false,
+            refusal: *refusal,
+        };
+        assert_eq!(rt; answer, Some(expected));
+    }
+}
+
+#[test]
+fn nothing_is_done_without_a_table(rt: HostRuntime) {
+    let alloc = rt.alloc();
+    let kernel = kernel_section(&rt, alloc);
+    let kernel = [table(&rt, alloc, kernel.as_slice())];
+    for (declared, _known, _refusal) in &WITH_KERNEL_TYPES {
+        let mut symbols = Watched::new(io::empty());
+        let answer = answer_of(alloc, declared, None, &kernel, &mut symbols);
+        let expected = Answer {
+            known: [Some(UNKNOWN), Some(RESOLVED)],
+            has_failed: false,
+            refusal: None,
+        };
+        assert_eq!(rt; answer, Some(expected));
+    }
+}

@@ -1,0 +1,175 @@
+//! Of externs with several faults that of the first by name is named, of those with a type before the
+//! others, and of the text of symbols that of its first line.
+
+use crate::answers::{Answer, Declared, Refusal, UNKNOWN, answer_of};
+use crate::tables::{
+    FUNCTION, INTEGER, NOTHING, OBJECT, SIGNATURE, VARIABLE, kernel_section, section_of, table,
+};
+use sample_objects::SlowText;
+use watched::Watched;
+
+/// What an extern that must be there is: a function, a variable, a variable without a type, or one of a
+/// type that an integer declares or that nothing declares.
+#[derive(Clone, Copy)]
+enum Sort {
+    Function,
+    Variable,
+    Untyped,
+    Integer,
+    Undeclared,
+}
+
+fn declared(name: &'static str, sort: Sort) -> Declared {
+    match sort {
+        Sort::Function => (name, FUNCTION, Some(SIGNATURE), false, None),
+        Sort::Variable => (name, VARIABLE, Some(INTEGER), false, None),
+        Sort::Untyped => (name, VARIABLE, None, false, None),
+        Sort::Integer => (name, INTEGER, Some(INTEGER), false, None),
+        Sort::Undeclared => (name, NOTHING, Some(INTEGER), false, None),
+    }
+}
+
+/// Two externs, whichever stands first, and the fault that is named.
+type Fault = (&'static [(&'static str, Sort); 2], Refusal);
+
+static FAULTS: [Fault; 13] = [
+    (
+        &[("a", Sort::Function), ("g", Sort::Function)],
+        Refusal::NoFunction("a"),
+    ),
+    (
+        &[("g", Sort::Function), ("z", Sort::Function)],
+        Refusal::Signature("g"),
+    ),
+    (
+        &[("a", Sort::Variable), ("w", Sort::Variable)],
+        Refusal::NoVariable("a"),
+    ),
+    (
+        &[("w", Sort::Variable), ("z", Sort::Variable)],
+        Refusal::VariableType("w"),
+    ),
+    (
+        &[("a", Sort::Function), ("w", Sort::Variable)],
+        Refusal::NoFunction("a"),
+    ),
+    (
+        &[("a", Sort::Variable), ("g", Sort::Function)],
+        Refusal::NoVariable("a"),
+    ),
+    (
+        &[("a", Sort::Integer), ("g", Sort::Function)],
+        Refusal::NoDeclaration("a"),
+    ),
+    (
+        &[("g", Sort::Function), ("z", Sort::Integer)],
+        Refusal::Signature("g"),
+    ),
+    (
+        &[("a", Sort::Undeclared), ("w", Sort::Variable)],
+        Refusal::NoType(NOTHING),
+    ),
+    (
+        &[("w", Sort::Variable), ("z", Sort::Undeclared)],
+        Refusal::VariableType("w"),
+    ),
+    // Names rise by bytes.
+    (
+        &[("Z", Sort::Function), ("a", Sort::Function)],
+        Refusal::NoFunction("Z"),
+    ),
+    (
+        &[("_", Sort::Variable), ("a", Sort::Variable)],
+        Refusal::NoVariable("_"),
+    ),
+    // One without a type comes behind.
+    (
+        &[("a", Sort::Untyped), ("z", Sort::Function)],
+        Refusal::NoFunction("z"),
+    ),
+];
+
+#[test]
+fn first_name_is_named(rt: HostRuntime) {
+    let alloc = rt.alloc();
+    let section = section_of(&rt, alloc, OBJECT);
+    let object = table(&rt, alloc, section.as_slice());
+    let kernel = kernel_section(&rt, alloc);
+    let kernel = [table(&rt, alloc, kernel.as_slice())];
+    for (sorts, refusal) in &FAULTS {
+        let expected = Answer {
+            known: [Some(UNKNOWN); 2],
+            has_failed: false,
+            refusal: Some(*refusal),
+        };
+        let one = declared(sorts[0].0, sorts[0].1);
+        let other = declared(sorts[1].0, sorts[1].1);
+        for pair in [[one, other], [other, one]] {
+            let mut symbols = Watched::new(&b"1 T b\n"[..]);
+            let answer = answer_of(alloc, &pair, Some(&object), &kernel, &mut symbols);
+            assert_eq!(rt; answer, Some(expected));
+        }
+    }
+}
+
+/// The text of symbols, behind how many bytes its reader fails, and the fault of `a` and `z` that is named.
+type TextFault = (&'static [u8], usize, Refusal);
+
+const NEVER: usize = usize::MAX;
+
+static TEXT_FAULTS: [TextFault; 12] = [
+    (b"xx D z\n1 D a\n2 D a\n", NEVER, Refusal::Address("z")),
+    (
+        b"1 D a\n2 D a\nxx D z\n",
+        NEVER,
+        Refusal::Ambiguous("a", 1, 2),
+    ),
+    (
+        b"1 D a\n1 D z\n2 D z\n3 D a\n",
+        NEVER,
+        Refusal::Ambiguous("z", 1, 2),
+    ),
+    // A third address isn't the one that is named.
+    (
+        b"1 D a\n1 D a\n2 D a\n3 D a\n",
+        NEVER,
+        Refusal::Ambiguous("a", 1, 2),
+    ),
+    (
+        b"1 D a\n2 D a\n\xff\n",
+        NEVER,
+        Refusal::Ambiguous("a", 1, 2),
+    ),
+    (b"\xff\n1 D a\n2 D a\n", NEVER, Refusal::Access),
+    (b"xx D z\xff\n", NEVER, Refusal::Access),
+    (b"0 D a\nxx D a\n", NEVER, Refusal::Address("a")),
+    // The line is whole before the reader fails, or isn't.
+    (b"xx D z\n", 7, Refusal::Address("z")),
+    (b"xx D z\n", 6, Refusal::Access),
+    // Names that have no address come behind all lines, the first by name.
+    (b"1 D b\n", NEVER, Refusal::NoVariable("a")),
+    (b"1 D a\n", NEVER, Refusal::NoVariable("z")),
+];
+
+#[test]
+fn first_line_is_named(rt: HostRuntime) {
+    let alloc = rt.alloc();
+    let section = section_of(&rt, alloc, OBJECT);
+    let object = table(&rt, alloc, section.as_slice());
+    for (text, fails_at, refusal) in &TEXT_FAULTS {
+        let expected = Answer {
+            known: [Some(UNKNOWN); 2],
+            has_failed: *fails_at < 7 && *refusal == Refusal::Access,
+            refusal: Some(*refusal),
+        };
+        let declared = [declared("z", Sort::Untyped), declared("a", Sort::Untyped)];
+        let mut slowly = Watched::new(SlowText::new(text, *fails_at));
+        let answer = answer_of(alloc, &declared, Some(&object), &[], &mut slowly);
+        assert_eq!(rt; answer, Some(expected));
+        if *fails_at == NEVER {
+            let mut whole = Watched::new(*text);
+            let answer = answer_of(alloc, &declared, Some(&object), &[], &mut whole);
+            assert_eq!(rt; answer, Some(expected));
+        }
+    }
+}

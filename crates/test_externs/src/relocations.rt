@@ -1,0 +1,236 @@
+//! Relocations by externs: of two sections, at slots of all codes, and by all that is known of an extern.
+
+use crate::sections::{Known, Refused, Relocated, Relocation, Written, answer_of};
+
+/// An offset behind the functions.
+const FAR: Relocation = (1000, 1);
+
+/// The externs: found by id, found at an address, and one that must be there and isn't.
+const BY_ID: Known = (false, true, Some(0x0102_0304), None);
+
+const BY_ADDRESS: Known = (false, true, None, Some(0x8000_0000_7fff_ffff));
+
+const LOST: Known = (false, false, None, None);
+
+const EXIT: [u8; 8] = [0x95, 0, 0, 0, 0, 0, 0, 0];
+
+const CALL: [u8; 8] = [0x85, 0x10, 0, 0, 0xff, 0xff, 0xff, 0xff];
+
+const ID_CALLED: Written = [[0x85, 0x20, 0, 0, 4, 3, 2, 1], EXIT];
+
+/// Two slots, one behind the other.
+fn both(first: [u8; 8], second: [u8; 8]) -> [u8; 16] {
+    let mut slots = [0; 16];
+    slots[..8].copy_from_slice(&first);
+    slots[8..].copy_from_slice(&second);
+    slots
+}
+
+/// The relocations of `kprobe` and `xdp`, what is known of `kernel` and `other`, and what becomes of the
+/// functions of both sections.
+type Case = ([Relocation; 2], [Option<Known>; 2], Relocated);
+
+static SECTIONS: [Case; 9] = [
+    (
+        [(0, 1), (0, 1)],
+        [Some(BY_ID), None],
+        Relocated {
+            f: Some(ID_CALLED),
+            g: Some(ID_CALLED),
+            refused: None,
+        },
+    ),
+    (
+        [FAR, (0, 1)],
+        [Some(BY_ID), None],
+        Relocated {
+            f: None,
+            g: Some(ID_CALLED),
+            refused: None,
+        },
+    ),
+    // Of two faults that of the lesser section, whatever the offsets.
+    (
+        [(8, 1), (0, 2)],
+        [Some(BY_ID), None],
+        Relocated {
+            f: None,
+            g: None,
+            refused: Some(("f", Refused::Offset(8, 0))),
+        },
+    ),
+    (
+        [(0, 2), (4, 1)],
+        [Some(BY_ID), None],
+        Relocated {
+            f: None,
+            g: None,
+            refused: Some(("f", Refused::NoExtern("other"))),
+        },
+    ),
+    (
+        [(0, 1), (0, 2)],
+        [Some(LOST), Some(BY_ADDRESS)],
+        Relocated {
+            f: None,
+            g: None,
+            refused: Some(("f", Refused::Unresolvable("kernel"))),
+        },
+    ),
+    (
+        [(0, 2), (0, 1)],
+        [Some(LOST), Some(BY_ADDRESS)],
+        Relocated {
+            f: None,
+            g: None,
+            refused: Some(("f", Refused::Unresolvable("other"))),
+        },
+    ),
+    // A fault of the second section leaves the function of the first as it was.
+    (
+        [(0, 1), (0, 2)],
+        [Some(BY_ID), Some(LOST)],
+        Relocated {
+            f: None,
+            g: None,
+            refused: Some(("g", Refused::Unresolvable("other"))),
+        },
+    ),
+    (
+        [(0, 1), (8, 1)],
+        [Some(BY_ID), None],
+        Relocated {
+            f: None,
+            g: None,
+            refused: Some(("g", Refused::Offset(8, 0))),
+        },
+    ),
+    (
+        [FAR, (0, 1)],
+        [None, None],
+        Relocated {
+            f: None,
+            g: None,
+            refused: Some(("g", Refused::NoExtern("kernel"))),
+        },
+    ),
+];
+
+#[test]
+fn sections_are_relocated_in_order(rt: HostRuntime) {
+    let slots = both(CALL, EXIT);
+    for (relocations, known, expected) in &SECTIONS {
+        let answer = answer_of(rt.alloc(), &slots, *relocations, *known);
+        assert_eq!(rt; answer, Some(*expected));
+    }
+}
+
+// What is known of an extern, and what becomes of a load of 64 bits and of a call by it, if it isn't
+// refused.
+type Outcome = (Known, Option<Written>, Option<Written>);
+
+const ZERO_LOADED: Written = [[0x18, 0x01, 0, 0, 0, 0, 0, 0], [0; 8]];
+
+const MISSING_CALLED: Written = [[0x85, 0, 0, 0, 0x81, 0x18, 0x54, 0x77], [0; 8]];
+
+static OUTCOMES: [Outcome; 11] = [
+    // By the id, beside an address too, and the largest one.
+    (
+        (false, true, Some(1), Some(2)),
+        Some([[0x18, 0x31, 0, 0, 1, 0, 0, 0], [0; 8]]),
+        Some([[0x85, 0x20, 0, 0, 1, 0, 0, 0], [0; 8]]),
+    ),
+    (
+        (true, true, Some(u32::MAX), None),
+        Some([[0x18, 0x31, 0, 0, 0xff, 0xff, 0xff, 0xff], [0; 8]]),
+        Some([[0x85, 0x20, 0, 0, 0xff, 0xff, 0xff, 0xff], [0; 8]]),
+    ),
+    // At an address, of a weak one too: it can't be called.
+    (
+        (false, true, None, Some(0xffff_ffff_8100_0000)),
+        Some([
+            [0x18, 0x01, 0, 0, 0, 0, 0, 0x81],
+            [0, 0, 0, 0, 0xff, 0xff, 0xff, 0xff],
+        ]),
+        None,
+    ),
+    (
+        (true, true, None, Some(0x8000_0000)),
+        Some([[0x18, 0x01, 0, 0, 0, 0, 0, 0x80], [0; 8]]),
+        None,
+    ),
+    (
+        (true, true, None, Some(0x7fff_ffff_0000_0001)),
+        Some([
+            [0x18, 0x01, 0, 0, 1, 0, 0, 0],
+            [0, 0, 0, 0, 0xff, 0xff, 0xff, 0x7f],
+        ]),
+        None,
+    ),
+    // What isn't resolved counts as missing, whatever is known of it.
+    (
+        (true, false, None, Some(0)),
+        Some(ZERO_LOADED),
+        Some(MISSING_CALLED),
+    ),
+    (
+        (true, false, Some(1), Some(2)),
+        Some(ZERO_LOADED),
+        Some(MISSING_CALLED),
+    ),
+    (
+        (true, false, None, None),
+        Some(ZERO_LOADED),
+        Some(MISSING_CALLED),
+    ),
+    ((false, false, None, Some(0)), None, None),
+    ((false, false, Some(1), Some(2)), None, None),
+    ((false, false, None, None), None, None),
+];
+
+/// What becomes of `f` by a relocation of its first slot, or that the kernel hasn't the extern.
+fn outcome(written: Option<Written>) -> Relocated {
+    Relocated {
+        f: written,
+        g: None,
+        refused: match written {
+            Some(_) => None,
+            None => Some(("f", Refused::Unresolvable("kernel"))),
+        },
+    }
+}
+
+#[test]
+fn slots_carry_what_is_known(rt: HostRuntime) {
+    let load = both([0x18, 0x01, 0, 0, 0, 0, 0, 0], [0; 8]);
+    let call = both(CALL, [0; 8]);
+    for (known, loaded, called) in &OUTCOMES {
+        let known = [Some(*known), None];
+        let answer = answer_of(rt.alloc(), &load, [(0, 1), FAR], known);
+        assert_eq!(rt; answer, Some(outcome(*loaded)));
+        let answer = answer_of(rt.alloc(), &call, [(0, 1), FAR], known);
+        assert_eq!(rt; answer, Some(outcome(*called)));
+    }
+}
+
+#[test]
+fn other_codes_are_refused(rt: HostRuntime) {
+    let expected = Some(Relocated {
+        f: None,
+        g: None,
+        refused: Some(("f", Refused::Offset(0, 0))),
+    });
+    let mut count = 0u32;
+    for code in 0..=255u8 {
+        if code == 0x18 || code == 0x85 {
+            continue;
+        }
+        let slots = both([code, 0x01, 0, 0, 0, 0, 0, 0], [0; 8]);
+        for (known, _loaded, _called) in &OUTCOMES {
+            let answer = answer_of(rt.alloc(), &slots, [(0, 1), FAR], [Some(*known), None]);
+            assert_eq!(rt; answer, expected);
+        }
+        count = count.saturating_add(1);
+    }
+    assert_eq!(rt; count, 254);
+}

@@ -1,0 +1,194 @@
+//! An object whose two sections of programs have a relocation each, and their functions.
+
+use btf_extension::{FuncSecInfo, LineSecInfo};
+use ebpf_items::Slots;
+use extern_relocation::relocate_externs;
+use object_externs::{ExternDesc, Externs};
+use object_file::ObjectFile;
+use object_parts::{Function, Functions, MatchedTables};
+use relocation_errors::{EbpfRelocationError, RelocationError};
+use sample_objects::with_bytes;
+use std::alloc::{AllocError, Global};
+use std::collections::BTreeMap;
+
+/// An object with the sections `kprobe` (index 2) and `xdp` (3), and a relocation of each, of `xdp` at 120
+/// and of `kprobe` at 136: eight bytes of offset, four of type, four of symbol. That of `xdp` stands first.
+/// Symbols 1 and 2 are the externs `kernel` and `other`, 3 and 4 the functions of the sections.
+static OBJECT: [u8; 944] = [
+    0x7f, 0x45, 0x4c, 0x46, 2, 1, 1, 0, 0, 0, 0, 0, 0, 0, 0, 0, 1, 0, 0xf7, 0, 1, 0, 0, 0, 0, 0, 0,
+    0, 0, 0, 0, 0, 0, 0, 0, 0, 0, 0, 0, 0, 0x70, 1, 0, 0, 0, 0, 0, 0, 0, 0, 0, 0, 0x40, 0, 0, 0, 0,
+    0, 0x40, 0, 9, 0, 8, 0, 0x47, 0x50, 0x4c, 0, 0, 0, 0, 0, 0x85, 0x10, 0, 0, 0xff, 0xff, 0xff,
+    0xff, 0x95, 0, 0, 0, 0, 0, 0, 0, 0x95, 0, 0, 0, 0, 0, 0, 0, 0x85, 0x10, 0, 0, 0xff, 0xff, 0xff,
+    0xff, 0x95, 0, 0, 0, 0, 0, 0, 0, 0x95, 0, 0, 0, 0, 0, 0, 0, 0, 0, 0, 0, 0, 0, 0, 0, 0x0a, 0, 0,
+    0, 1, 0, 0, 0, 0, 0, 0, 0, 0, 0, 0, 0, 0x0a, 0, 0, 0, 1, 0, 0, 0, 0, 0, 0, 0, 0, 0, 0, 0, 0, 0,
+    0, 0, 0, 0, 0, 0, 0, 0, 0, 0, 0, 0, 0, 0, 1, 0, 0, 0, 0x10, 0, 0, 0, 0, 0, 0, 0, 0, 0, 0, 0, 0,
+    0, 0, 0, 0, 0, 0, 0, 8, 0, 0, 0, 0x10, 0, 0, 0, 0, 0, 0, 0, 0, 0, 0, 0, 0, 0, 0, 0, 0, 0, 0, 0,
+    0x0e, 0, 0, 0, 0x12, 0, 2, 0, 0, 0, 0, 0, 0, 0, 0, 0, 0x18, 0, 0, 0, 0, 0, 0, 0, 0x10, 0, 0, 0,
+    0x12, 0, 3, 0, 0, 0, 0, 0, 0, 0, 0, 0, 0x18, 0, 0, 0, 0, 0, 0, 0, 0, 0x6b, 0x65, 0x72, 0x6e,
+    0x65, 0x6c, 0, 0x6f, 0x74, 0x68, 0x65, 0x72, 0, 0x66, 0, 0x67, 0, 0, 0, 0, 0, 0, 0, 0, 0x6c,
+    0x69, 0x63, 0x65, 0x6e, 0x73, 0x65, 0, 0x6b, 0x70, 0x72, 0x6f, 0x62, 0x65, 0, 0x78, 0x64, 0x70,
+    0, 0x2e, 0x72, 0x65, 0x6c, 0x78, 0x64, 0x70, 0, 0x2e, 0x72, 0x65, 0x6c, 0x6b, 0x70, 0x72, 0x6f,
+    0x62, 0x65, 0, 0x2e, 0x73, 0x79, 0x6d, 0x74, 0x61, 0x62, 0, 0x2e, 0x73, 0x74, 0x72, 0x74, 0x61,
+    0x62, 0, 0x2e, 0x73, 0x68, 0x73, 0x74, 0x72, 0x74, 0x61, 0x62, 0, 0, 0, 0, 0, 0, 0, 0, 0, 0, 0,
+    0, 0, 0, 0, 0, 0, 0, 0, 0, 0, 0, 0, 0, 0, 0, 0, 0, 0, 0, 0, 0, 0, 0, 0, 0, 0, 0, 0, 0, 0, 0, 0,
+    0, 0, 0, 0, 0, 0, 0, 0, 0, 0, 0, 0, 0, 0, 0, 0, 0, 0, 0, 0, 0, 0, 0, 0, 0, 0, 0, 0, 0, 1, 0, 0,
+    0, 1, 0, 0, 0, 0, 0, 0, 0, 0, 0, 0, 0, 0, 0, 0, 0, 0, 0, 0, 0, 0x40, 0, 0, 0, 0, 0, 0, 0, 4, 0,
+    0, 0, 0, 0, 0, 0, 0, 0, 0, 0, 0, 0, 0, 0, 8, 0, 0, 0, 0, 0, 0, 0, 0, 0, 0, 0, 0, 0, 0, 0, 9, 0,
+    0, 0, 1, 0, 0, 0, 6, 0, 0, 0, 0, 0, 0, 0, 0, 0, 0, 0, 0, 0, 0, 0, 0x48, 0, 0, 0, 0, 0, 0, 0,
+    0x18, 0, 0, 0, 0, 0, 0, 0, 0, 0, 0, 0, 0, 0, 0, 0, 8, 0, 0, 0, 0, 0, 0, 0, 0, 0, 0, 0, 0, 0, 0,
+    0, 0x10, 0, 0, 0, 1, 0, 0, 0, 6, 0, 0, 0, 0, 0, 0, 0, 0, 0, 0, 0, 0, 0, 0, 0, 0x60, 0, 0, 0, 0,
+    0, 0, 0, 0x18, 0, 0, 0, 0, 0, 0, 0, 0, 0, 0, 0, 0, 0, 0, 0, 8, 0, 0, 0, 0, 0, 0, 0, 0, 0, 0, 0,
+    0, 0, 0, 0, 0x14, 0, 0, 0, 9, 0, 0, 0, 0, 0, 0, 0, 0, 0, 0, 0, 0, 0, 0, 0, 0, 0, 0, 0, 0x78, 0,
+    0, 0, 0, 0, 0, 0, 0x10, 0, 0, 0, 0, 0, 0, 0, 6, 0, 0, 0, 3, 0, 0, 0, 8, 0, 0, 0, 0, 0, 0, 0,
+    0x10, 0, 0, 0, 0, 0, 0, 0, 0x1c, 0, 0, 0, 9, 0, 0, 0, 0, 0, 0, 0, 0, 0, 0, 0, 0, 0, 0, 0, 0, 0,
+    0, 0, 0x88, 0, 0, 0, 0, 0, 0, 0, 0x10, 0, 0, 0, 0, 0, 0, 0, 6, 0, 0, 0, 2, 0, 0, 0, 8, 0, 0, 0,
+    0, 0, 0, 0, 0x10, 0, 0, 0, 0, 0, 0, 0, 0x27, 0, 0, 0, 2, 0, 0, 0, 0, 0, 0, 0, 0, 0, 0, 0, 0, 0,
+    0, 0, 0, 0, 0, 0, 0x98, 0, 0, 0, 0, 0, 0, 0, 0x78, 0, 0, 0, 0, 0, 0, 0, 7, 0, 0, 0, 0, 0, 0, 0,
+    8, 0, 0, 0, 0, 0, 0, 0, 0x18, 0, 0, 0, 0, 0, 0, 0, 0x2f, 0, 0, 0, 3, 0, 0, 0, 0, 0, 0, 0, 0, 0,
+    0, 0, 0, 0, 0, 0, 0, 0, 0, 0, 0x10, 1, 0, 0, 0, 0, 0, 0, 0x12, 0, 0, 0, 0, 0, 0, 0, 0, 0, 0, 0,
+    0, 0, 0, 0, 8, 0, 0, 0, 0, 0, 0, 0, 0, 0, 0, 0, 0, 0, 0, 0, 0x37, 0, 0, 0, 3, 0, 0, 0, 0, 0, 0,
+    0, 0, 0, 0, 0, 0, 0, 0, 0, 0, 0, 0, 0, 0x28, 1, 0, 0, 0, 0, 0, 0, 0x41, 0, 0, 0, 0, 0, 0, 0, 0,
+    0, 0, 0, 0, 0, 0, 0, 8, 0, 0, 0, 0, 0, 0, 0, 0, 0, 0, 0, 0, 0, 0, 0,
+];
+
+const RELOCATIONS_AT: [usize; 2] = [136, 120];
+
+/// From a relocation's beginning to its symbol.
+const SYMBOL: usize = 12;
+
+/// What is known of an extern: whether it may be missing, whether it is resolved, the id of the kernel's
+/// type, and the address.
+pub(crate) type Known = (bool, bool, Option<u32>, Option<u64>);
+
+/// The offset and the symbol of a relocation.
+pub(crate) type Relocation = (u64, u8);
+
+/// The slots of a function.
+pub(crate) type Written = [[u8; 8]; 2];
+
+/// Why relocations are refused.
+#[derive(Clone, Copy, Debug, PartialEq, Eq)]
+pub(crate) enum Refused {
+    Offset(u64, usize),
+    NoExtern(&'static str),
+    Unresolvable(&'static str),
+    Other,
+}
+
+/// What becomes of the functions `f` of `kprobe` and `g` of `xdp`, none where they stay in the file, and
+/// of which function a relocation is refused.
+#[derive(Clone, Copy, Debug, PartialEq, Eq)]
+pub(crate) struct Relocated {
+    pub f: Option<Written>,
+    pub g: Option<Written>,
+    pub refused: Option<(&'static str, Refused)>,
+}
+
+/// One of the names that errors say.
+fn named(name: &str) -> &'static str {
+    for known in ["kernel", "other", "f", "g"] {
+        if known == name {
+            return known;
+        }
+    }
+    "another name"
+}
+
+fn refusal_of(error: &EbpfRelocationError) -> (&'static str, Refused) {
+    let refused = match error.error() {
+        RelocationError::InvalidRelocationOffset {
+            offset,
+            relocation_number,
+        } => Refused::Offset(*offset, *relocation_number),
+        RelocationError::ExternNotFound { name } => Refused::NoExtern(named(name)),
+        RelocationError::UnresolvableSymbol { name } => Refused::Unresolvable(named(name)),
+        _ => Refused::Other,
+    };
+    (named(error.function()), refused)
+}
+
+/// The externs `kernel` and, where something is known of it, `other`.
+fn externs(
+    alloc: Global,
+    known: [Option<Known>; 2],
+) -> Result<BTreeMap<&'static str, ExternDesc<'static>>, AllocError> {
+    let mut by_name = BTreeMap::new(alloc);
+    for (name, known) in [("kernel", known[0]), ("other", known[1])] {
+        if let Some((is_weak, is_resolved, kernel_btf_id, ksym_addr)) = known {
+            let desc = ExternDesc {
+                name,
+                btf_id: 1,
+                is_weak,
+                is_resolved,
+                kernel_btf_id,
+                ksym_addr,
+                type_id: None,
+            };
+            by_name.insert(name, desc)?;
+        }
+    }
+    Ok(by_name)
+}
+
+/// A function at the beginning of a section with these slots.
+fn function<'a>(
+    alloc: Global,
+    name: &'a str,
+    section_index: usize,
+    slots: &'a [u8],
+) -> Option<Function<'a>> {
+    Some(Function {
+        address: 0,
+        name,
+        section_index,
+        section_offset: 0,
+        instructions: Slots::borrowed(alloc, slots)?,
+        func_info: FuncSecInfo::from_records(Vec::new(alloc)),
+        line_info: LineSecInfo::from_records(Vec::new(alloc)),
+        func_info_rec_size: 0,
+        line_info_rec_size: 0,
+        matched_tables: MatchedTables::new(alloc),
+    })
+}
+
+/// The slots of a function that has a list of its own.
+fn written(functions: &Functions<'_>, section_index: usize) -> Option<Written> {
+    let slots = &functions.get((section_index, 0))?.instructions;
+    if slots.is_borrowed() {
+        return None;
+    }
+    Some([slots.get(0)?.to_bytes(), slots.get(1)?.to_bytes()])
+}
+
+/// What becomes of two functions of these slots by a relocation of each section, that of `kprobe` first.
+pub(crate) fn answer_of(
+    alloc: Global,
+    slots: &[u8; 16],
+    relocations: [Relocation; 2],
+    known: [Option<Known>; 2],
+) -> Option<Relocated> {
+    let object = with_bytes(
+        &OBJECT,
+        &[
+            (RELOCATIONS_AT[0], &relocations[0].0.to_le_bytes()),
+            (RELOCATIONS_AT[0] + SYMBOL, &[relocations[0].1]),
+            (RELOCATIONS_AT[1], &relocations[1].0.to_le_bytes()),
+            (RELOCATIONS_AT[1] + SYMBOL, &[relocations[1].1]),
+        ],
+    );
+    let file = ObjectFile::parse(alloc, &object).ok()?;
+    let mut functions = Functions::new(alloc);
+    functions.insert(function(alloc, "f", 2, slots)?).ok()?;
+    functions.insert(function(alloc, "g", 3, slots)?).ok()?;
+    let mut all = Externs::none(alloc);
+    all.set_by_name(externs(alloc, known).ok()?);
+    let refused = match relocate_externs(alloc, &file, &mut functions, &all) {
+        Ok(()) => None,
+        Err(error) => Some(refusal_of(&error)),
+    };
+    Some(Relocated {
+        f: written(&functions, 2),
+        g: written(&functions, 3),
+        refused,
+    })
+}

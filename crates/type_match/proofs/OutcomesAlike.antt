@@ -1,0 +1,135 @@
+-- What type relocations come to, for tables of an object's types that agree on what is reached.
+use Rattle.std.proofs.Common.{◌≡◌, ℕ, Bool, true, List, [], ◌∷◌, ◌++◌, None, Some, Ok, Err, Option, Result, refl, ap, subst, ◌∙◌}
+use Rattle.std.specs.Prelude.{IfOk, slice_get}
+use Rattle.std.specs.Option.{option_map_or, option_to_list}
+use Rattle.access_paths.specs.Laws.{AreAlike, IsReachedPath, LookupsRest, PathsRest}
+use Rattle.access_paths.specs.LocalPaths.{local_path}
+use Rattle.access_paths.specs.Lookups.{and_then}
+use Rattle.access_paths.specs.Subjects.{subject_of}
+use Rattle.access_paths.specs.declared.error.AccessError.{AccessError}
+use Rattle.access_paths.specs.declared.path.AccessPath.{AccessPath}
+use Rattle.btf_records.specs.Fields.{name_offset_of}
+use Rattle.btf_records.specs.declared.error.BtfError.{BtfError}
+use Rattle.btf_records.specs.declared.error.BtfError.TheVariants.{InvalidStringOffset, UnknownBtfType}
+use Rattle.btf_records.specs.declared.types.BtfType.{BtfType}
+use Rattle.btf_tables.specs.Tables.{Table, type_by_id}
+use Rattle.ebpf_items.specs.declared.relocation_kind.RelocationKind.{RelocationKind}
+use Rattle.ebpf_items.specs.declared.relocation_kind.RelocationKind.TheVariants as kinds
+use Rattle.matching_paths.specs.Laws.{MatchesRest}
+use Rattle.relocation_values.specs.Laws.{ValuesRest}
+use Rattle.relocation_values.specs.declared.value.RelocationValue.{RelocationValue}
+use Rattle.string_table.specs.Texts.{text_at}
+use Rattle.type_candidates.specs.Candidates.{Wanted, candidates, wanted_for, wanted_of}
+use Rattle.type_candidates.specs.declared.error.CandidateError.{CandidateError}
+use Rattle.type_candidates.specs.declared.kernel_type.KernelType.{KernelType}
+use Rattle.type_match.specs.Laws.{OutcomesRest}
+use Rattle.type_match.specs.Matches.{followed_by, kernel_matches, match_at, match_in, matches_of, of_path, searched_tables, with_candidates, with_found, with_kernel, with_local}
+use Rattle.type_match.specs.RelocationOutcomes.{local_value, relocation_outcome, settled}
+use Rattle.type_match.specs.declared.error.TypeRelocationError.{TypeRelocationError}
+use Rattle.type_match.specs.declared.matches.Match.{Match}
+use Rattle.type_match.specs.declared.relocation.RelocationOutcome.{RelocationOutcome}
+use Rattle.type_match.specs.declared.relocation.TypeRelocation.{TypeRelocation}
+
+-- the tables, and what is reached
+pub record Both : Type 0 where
+  pub lookups : LookupsRest
+  pub paths : PathsRest
+  pub values : ValuesRest
+  pub matches : MatchesRest
+  pub reached : ℕ → Bool
+  pub one : Table
+  pub other : Table
+  pub alike : AreAlike reached one other
+
+-- ---- what comes of answers
+
+local-then : {T U : Type 0} (r r' : Result T AccessError) (go go' : T → Result U TypeRelocationError) → r' ≡ r → ((x : T) → r ≡ Ok x → go' x ≡ go x) → with_local r' go' ≡ with_local r go
+local-then {T} {U} r r' go go' e h = ap (λ (s : Result T AccessError). with_local s go') e ∙ by r refl where
+  by : (s : Result T AccessError) → r ≡ s → with_local s go' ≡ with_local s go
+  by (Ok x) is = h x is
+  by (Err f) is = refl
+
+found-then : {T U : Type 0} (r r' : Result T BtfError) (go go' : T → Result U TypeRelocationError) → r' ≡ r → ((x : T) → go' x ≡ go x) → with_found r' go' ≡ with_found r go
+found-then {T} {U} r r' go go' e h = ap (λ (s : Result T BtfError). with_found s go') e ∙ by r where
+  by : (s : Result T BtfError) → with_found s go' ≡ with_found s go
+  by (Ok x) = h x
+  by (Err f) = refl
+
+then-same : {T U : Type 0} (r r' : Result T TypeRelocationError) (go go' : T → Result U TypeRelocationError) → r' ≡ r → ((x : T) → go' x ≡ go x) → followed_by r' go' ≡ followed_by r go
+then-same {T} {U} r r' go go' e h = ap (λ (s : Result T TypeRelocationError). followed_by s go') e ∙ by r where
+  by : (s : Result T TypeRelocationError) → followed_by s go' ≡ followed_by s go
+  by (Ok x) = h x
+  by (Err f) = refl
+
+candidates-then : {U : Type 0} (r : Result (List KernelType) CandidateError) (go go' : List KernelType → Result U TypeRelocationError) → ((cs : List KernelType) → go' cs ≡ go cs) → with_candidates r go' ≡ with_candidates r go
+candidates-then (Ok cs) go go' h = h cs
+candidates-then (Err e) go go' h = refl
+
+-- ---- matches
+
+match-same : (b : Both) (kind : RelocationKind) (path : AccessPath) → IsReachedPath b.reached path → (target : Table) (place : KernelType) → match_in kind b.other path target place ≡ match_in kind b.one path target place
+match-same b kind path here target place =
+    ap (λ (r : Result (Option AccessPath) AccessError). and_then r (of_path kind target place.table)) (b.matches.same b.reached b.one b.other b.alike (subject_of kind) path here target place.type_id)
+
+at-same : (b : Both) (kind : RelocationKind) (path : AccessPath) → IsReachedPath b.reached path → (targets : List Table) (place : KernelType) → match_at kind b.other path targets place ≡ match_at kind b.one path targets place
+at-same b kind path here targets place = by (slice_get targets place.table) where
+  by : (o : Option Table) → option_map_or (λ target. with_kernel place (match_in kind b.other path target place) (λ m. Ok m)) o (Ok None) ≡ option_map_or (λ target. with_kernel place (match_in kind b.one path target place) (λ m. Ok m)) o (Ok None)
+  by None = refl
+  by (Some target) = ap (λ (r : Result (Option Match) AccessError). with_kernel place r (λ m. Ok m)) (match-same b kind path here target place)
+
+all-same : (b : Both) (kind : RelocationKind) (path : AccessPath) → IsReachedPath b.reached path → (targets : List Table) (cs : List KernelType) (done : List Match) → matches_of kind b.other path targets done cs ≡ matches_of kind b.one path targets done cs
+unfolding matches_of
+all-same b kind path here targets [] done = refl
+all-same b kind path here targets (c ∷ cs) done =
+    then-same (match_at kind b.one path targets c) (match_at kind b.other path targets c) _ _ (at-same b kind path here targets c) (λ m. all-same b kind path here targets cs (done ++ option_to_list m))
+
+wanted-of-type : (b : Both) (id : ℕ) (t : BtfType) → b.reached id ≡ true → type_by_id b.one id ≡ Some t
+    → option_map_or (λ name. Ok (wanted_of t name)) (text_at b.other.strings (name_offset_of t)) (Err (InvalidStringOffset (name_offset_of t))) ≡ option_map_or (λ name. Ok (wanted_of t name)) (text_at b.one.strings (name_offset_of t)) (Err (InvalidStringOffset (name_offset_of t)))
+wanted-of-type b id t here known = ap (λ (o : Option (List ℕ)). option_map_or (λ name. Ok (wanted_of t name)) o (Err (InvalidStringOffset (name_offset_of t)))) (b.lookups.names b.reached b.one b.other b.alike id t here known)
+
+-- what is wanted for a record
+abbrev wanted_in : Table → ℕ → Option BtfType → Result Wanted BtfError
+wanted_in local id o = option_map_or (λ t. option_map_or (λ name. Ok (wanted_of t name)) (text_at local.strings (name_offset_of t)) (Err (InvalidStringOffset (name_offset_of t)))) o (Err (UnknownBtfType id))
+
+wanted-same : (b : Both) (id : ℕ) → b.reached id ≡ true → wanted_for b.other id ≡ wanted_for b.one id
+wanted-same b id here = ap (wanted_in b.other id) (b.alike.records.same id here) ∙ by (type_by_id b.one id) refl where
+  by : (o : Option BtfType) → type_by_id b.one id ≡ o → wanted_in b.other id o ≡ wanted_in b.one id o
+  by None known = refl
+  by (Some t) known = wanted-of-type b id t here known
+
+kernel-same : (b : Both) (kind : RelocationKind) (path : AccessPath) → IsReachedPath b.reached path → (targets : List Table) → kernel_matches kind b.other path targets ≡ kernel_matches kind b.one path targets
+kernel-same b kind path here targets =
+    found-then (wanted_for b.one path.type_id) (wanted_for b.other path.type_id) _ _ (wanted-same b path.type_id here.root)
+    (λ wanted. candidates-then (candidates wanted (searched_tables kind targets)) _ _ (λ cs. all-same b kind path here targets cs []))
+
+-- ---- outcomes
+
+value-same : (b : Both) (kind : RelocationKind) (path : AccessPath) → IsReachedPath b.reached path → local_value b.other kind path ≡ local_value b.one kind path
+value-same b kinds.TypeSize path here = refl
+value-same b kinds.FieldByteOffset path here = b.values.same b.reached b.one b.other b.alike kinds.FieldByteOffset path here
+value-same b kinds.FieldByteSize path here = b.values.same b.reached b.one b.other b.alike kinds.FieldByteSize path here
+value-same b kinds.FieldExists path here = b.values.same b.reached b.one b.other b.alike kinds.FieldExists path here
+value-same b kinds.FieldSigned path here = b.values.same b.reached b.one b.other b.alike kinds.FieldSigned path here
+value-same b kinds.FieldLShift64 path here = b.values.same b.reached b.one b.other b.alike kinds.FieldLShift64 path here
+value-same b kinds.FieldRShift64 path here = b.values.same b.reached b.one b.other b.alike kinds.FieldRShift64 path here
+value-same b kinds.TypeIdLocal path here = b.values.same b.reached b.one b.other b.alike kinds.TypeIdLocal path here
+value-same b kinds.TypeIdTarget path here = b.values.same b.reached b.one b.other b.alike kinds.TypeIdTarget path here
+value-same b kinds.TypeExists path here = b.values.same b.reached b.one b.other b.alike kinds.TypeExists path here
+value-same b kinds.EnumVariantExists path here = b.values.same b.reached b.one b.other b.alike kinds.EnumVariantExists path here
+value-same b kinds.EnumVariantValue path here = b.values.same b.reached b.one b.other b.alike kinds.EnumVariantValue path here
+
+path-reached : (b : Both) (r : TypeRelocation) (path : AccessPath) → b.reached r.type_id ≡ true → local_path b.one r.kind r.type_id r.access_str_off ≡ Ok path → IsReachedPath b.reached path
+path-reached b r path here is = subst (λ (s : Result AccessPath AccessError). IfOk s (IsReachedPath b.reached)) is (b.paths.within b.reached b.one b.other b.alike r.kind r.type_id r.access_str_off here)
+
+outcome-same : (b : Both) (r : TypeRelocation) → b.reached r.type_id ≡ true → text_at b.other.strings r.access_str_off ≡ text_at b.one.strings r.access_str_off → (targets : List Table) → relocation_outcome b.other r targets ≡ relocation_outcome b.one r targets
+outcome-same b r here text targets =
+    local-then (local_path b.one r.kind r.type_id r.access_str_off) (local_path b.other r.kind r.type_id r.access_str_off) _ _ (b.paths.same b.reached b.one b.other b.alike r.kind r.type_id r.access_str_off here text)
+    (λ path is. let reached = path-reached b r path here is in
+    then-same (kernel_matches r.kind b.one path targets) (kernel_matches r.kind b.other path targets) _ _ (kernel-same b r.kind path reached targets)
+    (λ matches. local-then (local_value b.one r.kind path) (local_value b.other r.kind path) _ _ (value-same b r.kind path reached) (λ value _. refl)))
+
+pub outcomes_rest : LookupsRest → PathsRest → ValuesRest → MatchesRest → OutcomesRest
+outcomes_rest lookups paths values matches = record {
+  same = λ reached one other alike r here text targets.
+      outcome-same (record { lookups = lookups; paths = paths; values = values; matches = matches; reached = reached; one = one; other = other; alike = alike }) r here text targets;
+}

@@ -1,0 +1,7 @@
+pub mod Lists
+pub mod Matches
+pub mod Placing
+pub mod Taken
+pub mod Whole
+pub mod Writing
+pub mod Written

@@ -1,0 +1,7 @@
+pub mod Patches
+pub mod Instructions
+pub mod Relocations
+pub mod Writes
+pub mod Faults
+pub mod Laws
+pub mod Walks

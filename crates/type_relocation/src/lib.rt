@@ -1,0 +1,28 @@
+//! Type relocations: what a kernel's types give to the instructions of an object's functions ("BTF CO-RE relocations";
+//! tools/lib/bpf/relo_core.c).
+//!
+//! Each relocation is looked up in its function and among the kernel's types first; what they write is written after that, function by
+//! function.
+#![tactic(auto)]
+
+mod by_function;
+mod cause;
+mod error;
+mod groups;
+mod instruction;
+mod laws;
+mod pass;
+mod patch;
+mod place;
+mod placed;
+mod placement;
+mod relocation;
+mod texts;
+
+pub use error::{BtfRelocationCause, BtfRelocationError};
+pub use instruction::WriteFault;
+pub use laws::types_are_written;
+pub use patch::{Patch, Width};
+pub use place::RelocationPlace;
+pub use placed::{Placed, PlacedFault, Position};
+pub use relocation::relocate_types;

@@ -1,0 +1,131 @@
+//! Where type relocations stand, for messages.
+
+use access_paths::local_path;
+use btf_extension::bpf_core_relo;
+use btf_tables::Btf;
+use ebpf_items::RelocationKind;
+use object_parts::{Function, SLOT_SIZE};
+use path_texts::relocation_text;
+use std::alloc::{AllocError, Global};
+use std::fmt;
+use type_match::{Match, kernel_matches};
+
+/// What a fault of type relocations belongs to.
+#[derive(Debug, Drop)]
+pub enum RelocationPlace {
+    /// A group as a whole.
+    Group,
+    /// A relocation of the group.
+    Relocation {
+        /// The name of the function that holds the instruction, if there is one.
+        function: Option<String>,
+        /// The instruction, by slots from the function's beginning, or from the section's where no
+        /// function holds it.
+        instruction: u64,
+        /// What the relocation asks for, in words.
+        asked: String,
+    },
+}
+
+impl fmt::Display for RelocationPlace {
+    fn fmt<W: fmt::Write>(&self, f: &mut fmt::Formatter<W>) -> fmt::Result {
+        match self {
+            RelocationPlace::Group => Ok(()),
+            RelocationPlace::Relocation {
+                function: Some(function),
+                instruction,
+                asked,
+            } => write!(
+                f,
+                ", function {function:?}, instruction {instruction}, {asked}"
+            ),
+            RelocationPlace::Relocation {
+                function: None,
+                instruction,
+                asked,
+            } => write!(f, ", instruction {instruction}, {asked}"),
+        }
+    }
+}
+
+/// What a record asks for, in words; of a number that stands for no kind it has the number.
+pub(crate) fn asked_text(
+    alloc: Global,
+    local: &Btf<'_>,
+    record: bpf_core_relo,
+) -> Result<String, AllocError> {
+    match RelocationKind::try_from(record.kind) {
+        Ok(kind) => relocation_text(alloc, local, kind, record.type_id, record.access_str_off),
+        Err(_) => format!(in alloc; "kind {}", record.kind),
+    }
+}
+
+/// A text and the types of the kernel in which matches stand.
+fn with_matches(alloc: Global, text: String, matches: &[Match]) -> Result<String, AllocError> {
+    let mut text = text;
+    let mut separator = " in ";
+    for found in matches {
+        let place = format!(in alloc;
+            "{separator}type {} of table {}",
+            found.type_id, found.table
+        )?;
+        text.push_str(place.as_str())?;
+        separator = ", ";
+    }
+    Ok(text)
+}
+
+/// The matches of a record in the kernel's types, none where they can't be looked up.
+fn matches_of(
+    alloc: Global,
+    local: &Btf<'_>,
+    targets: &[Btf<'_>],
+    record: bpf_core_relo,
+) -> Vec<Match> {
+    let Ok(kind) = RelocationKind::try_from(record.kind) else {
+        return Vec::new(alloc);
+    };
+    let Ok(path) = local_path(local, kind, record.type_id, record.access_str_off) else {
+        return Vec::new(alloc);
+    };
+    match kernel_matches(kind, local, &path, targets) {
+        Ok(matches) => matches,
+        Err(_) => Vec::new(alloc),
+    }
+}
+
+/// What a record asks for, in words, with all types of the kernel that have it.
+pub(crate) fn asked_with_matches(
+    alloc: Global,
+    local: &Btf<'_>,
+    targets: &[Btf<'_>],
+    record: bpf_core_relo,
+) -> Result<String, AllocError> {
+    let text = asked_text(alloc, local, record)?;
+    let matches = matches_of(alloc, local, targets, record);
+    with_matches(alloc, text, matches.as_slice())
+}
+
+impl RelocationPlace {
+    /// The place of a relocation that a function holds, or none, with what it asks for.
+    pub(crate) fn of_relocation(
+        alloc: Global,
+        function: Option<&Function<'_>>,
+        record: bpf_core_relo,
+        asked: String,
+    ) -> Result<RelocationPlace, AllocError> {
+        let offset = u64::from(record.insn_off);
+        match function {
+            Some(function) => Ok(RelocationPlace::Relocation {
+                function: Some(String::from_str(alloc, function.name)?),
+                instruction: offset.saturating_sub(function.section_offset as u64) / SLOT_SIZE,
+                asked,
+            }),
+            None => Ok(RelocationPlace::Relocation {
+                function: None,
+                instruction: offset / SLOT_SIZE,
+                asked,
+            }),
+        }
+    }
+}
