@@ -12,7 +12,7 @@ use std::marker::Model;
 /// the list of tables that was searched, from 0: rising, each once.
 #[derive(Debug, Drop)]
 pub struct MatchedTables {
-    places: BTreeSet<usize>,
+    places: BTreeSet<u32>,
 }
 
 impl Model for MatchedTables {
@@ -41,7 +41,7 @@ impl MatchedTables {
     }
 
     /// Enters the table of a place, if it isn't there yet.
-    pub fn enter(&mut self, place: usize) -> Result<(), AllocError>
+    pub fn enter(&mut self, place: u32) -> Result<(), AllocError>
         ensures entered { OnOk result (self.new ≡ with_table self.old place) }
         ensures unchanged { OnErr result (self.new ≡ self.old) }
     {
