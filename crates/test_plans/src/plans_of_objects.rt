@@ -14,7 +14,7 @@ use std::test::Fail;
 pub(crate) fn planned<'a>(
     alloc: Global,
     object: &'a [u8],
-    settings: &Settings<'_>,
+    settings: &Settings,
     order: Order,
     lacking: &[BtfFeature],
 ) -> Result<Plan<'a>, PrepareError> {
