@@ -34,7 +34,7 @@ impl MatchedTables {
     }
 
     /// The tables' places, rising.
-    pub fn iter(&self) -> Iter<'_, usize>
+    pub fn iter(&self) -> Iter<'_, u32>
         ensures { result ≡ self.now }
     {
         self.places.iter()
