@@ -18,7 +18,7 @@ use Rattle.type_candidates.specs.Candidates.{candidates, wanted_for}
 use Rattle.type_candidates.specs.declared.error.CandidateError.{CandidateError}
 use Rattle.type_candidates.specs.declared.kernel_type.KernelType.{KernelType}
 use Rattle.type_match.specs.KnownOutcomes.{IsOutcome}
-use Rattle.type_match.specs.Matches.{followed_by, if_computed, kernel_matches, match_at, match_in, match_of, matches_of, of_path, searched_tables, with_candidates, with_found, with_kernel, with_local}
+use Rattle.type_match.specs.Matches.{followed_by, if_computed, kernel_matches, match_at, match_in, match_of, matches_of, of_path, searched_tables, with_candidates, with_own_type, with_kernel, with_local}
 use Rattle.type_match.specs.RelocationOutcomes.{IsTableOf, decided, first_table, local_value, relocation_outcome, settled}
 use Rattle.type_match.specs.declared.error.TypeRelocationError.{TypeRelocationError}
 use Rattle.type_match.specs.declared.matches.Match.{Match}
@@ -44,7 +44,7 @@ of_local : {T U : Type 0} (Q : U → Type 0) (r : Result T AccessError) (go : T 
 of_local Q (Ok x) go more = more x
 of_local Q (Err e) go more = tt
 
-of_found : {T U : Type 0} (Q : U → Type 0) (r : Result T BtfError) (go : T → Result U TypeRelocationError) → ((x : T) → IfOk (go x) Q) → IfOk (with_found r go) Q
+of_found : {T U : Type 0} (Q : U → Type 0) (r : Result T BtfError) (go : T → Result U TypeRelocationError) → ((x : T) → IfOk (go x) Q) → IfOk (with_own_type r go) Q
 of_found Q (Ok x) go more = more x
 of_found Q (Err e) go more = tt
 

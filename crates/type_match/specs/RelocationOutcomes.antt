@@ -34,10 +34,15 @@ first_table [] = None
 first_table (m ∷ ms) = Some m.table
 
 abbrev pub settled : RelocationKind → List Match → RelocationValue → Result RelocationOutcome TypeRelocationError
-settled kind matches value = followed_by (decided kind value matches) (λ outcome. Ok (record { outcome = outcome; local_field = value.field; table = first_table matches }))
+settled kind matches value =
+    followed_by (decided kind value matches) (λ outcome.
+    Ok (record { outcome = outcome; local_field = value.field; table = first_table matches }))
 
 abbrev pub relocation_outcome : Table → TypeRelocation → List Table → Result RelocationOutcome TypeRelocationError
-relocation_outcome local r targets = with_local (local_path local r.kind r.type_id r.access_str_off) (λ path. followed_by (kernel_matches r.kind local path targets) (λ matches. with_local (local_value local r.kind path) (settled r.kind matches)))
+relocation_outcome local r targets =
+    with_local (local_path local r.kind r.type_id r.access_str_off) (λ path.
+    followed_by (kernel_matches r.kind local path targets) (λ matches.
+    with_local (local_value local r.kind path) (settled r.kind matches)))
 
 -- the table, if there is one, is one of these
 abbrev pub IsTableOf : List Table → Option ℕ → Type 0

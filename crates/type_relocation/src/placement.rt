@@ -5,7 +5,7 @@ ghost use Rattle.std.specs.Option.{option_copied};
 ghost use Rattle.object_names.specs.Named.{AreIndexes};
 ghost use Rattle.object_file.specs.Reading.{read_sections};
 ghost use Rattle.type_relocation.specs.Faults.{FaultOfGroup, GroupsFault, LacksOutcome, RecordsFault};
-ghost use Rattle.type_relocation.specs.Relocations.{all_placed, function_holding, outcome_of, placed, placed_from, placed_group, section_at};
+ghost use Rattle.type_relocation.specs.Relocations.{all_placed, function_holding, record_outcome, placed, placed_from, placed_group, section_at};
 ghost use Rattle.type_relocation.specs.Walks.{GroupFault, IsFront, RecordFault, StandsNone, matched};
 ghost use Rattle.type_relocation.specs.declared.error.BtfRelocationCause.TheVariants.{OutOfMemory};
 ghost use Rattle.type_match.specs.RelocationOutcomes.{IsTableOf};
@@ -99,14 +99,14 @@ impl<'r, 'o, 'f, 't, 'k> Lookup<'r, 'o, 'f, 't, 'k> {
     }
 
     /// What a relocation of a number in its group comes to in the kernel's types.
-    fn outcome_of(
+    fn record_outcome(
         &self,
         matcher: &mut TypeMatcher<'_>,
         number: usize,
         relocation: bpf_core_relo,
     ) -> Result<RelocationOutcome, BtfRelocationCause>
         requires { matcher.old ≡ matched self.now }
-        ensures value { IfOk result (λ o. outcome_of self.now relocation ≡ Ok o) }
+        ensures value { IfOk result (λ o. record_outcome self.now relocation ≡ Ok o) }
         ensures table { IfOk result (λ o. IsTableOf self.now.targets o.table) }
         ensures accepted { OnOk result (StandsNone (LacksOutcome self.now relocation)) }
         ensures refused { IfErr result (λ c. c ≢ OutOfMemory → LacksOutcome self.now relocation c) }
@@ -156,7 +156,7 @@ impl<'r, 'o, 'f, 't, 'k> Lookup<'r, 'o, 'f, 't, 'k> {
         let Some(function) = function_holding(self.functions, section_index, offset) else {
             return Err(BtfRelocationCause::FunctionNotFound);
         };
-        let outcome = self.outcome_of(matcher, position.number, relocation)?;
+        let outcome = self.record_outcome(matcher, position.number, relocation)?;
         Ok(Placed {
             key: function.key(),
             offset,
