@@ -1,6 +1,8 @@
 //! Prints the load plan of an eBPF object.
 #![tactic(auto)]
 
+ghost use Rattle.std.specs.Prelude.{◌≤◌, ◌^◌, length, IfOk};
+
 mod error;
 mod running;
 mod words;
@@ -91,15 +93,23 @@ fn types_of<'t>(
     }
 }
 
+/// No more tables of types are taken.
+const MAX_TABLES: usize = 0x1_0000_0000;
+
 /// The kernel's tables of types that files hold.
 fn kernel_types<'t>(
     alloc: Global,
     words: &Words<'_>,
     files: &'t [Vec<u8>],
-) -> Result<Vec<Btf<'t>>, ProgramError> {
+) -> Result<Vec<Btf<'t>>, ProgramError>
+    ensures { IfOk result (λ tables. length tables.items ≤ 2 ^ 32) }
+{
     let mut tables = Vec::new(alloc);
     for (name, bytes) in words.types.iter().zip(files) {
         tables.push(types_of(alloc, name, bytes, words.types_order)?)?;
+    }
+    if tables.len() > MAX_TABLES {
+        return Err(ProgramError::Usage);
     }
     Ok(tables)
 }
@@ -108,7 +118,7 @@ fn kernel_types<'t>(
 fn print_plan<R: BufRead>(
     rt: &HostRuntime,
     words: &Words<'_>,
-    settings: &Settings<'_>,
+    settings: &Settings,
     object: &[u8],
     types: &[Vec<u8>],
     symbols: &mut Watched<R>,

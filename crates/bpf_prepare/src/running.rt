@@ -1,6 +1,6 @@
 //! From an object's bytes to its plan's text.
 
-ghost use Rattle.std.specs.Prelude.{◌≡◌, ◌≢◌, true, false, IfErr, OnOk, Err};
+ghost use Rattle.std.specs.Prelude.{◌≡◌, ◌≢◌, ◌≤◌, ◌^◌, true, false, length, IfErr, OnOk, Err};
 ghost use Rattle.std.specs.Io.KnownBytes.{Appends};
 ghost use Rattle.load_plan.specs.Watched.{watched_inner, has_failed, AppendsPart};
 ghost use Rattle.bpf_prepare.specs.Run.{inputs_of, HoldsOfText, IsRunRefusal};
@@ -12,10 +12,10 @@ use std::alloc::Global;
 use std::io::{BufRead, Write};
 
 /// Writes the text of an object's plan, or nothing where the object is refused. `kernel_types` are
-/// the kernel's types, `symbols` its symbols as `/proc/kallsyms` lists them; `order` says whether type
-/// relocations are looked up in the object's types before these are rewritten or after that;
-/// `predicate` says which features of types the kernel grants, and `probe` whether it has the newer
-/// helpers that read memory.
+/// the kernel's types, in no more than 2^32 tables, `symbols` its symbols as `/proc/kallsyms` lists
+/// them; `order` says whether type relocations are looked up in the object's types before these are
+/// rewritten or after that; `predicate` says which features of types the kernel grants, and `probe`
+/// whether it has the newer helpers that read memory.
 ///
 /// # Errors
 ///
@@ -26,12 +26,13 @@ pub fn run<R: BufRead, F: FnMut(BtfFeature) -> bool, P: FnOnce() -> bool, W: Wri
     object: &[u8],
     kernel_types: &[Btf<'_>],
     symbols: &mut Watched<R>,
-    settings: &Settings<'_>,
+    settings: &Settings,
     order: Order,
     predicate: F,
     probe: P,
     out: &mut Watched<W>,
 ) -> Result<(), RunError>
+    requires tables { length kernel_types.now ≤ 2 ^ 32 }
     requires predicate { F.IsAlwaysCallable predicate }
     requires probe { P.pre probe }
 

@@ -18,4 +18,6 @@ pub record ListsOfOneTable : Type 0 where
 -- what a type relocation comes to is the same for every other table of the object's own types that agrees on what is
 -- reached from its type, and whose texts there, and the access string, can be read alike
 pub record OutcomesRest : Type 0 where
-  pub same : (reached : ℕ → Bool) (one other : Table) → AreAlike reached one other → (r : TypeRelocation) → reached r.type_id ≡ true → text_at other.strings r.access_str_off ≡ text_at one.strings r.access_str_off → (targets : List Table) → relocation_outcome other r targets ≡ relocation_outcome one r targets
+  pub same : (reached : ℕ → Bool) (one other : Table) → AreAlike reached one other → (r : TypeRelocation) → reached r.type_id ≡ true
+      → text_at other.strings r.access_str_off ≡ text_at one.strings r.access_str_off → (targets : List Table)
+      → relocation_outcome other r targets ≡ relocation_outcome one r targets

@@ -5,7 +5,7 @@ ghost use Rattle.type_candidates.specs.Candidates.{candidates};
 ghost use Rattle.type_candidates.specs.declared.error.CandidateError.TheVariants.{OutOfMemory as NoMemory};
 ghost use Rattle.type_match.specs.KnownOutcomes.{IsOutcome};
 ghost use Rattle.type_match.specs.Matches.{kernel_matches, searched_tables};
-ghost use Rattle.type_match.specs.RelocationOutcomes.{relocation_outcome};
+ghost use Rattle.type_match.specs.RelocationOutcomes.{IsTableOf, relocation_outcome};
 ghost use Rattle.type_match.specs.declared.error.TypeRelocationError.TheVariants.{OutOfMemory};
 
 use crate::error::TypeRelocationError;
@@ -171,6 +171,7 @@ impl<'m> TypeMatcher<'m> {
         relocation: TypeRelocation,
     ) -> Result<RelocationOutcome, TypeRelocationError>
         ensures value { IfOk result (λ outcome. relocation_outcome self.now.local relocation self.now.targets ≡ Ok outcome) }
+        ensures table { IfOk result (λ outcome. IsTableOf self.now.targets outcome.table) }
         ensures refused { IfErr result (λ e. e ≢ OutOfMemory → relocation_outcome self.now.local relocation self.now.targets ≡ Err e) }
     {
         let kind = relocation.kind;
@@ -200,6 +201,7 @@ impl<'m> TypeMatcher<'m> {
         relocation: TypeRelocation,
     ) -> Result<RelocationOutcome, TypeRelocationError>
         ensures value { IfOk result (λ outcome. relocation_outcome self.old.local relocation self.old.targets ≡ Ok outcome) }
+        ensures table { IfOk result (λ outcome. IsTableOf self.old.targets outcome.table) }
         ensures refused { IfErr result (λ e. e ≢ OutOfMemory → relocation_outcome self.old.local relocation self.old.targets ≡ Err e) }
         ensures same { self.new ≡ self.old }
     {

@@ -3,7 +3,7 @@ use Rattle.access_paths.specs.declared.error.AccessError.TheVariants.{BtfError a
 use Rattle.btf_records.specs.declared.error.BtfError.TheVariants.{InvalidRelocationKind}
 use Rattle.type_match.specs.declared.error.TypeRelocationError.TheVariants.{Local}
 use Rattle.type_relocation.specs.Relocations.{outcome_of_kind}
-use Rattle.type_relocation.proofs.placement.Lookup.outcome_of.Goals as goal
+use Rattle.type_relocation.proofs.placement.Lookup.record_outcome.Goals as goal
 
 pub returns-in-Err-clause-refused : goal.returns-in-Err-clause-refused
 returns-in-Err-clause-refused c = λ other.
