@@ -176,16 +176,13 @@ fn print_plan<R: BufRead>(
         return Err(ProgramError::OutOfMemory);
     };
     let mut out = Watched::new(writer);
-    let settings = given.settings;
     let written = run(
         rt.alloc(),
         given.object,
         &types,
         symbols,
-        &settings.settings,
+        given.settings,
         order_of(given.line),
-        |feature| settings.features.grants(feature),
-        || settings.probe,
         &mut out,
     );
     if let Err(error) = written {
