@@ -111,12 +111,12 @@ of_same kind local path targets [] done part = refl
 of_same kind local path targets (c ∷ cs) done part =
     ap (λ (r : Result (Option Match) TypeRelocationError). followed_by r (λ m. matches_of kind local path targets (map (match_from kind targets) done ++ option_to_list m) cs)) (at_same kind local path targets c part)
     ∙ by (path_at (subject_of kind) local path targets c) (λ found. of_same kind local path targets cs (done ++ option_to_list found) part) where
-  by : (r : Result (Option FoundPath) TypeRelocationError)
-      → ((found : Option FoundPath) → matches_of kind local path targets (map (match_from kind targets) (done ++ option_to_list found)) cs ≡ followed_by (paths_of (subject_of kind) local path targets (done ++ option_to_list found) cs) (all_as kind targets))
-      → followed_by (followed_by r (as_matches kind targets)) (λ m. matches_of kind local path targets (map (match_from kind targets) done ++ option_to_list m) cs)
-      ≡ followed_by (followed_by r (λ found. paths_of (subject_of kind) local path targets (done ++ option_to_list found) cs)) (all_as kind targets)
-  by (Err e) rest = refl
-  by (Ok found) rest = ap (λ (ms : List Match). matches_of kind local path targets ms cs) (more_same kind targets done found) ∙ rest found
+      by : (r : Result (Option FoundPath) TypeRelocationError)
+          → ((found : Option FoundPath) → matches_of kind local path targets (map (match_from kind targets) (done ++ option_to_list found)) cs ≡ followed_by (paths_of (subject_of kind) local path targets (done ++ option_to_list found) cs) (all_as kind targets))
+          → followed_by (followed_by r (as_matches kind targets)) (λ m. matches_of kind local path targets (map (match_from kind targets) done ++ option_to_list m) cs)
+          ≡ followed_by (followed_by r (λ found. paths_of (subject_of kind) local path targets (done ++ option_to_list found) cs)) (all_as kind targets)
+      by (Err e) rest = refl
+      by (Ok found) rest = ap (λ (ms : List Match). matches_of kind local path targets ms cs) (more_same kind targets done found) ∙ rest found
 
 -- the matches of a kind are its values at the paths
 pub by_paths : (kind : RelocationKind) (local : Table) (path : AccessPath) (targets : List Table) → is_part (subject_of kind) ≡ true
@@ -124,14 +124,14 @@ pub by_paths : (kind : RelocationKind) (local : Table) (path : AccessPath) (targ
 by_paths kind local path targets part =
     ap (λ (tables : List Table). with_own_type (wanted_for local path.type_id) (λ wanted. with_candidates (candidates wanted tables) (matches_of kind local path targets []))) (all_searched kind targets part)
     ∙ by (wanted_for local path.type_id) (λ cs. of_same kind local path targets cs [] part) where
-  by : (r : Result Wanted BtfError) → ((cs : List KernelType) → matches_of kind local path targets [] cs ≡ followed_by (paths_of (subject_of kind) local path targets [] cs) (all_as kind targets))
-      → with_own_type r (λ wanted. with_candidates (candidates wanted targets) (matches_of kind local path targets []))
-      ≡ followed_by (with_own_type r (λ wanted. with_candidates (candidates wanted targets) (paths_of (subject_of kind) local path targets []))) (all_as kind targets)
-  by (Err e) same = refl
-  by (Ok wanted) same = inside (candidates wanted targets) where
-    inside : (r : Result (List KernelType) CandidateError) → with_candidates r (matches_of kind local path targets []) ≡ followed_by (with_candidates r (paths_of (subject_of kind) local path targets [])) (all_as kind targets)
-    inside (Err e) = refl
-    inside (Ok cs) = same cs
+      by : (r : Result Wanted BtfError) → ((cs : List KernelType) → matches_of kind local path targets [] cs ≡ followed_by (paths_of (subject_of kind) local path targets [] cs) (all_as kind targets))
+          → with_own_type r (λ wanted. with_candidates (candidates wanted targets) (matches_of kind local path targets []))
+          ≡ followed_by (with_own_type r (λ wanted. with_candidates (candidates wanted targets) (paths_of (subject_of kind) local path targets []))) (all_as kind targets)
+      by (Err e) same = refl
+      by (Ok wanted) same = inside (candidates wanted targets) where
+        inside : (r : Result (List KernelType) CandidateError) → with_candidates r (matches_of kind local path targets []) ≡ followed_by (with_candidates r (paths_of (subject_of kind) local path targets [])) (all_as kind targets)
+        inside (Err e) = refl
+        inside (Ok cs) = same cs
 
 -- ---- paths, candidate by candidate
 

@@ -1,4 +1,5 @@
 pub mod DifferingMatches
+pub mod FoundPaths
 pub mod KnownOutcomes
 pub mod MatchesOf
 pub mod OneTable

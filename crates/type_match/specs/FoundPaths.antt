@@ -35,6 +35,10 @@ path_at subject local path targets place =
     Ok (option_map (λ p. record { table = place.table; path = p }) found)))
     (slice_get targets place.table) (Ok None)
 
+-- it is added, if there is one
+abbrev pub IsAdded : Result (Option FoundPath) TypeRelocationError → List FoundPath → List FoundPath → Type 0
+IsAdded found old new = (one : Option FoundPath) × (found ≡ Ok one) × (new ≡ old ++ option_to_list one)
+
 -- the paths so far, and those in these candidates, in order
 unfoldable pub paths_of : Subject → Table → AccessPath → List Table → List FoundPath → List KernelType
     → Result (List FoundPath) TypeRelocationError

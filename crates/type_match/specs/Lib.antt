@@ -1,3 +1,4 @@
+pub mod FoundPaths
 pub mod KnownOutcomes
 pub mod Laws
 pub mod Matches
