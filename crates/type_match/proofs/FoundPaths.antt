@@ -1,5 +1,5 @@
 -- Matches by paths that were found for another kind.
-use Rattle.std.proofs.Common.{◌≡◌, ◌≢◌, ℕ, ◌+◌, ◌<◌, ◌≤◌, Bool, true, List, [], ◌∷◌, ◌++◌, drop, length, get_or, map, None, Some, Ok, Err, Option, Result, refl, sym, ap, subst, ◌∙◌, arith, add-one, drop-cons}
+use Rattle.std.proofs.Common.{◌≡◌, ◌≢◌, ℕ, ◌+◌, ◌<◌, ◌≤◌, true, List, [], ◌∷◌, ◌++◌, drop, length, get_or, map, None, Some, Ok, Err, Option, Result, refl, sym, ap, subst, ◌∙◌, arith, add-one, drop-cons}
 use Rattle.std.proofs.lemmas.Grind.{common_steps}
 use Rattle.std.proofs.lemmas.List.{map-append}
 use Rattle.std.proofs.lemmas.List.Elements.{All-nil}
@@ -8,7 +8,7 @@ use Rattle.std.specs.BTreeMap.{insert_entry}
 use Rattle.std.specs.List.{IsAmong}
 use Rattle.std.specs.Map.{values_of}
 use Rattle.std.specs.Option.{option_map, option_map_or, option_to_list}
-use Rattle.std.specs.Prelude.{All, IfErr, IfOk, slice_get}
+use Rattle.std.specs.Prelude.{IfErr, IfOk, slice_get}
 use Rattle.std.specs.Result.{IsErrAnd, result_ok}
 use Rattle.std.specs.declared.cmp.Ordering.{Ordering}
 use Rattle.access_paths.specs.LocalPaths.{local_path, subject_path}
@@ -206,3 +206,13 @@ refused_by kind local path targets e part found =
 
 pub paths_more : {K : Type 0} (cmp : K → K → Ordering) (entries : List (K × KnownPaths)) (key : K) (k : KnownPaths) (local : Table) (targets : List Table) → AreKnown local targets (values_of entries) → ArePathsOf local targets k.relocation k.paths.items → AreKnown local targets (values_of (insert_entry cmp entries key k))
 paths_more cmp entries key k local targets are here = record { each = All-values-insert_entry cmp key k (λ x. ArePathsOf local targets x.relocation x.paths.items) entries are.each here }
+
+pub matches_are : (kind : RelocationKind) (local : Table) (path : AccessPath) (targets searched : List Table) (paths : List FoundPath) (ms : List Match) → is_part (subject_of kind) ≡ true → found_paths (subject_of kind) local path targets ≡ Ok paths → searched ≡ targets → ms ≡ map (match_from kind searched) paths
+    → kernel_matches kind local path targets ≡ Ok ms
+matches_are kind local path targets searched paths ms part found same are =
+    matches_by kind local path targets paths part found ∙ ap (λ (l : List Match). Ok l) (ap (λ (tables : List Table). map (match_from kind tables) paths) (sym same) ∙ sym are)
+
+pub paths_refused : {T : Type 0} (kind : RelocationKind) (local : Table) (path : AccessPath) (targets : List Table) (result : Result T TypeRelocationError) (e : TypeRelocationError) → is_part (subject_of kind) ≡ true → (e ≢ OutOfMemory → found_paths (subject_of kind) local path targets ≡ Err e) → IsErrAnd result (λ f. f ≡ e)
+    → IfErr result (λ f. f ≢ OutOfMemory → kernel_matches kind local path targets ≡ Err f)
+paths_refused kind local path targets result e part refused is =
+    passed_on result e (λ f. f ≢ OutOfMemory → kernel_matches kind local path targets ≡ Err f) is (λ other. refused_by kind local path targets e part (refused other))

@@ -1,7 +1,7 @@
 -- A list of one table.
-use Rattle.std.proofs.Common.{arith, ◌≡◌, ◌≢◌, ℕ, ◌<◌, Bool, true, false, cond, List, [], ◌∷◌, ◌++◌, map, length, None, Some, Ok, Err, Option, Result, refl, sym, ap, subst, ◌∙◌, append-nil}
+use Rattle.std.proofs.Common.{arith, ◌≡◌, ◌≢◌, ℕ, ◌<◌, Bool, true, false, cond, List, [], ◌∷◌, ◌++◌, map, None, Some, Ok, Err, Option, Result, refl, ap, ◌∙◌, append-nil}
 use Rattle.std.specs.Option.{option_map, option_map_or, option_to_list}
-use Rattle.std.specs.Prelude.{IfOk, filter, find}
+use Rattle.std.specs.Prelude.{filter, find}
 use Rattle.access_paths.specs.LocalPaths.{local_path}
 use Rattle.access_paths.specs.declared.error.AccessError.{AccessError}
 use Rattle.access_paths.specs.declared.path.AccessPath.{AccessPath}
@@ -9,19 +9,14 @@ use Rattle.btf_records.specs.declared.error.BtfError.{BtfError}
 use Rattle.btf_tables.specs.Tables.{Table}
 use Rattle.ebpf_items.specs.declared.relocation_kind.RelocationKind.{RelocationKind}
 use Rattle.ebpf_items.specs.declared.relocation_kind.RelocationKind.TheVariants as kinds
-use Rattle.relocation_values.specs.declared.value.RelocationValue.{RelocationValue}
-use Rattle.type_candidates.specs.Candidates.{Wanted, all_types, candidates, is_candidate, is_named, is_unreadable, is_unreadable_at, unreadable, wanted_for}
-use Rattle.type_candidates.specs.declared.error.CandidateError.{CandidateError}
+use Rattle.type_candidates.specs.Candidates.{Wanted, all_types, candidates, is_candidate, is_unreadable_at, unreadable, wanted_for}
 use Rattle.type_candidates.specs.declared.kernel_type.KernelType.{KernelType}
 use Rattle.type_match.specs.Laws.{ListsOfOneTable}
-use Rattle.type_match.specs.Matches.{followed_by, kernel_matches, match_at, match_in, matches_of, searched_tables, with_candidates, with_kernel, with_local, with_own_type}
-use Rattle.type_match.specs.OneTable.{ids_of, is_so, matches_among, matches_in_one, named_ids, only, only_table, outcome_in_one, settled_in_one, unreadable_name}
-use Rattle.type_match.specs.Outcomes.{outcome_of}
+use Rattle.type_match.specs.Matches.{followed_by, kernel_matches, match_at, matches_of, searched_tables, with_candidates, with_local, with_own_type}
+use Rattle.type_match.specs.OneTable.{ids_of, matches_among, matches_in_one, named_ids, only, only_table, outcome_in_one, settled_in_one, unreadable_name}
 use Rattle.type_match.specs.RelocationOutcomes.{IsTableOf, decided, first_table, local_value, relocation_outcome, settled}
 use Rattle.type_match.specs.declared.error.TypeRelocationError.{TypeRelocationError}
 use Rattle.type_match.specs.declared.matches.Match.{Match}
-use Rattle.type_match.specs.declared.outcome.Outcome.{Outcome}
-use Rattle.type_match.specs.declared.relocation.RelocationOutcome.{RelocationOutcome}
 use Rattle.type_match.specs.declared.relocation.TypeRelocation.{TypeRelocation}
 use Rattle.type_match.proofs.OutcomeTables.{first_of}
 

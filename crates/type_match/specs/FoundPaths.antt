@@ -1,5 +1,5 @@
 -- Paths in a kernel's types, from which the matches of all kinds that ask for the same part of a type are computed.
-use Rattle.std.specs.Prelude.{◌≡◌, ℕ, Bool, false, true, List, [], ◌∷◌, ◌++◌, All, IfOk, slice_get, Option, None, Some, option_and_then, Result, Ok}
+use Rattle.std.specs.Prelude.{◌≡◌, Bool, false, true, List, [], ◌∷◌, ◌++◌, All, IfOk, slice_get, Option, None, option_and_then, Result, Ok}
 use Rattle.std.specs.Option.{option_map, option_map_or, option_to_list}
 use Rattle.std.specs.Result.{result_ok}
 use Rattle.access_paths.specs.LocalPaths.{local_path}

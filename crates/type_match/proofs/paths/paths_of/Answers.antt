@@ -1,5 +1,4 @@
-use Rattle.std.proofs.Common.{sym, ap, ◌∙◌}
-use Rattle.type_match.proofs.FoundPaths.{next_path, path_refused}
+use Rattle.type_match.proofs.FoundPaths.{path_refused}
 use Rattle.type_match.proofs.paths.paths_of.Goals as goal
 
 pub returns-in_err-add_path-clause-refused : goal.returns-in_err-add_path-clause-refused
