@@ -13,7 +13,6 @@ ghost use Rattle.type_match.specs.RelocationOutcomes.{IsTableOf};
 use crate::cause::{Told, cause_of_match};
 use crate::error::{BtfRelocationCause, BtfRelocationError};
 use crate::groups::RelocationGroup;
-use crate::patch::patch_of;
 use crate::place::{RelocationPlace, asked_text, asked_with_matches};
 use crate::placed::{Placed, Position};
 use crate::texts::section_name;
@@ -27,6 +26,7 @@ use std::alloc::{AllocError, Global};
 use std::collections::BTreeMap;
 use std::marker::Model;
 use type_match::{RelocationOutcome, TypeMatcher, TypeRelocation};
+use type_patches::patch_of;
 
 /// What type relocations are looked up in.
 #[derive(Drop)]
