@@ -1,6 +1,8 @@
 //! The kernel tables in which type relocations have matches.
 
 ghost use Rattle.std.specs.Prelude.{◌≡◌, [], IfOk, OnErr, OnOk};
+ghost use Rattle.std.specs.List.Sorted.{IsStrictlySortedBy};
+ghost use Rattle.std.specs.Ordering.{nat_cmp};
 ghost use Rattle.object_parts.specs.MatchedTables.{with_table, with_tables};
 
 use std::alloc::{AllocError, Global};
@@ -33,9 +35,10 @@ impl MatchedTables {
         }
     }
 
-    /// The tables' places, rising.
+    /// The tables' places, strictly rising.
     pub fn iter(&self) -> Iter<'_, u32>
-        ensures { result ≡ self.now }
+        ensures value { result ≡ self.now }
+        ensures rising { IsStrictlySortedBy nat_cmp self.now }
     {
         self.places.iter()
     }
