@@ -13,8 +13,8 @@ use Rattle.type_relocation.specs.Relocations.{Groups, TypesGiven, function_holdi
 use Rattle.type_relocation.specs.Writes.{type_rule, types_inside}
 use Rattle.type_relocation.specs.declared.error.BtfRelocationCause.{BtfRelocationCause}
 use Rattle.type_relocation.specs.declared.error.BtfRelocationCause.TheVariants as cause
-use Rattle.type_relocation.specs.declared.instruction.WriteFault.{WriteFault}
-use Rattle.type_relocation.specs.declared.instruction.WriteFault.TheVariants as write
+use Rattle.type_patches.specs.declared.instruction.WriteFault.{WriteFault}
+use Rattle.type_patches.specs.declared.instruction.WriteFault.TheVariants as write
 use Rattle.type_relocation.specs.declared.placed.Placed.{Placed}
 use Rattle.type_relocation.specs.declared.placed.PlacedFault.{PlacedFault}
 

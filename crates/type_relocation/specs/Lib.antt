@@ -1,5 +1,3 @@
-pub mod Patches
-pub mod Instructions
 pub mod Relocations
 pub mod Writes
 pub mod Faults

@@ -19,7 +19,7 @@ use Rattle.type_match.specs.RelocationOutcomes.{relocation_outcome}
 use Rattle.type_match.specs.declared.error.TypeRelocationError.{TypeRelocationError}
 use Rattle.type_match.specs.declared.error.TypeRelocationError.TheVariants.{Local}
 use Rattle.type_match.specs.declared.relocation.RelocationOutcome.{RelocationOutcome}
-use Rattle.type_relocation.specs.Patches.{patch_of}
+use Rattle.type_patches.specs.Patches.{patch_of}
 use Rattle.type_relocation.specs.declared.placed.Placed.{Placed}
 use Rattle.type_relocation.specs.declared.placed.Position.{Position}
 

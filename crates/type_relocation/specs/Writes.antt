@@ -10,9 +10,9 @@ use Rattle.object_parts.specs.MatchedTables.{with_table}
 use Rattle.slot_relocation.specs.Writes.{RuleOf, relocated_by}
 use Rattle.slot_relocation.specs.declared.outcome.Outcome.{Outcome}
 use Rattle.slot_relocation.specs.declared.outcome.Outcome.TheVariants.{Refused, Skipped, Written}
-use Rattle.type_relocation.specs.Instructions.{patched}
+use Rattle.type_patches.specs.Instructions.{patched}
 use Rattle.type_relocation.specs.Relocations.{Groups, TypesGiven, all_placed}
-use Rattle.type_relocation.specs.declared.instruction.WriteFault.{WriteFault}
+use Rattle.type_patches.specs.declared.instruction.WriteFault.{WriteFault}
 use Rattle.type_relocation.specs.declared.placed.Placed.{Placed}
 use Rattle.type_relocation.specs.declared.placed.PlacedFault.{PlacedFault}
 use Rattle.type_relocation.specs.declared.placed.Position.{Position}

@@ -5,7 +5,6 @@ ghost use Rattle.type_relocation.specs.Faults.{OfAccess, OfMatch, OfWrite};
 ghost use Rattle.type_relocation.specs.declared.error.BtfRelocationCause.TheVariants.{OutOfMemory};
 
 use crate::error::BtfRelocationCause;
-use crate::instruction::WriteFault;
 use crate::placed::PlacedFault;
 use crate::texts::{kind_name, name_or_empty, text_at, type_name};
 use access_paths::{AccessError, local_path};
@@ -14,6 +13,7 @@ use btf_tables::Btf;
 use object_parts::SLOT_SIZE;
 use std::alloc::{AllocError, Global};
 use type_match::{TypeRelocation, TypeRelocationError, conflicts, kernel_matches};
+use type_patches::WriteFault;
 
 /// A relocation to tell of: where it stands, what it asks for, and among which types.
 #[derive(Drop)]

@@ -25,6 +25,13 @@ impl Model for RelocationGroup {
     ghost view = { λ g. record { name_offset = g.name_offset; records = g.records.items } };
 }
 
+impl RelocationGroup {
+    /// The relocation of a number, from 0.
+    pub(crate) fn record(&self, number: usize) -> Option<bpf_core_relo> {
+        self.records.as_slice().get(number).copied()
+    }
+}
+
 /// The relocations of a group.
 fn records_of(alloc: Global, group: &SecInfo<'_>) -> Result<Vec<bpf_core_relo>, AllocError>
     ensures { IfOk result (λ records. records.items ≡ group.now.records) }

@@ -4,13 +4,13 @@ ghost use Rattle.std.specs.Prelude.{◌≡◌, map, IfOk, OnOk};
 ghost use Rattle.type_relocation.specs.Writes.{at_position, inside_of, placed_at, precedes, type_rule, with_match, with_matches, with_tables_of};
 
 use crate::by_function::{ByFunction, by_function};
-use crate::instruction::{WriteFault, patched};
 use crate::placed::{Placed, PlacedFault, Position};
 use ebpf_items::Slots;
 use object_parts::{Function, MatchedTables, SLOT_SIZE};
 use slot_relocation::{FaultAt, Outcome, Pass, Refusal, Rule, relocate_list};
 use std::alloc::{AllocError, Global};
 use std::marker::Model;
+use type_patches::{WriteFault, patched};
 
 /// Type relocations at their places.
 #[derive(Drop)]

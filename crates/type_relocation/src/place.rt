@@ -1,10 +1,11 @@
 //! Where type relocations stand, for messages.
 
+use crate::placement::function_holding;
 use access_paths::local_path;
 use btf_extension::bpf_core_relo;
 use btf_tables::Btf;
 use ebpf_items::RelocationKind;
-use object_parts::{Function, SLOT_SIZE};
+use object_parts::{Functions, SLOT_SIZE};
 use path_texts::relocation_text;
 use std::alloc::{AllocError, Global};
 use std::fmt;
@@ -107,15 +108,16 @@ pub(crate) fn asked_with_matches(
 }
 
 impl RelocationPlace {
-    /// The place of a relocation that a function holds, or none, with what it asks for.
+    /// The place of a relocation in a section, with what it asks for.
     pub(crate) fn of_relocation(
         alloc: Global,
-        function: Option<&Function<'_>>,
+        functions: &Functions<'_>,
+        section_index: usize,
         record: bpf_core_relo,
         asked: String,
     ) -> Result<RelocationPlace, AllocError> {
         let offset = u64::from(record.insn_off);
-        match function {
+        match function_holding(functions, section_index, offset) {
             Some(function) => Ok(RelocationPlace::Relocation {
                 function: Some(String::from_str(alloc, function.name)?),
                 instruction: offset.saturating_sub(function.section_offset as u64) / SLOT_SIZE,

@@ -1,7 +1,6 @@
 //! Type relocations at their places.
 
-use crate::instruction::WriteFault;
-use crate::patch::Patch;
+use type_patches::{Patch, WriteFault};
 
 /// Which of an object's type relocations one is.
 #[derive(Clone, Copy, Debug)]

@@ -13,7 +13,6 @@ ghost use Rattle.type_match.specs.RelocationOutcomes.{IsTableOf};
 use crate::cause::{Told, cause_of_match};
 use crate::error::{BtfRelocationCause, BtfRelocationError};
 use crate::groups::RelocationGroup;
-use crate::patch::patch_of;
 use crate::place::{RelocationPlace, asked_text, asked_with_matches};
 use crate::placed::{Placed, Position};
 use crate::texts::section_name;
@@ -27,6 +26,7 @@ use std::alloc::{AllocError, Global};
 use std::collections::BTreeMap;
 use std::marker::Model;
 use type_match::{RelocationOutcome, TypeMatcher, TypeRelocation};
+use type_patches::patch_of;
 
 /// What type relocations are looked up in.
 #[derive(Drop)]
@@ -242,16 +242,14 @@ impl<'r, 'o, 'f, 't, 'k> Lookup<'r, 'o, 'f, 't, 'k> {
         number: usize,
         cause: &BtfRelocationCause,
     ) -> Result<RelocationPlace, AllocError> {
-        let Some(record) = group.records.as_slice().get(number) else {
+        let Some(record) = group.record(number) else {
             return Ok(RelocationPlace::Group);
         };
         let Ok(section_index) = self.section(group.name_offset) else {
             return Ok(RelocationPlace::Group);
         };
-        let offset = u64::from(record.insn_off);
-        let function = function_holding(self.functions, section_index, offset);
-        let asked = self.asked(*record, cause)?;
-        RelocationPlace::of_relocation(self.alloc, function, *record, asked)
+        let asked = self.asked(record, cause)?;
+        RelocationPlace::of_relocation(self.alloc, self.functions, section_index, record, asked)
     }
 
     /// The error for a cause that stands at a relocation of a group.

@@ -17,7 +17,7 @@ use crate::groups::{RelocationGroup, asked_by, groups_of};
 use crate::pass::TypePass;
 use crate::place::{RelocationPlace, asked_text};
 use crate::placed::{Placed, PlacedFault};
-use crate::placement::{Lookup, function_holding};
+use crate::placement::Lookup;
 use crate::texts::section_name;
 use btf_extension::BtfExt;
 use btf_tables::Btf;
@@ -82,12 +82,11 @@ fn place_of(
     let Some(group) = groups.get(position.group) else {
         return Ok(RelocationPlace::Group);
     };
-    let Some(record) = group.records.as_slice().get(position.number) else {
+    let Some(record) = group.record(position.number) else {
         return Ok(RelocationPlace::Group);
     };
-    let function = function_holding(functions, at.section_index, at.offset);
-    let asked = asked_text(alloc, local, *record)?;
-    RelocationPlace::of_relocation(alloc, function, *record, asked)
+    let asked = asked_text(alloc, local, record)?;
+    RelocationPlace::of_relocation(alloc, functions, at.section_index, record, asked)
 }
 
 /// The error for what stopped the writing.

@@ -2,7 +2,7 @@
 
 ghost use Rattle.std.specs.Prelude.{◌≡◌, None, Some, slice_get, option_and_then};
 ghost use Rattle.std.specs.Option.{option_copied};
-ghost use Rattle.type_relocation.specs.Patches.{are_alike, is_unsigned, may_stand_for, patch_for, patch_of, field_size, type_of, width_of};
+ghost use Rattle.type_patches.specs.Patches.{are_alike, is_unsigned, may_stand_for, patch_for, patch_of, field_size, type_of, width_of};
 
 use btf_encoding::TypeRef;
 use btf_records::BtfKind;
@@ -105,7 +105,7 @@ fn target_of<'b, 't>(targets: &'b [Btf<'t>], outcome: RelocationOutcome) -> Opti
 }
 
 /// What an outcome gives to an instruction.
-pub(crate) fn patch_of(local: &Btf<'_>, targets: &[Btf<'_>], outcome: RelocationOutcome) -> Patch
+pub fn patch_of(local: &Btf<'_>, targets: &[Btf<'_>], outcome: RelocationOutcome) -> Patch
     ensures { result ≡ patch_of local.now targets.now outcome }
 {
     match outcome.outcome {

@@ -2,7 +2,7 @@
 
 ghost use Rattle.std.specs.Prelude.{◌≡◌, ◌<◌, ◌^◌, ◌%◌, ◌/◌};
 ghost use Rattle.slot_relocation.specs.Walks.{NextFits};
-ghost use Rattle.type_relocation.specs.Instructions.{high_word, low_word, of_arithmetic, of_memory, of_poison, of_value, of_wide_load, patched, poison, width_bits, with_width, with_width_bits};
+ghost use Rattle.type_patches.specs.Instructions.{high_word, low_word, of_arithmetic, of_memory, of_poison, of_value, of_wide_load, patched, poison, width_bits, with_width, with_width_bits};
 
 use crate::patch::{Patch, Width};
 use ebpf_items::bpf_insn;
@@ -168,7 +168,7 @@ fn of_poison(slot: bpf_insn, next: Option<bpf_insn>) -> Outcome<WriteFault>
 }
 
 /// What a type relocation does to an instruction, after which the next slot stands.
-pub(crate) fn patched(slot: bpf_insn, next: Option<bpf_insn>, patch: Patch) -> Outcome<WriteFault>
+pub fn patched(slot: bpf_insn, next: Option<bpf_insn>, patch: Patch) -> Outcome<WriteFault>
     ensures value { result ≡ patched slot next patch }
     ensures within { NextFits next result }
 {

@@ -7,12 +7,12 @@ use Rattle.ebpf_items.specs.Instruction.{src_reg_of}
 use Rattle.ebpf_items.specs.declared.instruction.bpf_insn.{bpf_insn}
 use Rattle.slot_relocation.specs.declared.outcome.Outcome.{Outcome}
 use Rattle.slot_relocation.specs.declared.outcome.Outcome.TheVariants.{Refused, Written}
-use Rattle.type_relocation.specs.declared.instruction.WriteFault.{WriteFault}
-use Rattle.type_relocation.specs.declared.instruction.WriteFault.TheVariants.{LargeOffset, NoNextPoison, NoNextSlot, OtherClass, OtherWidth, SourceRegister}
-use Rattle.type_relocation.specs.declared.patch.Patch.{Patch}
-use Rattle.type_relocation.specs.declared.patch.Patch.TheVariants.{Poison, Value}
-use Rattle.type_relocation.specs.declared.patch.Width.{Width}
-use Rattle.type_relocation.specs.declared.patch.Width.TheVariants.{Changed, Kept, Unknown}
+use Rattle.type_patches.specs.declared.instruction.WriteFault.{WriteFault}
+use Rattle.type_patches.specs.declared.instruction.WriteFault.TheVariants.{LargeOffset, NoNextPoison, NoNextSlot, OtherClass, OtherWidth, SourceRegister}
+use Rattle.type_patches.specs.declared.patch.Patch.{Patch}
+use Rattle.type_patches.specs.declared.patch.Patch.TheVariants.{Poison, Value}
+use Rattle.type_patches.specs.declared.patch.Width.{Width}
+use Rattle.type_patches.specs.declared.patch.Width.TheVariants.{Changed, Kept, Unknown}
 
 -- the low and the high word of a value, as signed numbers
 abbrev pub low_word : ℕ → ℤ

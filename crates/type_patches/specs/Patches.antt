@@ -11,10 +11,10 @@ use Rattle.relocation_values.specs.declared.value.RelocationValue.{RelocationVal
 use Rattle.type_match.specs.declared.outcome.Outcome.{Outcome}
 use Rattle.type_match.specs.declared.outcome.Outcome.TheVariants as outcomes
 use Rattle.type_match.specs.declared.relocation.RelocationOutcome.{RelocationOutcome}
-use Rattle.type_relocation.specs.declared.patch.Patch.{Patch}
-use Rattle.type_relocation.specs.declared.patch.Patch.TheVariants.{Poison, Value}
-use Rattle.type_relocation.specs.declared.patch.Width.{Width}
-use Rattle.type_relocation.specs.declared.patch.Width.TheVariants.{Changed, Kept, Unknown}
+use Rattle.type_patches.specs.declared.patch.Patch.{Patch}
+use Rattle.type_patches.specs.declared.patch.Patch.TheVariants.{Poison, Value}
+use Rattle.type_patches.specs.declared.patch.Width.{Width}
+use Rattle.type_patches.specs.declared.patch.Width.TheVariants.{Changed, Kept, Unknown}
 
 -- the size of a field; what is no whole field has none
 abbrev pub field_size : Option WholeField → ℕ

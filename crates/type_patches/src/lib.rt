@@ -1,0 +1,8 @@
+//! What type relocations do to instructions (`bpf_core_patch_insn`, tools/lib/bpf/relo_core.c).
+#![tactic(auto)]
+
+mod instruction;
+mod patch;
+
+pub use instruction::{WriteFault, patched};
+pub use patch::{Patch, Width, patch_of};
