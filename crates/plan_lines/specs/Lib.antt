@@ -1,0 +1,2 @@
+pub mod WordReading
+pub mod Words

@@ -1,0 +1,4 @@
+//! The lines of a load plan's text.
+#![tactic(auto)]
+
+mod words;
