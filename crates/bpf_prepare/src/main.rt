@@ -108,7 +108,7 @@ fn kernel_types<'t>(
 fn print_plan<R: BufRead>(
     rt: &HostRuntime,
     words: &Words<'_>,
-    settings: &Settings<'_>,
+    settings: &Settings,
     object: &[u8],
     types: &[Vec<u8>],
     symbols: &mut Watched<R>,

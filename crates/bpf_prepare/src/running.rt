@@ -26,7 +26,7 @@ pub fn run<R: BufRead, F: FnMut(BtfFeature) -> bool, P: FnOnce() -> bool, W: Wri
     object: &[u8],
     kernel_types: &[Btf<'_>],
     symbols: &mut Watched<R>,
-    settings: &Settings<'_>,
+    settings: &Settings,
     order: Order,
     predicate: F,
     probe: P,

@@ -162,7 +162,7 @@ impl<'w> Words<'w> {
     /// # Errors
     ///
     /// `Usage` where the number of a map isn't one, and `OutOfMemory`.
-    pub fn settings(&self, alloc: Global) -> Result<Settings<'_>, ProgramError> {
+    pub fn settings(&self, alloc: Global) -> Result<Settings, ProgramError> {
         let mut settings = Settings::new(alloc);
         for word in &self.maps {
             let (name, number) = map_number(word).ok_or(ProgramError::Usage)?;

@@ -51,7 +51,7 @@ fn holds_variables(kind: EbpfSectionKind) -> bool {
 /// Sets at most so many variables to the bytes with which the file begins, and answers how many more
 /// may be set.
 fn set_variables<'a>(
-    settings: &mut Settings<'a>,
+    settings: &mut Settings,
     symbols: &[ReadSymbol<'a>],
     bytes: &'a [u8],
     most: usize,
@@ -69,7 +69,7 @@ fn set_variables<'a>(
 }
 
 /// Values of at most so many variables of an object.
-fn settings_for(alloc: Global, bytes: &[u8], most: usize) -> Result<Settings<'_>, ParseError> {
+fn settings_for(alloc: Global, bytes: &[u8], most: usize) -> Result<Settings, ParseError> {
     let file = ObjectFile::parse(alloc, bytes)?;
     let mut settings = Settings::new(alloc);
     let mut rest = most;
@@ -86,7 +86,7 @@ fn settings_for(alloc: Global, bytes: &[u8], most: usize) -> Result<Settings<'_>
 fn put_values(
     rt: &HostRuntime,
     object: &mut Object<'_>,
-    settings: &Settings<'_>,
+    settings: &Settings,
 ) -> Result<u128, ExerciseError> {
     let start = Instant::now(rt)?;
     object.patch_map_data(settings)?;

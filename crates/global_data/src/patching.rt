@@ -38,7 +38,7 @@ pub fn patch_map_data(
     alloc: Global,
     file: &ObjectFile<'_>,
     maps: &mut Maps<'_>,
-    settings: &Settings<'_>,
+    settings: &Settings,
 ) -> Result<(), ParseError>
     ensures patched { OnOk result (maps.new ≡ patched file.now maps.old settings.now.globals) }
     ensures sound { OnOk result (first_fault file.now maps.old settings.now.globals ≡ None) }

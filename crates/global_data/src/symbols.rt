@@ -22,7 +22,7 @@ impl<'f, 'a> GlobalSymbols<'f, 'a> {
     pub(crate) fn new(
         alloc: Global,
         symbols: &'f [ReadSymbol<'a>],
-        settings: &Settings<'_>,
+        settings: &Settings,
     ) -> Result<GlobalSymbols<'f, 'a>, AllocError>
         ensures { IfOk result (λ found. AreGlobalSymbols settings.now.globals symbols.now found.by_name) }
     {

@@ -39,7 +39,7 @@ impl<'a, 's> Model for MapWrite<'a, 's> {
 fn bad_data(
     alloc: Global,
     name: &str,
-    value: &GlobalValue<'_>,
+    value: &GlobalValue,
     symbol: &ReadSymbol<'_>,
 ) -> ParseError
     ensures { result ≢ OutOfMemory → fault_of result ≡ Some (bad_data (name.now, value.now) symbol.now) }
@@ -59,7 +59,7 @@ fn write_over<'a, 's>(
     alloc: Global,
     maps: &SectionMaps<'_, 'a>,
     name: &str,
-    value: &GlobalValue<'s>,
+    value: &'s GlobalValue,
     symbol: &ReadSymbol<'_>,
 ) -> Result<MapWrite<'a, 's>, ParseError>
     ensures value { IfOk result (λ w. write_over maps.now value.now.bytes symbol.now ≡ Some w) }
@@ -83,7 +83,7 @@ fn write_over<'a, 's>(
     Ok(MapWrite {
         map: map.name,
         start,
-        bytes: value.bytes,
+        bytes: value.bytes.as_slice(),
     })
 }
 
@@ -92,7 +92,7 @@ fn write_of<'a, 's>(
     alloc: Global,
     maps: &SectionMaps<'_, 'a>,
     name: &str,
-    value: &GlobalValue<'s>,
+    value: &'s GlobalValue,
     symbol: Option<&ReadSymbol<'_>>,
 ) -> Result<Option<MapWrite<'a, 's>>, ParseError>
     ensures value { IfOk result (λ w. w ≡ option_and_then (write_over maps.now value.now.bytes) (option_copied symbol.entry)) }
@@ -115,7 +115,7 @@ pub(crate) fn writes_of<'a, 's>(
     alloc: Global,
     file: &ObjectFile<'_>,
     maps: &Maps<'a>,
-    settings: &Settings<'s>,
+    settings: &'s Settings,
 ) -> Result<Vec<MapWrite<'a, 's>>, ParseError>
     ensures value { IfOk result (λ writes. writes.items ≡ writes_of (symbols_of file.now) maps.now settings.now.globals) }
     ensures rising { OnOk result (IsStrictlySortedBy (slice_cmp nat_cmp) (map (λ e. e.0) maps.now)) }
@@ -126,6 +126,7 @@ pub(crate) fn writes_of<'a, 's>(
     let maps = SectionMaps::new(alloc, maps)?;
     let mut writes = Vec::new(alloc);
     for (name, value) in settings.globals() {
+        let name = name.as_str();
         let Some(write) = write_of(alloc, &maps, name, value, symbols.named(name))? else {
             continue;
         };

@@ -22,7 +22,7 @@ use Rattle.function_layout.specs.Renamed.{RenamedProgram, RenamedVisitsSame, ren
 use Rattle.function_layout.specs.Theorems.{ReachedAreAppended}
 use Rattle.function_types.specs.Rewritten.{is_denied}
 use Rattle.linker.specs.Linked.{AreLinked, IsLinked, IsLinkedIn, program_keys}
-use Rattle.linker.specs.Records.{functions_of, lines_of}
+use Rattle.linker.specs.Records.{functions_of, lines_of, tables_of}
 use Rattle.linker.specs.Unlinked.{Unlinked, table_of}
 use Rattle.object_parts.specs.Content.{FunctionContent, ProgramContent, function_at, key_cmp, with_older_helpers}
 use Rattle.object_plan.specs.Plans.{AllName, AllNamed, func_records_of, line_records_of, plan_program_of, program_of}
@@ -61,11 +61,17 @@ laid_out_renamed reach u own g one program =
     }
 
 -- the function of a program, linked and for a kernel
-function_for : ReachedAreAppended → RenamedVisitsSame → (u : Unlinked) (h : Bool) (functions before : Keyed) (own : Key) → functions ≡ for_kernel h before → IsLinkedIn u before own → (f : FunctionContent) × (function_at functions own ≡ Some f) × ((keys : List Key) × IsLaidOut h u own keys f.instructions × (f.func_info ≡ functions_of u own keys) × (f.line_info ≡ lines_of u own keys))
+function_for : ReachedAreAppended → RenamedVisitsSame → (u : Unlinked) (h : Bool) (functions before : Keyed) (own : Key) → functions ≡ for_kernel h before → IsLinkedIn u before own → (f : FunctionContent) × (function_at functions own ≡ Some f) × ((keys : List Key) × IsLaidOut h u own keys f.instructions × (f.func_info ≡ functions_of u own keys) × (f.line_info ≡ lines_of u own keys) × (f.matched_tables ≡ tables_of u own keys))
 function_for reach renamed u true functions before own is one = (
   one.0,
   ap (λ (fs : Keyed). function_at fs own) is ∙ one.1.0,
-  (one.1.1.keys, laid_out u own one.0 one.1.1, ap (λ (f : FunctionContent). f.func_info) one.1.1.content, ap (λ (f : FunctionContent). f.line_info) one.1.1.content),
+  (
+    one.1.1.keys,
+    laid_out u own one.0 one.1.1,
+    ap (λ (f : FunctionContent). f.func_info) one.1.1.content,
+    ap (λ (f : FunctionContent). f.line_info) one.1.1.content,
+    ap (λ (f : FunctionContent). f.matched_tables) one.1.1.content,
+  ),
 )
 function_for reach renamed u false functions before own is one = (
   with_older_helpers one.0,
@@ -75,6 +81,7 @@ function_for reach renamed u false functions before own is one = (
     laid_out_renamed reach u own one.0 one.1.1 (renamed.each (table_of u) own one.1.1.keys one.1.1.layout),
     ap (λ (f : FunctionContent). f.func_info) one.1.1.content,
     ap (λ (f : FunctionContent). f.line_info) one.1.1.content,
+    ap (λ (f : FunctionContent). f.matched_tables) one.1.1.content,
   ),
 )
 
@@ -88,8 +95,8 @@ pub record Known (i : Inputs) (u : Under) (object patched : State) (made : Made 
   pub among : AreAmong i u object patched made whole.maps
 
 -- a program that stands for a function
-planned_as : (i : Inputs) (u : Under) (object patched : State) (made : Made (patching i.order) i u object patched) (whole : PlanContent) (functions before : Keyed) (known : Known i u object patched made whole functions before) (e : List ℕ × ProgramContent) (f : FunctionContent) (keys : List Key) → IsLaidOut (keeps_helpers u) (unlinked_of patched) (own_key e.1) keys f.instructions → f.func_info ≡ functions_of (unlinked_of patched) (own_key e.1) keys → f.line_info ≡ lines_of (unlinked_of patched) (own_key e.1) keys → AllName object.types whole.type_bytes (program_of u.answers (is_some whole.type_bytes) e.0 e.1.section (Some f)).func_records → IsPlanProgram i u object patched made whole e (program_of u.answers (is_some whole.type_bytes) e.0 e.1.section (Some f))
-planned_as i u object patched made whole functions before known e f keys laid records lines names = record {
+planned_as : (i : Inputs) (u : Under) (object patched : State) (made : Made (patching i.order) i u object patched) (whole : PlanContent) (functions before : Keyed) (known : Known i u object patched made whole functions before) (e : List ℕ × ProgramContent) (f : FunctionContent) (keys : List Key) → IsLaidOut (keeps_helpers u) (unlinked_of patched) (own_key e.1) keys f.instructions → f.func_info ≡ functions_of (unlinked_of patched) (own_key e.1) keys → f.line_info ≡ lines_of (unlinked_of patched) (own_key e.1) keys → f.matched_tables ≡ tables_of (unlinked_of patched) (own_key e.1) keys → AllName object.types whole.type_bytes (program_of u.answers (is_some whole.type_bytes) e.0 e.1.section (Some f)).func_records → IsPlanProgram i u object patched made whole e (program_of u.answers (is_some whole.type_bytes) e.0 e.1.section (Some f))
+planned_as i u object patched made whole functions before known e f keys laid records lines tables names = record {
   name = refl;
   section = refl;
   keys = keys;
@@ -100,6 +107,7 @@ planned_as i u object patched made whole functions before known e f keys laid re
   visits = laid.visits;
   func_records = ap (λ (rs : List bpf_func_info). if is_denied u.answers then [] else rs) records;
   line_records = ap (λ (rs : List bpf_line_info). if is_denied u.answers || not (is_some whole.type_bytes) then [] else rs) lines;
+  tables = ap (λ (l : List ℕ). Some l) tables;
   names = names;
 }
 
@@ -107,7 +115,7 @@ planned_program : (i : Inputs) (u : Under) (object patched : State) (made : Made
 planned_program i u object patched made whole functions before known e one names =
     let f = function_for known.reach known.renamed (unlinked_of patched) (keeps_helpers u) functions before (own_key e.1) known.is one in
     subst (λ (o : Option FunctionContent). AllName object.types whole.type_bytes (program_of u.answers (is_some whole.type_bytes) e.0 e.1.section o).func_records → IsPlanProgram i u object patched made whole e (program_of u.answers (is_some whole.type_bytes) e.0 e.1.section o)) (sym f.1)
-    (planned_as i u object patched made whole functions before known e f.0 f.2.0 f.2.1 f.2.2 f.2.3) names
+    (planned_as i u object patched made whole functions before known e f.0 f.2.0 f.2.1 f.2.2 f.2.3 f.2.4) names
 
 equal_self : (n : ℕ) → nat_cmp n n ≡ Equal
 equal_self n = sym (nat_cmp_is n n Equal refl)

@@ -13,7 +13,7 @@ use Rattle.function_layout.specs.Machines.{VisitsSame}
 use Rattle.function_layout.specs.Reached.{AreReached}
 use Rattle.function_layout.specs.Renamed.{renamed_table}
 use Rattle.function_types.specs.Rewritten.{is_denied}
-use Rattle.linker.specs.Records.{functions_of, lines_of}
+use Rattle.linker.specs.Records.{functions_of, lines_of, tables_of}
 use Rattle.linker.specs.Unlinked.{Unlinked, table_of}
 use Rattle.object_parts.specs.Content.{FunctionContent, ProgramContent, function_at}
 use Rattle.object_plan.specs.Plans.{AllName}
@@ -151,6 +151,8 @@ pub record IsPlanProgram (i : Inputs) (u : Under) (object patched : State) (made
   -- the records are those of the copies, moved with them
   pub func_records : p.func_records ≡ func_records_of u.answers (unlinked_of patched) (own_key e.1) keys
   pub line_records : p.line_records ≡ line_records_of u.answers (is_some whole.type_bytes) (unlinked_of patched) (own_key e.1) keys
+  -- the kernel tables are those that the type relocations in the copied functions matched
+  pub tables : p.tables ≡ Some (tables_of (unlinked_of patched) (own_key e.1) keys)
   -- each record of a function names, in the plan's types, the function that it names in the object's
   pub names : AllName object.types whole.type_bytes p.func_records
 

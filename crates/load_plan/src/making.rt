@@ -40,7 +40,7 @@ fn require_named(alloc: Global, object: &Object<'_>) -> Result<(), PrepareError>
 /// Refuses an object with a map for which no number is set.
 fn require_numbered(
     alloc: Global,
-    settings: &Settings<'_>,
+    settings: &Settings,
     object: &Object<'_>,
 ) -> Result<(), PrepareError>
     ensures made { OnOk result (IsNumbered settings.now object.now object.now) }
@@ -55,7 +55,7 @@ fn require_numbered(
 }
 
 /// Puts the values of global variables into an object's maps.
-fn put_values(settings: &Settings<'_>, object: &mut Object<'_>) -> Result<(), PrepareError>
+fn put_values(settings: &Settings, object: &mut Object<'_>) -> Result<(), PrepareError>
     ensures made { OnOk result (PutsValues settings.now object.old object.new) }
     ensures refused { IfErr result (λ e. e ≢ OutOfMemory → OfParse (CannotPutValues settings.now object.old) e) }
 {
@@ -112,7 +112,7 @@ fn rewrite_types<F: FnMut(BtfFeature) -> bool>(
 /// Writes the numbers of maps into the slots of an object that lent them.
 fn write_numbers_of(
     alloc: Global,
-    settings: &Settings<'_>,
+    settings: &Settings,
     maps: &Maps<'_>,
     object: &mut Object<'_>,
     text_sections: &BTreeSet<usize>,
@@ -129,7 +129,7 @@ fn write_numbers_of(
 /// Writes the numbers of an object's maps into its slots.
 fn write_numbers(
     alloc: Global,
-    settings: &Settings<'_>,
+    settings: &Settings,
     object: &mut Object<'_>,
     text_sections: &BTreeSet<usize>,
 ) -> Result<(), PrepareError>
@@ -194,7 +194,7 @@ pub(crate) fn make<R: BufRead, F: FnMut(BtfFeature) -> bool, P: FnOnce() -> bool
     alloc: Global,
     kernel_types: &[Btf<'_>],
     symbols: &mut Watched<R>,
-    settings: &Settings<'_>,
+    settings: &Settings,
     order: Order,
     object: &mut Object<'_>,
     predicate: F,

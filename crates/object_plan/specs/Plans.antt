@@ -29,11 +29,18 @@ func_records_of answers f = if is_denied answers then [] else f.func_info
 abbrev pub line_records_of : Answers → Bool → FunctionContent → List bpf_line_info
 line_records_of answers has_types f = if is_denied answers || not has_types then [] else f.line_info
 
--- a program of the plan: the slots and the records are those of its function
+-- a program of the plan: the slots, the records and the kernel tables are those of its function
 abbrev pub program_of : Answers → Bool → List ℕ → ProgramSection → Option FunctionContent → plan.ProgramContent
-program_of answers has_types name section None = record { name = name; section = section; slots = []; func_records = []; line_records = [] }
+program_of answers has_types name section None = record { name = name; section = section; slots = []; func_records = []; line_records = []; tables = Some [] }
 program_of answers has_types name section (Some f) =
-    record { name = name; section = section; slots = f.instructions; func_records = func_records_of answers f; line_records = line_records_of answers has_types f }
+    record {
+      name = name;
+      section = section;
+      slots = f.instructions;
+      func_records = func_records_of answers f;
+      line_records = line_records_of answers has_types f;
+      tables = Some f.matched_tables;
+    }
 
 abbrev pub plan_program_of : Answers → Bool → List ((ℕ × ℕ) × FunctionContent) → List ℕ × ProgramContent → plan.ProgramContent
 plan_program_of answers has_types functions e = program_of answers has_types e.0 e.1.section (function_at functions (e.1.section_index, e.1.address))

@@ -1,11 +1,11 @@
 //! From an object to its plan.
 
-ghost use Rattle.std.specs.Prelude.{◌≡◌, map, IfOk};
+ghost use Rattle.std.specs.Prelude.{◌≡◌, [], ◌∷◌, ◌++◌, map, IfOk, OnOk, Some};
 ghost use Rattle.std.specs.List.{All};
 ghost use Rattle.std.specs.Option.{option_copied, option_map};
 ghost use Rattle.btf_sanitizing.specs.Answers.{AreDistinct, features};
 ghost use Rattle.object_plan.specs.Plans.{HoldsTypeBytes, func_records_of, line_records_of, plan_of, plan_program_of, program_of, type_bytes};
-ghost use Rattle.plan_text.specs.Content.{AreRising, AreTypeBytes, IsSoundMap, map_names, program_names};
+ghost use Rattle.plan_text.specs.Content.{AreRising, AreTables, AreTypeBytes, IsSoundMap, IsSoundProgram, map_names, program_names};
 
 use btf_extension::{FuncSecInfo, LineSecInfo};
 use btf_sanitizing::Answers;
@@ -57,7 +57,19 @@ fn line_records<'a>(
     function.line_info.try_clone()
 }
 
-/// A program with the slots and the records of its function.
+/// The places of the kernel tables that a function's type relocations matched.
+fn tables_of(alloc: Global, function: &Function<'_>) -> Result<Vec<u32>, AllocError>
+    ensures value { IfOk result (λ places. places.items ≡ function.now.matched_tables) }
+    ensures sound { IfOk result (λ places. AreTables places.items) }
+{
+    let mut places = Vec::new(alloc);
+    for place in function.matched_tables.iter() {
+        places.push(*place)?;
+    }
+    Ok(places)
+}
+
+/// A program with the slots and the records of its function, and the kernel tables that it knows.
 fn program_of<'a>(
     alloc: Global,
     answers: &Answers,
@@ -66,18 +78,36 @@ fn program_of<'a>(
     section: ProgramSection,
     function: Option<&Function<'a>>,
 ) -> Result<PlanProgram<'a>, AllocError>
-    ensures { IfOk result (λ p. p ≡ program_of answers.now.items has_types name.now section (option_copied function.entry)) }
+    ensures value { IfOk result (λ p. p ≡ program_of answers.now.items has_types name.now section (option_copied function.entry)) }
+    ensures sound { IfOk result IsSoundProgram }
 {
     let Some(function) = function else {
         let slots = Slots::owned(Vec::new(alloc));
         let functions = FuncSecInfo::from_records(Vec::new(alloc));
         let lines = LineSecInfo::from_records(Vec::new(alloc));
-        return Ok(PlanProgram::new(name, section, slots, functions, lines));
+        let tables = Some(Vec::new(alloc));
+        return Ok(PlanProgram::new(name, section, slots, functions, lines, tables));
     };
     let slots = function.instructions.try_clone()?;
     let functions = func_records(alloc, answers, function)?;
     let lines = line_records(alloc, answers, has_types, function)?;
-    Ok(PlanProgram::new(name, section, slots, functions, lines))
+    let tables = Some(tables_of(alloc, function)?);
+    Ok(PlanProgram::new(name, section, slots, functions, lines, tables))
+}
+
+/// Appends a program to programs that keep to a plan's limits.
+#[tactic(auto, using(crate::proofs::Sound::with_sound))]
+fn push_program<'a>(
+    list: &mut Vec<PlanProgram<'a>>,
+    program: PlanProgram<'a>,
+) -> Result<(), AllocError>
+    requires program { IsSoundProgram program }
+    requires list { All IsSoundProgram list.old.items }
+    ensures ok { OnOk result (list.new.items ≡ list.old.items ++ program.entry ∷ []) }
+    ensures sound { OnOk result (All IsSoundProgram list.new.items) }
+{
+    list.push(program)?;
+    Ok(())
 }
 
 /// The programs of a plan, by name.
@@ -88,13 +118,15 @@ fn plan_programs<'a>(
     has_types: bool,
 ) -> Result<Vec<PlanProgram<'a>>, AllocError>
     ensures value { IfOk result (λ list. list.items ≡ map (plan_program_of answers.now.items has_types object.now.functions) object.now.programs) }
+    ensures sound { IfOk result (λ list. All IsSoundProgram list.items) }
     ensures rising { IfOk result (λ list. AreRising (program_names list.items)) }
 {
     let mut programs = Vec::new(alloc);
     for (name, program) in object.programs().iter() {
         let function = object.function(program.function_key());
         let section = program.section.clone()?;
-        programs.push(program_of(alloc, answers, has_types, name, section, function)?)?;
+        let program = program_of(alloc, answers, has_types, name, section, function)?;
+        push_program(&mut programs, program)?;
     }
     Ok(programs)
 }

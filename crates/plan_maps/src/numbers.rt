@@ -11,7 +11,7 @@ use slot_relocation::NumberedMap;
 use std::alloc::{AllocError, Global};
 
 /// The number that is set for a map, 0 where none is.
-pub(crate) fn number_of(settings: &Settings<'_>, name: &str) -> u32
+pub(crate) fn number_of(settings: &Settings, name: &str) -> u32
     ensures value { result ≡ number_of settings.now name.now }
     ensures small { result < 2 ^ 31 }
 {
@@ -20,7 +20,7 @@ pub(crate) fn number_of(settings: &Settings<'_>, name: &str) -> u32
 
 /// Whether no number is set for a map.
 #[tactic(auto, unfolding(crate::specs::Numbers::is_unnumbered))]
-fn is_unnumbered(settings: &Settings<'_>, name: &str, map: &Map) -> bool
+fn is_unnumbered(settings: &Settings, name: &str, map: &Map) -> bool
     ensures value { result ≡ is_none (set_number settings.now name.now) }
     ensures named { result ≡ true → is_unnumbered settings.now name.now (name.now, map_view map.now) ≡ true }
 {
@@ -29,7 +29,7 @@ fn is_unnumbered(settings: &Settings<'_>, name: &str, map: &Map) -> bool
 }
 
 /// The name of the first map for which no number is set. Takes no memory.
-pub fn unnumbered_map<'a>(maps: &Maps<'a>, settings: &Settings<'_>) -> Option<&'a str>
+pub fn unnumbered_map<'a>(maps: &Maps<'a>, settings: &Settings) -> Option<&'a str>
     ensures none { is_none result ≡ are_numbered settings.now maps.now }
     ensures lacks { IfSome result (λ name. lacks_number settings.now maps.now name.now ≡ true) }
 {
@@ -46,7 +46,7 @@ pub fn unnumbered_map<'a>(maps: &Maps<'a>, settings: &Settings<'_>) -> Option<&'
 pub fn numbered_maps<'m>(
     alloc: Global,
     maps: &'m Maps<'_>,
-    settings: &Settings<'_>,
+    settings: &Settings,
 ) -> Result<Vec<NumberedMap<'m>>, AllocError>
     ensures { IfOk result (λ list. list.items ≡ map (numbered settings.now) maps.now) }
 {

@@ -93,7 +93,7 @@ fn push_map<'a>(list: &mut Vec<PlanMap<'a>>, map: PlanMap<'a>) -> Result<(), All
 pub fn plan_maps<'a>(
     alloc: Global,
     maps: &Maps<'a>,
-    settings: &Settings<'_>,
+    settings: &Settings,
 ) -> Result<Vec<PlanMap<'a>>, AllocError>
     ensures value { IfOk result (λ list. list.items ≡ map (plan_map settings.now) maps.now) }
     ensures sound { IfOk result (λ list. All IsSoundMap list.items) }

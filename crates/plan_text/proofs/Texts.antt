@@ -9,7 +9,8 @@ use Rattle.hex.specs.Hex.{encode_with, encode_lower, lower_digits}
 use Rattle.ebpf_items.specs.declared.instruction.bpf_insn.{bpf_insn}
 use Rattle.ebpf_items.specs.Instruction.{bytes_of}
 use Rattle.plan_text.specs.Content.{MapContent, PlanContent, ProgramContent}
-use Rattle.plan_text.specs.PlanGrammar.{hex_word, words_onto, line_onto, lines_onto, text_of_lines, slot_bytes, numbers_of, form_word, map_line, map_lines, program_line, slots_line, func_line, source_line, program_lines, first_lines, feature_line, types_line, end_line, text_of}
+use Rattle.plan_text.specs.PlanGrammar.{hex_word, words_onto, line_onto, lines_onto, text_of_lines, slot_bytes, numbers_of, form_word, map_line, map_lines, program_line, slots_line, func_line, source_line, program_lines, first_lines, feature_line, types_line, end_line, table_words, tables_line, text_in, text_of}
+use Rattle.plan_text.specs.PlanGrammar.{Second}
 use Rattle.plan_text.specs.ProgramKinds.{kind_numbers}
 
 pub encode_with-append : (digits xs ys : List ℕ) → encode_with digits (xs ++ ys) ≡ encode_with digits xs ++ encode_with digits ys
@@ -99,6 +100,10 @@ pub hex_word-slots : (slots : List bpf_insn) → 0 < length slots → hex_word (
 hex_word-slots [] some = absurd (omega (arith, some))
 hex_word-slots (slot ∷ slots) some = refl
 
+pub table_words-some : (places : List ℕ) → 0 < length places → table_words (Some places) ≡ map decimal places
+table_words-some [] some = absurd (omega (arith, some))
+table_words-some (place ∷ places) some = refl
+
 pub encode_lower-nil : encode_lower [] ≡ []
 unfolding encode_with
 encode_lower-nil = refl
@@ -116,12 +121,14 @@ map_line-parts m =
 
 -- ---- programs and plans by their lines
 
-pub program_lines-parts : (p : ProgramContent) → text_of_lines (program_lines p) ≡ text_of_lines (program_line p.name (kind_numbers p.section) ∷ []) ++ (text_of_lines (slots_line p.slots ∷ []) ++ (text_of_lines (map func_line p.func_records) ++ text_of_lines (map source_line p.line_records)))
+pub program_lines-parts : (p : ProgramContent) → text_of_lines (program_lines Second p) ≡ text_of_lines (program_line p.name (kind_numbers p.section) ∷ []) ++ (text_of_lines (slots_line p.slots ∷ []) ++ (text_of_lines (tables_line p.tables ∷ []) ++ (text_of_lines (map func_line p.func_records) ++ text_of_lines (map source_line p.line_records))))
 program_lines-parts p =
-    text_of_lines-first (program_line p.name (kind_numbers p.section)) (slots_line p.slots ∷ (map func_line p.func_records ++ map source_line p.line_records))
+    text_of_lines-first (program_line p.name (kind_numbers p.section)) (slots_line p.slots ∷ tables_line p.tables ∷ (map func_line p.func_records ++ map source_line p.line_records))
     ∙ ap (λ rest. text_of_lines (program_line p.name (kind_numbers p.section) ∷ []) ++ rest)
-    (text_of_lines-first (slots_line p.slots) (map func_line p.func_records ++ map source_line p.line_records)
-    ∙ ap (λ rest. text_of_lines (slots_line p.slots ∷ []) ++ rest) (text_of_lines-append (map func_line p.func_records) (map source_line p.line_records)))
+    (text_of_lines-first (slots_line p.slots) (tables_line p.tables ∷ (map func_line p.func_records ++ map source_line p.line_records))
+    ∙ ap (λ rest. text_of_lines (slots_line p.slots ∷ []) ++ rest)
+    (text_of_lines-first (tables_line p.tables) (map func_line p.func_records ++ map source_line p.line_records)
+    ∙ ap (λ rest. text_of_lines (tables_line p.tables ∷ []) ++ rest) (text_of_lines-append (map func_line p.func_records) (map source_line p.line_records))))
 
 five_parts : (a b c d e : List (List (List ℕ))) (line : List (List ℕ)) → text_of_lines (a ++ (b ++ line ∷ (c ++ (d ++ e)))) ≡ text_of_lines a ++ (text_of_lines b ++ (text_of_lines (line ∷ []) ++ (text_of_lines c ++ (text_of_lines d ++ text_of_lines e))))
 five_parts a b c d e line =
@@ -131,7 +138,7 @@ five_parts a b c d e line =
     ∙ ap (λ rest. text_of_lines (line ∷ []) ++ rest) (text_of_lines-append c (d ++ e)
     ∙ ap (λ rest. text_of_lines c ++ rest) (text_of_lines-append d e))))
 
-pub text_of-parts : (plan : PlanContent) → text_of plan ≡ text_of_lines (first_lines plan) ++ (text_of_lines (map feature_line plan.features) ++ (text_of_lines (types_line plan.type_bytes ∷ []) ++ (text_of_lines (flat_map map_lines plan.maps) ++ (text_of_lines (flat_map program_lines plan.programs) ++ text_of_lines (end_line ∷ [])))))
-unfolding text_of
+pub text_of-parts : (plan : PlanContent) → text_of plan ≡ text_of_lines (first_lines Second plan) ++ (text_of_lines (map feature_line plan.features) ++ (text_of_lines (types_line plan.type_bytes ∷ []) ++ (text_of_lines (flat_map map_lines plan.maps) ++ (text_of_lines (flat_map (program_lines Second) plan.programs) ++ text_of_lines (end_line ∷ [])))))
+unfolding text_in
 text_of-parts plan =
-    five_parts (first_lines plan) (map feature_line plan.features) (flat_map map_lines plan.maps) (flat_map program_lines plan.programs) (end_line ∷ []) (types_line plan.type_bytes)
+    five_parts (first_lines Second plan) (map feature_line plan.features) (flat_map map_lines plan.maps) (flat_map (program_lines Second) plan.programs) (end_line ∷ []) (types_line plan.type_bytes)

@@ -23,13 +23,15 @@ pub record MapContent : Type 0 where
   pub contents : List ℕ
   pub inner : Option MapWords
 
--- a program of the plan: its name's bytes, its kind, its slots, and the records of its functions and lines
+-- a program of the plan: its name's bytes, its kind, its slots, the records of its functions and lines, and the places of the
+-- kernel tables that its type relocations matched, where these are known
 pub record ProgramContent : Type 0 where
   pub name : List ℕ
   pub section : ProgramSection
   pub slots : List bpf_insn
   pub func_records : List bpf_func_info
   pub line_records : List bpf_line_info
+  pub tables : Option (List ℕ)
 
 -- a plan: the license without its NUL, the kernel version (none stands for any), the features that
 -- were asked about, the bytes of the types where there are some, the maps and the programs
@@ -62,6 +64,14 @@ pub record IsSoundMap (m : MapContent) : Type 0 where
   pub words : AreWordsOf m.is_btf m.words
   pub inner : IfSome m.inner (AreWordsOf m.is_btf)
 
+-- places of kernel tables strictly rise
+abbrev pub AreTables : List ℕ → Type 0
+AreTables places = IsStrictlySortedBy nat_cmp places × All (λ place. place < 2 ^ 32) places
+
+-- what each program of a plan keeps to
+pub record IsSoundProgram (p : ProgramContent) : Type 0 where
+  pub tables : IfSome p.tables AreTables
+
 -- bytes of types are at least one
 abbrev pub AreTypeBytes : Option (List ℕ) → Type 0
 AreTypeBytes type_bytes = IfSome type_bytes (λ bytes. 0 < length bytes)
@@ -74,4 +84,5 @@ pub record IsSoundPlan (plan : PlanContent) : Type 0 where
   pub type_bytes : AreTypeBytes plan.type_bytes
   pub maps : All IsSoundMap plan.maps
   pub map_names : AreRising (map_names plan.maps)
+  pub programs : All IsSoundProgram plan.programs
   pub program_names : AreRising (program_names plan.programs)

@@ -15,6 +15,17 @@ use Rattle.plan_text.specs.declared.plan.MapWords.{MapWords}
 use Rattle.plan_text.specs.declared.program_kind.KindNumbers.{KindNumbers}
 use Rattle.plan_text.specs.ProgramKinds.{kind_numbers}
 
+-- ---- versions
+
+-- the versions of the text: the second one also says which kernel tables each program's type relocations matched
+pub data TextVersion : Type 0 where
+  First : TextVersion
+  Second : TextVersion
+
+abbrev pub number_word : TextVersion → List ℕ
+number_word First = codes "1"
+number_word Second = codes "2"
+
 -- ---- words and lines
 
 -- words with a space before each, and then more
@@ -47,9 +58,9 @@ abbrev pub version_word : Option ℕ → List ℕ
 version_word None = codes "any"
 version_word (Some version) = decimal version
 
-abbrev pub first_lines : PlanContent → List (List (List ℕ))
-first_lines plan =
-    (codes "bpf-plan" ∷ codes "1" ∷ []) ∷ (codes "license" ∷ hex_word plan.license ∷ []) ∷ (codes "version" ∷ version_word plan.version ∷ []) ∷ []
+abbrev pub first_lines : TextVersion → PlanContent → List (List (List ℕ))
+first_lines text_version plan =
+    (codes "bpf-plan" ∷ number_word text_version ∷ []) ∷ (codes "license" ∷ hex_word plan.license ∷ []) ∷ (codes "version" ∷ version_word plan.version ∷ []) ∷ []
 
 abbrev pub feature_word : BtfFeature → List ℕ
 feature_word feature.Func = codes "Func"
@@ -123,6 +134,19 @@ program_line name numbers =
 abbrev pub slots_line : List bpf_insn → List (List ℕ)
 slots_line slots = codes "slots" ∷ hex_word (slot_bytes slots) ∷ []
 
+-- places of kernel tables: none is a dash, and a question mark says that they aren't known
+abbrev pub table_words : Option (List ℕ) → List (List ℕ)
+table_words None = codes "?" ∷ []
+table_words (Some []) = codes "-" ∷ []
+table_words (Some (place ∷ places)) = map decimal (place ∷ places)
+
+abbrev pub tables_line : Option (List ℕ) → List (List ℕ)
+tables_line tables = codes "tables" ∷ table_words tables
+
+abbrev pub tables_lines : TextVersion → Option (List ℕ) → List (List (List ℕ))
+tables_lines First tables = []
+tables_lines Second tables = tables_line tables ∷ []
+
 -- the line of a function's record
 abbrev pub func_line : bpf_func_info → List (List ℕ)
 func_line r = codes "func" ∷ decimal r.insn_off ∷ decimal r.type_id ∷ []
@@ -133,17 +157,21 @@ source_line r =
     codes "line" ∷ decimal r.insn_off ∷ decimal r.file_name_off ∷ decimal r.line_off ∷ decimal r.line_col ∷ []
 
 -- the lines of a program
-abbrev pub program_lines : ProgramContent → List (List (List ℕ))
-program_lines program =
-    program_line program.name (kind_numbers program.section) ∷ slots_line program.slots ∷ (map func_line program.func_records ++ map source_line program.line_records)
+abbrev pub program_lines : TextVersion → ProgramContent → List (List (List ℕ))
+program_lines text_version program =
+    program_line program.name (kind_numbers program.section) ∷ slots_line program.slots ∷ (tables_lines text_version program.tables ++ (map func_line program.func_records ++ map source_line program.line_records))
 
 -- ---- the whole
 
 -- the lines of a plan
-abbrev pub plan_lines : PlanContent → List (List (List ℕ))
-plan_lines plan =
-    first_lines plan ++ (map feature_line plan.features ++ types_line plan.type_bytes ∷ (flat_map map_lines plan.maps ++ (flat_map program_lines plan.programs ++ end_line ∷ [])))
+abbrev pub plan_lines : TextVersion → PlanContent → List (List (List ℕ))
+plan_lines text_version plan =
+    first_lines text_version plan ++ (map feature_line plan.features ++ types_line plan.type_bytes ∷ (flat_map map_lines plan.maps ++ (flat_map (program_lines text_version) plan.programs ++ end_line ∷ [])))
 
--- the text of a plan
-unfoldable pub text_of : PlanContent → List ℕ
-text_of plan = text_of_lines (plan_lines plan)
+-- the text of a plan in a version
+unfoldable pub text_in : TextVersion → PlanContent → List ℕ
+text_in text_version plan = text_of_lines (plan_lines text_version plan)
+
+-- the text of a plan, as it is written
+abbrev pub text_of : PlanContent → List ℕ
+text_of plan = text_in Second plan

@@ -6,7 +6,7 @@ ghost use Rattle.std.specs.Option.{option_map};
 ghost use Rattle.btf_sanitizing.specs.Answers as answers;
 ghost use Rattle.object_file.specs.License.{HasNoNul};
 ghost use Rattle.object_file.specs.Version.{IsKnownVersion};
-ghost use Rattle.plan_text.specs.Content.{map_names, program_names, AreRising, AreTypeBytes, IsSoundMap, IsSoundPlan};
+ghost use Rattle.plan_text.specs.Content.{map_names, program_names, AreRising, AreTypeBytes, IsSoundMap, IsSoundPlan, IsSoundProgram};
 ghost use Rattle.plan_text.specs.PlanParts.{content_of};
 
 use btf_extension::{FuncSecInfo, LineSecInfo};
@@ -127,26 +127,30 @@ pub struct PlanProgram<'a> {
     slots: Slots<'a>,
     func_records: FuncSecInfo<'a>,
     line_records: LineSecInfo<'a>,
+    tables: Option<Vec<u32>>,
 }
 
 impl<'a> Model for PlanProgram<'a> {
+    ghost use Rattle.std.specs.Option.{option_map};
     ghost use Rattle.plan_text.specs.Content.{ProgramContent};
 
     ghost Value = { ProgramContent };
 
-    ghost view = { λ p. record { name = p.name.now; section = p.section; slots = p.slots; func_records = p.func_records; line_records = p.line_records } };
+    ghost view = { λ p. record { name = p.name.now; section = p.section; slots = p.slots; func_records = p.func_records; line_records = p.line_records; tables = option_map (λ places. places.items) p.tables } };
 }
 
 impl<'a> PlanProgram<'a> {
-    /// A program by its name, its kind, its slots, and the records of its functions and lines.
+    /// A program by its name, its kind, its slots, the records of its functions and lines, and the
+    /// places of the kernel tables that its type relocations matched.
     pub fn new(
         name: &'a str,
         section: ProgramSection,
         slots: Slots<'a>,
         func_records: FuncSecInfo<'a>,
         line_records: LineSecInfo<'a>,
+        tables: Option<Vec<u32>>,
     ) -> PlanProgram<'a>
-        ensures { result ≡ record { name = name.now; section = section; slots = slots.entry; func_records = func_records.entry; line_records = line_records.entry } }
+        ensures { result ≡ record { name = name.now; section = section; slots = slots.entry; func_records = func_records.entry; line_records = line_records.entry; tables = option_map (λ places. places.items) tables } }
     {
         PlanProgram {
             name,
@@ -154,6 +158,7 @@ impl<'a> PlanProgram<'a> {
             slots,
             func_records,
             line_records,
+            tables,
         }
     }
 
@@ -190,6 +195,18 @@ impl<'a> PlanProgram<'a> {
         ensures { result.now ≡ self.now.line_records }
     {
         &self.line_records
+    }
+
+    /// The kernel tables in which the type relocations of the program's functions have their first
+    /// matches, by their places in the list of tables, from 0: strictly rising. `None` where that
+    /// isn't known.
+    pub fn tables(&self) -> Option<&[u32]>
+        ensures { option_map (λ places. places.now) result ≡ self.now.tables }
+    {
+        match &self.tables {
+            Some(places) => Some(places.as_slice()),
+            None => None,
+        }
     }
 }
 
@@ -286,6 +303,7 @@ impl<'a> Plan<'a> {
     /// The programs, names strictly rising by bytes.
     pub fn programs(&self) -> &[PlanProgram<'a>]
         ensures value { result.now ≡ self.now.programs }
+        ensures sound { All IsSoundProgram self.now.programs }
         ensures rising { AreRising (program_names self.now.programs) }
     {
         self.parts.programs.as_slice()

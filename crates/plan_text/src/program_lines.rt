@@ -1,12 +1,15 @@
 //! The lines of programs, written without memory.
 
-ghost use Rattle.std.specs.Prelude.{◌≡◌, [], ◌∷◌, flat_map, map};
+ghost use Rattle.std.specs.Prelude.{◌≡◌, [], ◌∷◌, flat_map, map, Some};
+ghost use Rattle.std.specs.Fmt.{decimal};
+ghost use Rattle.std.specs.Option.{option_map};
 ghost use Rattle.watched.specs.Watched.{Sends};
-ghost use Rattle.plan_text.specs.PlanGrammar.{func_line, program_line, program_lines, slots_line, source_line, text_of_lines};
+ghost use Rattle.plan_text.specs.PlanGrammar.{func_line, program_line, program_lines, slots_line, source_line, table_words, tables_line, text_of_lines, words_onto};
+ghost use Rattle.plan_text.specs.PlanGrammar.{Second};
 
 use crate::plan::PlanProgram;
 use crate::program_kind::{KindNumbers, kind_numbers};
-use crate::words::{send_bytes, send_numbers, send_slots};
+use crate::words::{send_bytes, send_number, send_numbers, send_slots};
 use btf_extension::{FuncSecInfo, LineSecInfo, bpf_func_info, bpf_line_info};
 use ebpf_items::{Slots, Watched};
 use std::io::Write;
@@ -36,6 +39,42 @@ fn send_slots_line<W: Write>(out: &mut Watched<W>, slots: &Slots<'_>)
 {
     out.send(b"slots ");
     send_slots(out, slots);
+    out.send(b"\n");
+}
+
+/// Sends places of kernel tables, a space before each.
+fn send_places<W: Write>(out: &mut Watched<W>, places: &[u32])
+    ensures { Sends W.contents out.old out.new (words_onto (map decimal places.now) []) }
+{
+    for place in places {
+        send_number(out, u64::from(*place));
+    }
+}
+
+fn send_known_tables<W: Write>(out: &mut Watched<W>, places: &[u32])
+    ensures { Sends W.contents out.old out.new (words_onto (table_words (Some places.now)) []) }
+{
+    if places.is_empty() {
+        out.send(b" -");
+    } else {
+        send_places(out, places);
+    }
+}
+
+fn send_tables<W: Write>(out: &mut Watched<W>, tables: Option<&[u32]>)
+    ensures { Sends W.contents out.old out.new (words_onto (table_words (option_map (λ places. places.now) tables.entry)) []) }
+{
+    match tables {
+        Some(places) => send_known_tables(out, places),
+        None => out.send(b" ?"),
+    }
+}
+
+fn send_tables_line<W: Write>(out: &mut Watched<W>, tables: Option<&[u32]>)
+    ensures { Sends W.contents out.old out.new (text_of_lines (tables_line (option_map (λ places. places.now) tables.entry) ∷ [])) }
+{
+    out.send(b"tables");
+    send_tables(out, tables);
     out.send(b"\n");
 }
 
@@ -95,17 +134,18 @@ fn send_source_lines<W: Write>(out: &mut Watched<W>, records: &LineSecInfo<'_>)
 }
 
 fn send_program<W: Write>(out: &mut Watched<W>, program: &PlanProgram<'_>)
-    ensures { Sends W.contents out.old out.new (text_of_lines (program_lines program.now)) }
+    ensures { Sends W.contents out.old out.new (text_of_lines (program_lines Second program.now)) }
 {
     send_program_line(out, program.name(), kind_numbers(program.section()));
     send_slots_line(out, program.slots());
+    send_tables_line(out, program.tables());
     send_func_lines(out, program.func_records());
     send_source_lines(out, program.line_records());
 }
 
 /// Sends the lines of programs.
 pub(crate) fn send_programs<W: Write>(out: &mut Watched<W>, programs: &[PlanProgram<'_>])
-    ensures { Sends W.contents out.old out.new (text_of_lines (flat_map program_lines programs.now)) }
+    ensures { Sends W.contents out.old out.new (text_of_lines (flat_map (program_lines Second) programs.now)) }
 {
     for program in programs {
         send_program(out, program);

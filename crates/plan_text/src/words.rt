@@ -22,7 +22,7 @@ pub(crate) fn send_decimal<W: Write>(out: &mut Watched<W>, number: u64)
 }
 
 /// Sends a number, with a space before it.
-fn send_number<W: Write>(out: &mut Watched<W>, number: u64)
+pub(crate) fn send_number<W: Write>(out: &mut Watched<W>, number: u64)
     ensures { Sends W.contents out.old out.new (32 ∷ decimal number) }
 {
     out.send(b" ");

@@ -5,6 +5,7 @@ ghost use Rattle.std.specs.Io.KnownBytes.{Appends};
 ghost use Rattle.std.specs.Option.{option_map};
 ghost use Rattle.watched.specs.Watched.{watched_inner, has_failed, AppendsPart, Sends};
 ghost use Rattle.plan_text.specs.PlanGrammar.{answer_word, feature_line, feature_word, first_lines, text_of, text_of_lines, types_line, types_word, version_word};
+ghost use Rattle.plan_text.specs.PlanGrammar.{Second};
 
 use crate::map_lines::send_maps;
 use crate::plan::Plan;
@@ -25,9 +26,9 @@ fn send_version<W: Write>(out: &mut Watched<W>, version: Option<u32>)
 }
 
 fn send_first_lines<W: Write>(out: &mut Watched<W>, plan: &Plan<'_>)
-    ensures { Sends W.contents out.old out.new (text_of_lines (first_lines plan.now)) }
+    ensures { Sends W.contents out.old out.new (text_of_lines (first_lines Second plan.now)) }
 {
-    out.send(b"bpf-plan 1\nlicense ");
+    out.send(b"bpf-plan 2\nlicense ");
     send_bytes(out, plan.license());
     out.send(b"\nversion ");
     send_version(out, plan.version());
@@ -102,7 +103,7 @@ fn send_plan<W: Write>(out: &mut Watched<W>, plan: &Plan<'_>)
 }
 
 impl<'a> Plan<'a> {
-    /// Writes the text of the plan, and takes no memory for it.
+    /// Writes the text of the plan, in its second version, and takes no memory for it.
     ///
     /// # Errors
     ///

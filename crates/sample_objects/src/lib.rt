@@ -95,7 +95,7 @@ pub static VARIABLES: [u8; 664] = [
 
 /// The text of the plan of [`ONE_PROGRAM`].
 pub static ONE_PROGRAM_PLAN: &[u8] =
-    b"bpf-plan 1\nlicense 47504c\nversion any\ntypes none\nprogram 666f6f 1 0 0\nslots b7000000000000009500000000000000\nend\n";
+    b"bpf-plan 2\nlicense 47504c\nversion any\ntypes none\nprogram 666f6f 1 0 0\nslots b7000000000000009500000000000000\ntables -\nend\n";
 
 /// Writes a change over a file, unless it goes past the end.
 fn change(file: &mut [u8], change: &(usize, &[u8]))

@@ -1,6 +1,5 @@
 -- What a loader sets: numbers of maps and values of global variables, by name, names rising by bytes.
-use Rattle.std.specs.Prelude.{ℕ, ◌<◌, ◌^◌, Bool, List}
-use Rattle.std.specs.Borrow.{Bor}
+use Rattle.std.specs.Prelude.{ℕ, ◌<◌, ◌^◌, Bool, List, String}
 use Rattle.std.specs.List.{All}
 use Rattle.std.specs.Map.{values_of}
 
@@ -14,5 +13,5 @@ pub record SettingsContent : Type 0 where
   pub globals : List (List ℕ × GlobalContent)
 
 -- file descriptors, which a program holds in 32 signed bits
-abbrev pub AreMapNumbers : List (Bor (List ℕ) × ℕ) → Type 0
+abbrev pub AreMapNumbers : {Y : Type 0} → List (String Y × ℕ) → Type 0
 AreMapNumbers maps = All (λ number. number < 2 ^ 31) (values_of maps)

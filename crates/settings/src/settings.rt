@@ -15,29 +15,30 @@ use std::marker::Model;
 
 /// The value of a global variable.
 #[derive(Debug, Drop)]
-pub struct GlobalValue<'s> {
+pub struct GlobalValue {
     /// The variable's bytes, as many as it has.
-    pub bytes: &'s [u8],
+    pub bytes: Vec<u8>,
     /// Whether an object without this variable is refused.
     pub must_exist: bool,
 }
 
-impl<'s> Model for GlobalValue<'s> {
+impl Model for GlobalValue {
     ghost use Rattle.settings.specs.Content.{GlobalContent};
 
     ghost Value = { GlobalContent };
 
-    ghost view = { λ g. record { bytes = g.bytes.now; must_exist = g.must_exist } };
+    ghost view = { λ g. record { bytes = g.bytes.items; must_exist = g.must_exist } };
 }
 
 /// Numbers of maps and values of global variables, by the names that these have in an object.
 #[derive(Debug, Drop)]
-pub struct Settings<'s> {
-    maps: BTreeMap<&'s str, u32>,
-    globals: BTreeMap<&'s str, GlobalValue<'s>>,
+pub struct Settings {
+    alloc: Global,
+    maps: BTreeMap<String, u32>,
+    globals: BTreeMap<String, GlobalValue>,
 }
 
-impl<'s> Model for Settings<'s> {
+impl Model for Settings {
     ghost use Rattle.settings.specs.Content.{SettingsContent, AreMapNumbers};
     ghost use Rattle.settings.specs.Names.{by_bytes};
 
@@ -48,12 +49,13 @@ impl<'s> Model for Settings<'s> {
     ghost invariant = { λ s. AreMapNumbers s.maps.entries };
 }
 
-impl<'s> Settings<'s> {
+impl Settings {
     /// Nothing is set.
-    pub fn new(alloc: Global) -> Settings<'s>
+    pub fn new(alloc: Global) -> Settings
         ensures { result ≡ record { maps = []; globals = [] } }
     {
         Settings {
+            alloc,
             maps: BTreeMap::new(alloc),
             globals: BTreeMap::new(alloc),
         }
@@ -61,11 +63,12 @@ impl<'s> Settings<'s> {
 
     /// Sets the number by which programs know a map: its file descriptor, or what stands for it. It
     /// must be below 2^31, as file descriptors are. Of several numbers of one name the last one counts.
-    pub fn set_map(&mut self, name: &'s str, number: u32) -> Result<(), AllocError>
+    pub fn set_map(&mut self, name: &str, number: u32) -> Result<(), AllocError>
         requires { number < 2 ^ 31 }
         ensures ok { OnOk result (self.new ≡ record self.old { maps = insert_entry (slice_cmp nat_cmp) self.old.maps name.now number }) }
         ensures err { OnErr result (self.new ≡ self.old) }
     {
+        let name = String::from_str(self.alloc, name)?;
         self.maps.insert(name, number)?;
         Ok(())
     }
@@ -74,13 +77,15 @@ impl<'s> Settings<'s> {
     /// variable is refused. Of several values of one name the last one counts.
     pub fn set_global(
         &mut self,
-        name: &'s str,
-        bytes: &'s [u8],
+        name: &str,
+        bytes: &[u8],
         must_exist: bool,
     ) -> Result<(), AllocError>
         ensures ok { OnOk result (self.new ≡ record self.old { globals = insert_entry (slice_cmp nat_cmp) self.old.globals name.now (record { bytes = bytes.now; must_exist = must_exist }) }) }
         ensures err { OnErr result (self.new ≡ self.old) }
     {
+        let name = String::from_str(self.alloc, name)?;
+        let bytes = Vec::from_slice(self.alloc, bytes)?;
         let value = GlobalValue { bytes, must_exist };
         self.globals.insert(name, value)?;
         Ok(())
@@ -95,7 +100,7 @@ impl<'s> Settings<'s> {
     }
 
     /// The names and values of the global variables, the names strictly rising by bytes.
-    pub fn globals(&self) -> Iter<'_, &'s str, GlobalValue<'s>>
+    pub fn globals(&self) -> Iter<'_, String, GlobalValue>
         ensures value { by_bytes result ≡ self.now.globals }
         ensures rising { IsStrictlySortedBy (slice_cmp nat_cmp) (map (λ e. e.0) self.now.globals) }
     {

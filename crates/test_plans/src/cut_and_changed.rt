@@ -35,10 +35,11 @@ fn is_line(line: &str) -> bool {
     let (first, second, third) = (words.next(), words.next(), words.next());
     let (fourth, fifth, sixth) = (words.next(), words.next(), words.next());
     match (first, second, third, fourth, fifth, sixth) {
-        (Some("bpf-plan"), Some("1"), None, _, _, _) => true,
+        (Some("bpf-plan"), Some("2"), None, _, _, _) => true,
         (Some("license" | "slots"), Some(word), None, _, _, _) => is_hex(word),
         (Some("version"), Some(word), None, _, _, _) => word == "any" || is_decimal(word),
         (Some("types"), Some("none"), None, _, _, _) => true,
+        (Some("tables"), Some("-"), None, _, _, _) => true,
         (Some("program"), Some(name), Some(kind), Some(a), Some(b), None) => {
             is_hex(name) && is_decimal(kind) && is_decimal(a) && is_decimal(b)
         }

@@ -13,7 +13,7 @@ use std::test::Fail;
 fn numbers<'m>(
     alloc: Global,
     maps: &'m Maps<'_>,
-    settings: &Settings<'_>,
+    settings: &Settings,
 ) -> Result<Vec<(&'m str, i32)>, Fail> {
     let mut list = Vec::new(alloc);
     for numbered in numbered_maps(alloc, maps, settings)? {

@@ -14,7 +14,7 @@ use std::test::Fail;
 pub(crate) fn planned<'a>(
     alloc: Global,
     object: &'a [u8],
-    settings: &Settings<'_>,
+    settings: &Settings,
     order: Order,
     lacking: &[BtfFeature],
 ) -> Result<Plan<'a>, PrepareError> {
@@ -38,30 +38,30 @@ const PLANS: [(&[BtfFeature], &[u8], &[u8]); 5] = [
     (
         &[BtfFeature::Float],
         &FLOATS,
-        b"bpf-plan 1\nlicense 47504c\nversion any\nfeature Float no\n\
+        b"bpf-plan 2\nlicense 47504c\nversion any\nfeature Float no\n\
         types 9feb010018000000000000001800000018000000050000000000000000000004040000000000000000000004080000000066006400\n\
         end\n",
     ),
     (
         &[],
         &RECORDS,
-        b"bpf-plan 1\nlicense 47504c\nversion any\nfeature Func yes\nfeature FuncGlobal yes\n\
+        b"bpf-plan 2\nlicense 47504c\nversion any\nfeature Func yes\nfeature FuncGlobal yes\n\
         types 9feb0100180000000000000040000000400000001800000001000000000000010400000020000000000000000000000d00000000050000000100000c02000000000000000000000d00000000070000000000000c0400000000696e74006600616464006b70726f6265002e7465787400\n\
-        program 66 1 0 0\nslots 85100000010000009500000000000000b7000000070000009500000000000000\nfunc 0 3\nfunc 2 5\nend\n",
+        program 66 1 0 0\nslots 85100000010000009500000000000000b7000000070000009500000000000000\ntables -\nfunc 0 3\nfunc 2 5\nend\n",
     ),
     (
         &[BtfFeature::FuncGlobal],
         &RECORDS,
-        b"bpf-plan 1\nlicense 47504c\nversion any\nfeature Func yes\nfeature FuncGlobal no\n\
+        b"bpf-plan 2\nlicense 47504c\nversion any\nfeature Func yes\nfeature FuncGlobal no\n\
         types 9feb0100180000000000000040000000400000001800000001000000000000010400000020000000000000000000000d00000000050000000000000c02000000000000000000000d00000000070000000000000c0400000000696e74006600616464006b70726f6265002e7465787400\n\
-        program 66 1 0 0\nslots 85100000010000009500000000000000b7000000070000009500000000000000\nfunc 0 3\nfunc 2 5\nend\n",
+        program 66 1 0 0\nslots 85100000010000009500000000000000b7000000070000009500000000000000\ntables -\nfunc 0 3\nfunc 2 5\nend\n",
     ),
     (
         &[BtfFeature::Func, BtfFeature::FuncGlobal],
         &RECORDS,
-        b"bpf-plan 1\nlicense 47504c\nversion any\nfeature Func no\n\
+        b"bpf-plan 2\nlicense 47504c\nversion any\nfeature Func no\n\
         types 9feb010018000000000000004000000040000000180000000100000000000001040000002000000000000000000000060400000005000000000000080200000000000000000000060400000007000000000000080400000000696e74006600616464006b70726f6265002e7465787400\n\
-        program 66 1 0 0\nslots 85100000010000009500000000000000b7000000070000009500000000000000\nend\n",
+        program 66 1 0 0\nslots 85100000010000009500000000000000b7000000070000009500000000000000\ntables -\nend\n",
     ),
 ];
 

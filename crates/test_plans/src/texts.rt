@@ -1,5 +1,7 @@
 //! Plans and their texts, and writers that fail.
 
+ghost use Rattle.plan_text.specs.Content.{AreTables};
+
 use plan_text::{
     Answers, BtfFeature, FuncSecInfo, LineSecInfo, MapWords, PinningType, Plan, PlanMap, PlanParts,
     PlanProgram, ProgramSection, Slots, Watched, bpf_func_info, bpf_line_info,
@@ -18,7 +20,7 @@ const TYPES: [u8; 112] = [
     0x65, 0, 0x2e, 0x74, 0x65, 0x78, 0x74, 0,
 ];
 
-const MAPS_PLAN: &[u8] = b"bpf-plan 1\n\
+const MAPS_PLAN: &[u8] = b"bpf-plan 2\n\
       license 47504c\n\
       version any\n\
       types none\n\
@@ -26,9 +28,10 @@ const MAPS_PLAN: &[u8] = b"bpf-plan 1\n\
       map 636f756e746572 7 legacy 1 4 8 16 0 0 0 0 0 0 -\n\
       program 66 1 0 0\n\
       slots 9500000000000000\n\
+      tables ?\n\
       end\n";
 
-const FUNCTIONS_PLAN: &[u8] = b"bpf-plan 1\n\
+const FUNCTIONS_PLAN: &[u8] = b"bpf-plan 2\n\
       license 47504c\n\
       version any\n\
       feature Func yes\n\
@@ -38,11 +41,12 @@ const FUNCTIONS_PLAN: &[u8] = b"bpf-plan 1\n\
       0000696e74006600616464006b70726f6265002e7465787400\n\
       program 66 1 0 0\n\
       slots 85100000010000009500000000000000b7000000070000009500000000000000\n\
+      tables 0 12\n\
       func 0 3\n\
       func 2 5\n\
       end\n";
 
-const LINES_PLAN: &[u8] = b"bpf-plan 1\n\
+const LINES_PLAN: &[u8] = b"bpf-plan 2\n\
       license 47504c\n\
       version any\n\
       feature Func yes\n\
@@ -52,13 +56,14 @@ const LINES_PLAN: &[u8] = b"bpf-plan 1\n\
       0000696e74006600616464006b70726f6265002e7465787400\n\
       program 66 1 0 0\n\
       slots 85100000010000009500000000000000b7000000070000009500000000000000\n\
+      tables -\n\
       line 0 1 2 3\n\
       line 1 4 5 6\n\
       line 2 1 2 3\n\
       line 3 4 5 6\n\
       end\n";
 
-const INNER_PLAN: &[u8] = b"bpf-plan 1\n\
+const INNER_PLAN: &[u8] = b"bpf-plan 2\n\
       license -\n\
       version 330240\n\
       types none\n\
@@ -66,7 +71,7 @@ const INNER_PLAN: &[u8] = b"bpf-plan 1\n\
       inner 2 4 8 1 0 7 0 0 5 6\n\
       end\n";
 
-const FEATURES_PLAN: &[u8] = b"bpf-plan 1\n\
+const FEATURES_PLAN: &[u8] = b"bpf-plan 2\n\
       license -\n\
       version any\n\
       feature Func yes\n\
@@ -158,7 +163,7 @@ fn maps_plan(alloc: Global) -> Result<Plan<'static>, Fail> {
     };
     let funcs = FuncSecInfo::from_records(Vec::new(alloc));
     let lines = LineSecInfo::from_records(Vec::new(alloc));
-    let program = PlanProgram::new("f", ProgramSection::KProbe, slots, funcs, lines);
+    let program = PlanProgram::new("f", ProgramSection::KProbe, slots, funcs, lines, None);
     let programs = Vec::from_array(alloc, [program])?;
     Ok(Plan::new(PlanParts {
         license: b"GPL",
@@ -205,11 +210,15 @@ fn typed_plan(
     alloc: Global,
     funcs: FuncSecInfo<'static>,
     lines: LineSecInfo<'static>,
-) -> Result<Plan<'static>, Fail> {
+    tables: Vec<u32>,
+) -> Result<Plan<'static>, Fail>
+    requires { AreTables tables.items }
+{
     let Some(slots) = Slots::borrowed(alloc, &CALL) else {
         return Err(Fail::from("slots"));
     };
-    let program = PlanProgram::new("f", ProgramSection::KProbe, slots, funcs, lines);
+    let section = ProgramSection::KProbe;
+    let program = PlanProgram::new("f", section, slots, funcs, lines, Some(tables));
     let programs = Vec::from_array(alloc, [program])?;
     let mut features = Answers::new();
     features.push((BtfFeature::Func, true));
@@ -238,7 +247,9 @@ fn records(rt: HostRuntime) -> Result<(), Fail> {
     let alloc = rt.alloc();
     let funcs = [(0, 3), (2, 5)].map(|(insn_off, type_id)| bpf_func_info { insn_off, type_id });
     let funcs = FuncSecInfo::from_records(Vec::from_array(alloc, funcs)?);
-    let plan = typed_plan(alloc, funcs, LineSecInfo::from_records(Vec::new(alloc)))?;
+    let tables = Vec::from_array(alloc, [0, 12])?;
+    let lines = LineSecInfo::from_records(Vec::new(alloc));
+    let plan = typed_plan(alloc, funcs, lines, tables)?;
     assert_eq!(rt; text_of(alloc, &plan)?.as_slice(), FUNCTIONS_PLAN);
     let lines = [
         line(0, (1, 2, 3)),
@@ -247,7 +258,8 @@ fn records(rt: HostRuntime) -> Result<(), Fail> {
         line(3, (4, 5, 6)),
     ];
     let lines = LineSecInfo::from_records(Vec::from_array(alloc, lines)?);
-    let plan = typed_plan(alloc, FuncSecInfo::from_records(Vec::new(alloc)), lines)?;
+    let funcs = FuncSecInfo::from_records(Vec::new(alloc));
+    let plan = typed_plan(alloc, funcs, lines, Vec::new(alloc))?;
     assert_eq!(rt; text_of(alloc, &plan)?.as_slice(), LINES_PLAN);
     assert_eq!(rt; plan.type_bytes(), Some(TYPES.as_slice()));
     Ok(())

@@ -8,5 +8,6 @@ new-requires c = record {
   type_bytes = c.in_ok-type_bytes.ensures.some;
   maps = c.requires.maps;
   map_names = c.requires.rising;
+  programs = c.in_ok-programs.ensures.sound;
   program_names = c.in_ok-programs.ensures.rising;
 }
