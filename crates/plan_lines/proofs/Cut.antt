@@ -1,9 +1,11 @@
 -- Pieces between spaces, and pairs of digits.
 use Rattle.std.proofs.Common.{◌≡◌, ◌≢◌, ℕ, zero, suc, ◌+◌, ◌-◌, ◌<◌, ◌≤◌, cond, true, false, ◌⊎◌, inl, inr, Bool, List, [], ◌∷◌, ◌++◌, length, take, drop, get_or, refl, ap, sym, ◌∙◌, subst, arith, Option, None, Some, append_assoc, add-one}
 use Rattle.std.specs.Prelude.{◌==◌}
-use Rattle.std.proofs.Math.Seq.{take-length}
+use Rattle.std.specs.List.{find}
+use Rattle.std.proofs.Math.Seq.{drop-cons, take-length}
 use Rattle.std.proofs.lemmas.Bool.Decides.{nat_tests}
 use Rattle.std.proofs.lemmas.List.{take_rest}
+use Rattle.plan_lines.specs.LineReading.{only_word}
 use Rattle.plan_lines.specs.WordReading.{pieces_of, onto_first, bytes_in, byte_of, onto}
 
 pub bool_cases : (b : Bool) → (b ≡ true) ⊎ (b ≡ false)
@@ -77,3 +79,11 @@ some_piece (x ∷ xs) = elim (x == 32) as (λ b. (p : List ℕ) × (ps : List (L
 -- there is always a piece
 pub pieces_none : (t : List ℕ) → pieces_of t ≡ [] → ⊥
 pieces_none t e = let k = some_piece t in let h : [] ≡ k.0 ∷ k.1 = sym e ∙ k.2 in cc
+
+-- two pieces aren't the only one
+pub no_only_word : (word rest : List ℕ) → only_word (word ∷ pieces_of rest) ≡ None
+no_only_word word rest = let k = some_piece rest in ap (λ ps. only_word (word ∷ ps)) k.2
+
+-- one that isn't sought is left out
+pub find_more : {X : Type 0} (test : X → Bool) (xs : List X) (i : ℕ) (d : X) → i < length xs → test (get_or xs i d) ≡ false → find test (drop (i + 1) xs) ≡ find test (drop i xs)
+find_more test xs i d h e = rw add-one (sym (ap (find test) (drop-cons xs i d h) ∙ rw e refl))

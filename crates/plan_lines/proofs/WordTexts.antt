@@ -321,3 +321,19 @@ first_digit n h = let d = decimal_is_IsNumeral n h in from (decimal n) d.0.0 d.0
   from : (w : List ℕ) → 0 < length w → AllDigits 10 w → (b : ℕ) × (bs : List ℕ) × (w ≡ b ∷ bs) × (48 ≤ b) × (b ≤ 57)
   from [] z a = absurd (omega arith)
   from (b ∷ bs) z a = let r = digit_from_value b a.0 in (b, bs, refl, r.0, r.1)
+
+digit_low : (d : ℕ) → d < 16 → hex_digit d < 110
+unfolding hex_digit
+digit_low d h = by_size (nat_lt d 10) refl
+  where
+  by_size : (t : Bool) → nat_lt d 10 ≡ t → cond t (48 + d) (87 + d) < 110
+  by_size true e = omega (arith, lt_is d 10 e)
+  by_size false e = omega arith
+
+-- how the word of bytes begins
+pub hex_first : (v : List ℕ) → AreBytes v → (b : ℕ) × (bs : List ℕ) × (hex_word v ≡ b ∷ bs) × (b < 110)
+unfolding hex_digits
+hex_first [] a = (45, [], refl, omega arith)
+hex_first (x ∷ xs) a =
+    let small : x < 256 = All-head (λ y. y < 256) x xs a in
+    (hex_digit (x / 16), hex_digit (x % 16) ∷ hex_digits xs, digits_are (x ∷ xs) a, digit_low (x / 16) (omega arith))

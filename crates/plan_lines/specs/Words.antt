@@ -13,6 +13,11 @@ abbrev pub line_onto : List (List ℕ) → List ℕ → List ℕ
 line_onto [] more = 10 ∷ more
 line_onto (word ∷ words) more = word ++ words_onto words (10 ∷ more)
 
+-- words with one space between them
+abbrev pub joined : List (List ℕ) → List ℕ
+joined [] = []
+joined (word ∷ words) = word ++ words_onto words []
+
 -- lines, and then more
 abbrev pub lines_onto : List (List (List ℕ)) → List ℕ → List ℕ
 lines_onto [] more = more

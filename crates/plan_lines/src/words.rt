@@ -1,9 +1,12 @@
 //! The words of a line, and what they say.
 
-ghost use Rattle.std.specs.Prelude.{◌≡◌, ℕ, ◌+◌, ◌*◌, ◌<◌, ◌≤◌, ◌↔◌, nat_le, if◌then◌else◌, [], ◌∷◌, Some, None, IfOk, IfSome, IsTrue, MatchOption};
+ghost use Rattle.std.specs.Prelude.{◌≡◌, ◌+◌, ◌*◌, ◌<◌, ◌≤◌, ◌↔◌, nat_le, if◌then◌else◌, [], ◌∷◌, Some, None, IfOk, IfSome, IsTrue, MatchOption, MatchResult};
 ghost use Rattle.std.specs.Option.{option_map};
-ghost use Rattle.plan_lines.specs.WordReading.{byte_of, bytes_in, digit_of, first_by, hex_of, nibble_of, number_after, number_upto, pieces_left, pieces_of};
+ghost use Rattle.plan_lines.specs.LineReading.{only_word, Reads, Says};
+ghost use Rattle.plan_lines.specs.Lines.{max_32};
+ghost use Rattle.plan_lines.specs.WordReading.{byte_of, bytes_in, digit_of, first_by, hex_of, nibble_of, number_upto, pieces_left, pieces_of};
 
+use crate::error::LineError;
 use std::alloc::{AllocError, Global};
 use std::marker::Model;
 
@@ -18,21 +21,34 @@ fn digit(byte: u8) -> Option<u8>
 }
 
 fn at_most(value: u64, max: u64) -> Option<u64>
-    ensures { result ≡ (if nat_le value max then Some value else None) }
+    ensures value { result ≡ (if nat_le value max then Some value else None) }
+    ensures within { IfSome result (λ n. n ≤ max) }
 {
     if value <= max { Some(value) } else { None }
 }
 
 fn with_digit(value: u64, digit: u8, max: u64) -> Option<u64>
-    ensures { result ≡ (if nat_le (value * 10 + digit) max then Some (value * 10 + digit) else None) }
+    ensures value { result ≡ (if nat_le (value * 10 + digit) max then Some (value * 10 + digit) else None) }
+    ensures within { IfSome result (λ n. n ≤ max) }
 {
     let value = value.checked_mul(10)?.checked_add(u64::from(digit))?;
     at_most(value, max)
 }
 
 /// The number, at most `max`, that decimal digits without leading zeros write.
-pub(crate) fn number_upto(word: &[u8], max: u64) -> Option<u64>
-    ensures { result ≡ number_upto max word.now }
+pub(crate) fn number_upto(word: &[u8], max: u64) -> Result<u64, LineError>
+    ensures value { Says (λ n. n) (number_upto max word.now) result }
+    ensures within { IfOk result (λ n. n ≤ max) }
+{
+    match checked_number(word, max) {
+        Some(number) => Ok(number),
+        None => Err(LineError::Invalid),
+    }
+}
+
+fn checked_number(word: &[u8], max: u64) -> Option<u64>
+    ensures value { result ≡ number_upto max word.now }
+    ensures within { IfSome result (λ n. n ≤ max) }
 {
     if word.is_empty() || word[0] == b'0' && word.len() > 1 {
         return None;
@@ -79,7 +95,16 @@ fn bytes(alloc: Global, digits: &[u8]) -> Result<Option<Vec<u8>>, AllocError>
 }
 
 /// The bytes that a word writes in lower case hexadecimal digits; a dash writes none.
-pub(crate) fn hex(alloc: Global, word: &[u8]) -> Result<Option<Vec<u8>>, AllocError>
+pub(crate) fn hex(alloc: Global, word: &[u8]) -> Result<Vec<u8>, LineError>
+    ensures { Says (λ v. v.items) (hex_of word.now) result }
+{
+    match checked_hex(alloc, word)? {
+        Some(bytes) => Ok(bytes),
+        None => Err(LineError::Invalid),
+    }
+}
+
+fn checked_hex(alloc: Global, word: &[u8]) -> Result<Option<Vec<u8>>, AllocError>
     ensures { IfOk result (λ r. option_map (λ v. v.items) r ≡ hex_of word.now) }
 {
     if word.is_empty() {
@@ -145,21 +170,62 @@ impl<'a> Words<'a> {
         }
     }
 
-    /// The number, at most `max`, that the next word writes.
-    pub(crate) fn number(&mut self, max: u64) -> Option<u64>
-        ensures value { MatchOption result (first_by (number_upto max) self.old ≡ None) (λ n. first_by (number_upto max) self.old ≡ Some (n, self.new)) }
+    /// Leaves no words.
+    pub(crate) fn finish(&mut self)
+        ensures { self.new ≡ [] }
     {
-        let word = self.next()?;
+        self.rest = None;
+    }
+
+    /// The next word.
+    pub(crate) fn word(&mut self) -> Result<&'a [u8], LineError>
+        ensures { MatchResult result (λ word. self.old ≡ word.now ∷ self.new) (λ _. self.old ≡ []) }
+    {
+        match self.next() {
+            Some(word) => Ok(word),
+            None => Err(LineError::Invalid),
+        }
+    }
+
+    /// The only word that is left.
+    #[tactic(auto, using(crate::proofs::Cut::no_only_word))]
+    pub(crate) fn only(&self) -> Option<&'a [u8]>
+        ensures { option_map (λ word. word.now) result ≡ only_word self.now }
+    {
+        match cut(self.rest?) {
+            (word, None) => Some(word),
+            (_word, Some(_rest)) => None,
+        }
+    }
+
+    /// The number, at most `max`, that the next word writes.
+    pub(crate) fn number(&mut self, max: u64) -> Result<u64, LineError>
+        ensures value { Reads (λ n. n) (first_by (number_upto max) self.old) result self.new }
+        ensures within { IfOk result (λ n. n ≤ max) }
+    {
+        let word = self.word()?;
         number_upto(word, max)
     }
 
-    /// The bytes that the next word writes.
-    pub(crate) fn bytes(&mut self, alloc: Global) -> Result<Option<Vec<u8>>, AllocError>
-        ensures { IfOk result (λ r. MatchOption r (first_by hex_of self.old ≡ None) (λ v. first_by hex_of self.old ≡ Some (v.items, self.new))) }
+    pub(crate) fn number_32(&mut self) -> Result<u32, LineError>
+        ensures { Reads (λ n. n) (first_by (number_upto max_32) self.old) result self.new }
     {
-        let Some(word) = self.next() else {
-            return Ok(None);
-        };
+        let number = self.number(0xffff_ffff)?;
+        Ok(number as u32)
+    }
+
+    pub(crate) fn number_8(&mut self) -> Result<u8, LineError>
+        ensures { Reads (λ n. n) (first_by (number_upto 255) self.old) result self.new }
+    {
+        let number = self.number(255)?;
+        Ok(number as u8)
+    }
+
+    /// The bytes that the next word writes.
+    pub(crate) fn bytes(&mut self, alloc: Global) -> Result<Vec<u8>, LineError>
+        ensures { Reads (λ v. v.items) (first_by hex_of self.old) result self.new }
+    {
+        let word = self.word()?;
         hex(alloc, word)
     }
 }
