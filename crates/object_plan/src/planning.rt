@@ -5,7 +5,8 @@ ghost use Rattle.std.specs.List.{All};
 ghost use Rattle.std.specs.Option.{option_copied, option_map};
 ghost use Rattle.btf_sanitizing.specs.Answers.{AreDistinct, features};
 ghost use Rattle.object_plan.specs.Plans.{HoldsTypeBytes, func_records_of, line_records_of, plan_of, plan_program_of, program_of, type_bytes};
-ghost use Rattle.plan_text.specs.Content.{AreRising, AreTables, AreTypeBytes, IsSoundMap, IsSoundProgram, map_names, program_names};
+ghost use Rattle.plan_text.specs.Content.{AreRising, AreTypeBytes, IsSoundMap, IsSoundProgram, map_names, program_names};
+ghost use Rattle.plan_lines.specs.Lines.{AreTables};
 
 use btf_extension::{FuncSecInfo, LineSecInfo};
 use btf_sanitizing::Answers;

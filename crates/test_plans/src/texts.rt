@@ -1,6 +1,6 @@
 //! Plans and their texts, and writers that fail.
 
-ghost use Rattle.plan_text.specs.Content.{AreTables};
+ghost use Rattle.plan_lines.specs.Lines.{AreTables};
 
 use plan_text::{
     Answers, BtfFeature, FuncSecInfo, LineSecInfo, MapWords, PinningType, Plan, PlanMap, PlanParts,
