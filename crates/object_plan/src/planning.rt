@@ -14,7 +14,7 @@ use btf_tables::Btf;
 use ebpf_items::{ProgramSection, Slots};
 use ebpf_object::{Function, Object};
 use function_types::is_denied;
-use plan_text::{Plan, PlanMap, PlanParts, PlanProgram};
+use plan_text::{Plan, PlanMap, PlanParts, PlanProgram, plan_of_parts};
 use std::alloc::{AllocError, Global};
 
 /// The section as which an object's types are written: none where it has no type.
@@ -148,7 +148,7 @@ pub fn plan_of<'a>(
 {
     let type_bytes = type_bytes(object.btf())?;
     let programs = plan_programs(alloc, object, &answers, type_bytes.is_some())?;
-    Ok(Plan::new(PlanParts {
+    Ok(plan_of_parts(PlanParts {
         license: object.license(),
         version: object.kernel_version(),
         features: answers,

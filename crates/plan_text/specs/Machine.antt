@@ -215,10 +215,21 @@ plan_at s = record {
 abbrev pub Takes : Option StateContent → Bool → StateContent → Type 0
 Takes said taken s = said ≡ (if taken then Some s else None)
 
--- The line of these bytes is taken, which leads to a state; or they are no line, or one that may not stand there.
+-- some line has these bytes, and each line of these bytes leads to the state
+pub record TookLine (s : StateContent) (bytes : List ℕ) (t : StateContent) : Type 0 where
+  pub line : LineContent
+  pub sound : IsSoundLine line
+  pub text : bytes ≡ line_text line
+  pub steps : step s line ≡ Some t
+  pub only : (other : LineContent) → IsSoundLine other → bytes ≡ line_text other → step s other ≡ Some t
+
+-- no line of these bytes may stand there
+pub record RefusedLine (s : StateContent) (bytes : List ℕ) : Type 0 where
+  pub none : (line : LineContent) → IsSoundLine line → bytes ≡ line_text line → step s line ≡ None
+
 abbrev pub TakesLine : StateContent → List ℕ → StateContent → Bool → Type 0
-TakesLine s bytes t true = (line : LineContent) × IsSoundLine line × (bytes ≡ line_text line) × (step s line ≡ Some t)
-TakesLine s bytes t false = (line : LineContent) → IsSoundLine line → bytes ≡ line_text line → step s line ≡ None
+TakesLine s bytes t true = TookLine s bytes t
+TakesLine s bytes t false = RefusedLine s bytes
 
 -- records are counted in 32 bits
 abbrev pub HasFewRecords : Option ProgramContent → Type 0
