@@ -1,3 +1,6 @@
+mod ReadingLaws
+mod Room
+mod StateLaws
 mod StepLaws
 mod Texts
 mod Unbroken

@@ -198,7 +198,7 @@ map_steps : (v : TextVersion) (license : List ℕ) (version : Option ℕ) (answe
     IsSoundMap m → follows (option_map (λ x. x.name) last) m.name ≡ true →
     steps (state AtMaps v license version answers type_bytes maps last [] None) (lines_of_map m ++ rest)
     ≡ steps (state AtMaps v license version answers type_bytes (with_last maps last) (Some m) [] None) rest
-map_steps v license version answers type_bytes maps last m rest sound f = by_inner m.inner sound.inner
+map_steps v license version answers type_bytes maps last m rest sound f = by_inner m.inner sound
   where
   bare : MapContent
   bare = map_of m.name m.number m.is_btf m.words m.contents
@@ -264,9 +264,9 @@ IsBetween AtFuncs = Unit {0}
 IsBetween AtLines = Unit {0}
 IsBetween _ = ⊥
 
-abbrev KnowsNone : TextVersion → ProgramContent → Type 0
-KnowsNone First p = p.tables ≡ None
-KnowsNone Second p = Unit {0}
+abbrev KnowsNone : TextVersion → Option (List ℕ) → Type 0
+KnowsNone First tables = tables ≡ None
+KnowsNone Second tables = Unit {0}
 
 between_after : (records : List bpf_line_info) → IsBetween (after_sources records)
 between_after [] = tt
@@ -274,7 +274,7 @@ between_after (r ∷ records) = tt
 
 abbrev AllKnowNone : TextVersion → List ProgramContent → Type 0
 AllKnowNone w [] = Unit {0}
-AllKnowNone w (p ∷ ps) = KnowsNone w p × AllKnowNone w ps
+AllKnowNone w (p ∷ ps) = KnowsNone w p.tables × AllKnowNone w ps
 
 module _ (v : TextVersion) (license : List ℕ) (version : Option ℕ) (answers : Answers) (type_bytes : Option (List ℕ)) (maps : List MapContent) (last_map : Option MapContent) where
   abbrev at : Phase → List ProgramContent → Option ProgramContent → StateContent
@@ -343,13 +343,13 @@ module _ (v : TextVersion) (license : List ℕ) (version : Option ℕ) (answers 
   ends AtEnd b programs last = absurd b
 
   -- slots, and then tables where the text has them
-  slots_steps : (w : TextVersion) → v ≡ w → (programs : List ProgramContent) (name : List ℕ) (section : ProgramSection) (bytes : List ℕ) (tables : Option (List ℕ)) (rest : List LineContent) → KnowsNone w (record (bare_program name section) { tables = tables }) →
+  slots_steps : (w : TextVersion) → v ≡ w → (programs : List ProgramContent) (name : List ℕ) (section : ProgramSection) (bytes : List ℕ) (tables : Option (List ℕ)) (rest : List LineContent) → KnowsNone w tables →
       steps (at AtSlots programs (Some (bare_program name section))) (Slots bytes ∷ (tables_of w tables ++ rest))
       ≡ steps (at AtFuncs programs (Some (record (bare_program name section) { slots = slots_of bytes; tables = tables }))) rest
   slots_steps First e programs name section bytes tables rest k = rw (e, k) refl
   slots_steps Second e programs name section bytes tables rest k = rw e refl
 
-  program_steps : (phase : Phase) → IsBetween phase → (programs : List ProgramContent) (last : Option ProgramContent) (p : ProgramContent) (rest : List LineContent) → FitsProgram p → KnowsNone v p → follows (option_map (λ x. x.name) last) p.name ≡ true →
+  program_steps : (phase : Phase) → IsBetween phase → (programs : List ProgramContent) (last : Option ProgramContent) (p : ProgramContent) (rest : List LineContent) → FitsProgram p → KnowsNone v p.tables → follows (option_map (λ x. x.name) last) p.name ≡ true →
       steps (at phase programs last) (lines_of_program v p ++ rest)
       ≡ steps (at (after_sources p.line_records) (with_last programs last) (Some p)) rest
   program_steps phase b programs last p rest fits k f =

@@ -1,5 +1,5 @@
 -- Lines without line feeds.
-use Rattle.std.proofs.Common.{◌≡◌, ◌≢◌, ℕ, zero, suc, ◌+◌, ◌<◌, List, [], ◌∷◌, ◌++◌, length, take, get_or, refl, ap, arith, add-one}
+use Rattle.std.proofs.Common.{◌≡◌, ◌≢◌, ℕ, zero, suc, ◌+◌, ◌<◌, List, [], ◌∷◌, ◌++◌, length, take, get_or, refl, ap, ◌∙◌, arith, add-one}
 use Rattle.plan_lines.specs.WordReading.{IsUnbroken}
 
 unbroken-more_suc : (xs : List ℕ) (n : ℕ) → IsUnbroken (take n xs) → n < length xs → get_or xs n 0 ≢ 10 → IsUnbroken (take (suc n) xs)

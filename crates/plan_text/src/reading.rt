@@ -163,7 +163,7 @@ impl Reader {
     {
         match self.phase {
             Phase::AtFeatures => {
-                if is_asked(&self.features, feature) {
+                if is_asked(self.features.as_slice(), feature) {
                     return false;
                 }
                 self.features.push((feature, answer));
@@ -470,10 +470,10 @@ impl Reader {
 }
 
 /// Whether a feature was asked about.
-fn is_asked(answers: &Answers, feature: BtfFeature) -> bool
-    ensures { result ≡ is_asked answers.now.items feature }
+fn is_asked(answers: &[(BtfFeature, bool)], feature: BtfFeature) -> bool
+    ensures { result ≡ is_asked answers.now feature }
 {
-    for answer in answers.as_slice() {
+    for answer in answers {
         if answer.0 as u8 == feature as u8 {
             return true;
         }
