@@ -28,10 +28,12 @@ use Rattle.plan_text.proofs.StepLaws.{done, inner_of, line_of_answer, line_of_fu
 use Rattle.plan_text.proofs.Texts.{text_of_lines-append, words_onto-split}
 use Rattle.plan_text.proofs.Unbroken.{not_unbroken, one_line}
 use Rattle.plan_text.specs.Content.{FitsFunc, FitsMap, FitsPlan, FitsProgram, FitsSlot, FitsSource, IsSoundMap, IsSoundPlan, IsSoundProgram, MapContent, PlanContent, ProgramContent}
+use Rattle.plan_text.specs.declared.reading.PlanReadError.{PlanReadError}
+use Rattle.plan_text.specs.declared.reading.PlanReadError.TheVariants as error
 use Rattle.plan_text.specs.declared.reading.Phase.{Phase}
 use Rattle.plan_text.specs.Machine.{HasFewRecords, RefusedLine, StateContent, Takes, TakesLine, TookLine, kept_plan, plan_at, start, step, with_last}
 use Rattle.plan_text.specs.PlanGrammar.{AreTablesIn, BeginsPlanText, IsPlanText, IsTextOf, Spells, end_line, feature_line, func_line, inner_lines, map_lines, plan_lines, program_lines, slot_bytes, source_line, tables_lines, text_in}
-use Rattle.plan_text.specs.Reading.{AreUnbroken, EndsPlanText, IsFirstBadLine, ReadsAs, ended}
+use Rattle.plan_text.specs.Reading.{AreUnbroken, EndsPlanText, IsFirstBadLine, IsReadFault, IsReadPlan, ReadsAs, ended}
 use Rattle.plan_text.specs.declared.reading.Phase.TheVariants.{AtEnd}
 
 -- ---- the words of the lines of a plan
@@ -371,11 +373,11 @@ at_end s g e = from s.phase e g.reached
   from AtEnd e r = r
   from phase e r = cc
 
-pub kept_sound : (bytes rest : List ℕ) (lines : ℕ) (s : StateContent) → IsReading bytes rest lines s → s.phase ≡ AtEnd → IsSoundPlan (kept_plan s)
+kept_sound : (bytes rest : List ℕ) (lines : ℕ) (s : StateContent) → IsReading bytes rest lines s → s.phase ≡ AtEnd → IsSoundPlan (kept_plan s)
 kept_sound bytes rest lines s r e = subst IsSoundPlan (sym (kept_is s (at_end s r.good e))) r.good.plan.sound
 
 -- the whole text is that of the plan
-pub found : (bytes rest : List ℕ) (lines : ℕ) (s : StateContent) → IsReading bytes rest lines s → rest ≡ [] → s.phase ≡ AtEnd → IsTextOf (kept_plan s) bytes
+found : (bytes rest : List ℕ) (lines : ℕ) (s : StateContent) → IsReading bytes rest lines s → rest ≡ [] → s.phase ≡ AtEnd → IsTextOf (kept_plan s) bytes
 found bytes rest lines s r none e =
     let plan = r.good.plan in
     subst (λ (q : PlanContent). IsTextOf q bytes) (sym (kept_is s (at_end s r.good e)))
@@ -387,7 +389,7 @@ found bytes rest lines s r none e =
     })
 
 -- a plan with this text is the one that was read
-pub only_this : (bytes rest : List ℕ) (lines : ℕ) (s : StateContent) (q : PlanContent) → IsReading bytes rest lines s → IsUnbroken rest → IsTextOf q bytes → kept_plan s ≡ q
+only_this : (bytes rest : List ℕ) (lines : ℕ) (s : StateContent) (q : PlanContent) → IsReading bytes rest lines s → IsUnbroken rest → IsTextOf q bytes → kept_plan s ≡ q
 only_this bytes rest lines s q r u h =
     let e = leads_end s rest h.0 q u (r.knows.each h.0 q rest (respell h.0 q bytes (ended r.before ++ rest) r.split h.1)) in
     ap kept_plan e.1
@@ -398,6 +400,14 @@ few_records (Some p) programs h = let f = the_last FitsProgram programs p h in (
 
 pub few : (s : StateContent) → IsGood s → HasFewRecords s.last_program
 few s g = few_records s.last_program s.programs g.plan.fits.programs
+
+-- a text that was read to its end
+pub is_read : (bytes rest : List ℕ) (lines : ℕ) (s : StateContent) → IsReading bytes rest lines s → IsUnbroken rest → rest ≡ [] → s.phase ≡ AtEnd → IsReadPlan bytes (kept_plan s)
+is_read bytes rest lines s r u none e = record {
+  sound = kept_sound bytes rest lines s r e;
+  text = found bytes rest lines s r none e;
+  only = λ other h. only_this bytes rest lines s other r u h;
+}
 
 -- ---- a line from its bytes
 
@@ -414,3 +424,10 @@ took s t bytes read (Ok false) is h = record { none = λ other sound text. ap (s
 
 pub not_read : (s : StateContent) (bytes : List ℕ) → IsReadLine bytes (Err Invalid) → RefusedLine s bytes
 not_read s bytes is = record { none = λ line sound text. let e : Invalid ≡ OutOfMemory = is.only line sound text in absurd cc }
+
+-- ---- the whole
+
+-- what reading gives of a plan whose text the bytes are, where they aren't read
+pub not_as : (bytes : List ℕ) (e : PlanReadError) (q : PlanContent) → IsReadFault bytes e → IsTextOf q bytes → ReadsAs (Err e) q
+not_as bytes (error.Line n) q fault h = fault.none (q, h)
+not_as bytes error.OutOfMemory q fault h = tt

@@ -1,5 +1,7 @@
 -- Lines without line feeds.
-use Rattle.std.proofs.Common.{◌≡◌, ◌≢◌, ℕ, zero, suc, ◌+◌, ◌<◌, List, [], ◌∷◌, ◌++◌, length, take, get_or, refl, ap, ◌∙◌, arith, add-one}
+use Rattle.std.proofs.Common.{◌≡◌, ◌≢◌, ℕ, zero, suc, ◌+◌, ◌<◌, true, List, [], ◌∷◌, ◌++◌, length, take, get_or, refl, ap, ◌∙◌, arith, add-one}
+use Rattle.std.specs.Prelude.{◌==◌}
+use Rattle.std.proofs.lemmas.Bool.Decides.{nat_tests}
 use Rattle.plan_lines.specs.WordReading.{IsUnbroken}
 
 unbroken-more_suc : (xs : List ℕ) (n : ℕ) → IsUnbroken (take n xs) → n < length xs → get_or xs n 0 ≢ 10 → IsUnbroken (take (suc n) xs)
@@ -10,9 +12,9 @@ unbroken-more_suc (x ∷ xs) (suc n) p h e = (p.0, unbroken-more_suc xs n p.1 (o
 pub unbroken-more : (xs : List ℕ) (n : ℕ) → IsUnbroken (take n xs) → n < length xs → get_or xs n 0 ≢ 10 → IsUnbroken (take (n + 1) xs)
 unbroken-more xs n p h e = rw add-one (unbroken-more_suc xs n p h e)
 
-pub empty_is : (xs : List ℕ) → length xs ≡ 0 → xs ≡ []
+pub empty_is : (xs : List ℕ) → (length xs == 0) ≡ true → xs ≡ []
 empty_is [] h = refl
-empty_is (x ∷ xs) h = absurd (omega arith)
+empty_is (x ∷ xs) h = let e : length (x ∷ xs) ≡ 0 = grind (arith, nat_tests) in absurd (omega (arith, e))
 
 -- the first line of a text is one alone
 pub one_line : (l m s t : List ℕ) → IsUnbroken l → IsUnbroken m → l ++ 10 ∷ s ≡ m ++ 10 ∷ t → (l ≡ m) × (s ≡ t)

@@ -1,8 +1,8 @@
 -- What reading a plan gives.
 use Rattle.std.specs.Prelude.{◌≡◌, ℕ, ◌+◌, ◌⊎◌, List, [], ◌∷◌, ◌++◌, length, Result, Ok, Err}
 use Rattle.plan_lines.specs.WordReading.{IsUnbroken}
-use Rattle.plan_text.specs.Content.{PlanContent}
-use Rattle.plan_text.specs.PlanGrammar.{BeginsPlanText, IsPlanText}
+use Rattle.plan_text.specs.Content.{IsSoundPlan, PlanContent}
+use Rattle.plan_text.specs.PlanGrammar.{BeginsPlanText, IsPlanText, IsTextOf}
 use Rattle.plan_text.specs.declared.reading.PlanReadError.{PlanReadError}
 use Rattle.plan_text.specs.declared.reading.PlanReadError.TheVariants as error
 
@@ -40,6 +40,12 @@ pub record IsFirstBadLine (bytes : List ℕ) (bad_line : ℕ) : Type 0 where
 abbrev pub IsReadFault : List ℕ → PlanReadError → Type 0
 IsReadFault bytes (error.Line number) = IsFirstBadLine bytes number
 IsReadFault bytes error.OutOfMemory = Unit {0}
+
+-- the bytes are a text of this plan, and of no other
+pub record IsReadPlan (bytes : List ℕ) (plan : PlanContent) : Type 0 where
+  pub sound : IsSoundPlan plan
+  pub text : IsTextOf plan bytes
+  pub only : (other : PlanContent) → IsTextOf other bytes → plan ≡ other
 
 -- the plan came, or memory ran out
 abbrev pub ReadsAs : Result PlanContent PlanReadError → PlanContent → Type 0

@@ -1,6 +1,6 @@
 //! A plan from its text.
 
-ghost use Rattle.std.specs.Prelude.{◌≡◌, ◌<◌, ◌^◌, ◌++◌, ◌∷◌, Some, None, nat_lt, ◌+◌, ◌-◌, length, IfErr, IfOk, MatchOption, OnOk};
+ghost use Rattle.std.specs.Prelude.{◌≡◌, ◌<◌, ◌^◌, ◌++◌, ◌∷◌, Some, None, nat_lt, ◌+◌, ◌-◌, length, IfErr, IfOk, IsTrue, MatchOption, OnOk, ◌↔◌};
 ghost use Rattle.std.specs.Option.{option_map};
 ghost use Rattle.std.specs.String.{string_bytes};
 ghost use Rattle.btf_sanitizing.specs.Answers.{features, AreDistinct};
@@ -10,7 +10,7 @@ ghost use Rattle.plan_lines.specs.WordReading.{IsUnbroken};
 ghost use Rattle.plan_text.specs.Content.{IsSoundPlan, PlanContent};
 ghost use Rattle.plan_text.specs.Machine.{after_slots, at_program, bare_program, begin_program, finished, follows, is_asked, kept_plan, last_map_name, last_program_name, map_of, program_view, start, state_view, step, step_end, step_feature, step_func, step_header, step_inner, step_license, step_map, step_program, step_slots, step_source, step_tables, step_types, step_version, with_last, with_source, HasFewRecords, Takes, TakesLine};
 ghost use Rattle.plan_text.specs.PlanGrammar.{IsTextOf};
-ghost use Rattle.plan_text.specs.Reading.{IsReadFault, ReadsAs};
+ghost use Rattle.plan_text.specs.Reading.{IsReadFault, IsReadPlan, ReadsAs};
 ghost use Rattle.plan_text.specs.declared.reading.PlanReadError.TheVariants.{OutOfMemory};
 
 use crate::plan::{Plan, PlanMap, PlanProgram};
@@ -454,6 +454,41 @@ impl Reader {
         }
     }
 
+    fn is_finished(&self) -> bool
+        ensures { IsTrue result ↔ (self.now.phase ≡ Phase.AtEnd) }
+    {
+        match self.phase {
+            Phase::AtEnd => true,
+            _ => false,
+        }
+    }
+
+    /// Takes all lines of a text.
+    fn take_all(&mut self, alloc: Global, bytes: &[u8]) -> Result<(), PlanReadError>
+        requires fresh { state_view self.old ≡ start }
+        requires few { length bytes.now < 2 ^ 64 - 1 }
+        ensures read { OnOk result (IsReadPlan bytes.now (kept_plan (state_view self.new))) }
+        ensures refused { IfErr result (IsReadFault bytes.now) }
+    {
+        lines_are_unbroken();
+        let mut rest = bytes;
+        let mut lines = 0;
+        while let Some((line, others)) = cut_line(rest) {
+            lines += 1;
+            if !self.take(alloc, line)? {
+                return Err(PlanReadError::Line(lines));
+            }
+            rest = others;
+        }
+        if !rest.is_empty() {
+            return Err(PlanReadError::Line(lines + 1));
+        }
+        if !self.is_finished() {
+            return Err(PlanReadError::Line(lines + 1));
+        }
+        Ok(())
+    }
+
     fn into_plan(self) -> Plan<'static>
         requires { IsSoundPlan (kept_plan (state_view self)) }
         ensures { result ≡ kept_plan (state_view self) }
@@ -534,23 +569,8 @@ impl Plan<'static> {
         ensures only { (plan : PlanContent) → IsTextOf plan bytes.now → ReadsAs result plan }
         ensures refused { IfErr result (IsReadFault bytes.now) }
     {
-        lines_are_unbroken();
         let mut reader = Reader::new(alloc);
-        let mut rest = bytes;
-        let mut lines = 0;
-        while let Some((line, others)) = cut_line(rest) {
-            lines += 1;
-            if !reader.take(alloc, line)? {
-                return Err(PlanReadError::Line(lines));
-            }
-            rest = others;
-        }
-        if !rest.is_empty() {
-            return Err(PlanReadError::Line(lines + 1));
-        }
-        match reader.phase {
-            Phase::AtEnd => Ok(reader.into_plan()),
-            _ => Err(PlanReadError::Line(lines + 1)),
-        }
+        reader.take_all(alloc, bytes)?;
+        Ok(reader.into_plan())
     }
 }
