@@ -153,7 +153,7 @@ section_takes n section h =
 pub section_again : (section : ProgramSection) → section_of (kind_numbers section) ≡ Some section
 section_again section = again (kind_numbers section) (kind_is section).likely refl
   where
-  again : (n : KindNumbers) → likely_section n ≡ section → kind_numbers section ≡ n → section_of n ≡ Some section
-  again n e f =
-      ap (λ s. cond (are_same (kind_numbers s) n) (Some s) None) e
-      ∙ (ap (λ m. cond (are_same m n) (Some section) None) f ∙ rw (same_itself n) refl)
+    again : (n : KindNumbers) → likely_section n ≡ section → kind_numbers section ≡ n → section_of n ≡ Some section
+    again n e f =
+        ap (λ s. cond (are_same (kind_numbers s) n) (Some s) None) e
+        ∙ (ap (λ m. cond (are_same m n) (Some section) None) f ∙ rw (same_itself n) refl)

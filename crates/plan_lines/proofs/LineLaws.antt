@@ -235,10 +235,11 @@ map_line_takes ws read h =
     let j = then_takes (first_by hex_of d.1) (λ contents left. Some (Map a.0 b.0 c.0 d.0 contents, left)) read e.1 in
     let k = first_takes hex_of d.1 j.0 j.1 j.2 in
     let contents = hex_of_is k.0 j.0 k.2 in
-    subst (IsTaken keyword.Map ws) (some_is (Map a.0 b.0 c.0 d.0 j.0, j.1) read j.3)
-    (refl,
+    subst (IsTaken keyword.Map ws) (some_is (Map a.0 b.0 c.0 d.0 j.0, j.1) read j.3) (
+      refl,
       f.1 ∙ (ap (λ w. w ∷ a.1) name.0 ∙ ap (λ v. hex_word a.0 ∷ v) (g.1 ∙ (ap (λ w. w ∷ b.1) number.0 ∙ ap (λ v. decimal b.0 ∷ v) (i.1 ∙ (ap (λ w. w ∷ c.1) form ∙ ap (λ v. form_word c.0 ∷ v) (words.0 ∙ ap (λ v. map decimal (numbers_of d.0) ++ v) (k.1 ∙ ap (λ w. w ∷ j.1) contents.0))))))),
-      (name.1, number.1, words.1, words_of_is c.0 d.0 e.0, contents.1))
+      (name.1, number.1, words.1, words_of_is c.0 d.0 e.0, contents.1),
+    )
 
 inner_line_takes : (ws : List (List ℕ)) (read : LineContent × List (List ℕ)) → arguments_by keyword.Inner ws ≡ Some read → IsTaken keyword.Inner ws read
 inner_line_takes ws read h =
@@ -256,12 +257,12 @@ section_words_take ws section rest h =
     let P : ProgramSection × List (List ℕ) → Type 0 = λ p. ws ≡ map decimal (kind_list (kind_numbers p.0)) ++ p.1 in
     subst P m.2 (n.0 ∙ ap (λ v. map decimal v ++ a.1) (three a.0 n.1 ∙ ap kind_list s))
   where
-  three : (ns : List ℕ) → AreWithin (255 ∷ 255 ∷ 255 ∷ []) ns → ns ≡ slice_index ns 0 ∷ slice_index ns 1 ∷ slice_index ns 2 ∷ []
-  three [] w = absurd w
-  three (a ∷ []) w = absurd w.1
-  three (a ∷ b ∷ []) w = absurd w.1.1
-  three (a ∷ b ∷ c ∷ []) w = refl
-  three (a ∷ b ∷ c ∷ d ∷ ns) w = absurd w.1.1.1
+    three : (ns : List ℕ) → AreWithin (255 ∷ 255 ∷ 255 ∷ []) ns → ns ≡ slice_index ns 0 ∷ slice_index ns 1 ∷ slice_index ns 2 ∷ []
+    three [] w = absurd w
+    three (a ∷ []) w = absurd w.1
+    three (a ∷ b ∷ []) w = absurd w.1.1
+    three (a ∷ b ∷ c ∷ []) w = refl
+    three (a ∷ b ∷ c ∷ d ∷ ns) w = absurd w.1.1.1
 
 program_line_takes : (ws : List (List ℕ)) (read : LineContent × List (List ℕ)) → arguments_by keyword.Program ws ≡ Some read → IsTaken keyword.Program ws read
 program_line_takes ws read h =
@@ -281,11 +282,11 @@ func_line_takes ws read h =
     subst (IsTaken keyword.Func ws) (some_is (Func (slice_index a.0 0) (slice_index a.0 1), a.1) read a.3)
     (refl, n.0 ∙ ap (λ v. map decimal v ++ a.1) e, subst (AreWithin (max_32 ∷ max_32 ∷ [])) e n.1)
   where
-  two : (ns : List ℕ) → AreWithin (max_32 ∷ max_32 ∷ []) ns → ns ≡ slice_index ns 0 ∷ slice_index ns 1 ∷ []
-  two [] w = absurd w
-  two (a ∷ []) w = absurd w.1
-  two (a ∷ b ∷ []) w = refl
-  two (a ∷ b ∷ c ∷ ns) w = absurd w.1.1
+    two : (ns : List ℕ) → AreWithin (max_32 ∷ max_32 ∷ []) ns → ns ≡ slice_index ns 0 ∷ slice_index ns 1 ∷ []
+    two [] w = absurd w
+    two (a ∷ []) w = absurd w.1
+    two (a ∷ b ∷ []) w = refl
+    two (a ∷ b ∷ c ∷ ns) w = absurd w.1.1
 
 source_line_takes : (ws : List (List ℕ)) (read : LineContent × List (List ℕ)) → arguments_by keyword.Source ws ≡ Some read → IsTaken keyword.Source ws read
 source_line_takes ws read h =
@@ -295,13 +296,13 @@ source_line_takes ws read h =
     subst (IsTaken keyword.Source ws) (some_is (Source (slice_index a.0 0) (slice_index a.0 1) (slice_index a.0 2) (slice_index a.0 3), a.1) read a.3)
     (refl, n.0 ∙ ap (λ v. map decimal v ++ a.1) e, subst (AreWithin (max_32 ∷ max_32 ∷ max_32 ∷ max_32 ∷ [])) e n.1)
   where
-  four : (ns : List ℕ) → AreWithin (max_32 ∷ max_32 ∷ max_32 ∷ max_32 ∷ []) ns → ns ≡ slice_index ns 0 ∷ slice_index ns 1 ∷ slice_index ns 2 ∷ slice_index ns 3 ∷ []
-  four [] w = absurd w
-  four (a ∷ []) w = absurd w.1
-  four (a ∷ b ∷ []) w = absurd w.1.1
-  four (a ∷ b ∷ c ∷ []) w = absurd w.1.1.1
-  four (a ∷ b ∷ c ∷ d ∷ []) w = refl
-  four (a ∷ b ∷ c ∷ d ∷ e ∷ ns) w = absurd w.1.1.1.1
+    four : (ns : List ℕ) → AreWithin (max_32 ∷ max_32 ∷ max_32 ∷ max_32 ∷ []) ns → ns ≡ slice_index ns 0 ∷ slice_index ns 1 ∷ slice_index ns 2 ∷ slice_index ns 3 ∷ []
+    four [] w = absurd w
+    four (a ∷ []) w = absurd w.1
+    four (a ∷ b ∷ []) w = absurd w.1.1
+    four (a ∷ b ∷ c ∷ []) w = absurd w.1.1.1
+    four (a ∷ b ∷ c ∷ d ∷ []) w = refl
+    four (a ∷ b ∷ c ∷ d ∷ e ∷ ns) w = absurd w.1.1.1.1
 
 -- tables are these words, and their places rise
 abbrev AreTaken : List (List ℕ) → Option (List ℕ) → Type 0
@@ -313,10 +314,10 @@ some_take ws tables h =
     let r = places_take None ws p.0 p.1 in
     by_places p.0 r.0 r.1 p.2
   where
-  by_places : (places : List ℕ) → ws ≡ map decimal places → Rise None places → some_tables places ≡ Some tables → AreTaken ws tables
-  by_places [] e r h = cc
-  by_places (place ∷ places) e r h =
-      subst (AreTaken ws) (some_is (Some (place ∷ places)) tables h) (e, rise_tables None (place ∷ places) r)
+    by_places : (places : List ℕ) → ws ≡ map decimal places → Rise None places → some_tables places ≡ Some tables → AreTaken ws tables
+    by_places [] e r h = cc
+    by_places (place ∷ places) e r h =
+        subst (AreTaken ws) (some_is (Some (place ∷ places)) tables h) (e, rise_tables None (place ∷ places) r)
 
 tables_take : (ws : List (List ℕ)) (tables : Option (List ℕ)) → tables_by ws ≡ Some tables → AreTaken ws tables
 tables_take [] tables h = some_take [] tables h
@@ -362,7 +363,7 @@ some_again place places t = ap (option_and_then some_tables) (places_again None 
 no_sign : (n sign : ℕ) → n < 2 ^ 64 → (sign < 48) ⊎ (57 < sign) → bytes_eq (decimal n) (sign ∷ []) ≡ false
 no_sign n sign h s =
     let d = first_digit n h in
-    not_same (decimal n) (sign ∷ []) d.0 sign d.1 [] d.2 refl (elim s [ | inl low ↦ eq_more d.0 sign (omega (arith, d.3)) | inr high ↦ eq_less d.0 sign (omega (arith, d.4)) ])
+    not_same (decimal n) (sign ∷ []) d.0 sign d.1 [] d.2 refl (elim s [ inl low ↦ eq_more d.0 sign (omega (arith, d.3)) | inr high ↦ eq_less d.0 sign (omega (arith, d.4)) ])
 
 tables_again : (tables : Option (List ℕ)) → IsSoundLine (Tables tables) → tables_by (table_words tables) ≡ Some tables
 tables_again None h = refl

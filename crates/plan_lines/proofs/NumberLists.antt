@@ -99,9 +99,9 @@ numbers_are i (max ∷ maxima) numbers (n ∷ others) e w =
 pinning_is : (n : ℕ) → n ≤ 1 → pinning_number (pinning_of n) ≡ n
 pinning_is n h = by_test (n == 1) refl
   where
-  by_test : (b : Bool) → (n == 1) ≡ b → pinning_number (pinning_of n) ≡ n
-  by_test true e = rw e (let k : n ≡ 1 = grind (arith, nat_tests) in sym k)
-  by_test false e = rw e (let k : n ≡ 0 = grind (arith, nat_tests) in sym k)
+    by_test : (b : Bool) → (n == 1) ≡ b → pinning_number (pinning_of n) ≡ n
+    by_test true e = rw e (let k : n ≡ 1 = grind (arith, nat_tests) in sym k)
+    by_test false e = rw e (let k : n ≡ 0 = grind (arith, nat_tests) in sym k)
 
 -- a number at each place
 abbrev placed : List ℕ → ℕ → List ℕ
@@ -111,12 +111,14 @@ placed n pinned =
 pub words_take : (numbers : List ℕ) → AreWithin word_limits numbers → numbers ≡ numbers_of (words_of numbers)
 words_take numbers h = from (slice_index numbers 6) (pinned (slice_index numbers 6) (subst (AreWithin word_limits) whole h)) whole
   where
-  whole : numbers ≡ placed numbers (slice_index numbers 6)
-  whole = sym (numbers_are 0 word_limits numbers numbers refl h)
-  pinned : (n : ℕ) → AreWithin word_limits (placed numbers n) → n ≤ 1
-  pinned n w = w.1.1.1.1.1.1.0
-  from : (n : ℕ) → n ≤ 1 → numbers ≡ placed numbers n → numbers ≡ placed numbers (pinning_number (pinning_of n))
-  from n few e = e ∙ ap (placed numbers) (sym (pinning_is n few))
+    whole : numbers ≡ placed numbers (slice_index numbers 6)
+    whole = sym (numbers_are 0 word_limits numbers numbers refl h)
+
+    pinned : (n : ℕ) → AreWithin word_limits (placed numbers n) → n ≤ 1
+    pinned n w = w.1.1.1.1.1.1.0
+
+    from : (n : ℕ) → n ≤ 1 → numbers ≡ placed numbers n → numbers ≡ placed numbers (pinning_number (pinning_of n))
+    from n few e = e ∙ ap (placed numbers) (sym (pinning_is n few))
 
 pinning_again : (p : PinningType) → pinning_of (pinning_number p) ≡ p
 pinning_again pinning.None = refl
@@ -170,7 +172,7 @@ pub places_again : (last : Option ℕ) (places : List ℕ) → Rise last places 
 places_again last [] h = refl
 places_again last (place ∷ places) h =
     let one : place_by last (decimal place) ≡ Some place =
-        ap (option_and_then (λ n. cond (is_above last n) (Some n) None)) (number_upto_decimal max_32 (lit< tt) place (omega arith)) ∙ rw h.1 refl in
+    ap (option_and_then (λ n. cond (is_above last n) (Some n) None)) (number_upto_decimal max_32 (lit< tt) place (omega arith)) ∙ rw h.1 refl in
     ap (option_and_then (λ n. onto (Some n) (places_by (Some n) (map decimal places)))) one
     ∙ ap (onto (Some place)) (places_again (Some place) places h.2)
 
@@ -183,10 +185,10 @@ lt_true m n h = grind (arith, nat_tests)
 less_is : (m n : ℕ) → nat_cmp m n ≡ Less → nat_lt m n ≡ true
 less_is m n h = by_tests (nat_lt m n) (m == n) h
   where
-  by_tests : (s t : Bool) → cond s Less (cond t Equal Greater) ≡ Less → s ≡ true
-  by_tests true t h = refl
-  by_tests false true h = cc
-  by_tests false false h = cc
+    by_tests : (s t : Bool) → cond s Less (cond t Equal Greater) ≡ Less → s ≡ true
+    by_tests true t h = refl
+    by_tests false true h = cc
+    by_tests false false h = cc
 
 is_less : (m n : ℕ) → nat_lt m n ≡ true → nat_cmp m n ≡ Less
 is_less m n h = rw h refl
@@ -220,13 +222,13 @@ tables_rise_from last [] s f a = tt
 tables_rise_from last (place ∷ places) s f a =
     (All-head (λ p. p < 2 ^ 32) place places f, a, tables_rise_from (Some place) places s.1 (All-tail (λ p. p < 2 ^ 32) place places f) (next place places s.0))
   where
-  next : (place : ℕ) (places : List ℕ) → AllByRecursion (λ y. nat_cmp place y ≡ Less) places → FirstIs (Some place) places
-  next place [] all = tt
-  next place (p ∷ ps) all = less_is place p all.0
+    next : (place : ℕ) (places : List ℕ) → AllByRecursion (λ y. nat_cmp place y ≡ Less) places → FirstIs (Some place) places
+    next place [] all = tt
+    next place (p ∷ ps) all = less_is place p all.0
 
 pub tables_rise : (places : List ℕ) → AreTables places → Rise None places
 tables_rise places t = tables_rise_from None places t.0 t.1 (first places)
   where
-  first : (places : List ℕ) → FirstIs None places
-  first [] = tt
-  first (p ∷ ps) = refl
+    first : (places : List ℕ) → FirstIs None places
+    first [] = tt
+    first (p ∷ ps) = refl

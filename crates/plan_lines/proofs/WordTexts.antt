@@ -126,11 +126,11 @@ number_upto_is max few (b ∷ bs) n h =
     let small : digits_value 10 (b ∷ bs) < 2 ^ 64 = omega arith in
     (sym (decimal-digits_value own (b ∷ bs) q.0 (omega arith) (λ e. one_digit b bs p.0 e) small) ∙ ap decimal q.1, q.2)
   where
-  one_digit : (b : ℕ) (bs : List ℕ) → ((b == 48) && nat_lt 0 (length bs)) ≡ false → b ≡ 48 → suc (length bs) ≡ 1
-  one_digit b [] h e = refl
-  one_digit b (c ∷ cs) h e =
-      let k : (true && nat_lt 0 (suc (length cs))) ≡ false = subst (λ x. ((x == 48) && nat_lt 0 (suc (length cs))) ≡ false) e h in
-      let t = lt_true 0 (suc (length cs)) (omega arith) in cc
+    one_digit : (b : ℕ) (bs : List ℕ) → ((b == 48) && nat_lt 0 (length bs)) ≡ false → b ≡ 48 → suc (length bs) ≡ 1
+    one_digit b [] h e = refl
+    one_digit b (c ∷ cs) h e =
+        let k : (true && nat_lt 0 (suc (length cs))) ≡ false = subst (λ x. ((x == 48) && nat_lt 0 (suc (length cs))) ≡ false) e h in
+        let t = lt_true 0 (suc (length cs)) (omega arith) in cc
 
 -- what is written is read so
 pub number_upto_decimal : (max : ℕ) → max < 2 ^ 64 → (n : ℕ) → n ≤ max → number_upto max (decimal n) ≡ Some n
@@ -138,13 +138,13 @@ number_upto_decimal max few n h =
     let d = decimal_is_IsNumeral n (omega arith) in
     again (decimal n) n d.0.0 d.0.1 d.1 h (λ z. first_decimal n z (omega arith)) (λ e. ap decimal e)
   where
-  again : (w : List ℕ) (n : ℕ) → 0 < length w → AllDigits 10 w → digits_value 10 w ≡ n → n ≤ max → (0 < n → 48 < get_or w 0 0) → (n ≡ 0 → w ≡ decimal 0) → number_upto max w ≡ Some n
-  again [] n z a v h f o = absurd (omega arith)
-  again (b ∷ []) n z a v h f o = rw (and_false (b == 48)) (number_again max 0 (b ∷ []) a (subst (λ x. x ≤ max) (sym v) h) ∙ ap Some v)
-  again (b ∷ c ∷ cs) zero z a v h f o = let e : b ∷ c ∷ cs ≡ 48 ∷ [] = o refl ∙ decimal_digit 0 (omega arith) in cc
-  again (b ∷ c ∷ cs) (suc n) z a v h f o =
-      let big : 48 < b = f (omega arith) in
-      rw (eq_false b 48 big) (number_again max 0 (b ∷ c ∷ cs) a (subst (λ x. x ≤ max) (sym v) h) ∙ ap Some v)
+    again : (w : List ℕ) (n : ℕ) → 0 < length w → AllDigits 10 w → digits_value 10 w ≡ n → n ≤ max → (0 < n → 48 < get_or w 0 0) → (n ≡ 0 → w ≡ decimal 0) → number_upto max w ≡ Some n
+    again [] n z a v h f o = absurd (omega arith)
+    again (b ∷ []) n z a v h f o = rw (and_false (b == 48)) (number_again max 0 (b ∷ []) a (subst (λ x. x ≤ max) (sym v) h) ∙ ap Some v)
+    again (b ∷ c ∷ cs) zero z a v h f o = let e : b ∷ c ∷ cs ≡ 48 ∷ [] = o refl ∙ decimal_digit 0 (omega arith) in cc
+    again (b ∷ c ∷ cs) (suc n) z a v h f o =
+        let big : 48 < b = f (omega arith) in
+        rw (eq_false b 48 big) (number_again max 0 (b ∷ c ∷ cs) a (subst (λ x. x ≤ max) (sym v) h) ∙ ap Some v)
 
 -- ---- hexadecimal digits
 
@@ -167,17 +167,18 @@ agree_at (suc n) k h lt = elim (lower_or_last k n (omega arith)) [
   | inr last ↦ rw last (both_true (agrees n) (all_agree n) h).0
 ]
   where
-  lower_or_last : (k n : ℕ) → k ≤ n → (k < n) ⊎ (k ≡ n)
-  lower_or_last k n h = elim (bool (nat_lt k n)) [
-    | inl e ↦ inl (lt_is k n e)
-    | inr e ↦ inr (not_lower k n h e)
-  ]
-    where
-    bool : (b : Bool) → (b ≡ true) ⊎ (b ≡ false)
-    bool true = inl refl
-    bool false = inr refl
-    not_lower : (k n : ℕ) → k ≤ n → nat_lt k n ≡ false → k ≡ n
-    not_lower k n h e = grind (arith, nat_tests)
+    lower_or_last : (k n : ℕ) → k ≤ n → (k < n) ⊎ (k ≡ n)
+    lower_or_last k n h = elim (bool (nat_lt k n)) [
+      | inl e ↦ inl (lt_is k n e)
+      | inr e ↦ inr (not_lower k n h e)
+    ]
+      where
+        bool : (b : Bool) → (b ≡ true) ⊎ (b ≡ false)
+        bool true = inl refl
+        bool false = inr refl
+
+        not_lower : (k n : ℕ) → k ≤ n → nat_lt k n ≡ false → k ≡ n
+        not_lower k n h e = grind (arith, nat_tests)
 
 digit_is : (d : ℕ) → d < 16 → slice_index lower_digits d ≡ hex_digit d
 unfolding hex_digit
@@ -188,32 +189,32 @@ nibble_of_is : (b d : ℕ) → nibble_of b ≡ Some d → (b ≡ hex_digit d) ×
 unfolding hex_digit
 nibble_of_is b d h = nibble_by (nat_le 48 b && nat_le b 57) (nat_le 97 b && nat_le b 102) b d (λ e. both_true (nat_le 48 b) (nat_le b 57) e) (λ e. both_true (nat_le 97 b) (nat_le b 102) e) h
   where
-  nibble_by : (s t : Bool) (b d : ℕ) → (s ≡ true → (nat_le 48 b ≡ true) × (nat_le b 57 ≡ true)) → (t ≡ true → (nat_le 97 b ≡ true) × (nat_le b 102 ≡ true)) → cond s (Some (b - 48)) (cond t (Some (b - 87)) None) ≡ Some d → (b ≡ cond (nat_lt d 10) (48 + d) (87 + d)) × (d < 16)
-  nibble_by true t b d f g h =
-      let low : 48 ≤ b = le_is 48 b (f refl).0 in
-      let high : b ≤ 57 = le_is b 57 (f refl).1 in
-      let e : b - 48 ≡ d = cc in
-      let small : d < 10 = omega arith in
-      (rw (lt_true d 10 small) (let k : b ≡ 48 + d = omega arith in k), omega arith)
-  nibble_by false true b d f g h =
-      let low : 97 ≤ b = le_is 97 b (g refl).0 in
-      let high : b ≤ 102 = le_is b 102 (g refl).1 in
-      let e : b - 87 ≡ d = cc in
-      let big : 10 ≤ d = omega arith in
-      (rw (lt_false d 10 big) (let k : b ≡ 87 + d = omega arith in k), omega arith)
-  nibble_by false false b d f g h = cc
+    nibble_by : (s t : Bool) (b d : ℕ) → (s ≡ true → (nat_le 48 b ≡ true) × (nat_le b 57 ≡ true)) → (t ≡ true → (nat_le 97 b ≡ true) × (nat_le b 102 ≡ true)) → cond s (Some (b - 48)) (cond t (Some (b - 87)) None) ≡ Some d → (b ≡ cond (nat_lt d 10) (48 + d) (87 + d)) × (d < 16)
+    nibble_by true t b d f g h =
+        let low : 48 ≤ b = le_is 48 b (f refl).0 in
+        let high : b ≤ 57 = le_is b 57 (f refl).1 in
+        let e : b - 48 ≡ d = cc in
+        let small : d < 10 = omega arith in
+        (rw (lt_true d 10 small) (let k : b ≡ 48 + d = omega arith in k), omega arith)
+    nibble_by false true b d f g h =
+        let low : 97 ≤ b = le_is 97 b (g refl).0 in
+        let high : b ≤ 102 = le_is b 102 (g refl).1 in
+        let e : b - 87 ≡ d = cc in
+        let big : 10 ≤ d = omega arith in
+        (rw (lt_false d 10 big) (let k : b ≡ 87 + d = omega arith in k), omega arith)
+    nibble_by false false b d f g h = cc
 
 nibble_of_digit : (d : ℕ) → d < 16 → nibble_of (hex_digit d) ≡ Some d
 unfolding hex_digit
 nibble_of_digit d h = by_size (nat_lt d 10) refl
   where
-  by_size : (t : Bool) → nat_lt d 10 ≡ t → nibble_of (cond (nat_lt d 10) (48 + d) (87 + d)) ≡ Some d
-  by_size true e =
-      let small : d < 10 = lt_is d 10 e in
-      rw (e, le_true 48 (48 + d) (omega arith), le_true (48 + d) 57 (omega arith)) (let k : 48 + d - 48 ≡ d = omega arith in ap Some k)
-  by_size false e =
-      let big : 10 ≤ d = grind (arith, nat_tests) in
-      rw (e, le_true 48 (87 + d) (omega arith), le_false (87 + d) 57 (omega arith), le_true 97 (87 + d) (omega arith), le_true (87 + d) 102 (omega arith)) (let k : 87 + d - 87 ≡ d = omega arith in ap Some k)
+    by_size : (t : Bool) → nat_lt d 10 ≡ t → nibble_of (cond (nat_lt d 10) (48 + d) (87 + d)) ≡ Some d
+    by_size true e =
+        let small : d < 10 = lt_is d 10 e in
+        rw (e, le_true 48 (48 + d) (omega arith), le_true (48 + d) 57 (omega arith)) (let k : 48 + d - 48 ≡ d = omega arith in ap Some k)
+    by_size false e =
+        let big : 10 ≤ d = grind (arith, nat_tests) in
+        rw (e, le_true 48 (87 + d) (omega arith), le_false (87 + d) 57 (omega arith), le_true 97 (87 + d) (omega arith), le_true (87 + d) 102 (omega arith)) (let k : 87 + d - 87 ≡ d = omega arith in ap Some k)
 
 onto_some : (a : Option ℕ) (b : Option (List ℕ)) (v : List ℕ) → onto a b ≡ Some v → (x : ℕ) × (xs : List ℕ) × (a ≡ Some x) × (b ≡ Some xs) × (v ≡ x ∷ xs)
 onto_some (Some x) (Some xs) v h = (x, xs, refl, refl, cc)
@@ -259,9 +260,10 @@ bytes_takes (a ∷ []) v h = cc
 bytes_takes (a ∷ b ∷ more) v h =
     let p = onto_some (byte_of a b) (bytes_in more) v h in
     let q = byte_of_is a b p.0 p.2 in
-    let r = bytes_takes more p.1 p.3 in
-    (ap (λ x. x ∷ b ∷ more) q.0 ∙ (ap (λ x. hex_digit (p.0 / 16) ∷ x ∷ more) q.1 ∙ (ap (λ x. hex_digit (p.0 / 16) ∷ hex_digit (p.0 % 16) ∷ x) r.0 ∙ ap hex_digits (sym p.4))),
-      subst AreBytes (sym p.4) (All-cons (λ x. x < 256) p.0 p.1 q.2 r.1))
+    let r = bytes_takes more p.1 p.3 in (
+      ap (λ x. x ∷ b ∷ more) q.0 ∙ (ap (λ x. hex_digit (p.0 / 16) ∷ x ∷ more) q.1 ∙ (ap (λ x. hex_digit (p.0 / 16) ∷ hex_digit (p.0 % 16) ∷ x) r.0 ∙ ap hex_digits (sym p.4))),
+      subst AreBytes (sym p.4) (All-cons (λ x. x < 256) p.0 p.1 q.2 r.1),
+    )
 
 bytes_again : (v : List ℕ) → AreBytes v → bytes_in (hex_digits v) ≡ Some v
 unfolding hex_digits
@@ -281,9 +283,9 @@ hex_of_is (a ∷ []) v h =
 hex_of_is (a ∷ b ∷ more) v h =
     let p = bytes_takes (a ∷ b ∷ more) v h in (hex_from v (a ∷ b ∷ more) a (b ∷ more) refl (p.0 ∙ sym (digits_are v p.1)), p.1)
   where
-  hex_from : (v w : List ℕ) (a : ℕ) (more : List ℕ) → w ≡ a ∷ more → w ≡ encode_lower v → w ≡ hex_word v
-  hex_from [] w a more e f = let k : a ∷ more ≡ [] = sym e ∙ f in cc
-  hex_from (x ∷ xs) w a more e f = f
+    hex_from : (v w : List ℕ) (a : ℕ) (more : List ℕ) → w ≡ a ∷ more → w ≡ encode_lower v → w ≡ hex_word v
+    hex_from [] w a more e f = let k : a ∷ more ≡ [] = sym e ∙ f in cc
+    hex_from (x ∷ xs) w a more e f = f
 
 pub hex_of_hex : (v : List ℕ) → AreBytes v → hex_of (hex_word v) ≡ Some v
 unfolding hex_digits
@@ -294,9 +296,9 @@ plain_hex_digit : (d : ℕ) → 32 < hex_digit d
 unfolding hex_digit
 plain_hex_digit d = by_size (nat_lt d 10)
   where
-  by_size : (t : Bool) → 32 < cond t (48 + d) (87 + d)
-  by_size true = omega arith
-  by_size false = omega arith
+    by_size : (t : Bool) → 32 < cond t (48 + d) (87 + d)
+    by_size true = omega arith
+    by_size false = omega arith
 
 plain_digits : (v : List ℕ) → IsPlain (hex_digits v)
 unfolding hex_digits
@@ -318,17 +320,17 @@ plain_decimal n h = plain_all (decimal n) (decimal_is_IsNumeral n h).0.1
 pub first_digit : (n : ℕ) → n < 2 ^ 64 → (b : ℕ) × (bs : List ℕ) × (decimal n ≡ b ∷ bs) × (48 ≤ b) × (b ≤ 57)
 first_digit n h = let d = decimal_is_IsNumeral n h in from (decimal n) d.0.0 d.0.1
   where
-  from : (w : List ℕ) → 0 < length w → AllDigits 10 w → (b : ℕ) × (bs : List ℕ) × (w ≡ b ∷ bs) × (48 ≤ b) × (b ≤ 57)
-  from [] z a = absurd (omega arith)
-  from (b ∷ bs) z a = let r = digit_from_value b a.0 in (b, bs, refl, r.0, r.1)
+    from : (w : List ℕ) → 0 < length w → AllDigits 10 w → (b : ℕ) × (bs : List ℕ) × (w ≡ b ∷ bs) × (48 ≤ b) × (b ≤ 57)
+    from [] z a = absurd (omega arith)
+    from (b ∷ bs) z a = let r = digit_from_value b a.0 in (b, bs, refl, r.0, r.1)
 
 digit_low : (d : ℕ) → d < 16 → hex_digit d < 110
 unfolding hex_digit
 digit_low d h = by_size (nat_lt d 10) refl
   where
-  by_size : (t : Bool) → nat_lt d 10 ≡ t → cond t (48 + d) (87 + d) < 110
-  by_size true e = omega (arith, lt_is d 10 e)
-  by_size false e = omega arith
+    by_size : (t : Bool) → nat_lt d 10 ≡ t → cond t (48 + d) (87 + d) < 110
+    by_size true e = omega (arith, lt_is d 10 e)
+    by_size false e = omega arith
 
 -- how the word of bytes begins
 pub hex_first : (v : List ℕ) → AreBytes v → (b : ℕ) × (bs : List ℕ) × (hex_word v ≡ b ∷ bs) × (b < 110)

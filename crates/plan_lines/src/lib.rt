@@ -13,6 +13,6 @@ mod words;
 pub use error::LineError;
 pub use line::{MapLine, PlanLine, TextVersion};
 pub use line_reading::{lines_are_unbroken, read_line};
-pub use values::{are_words_of, feature_word};
 pub use map_words::MapWords;
 pub use program_kind::{KindNumbers, kind_numbers};
+pub use values::{are_words_of, feature_word};

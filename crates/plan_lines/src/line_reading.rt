@@ -144,11 +144,7 @@ fn tables_line(alloc: Global, words: &mut Words<'_>) -> Result<PlanLine, LineErr
 }
 
 /// What the words after a keyword say.
-fn arguments(
-    alloc: Global,
-    keyword: Keyword,
-    words: &mut Words<'_>,
-) -> Result<PlanLine, LineError>
+fn arguments(alloc: Global, keyword: Keyword, words: &mut Words<'_>) -> Result<PlanLine, LineError>
     ensures { Reads line_view (arguments_by keyword words.old) result words.new }
 {
     match keyword {
@@ -191,5 +187,4 @@ pub fn read_line(alloc: Global, bytes: &[u8]) -> Result<PlanLine, LineError>
 /// No line feed stands within the text of a line.
 pub fn lines_are_unbroken()
     ensures { LinesAreUnbroken }
-{
-}
+{}

@@ -111,7 +111,11 @@ fn checked_hex(alloc: Global, word: &[u8]) -> Result<Option<Vec<u8>>, AllocError
         return Ok(None);
     }
     if word.len() == 1 {
-        return Ok(if word[0] == b'-' { Some(Vec::new(alloc)) } else { None });
+        return Ok(if word[0] == b'-' {
+            Some(Vec::new(alloc))
+        } else {
+            None
+        });
     }
     bytes(alloc, word)
 }

@@ -69,8 +69,8 @@ program_words v p =
     ap (λ ls. words_of_line (Program p.name p.section) ∷ words_of_line (Slots (slot_bytes p.slots)) ∷ ls)
     (map-append words_of_line (tables_of v p.tables) (lines_of_records p)
     ∙ ap₂ (λ (x y : List (List (List ℕ))). x ++ y) (tables_words v p.tables)
-      (map-append words_of_line (map line_of_func p.func_records) (map line_of_source p.line_records)
-      ∙ ap₂ (λ (x y : List (List (List ℕ))). x ++ y) (funcs_words p.func_records) (sources_words p.line_records)))
+    (map-append words_of_line (map line_of_func p.func_records) (map line_of_source p.line_records)
+    ∙ ap₂ (λ (x y : List (List (List ℕ))). x ++ y) (funcs_words p.func_records) (sources_words p.line_records)))
 
 programs_words : (v : TextVersion) (ps : List ProgramContent) → map words_of_line (flat_map (lines_of_program v) ps) ≡ flat_map (program_lines v) ps
 programs_words v [] = refl
@@ -84,9 +84,9 @@ plan_words v q =
     ap (λ ls. words_of_line (Header v) ∷ words_of_line (License q.license) ∷ words_of_line (Version q.version) ∷ ls)
     (map-append words_of_line (map line_of_answer q.features) (Types q.type_bytes ∷ (flat_map lines_of_map q.maps ++ (programs ++ End ∷ [])))
     ∙ ap₂ (λ (x y : List (List (List ℕ))). x ++ words_of_line (Types q.type_bytes) ∷ y) (answers_words q.features)
-      (map-append words_of_line (flat_map lines_of_map q.maps) (programs ++ End ∷ [])
-      ∙ ap₂ (λ (x y : List (List (List ℕ))). x ++ y) (maps_words q.maps)
-        (map-append words_of_line programs (End ∷ []) ∙ ap (λ ls. ls ++ end_line ∷ []) (programs_words v q.programs))))
+    (map-append words_of_line (flat_map lines_of_map q.maps) (programs ++ End ∷ [])
+    ∙ ap₂ (λ (x y : List (List (List ℕ))). x ++ y) (maps_words q.maps)
+    (map-append words_of_line programs (End ∷ []) ∙ ap (λ ls. ls ++ end_line ∷ []) (programs_words v q.programs))))
 
 -- the text of some lines
 abbrev pub lines_text : List LineContent → List ℕ
@@ -102,9 +102,9 @@ lines_text-append xs ys = ap text_of_lines (map-append words_of_line xs ys) ∙ 
 first_text : (line : LineContent) (t : List ℕ) → line_onto (words_of_line line) t ≡ line_text line ++ 10 ∷ t
 first_text line t = parts (words_of_line line)
   where
-  parts : (words : List (List ℕ)) → line_onto words t ≡ joined words ++ 10 ∷ t
-  parts [] = refl
-  parts (w ∷ ws) = ap (λ x. w ++ x) (words_onto-split ws (10 ∷ t)) ∙ sym (append_assoc w (words_onto ws []) (10 ∷ t))
+    parts : (words : List (List ℕ)) → line_onto words t ≡ joined words ++ 10 ∷ t
+    parts [] = refl
+    parts (w ∷ ws) = ap (λ x. w ++ x) (words_onto-split ws (10 ∷ t)) ∙ sym (append_assoc w (words_onto ws []) (10 ∷ t))
 
 -- ---- the lines of a plan keep to their limits
 
@@ -170,19 +170,31 @@ sound_programs v (p ∷ ps) s f =
     let one = All-head IsSoundProgram p ps s in
     let fits = All-head FitsProgram p ps f in
     let whole : length (slot_bytes p.slots) % 8 ≡ 0 = omega (arith, length-slot_bytes p.slots) in
-    AllSound-append (lines_of_program v p) (flat_map (lines_of_program v) ps)
-    (fits.name, ((slot_bytes_fit p.slots fits.slots, whole),
-      AllSound-append (tables_of v p.tables) (lines_of_records p) (sound_tables v p one)
-      (AllSound-append (map line_of_func p.func_records) (map line_of_source p.line_records) (sound_funcs p.func_records fits.func_records) (sound_sources p.line_records fits.line_records))))
+    AllSound-append (lines_of_program v p) (flat_map (lines_of_program v) ps) (
+      fits.name,
+      (
+        (slot_bytes_fit p.slots fits.slots, whole),
+        AllSound-append (tables_of v p.tables) (lines_of_records p) (sound_tables v p one)
+            (AllSound-append (map line_of_func p.func_records) (map line_of_source p.line_records) (sound_funcs p.func_records fits.func_records) (sound_sources p.line_records fits.line_records)),
+      ),
+    )
     (sound_programs v ps (All-tail IsSoundProgram p ps s) (All-tail FitsProgram p ps f))
 
 plan_sound : (v : TextVersion) (q : PlanContent) → IsSoundPlan q → FitsPlan q → AllSound (lines_of_plan v q)
-plan_sound v q s f =
-    (tt, ((f.license, s.license), (sound_version q.version s.version f.version,
-      AllSound-append (map line_of_answer q.features) (Types q.type_bytes ∷ (flat_map lines_of_map q.maps ++ (flat_map (lines_of_program v) q.programs ++ End ∷ []))) (sound_answers q.features)
-      (sound_types q.type_bytes s.type_bytes f.type_bytes,
+plan_sound v q s f = (
+  tt,
+  (
+    (f.license, s.license),
+    (
+      sound_version q.version s.version f.version,
+      AllSound-append (map line_of_answer q.features) (Types q.type_bytes ∷ (flat_map lines_of_map q.maps ++ (flat_map (lines_of_program v) q.programs ++ End ∷ []))) (sound_answers q.features) (
+        sound_types q.type_bytes s.type_bytes f.type_bytes,
         AllSound-append (flat_map lines_of_map q.maps) (flat_map (lines_of_program v) q.programs ++ End ∷ []) (sound_maps q.maps s.maps f.maps)
-        (AllSound-append (flat_map (lines_of_program v) q.programs) (End ∷ []) (sound_programs v q.programs s.programs f.programs) (tt, tt))))))
+            (AllSound-append (flat_map (lines_of_program v) q.programs) (End ∷ []) (sound_programs v q.programs s.programs f.programs) (tt, tt)),
+      ),
+    ),
+  ),
+)
 
 -- ---- texts that lead to a plan
 
@@ -221,20 +233,20 @@ pub record LeadsOn (s : StateContent) (line others : List ℕ) (v : TextVersion)
 leads_line : LinesAreUnbroken → (s : StateContent) (line others : List ℕ) (v : TextVersion) (q : PlanContent) → IsUnbroken line → Leads s (line ++ 10 ∷ others) v q → LeadsOn s line others v q
 leads_line law s line others v q u h = by_rows h.rows h.sound h.lead h.spelled
   where
-  by_rows : (rows : List LineContent) → AllSound rows → steps s rows ≡ Some (done v q) → line ++ 10 ∷ others ≡ lines_text rows → LeadsOn s line others v q
-  by_rows [] a l e = absurd (not_empty line others e)
-  by_rows (r ∷ rows) a l e =
-      let t = bind_some (λ x. steps x rows) (step s r) (done v q) l in
-      let o = one_line line (line_text r) others (lines_text rows) u (law.each r a.0) (e ∙ first_text r (lines_text rows)) in
-      record { first = r; next = t.0; sound = a.0; text = o.0; steps = t.1; leads = record { rows = rows; sound = a.1; lead = t.2; spelled = o.1 } }
+    by_rows : (rows : List LineContent) → AllSound rows → steps s rows ≡ Some (done v q) → line ++ 10 ∷ others ≡ lines_text rows → LeadsOn s line others v q
+    by_rows [] a l e = absurd (not_empty line others e)
+    by_rows (r ∷ rows) a l e =
+        let t = bind_some (λ x. steps x rows) (step s r) (done v q) l in
+        let o = one_line line (line_text r) others (lines_text rows) u (law.each r a.0) (e ∙ first_text r (lines_text rows)) in
+        record { first = r; next = t.0; sound = a.0; text = o.0; steps = t.1; leads = record { rows = rows; sound = a.1; lead = t.2; spelled = o.1 } }
 
 -- where no line is left, the plan was read
 leads_end : (s : StateContent) (rest : List ℕ) (v : TextVersion) (q : PlanContent) → IsUnbroken rest → Leads s rest v q → (rest ≡ []) × (s ≡ done v q)
 leads_end s rest v q u h = by_rows h.rows h.lead h.spelled
   where
-  by_rows : (rows : List LineContent) → steps s rows ≡ Some (done v q) → rest ≡ lines_text rows → (rest ≡ []) × (s ≡ done v q)
-  by_rows [] l e = (e, cc)
-  by_rows (r ∷ rows) l e = absurd (not_unbroken (line_text r) (lines_text rows) (subst IsUnbroken (e ∙ first_text r (lines_text rows)) u))
+    by_rows : (rows : List LineContent) → steps s rows ≡ Some (done v q) → rest ≡ lines_text rows → (rest ≡ []) × (s ≡ done v q)
+    by_rows [] l e = (e, cc)
+    by_rows (r ∷ rows) l e = absurd (not_unbroken (line_text r) (lines_text rows) (subst IsUnbroken (e ∙ first_text r (lines_text rows)) u))
 
 some_is : {A : Type 0} (x y : A) → Some x ≡ Some y → x ≡ y
 some_is x y e = cc
@@ -283,9 +295,9 @@ along front line tail = append_assoc front (line ++ 10 ∷ []) tail ∙ ap (λ x
 knows_next : LinesAreUnbroken → (s t : StateContent) (front line : List ℕ) → IsUnbroken line → Knows s front → TookLine s line t → Knows t (front ++ (line ++ 10 ∷ []))
 knows_next law s t front line u k took = record {
   each = λ v q tail h.
-    let on = leads_line law s line tail v q u (k.each v q (line ++ 10 ∷ tail) (respell v q _ _ (along front line tail) h)) in
-    let same : on.next ≡ t = some_is on.next t (sym on.steps ∙ took.only on.first on.sound on.text) in
-    subst (λ (x : StateContent). Leads x tail v q) same on.leads;
+      let on = leads_line law s line tail v q u (k.each v q (line ++ 10 ∷ tail) (respell v q _ _ (along front line tail) h)) in
+      let same : on.next ≡ t = some_is on.next t (sym on.steps ∙ took.only on.first on.sound on.text) in
+      subst (λ (x : StateContent). Leads x tail v q) same on.leads;
 }
 
 -- one line more
@@ -299,8 +311,8 @@ reading_next law bytes rest line others lines s t r cut u took =
       count = omega (arith, r.count, length-append r.before (line ∷ []));
       split = r.split ∙ (ap (λ x. ended r.before ++ x) cut ∙ (sym (along (ended r.before) line others) ∙ ap (λ x. x ++ others) (sym e)));
       text = e ∙ (ap₂ (λ (x y : List ℕ). x ++ (y ++ 10 ∷ [])) r.text took.text
-        ∙ (ap (λ x. lines_text (so_far s.phase s) ++ x) (sym (first_text took.line []))
-        ∙ (sym (lines_text-append (so_far s.phase s) (took.line ∷ [])) ∙ ap lines_text (sym g.0))));
+          ∙ (ap (λ x. lines_text (so_far s.phase s) ++ x) (sym (first_text took.line []))
+          ∙ (sym (lines_text-append (so_far s.phase s) (took.line ∷ [])) ∙ ap lines_text (sym g.0))));
       good = g.1;
       knows = subst (Knows t) (sym e) (knows_next law s t (ended r.before) line u r.knows took);
     }
@@ -309,13 +321,21 @@ reading_next law bytes rest line others lines s t r cut u took =
 begins : (s : StateContent) (front : List ℕ) → IsGood s → front ≡ lines_text (so_far s.phase s) → BeginsPlanText front
 begins s front g e =
     let c = completes s g in
-    let plan = g.plan in
-    (lines_text c.0, (plan_at s, (s.text_version, record {
-      sound = plan.sound;
-      fits = plan.fits;
-      tables = plan.tables;
-      spelled = ap (λ x. x ++ lines_text c.0) e ∙ (sym (lines_text-append (so_far s.phase s) c.0) ∙ (ap lines_text c.1 ∙ plan_text s.text_version (plan_at s)));
-    })))
+    let plan = g.plan in (
+      lines_text c.0,
+      (
+        plan_at s,
+        (
+          s.text_version,
+          record {
+            sound = plan.sound;
+            fits = plan.fits;
+            tables = plan.tables;
+            spelled = ap (λ x. x ++ lines_text c.0) e ∙ (sym (lines_text-append (so_far s.phase s) c.0) ∙ (ap lines_text c.1 ∙ plan_text s.text_version (plan_at s)));
+          },
+        ),
+      ),
+    )
 
 -- no plan's text begins with a line that is refused
 no_more : LinesAreUnbroken → (s : StateContent) (front line : List ℕ) → IsUnbroken line → Knows s front → RefusedLine s line → BeginsPlanText (front ++ (line ++ 10 ∷ [])) → ⊥
@@ -353,25 +373,25 @@ bad_end bytes rest lines s r u no_end = record {
   begins = begins s (ended r.before) r.good r.text;
   stops = inl u;
   none = λ h.
-    let e = leads_end s rest h.1.0 h.0 u (r.knows.each h.1.0 h.0 rest (respell h.1.0 h.0 bytes (ended r.before ++ rest) r.split h.1.1)) in
-    no_end e.0 (ap (λ (x : StateContent). x.phase) e.1);
+      let e = leads_end s rest h.1.0 h.0 u (r.knows.each h.1.0 h.0 rest (respell h.1.0 h.0 bytes (ended r.before ++ rest) r.split h.1.1)) in
+      no_end e.0 (ap (λ (x : StateContent). x.phase) e.1);
 }
 
 -- the plan is what was kept at the end
 kept_is : (s : StateContent) → IsAtEnd s → kept_plan s ≡ plan_at s
 kept_is s h = by_last s.last_map s.last_program h.map h.program
   where
-  by_last : (m : Option MapContent) (p : Option ProgramContent) → m ≡ None → p ≡ None → kept_plan s ≡ plan_at (record s { last_map = m; last_program = p })
-  by_last None None e f = refl
-  by_last (Some m) p e f = cc
-  by_last None (Some p) e f = cc
+    by_last : (m : Option MapContent) (p : Option ProgramContent) → m ≡ None → p ≡ None → kept_plan s ≡ plan_at (record s { last_map = m; last_program = p })
+    by_last None None e f = refl
+    by_last (Some m) p e f = cc
+    by_last None (Some p) e f = cc
 
 at_end : (s : StateContent) → IsGood s → s.phase ≡ AtEnd → IsAtEnd s
 at_end s g e = from s.phase e g.reached
   where
-  from : (phase : Phase) → phase ≡ AtEnd → Reached phase s → IsAtEnd s
-  from AtEnd e r = r
-  from phase e r = cc
+    from : (phase : Phase) → phase ≡ AtEnd → Reached phase s → IsAtEnd s
+    from AtEnd e r = r
+    from phase e r = cc
 
 kept_sound : (bytes rest : List ℕ) (lines : ℕ) (s : StateContent) → IsReading bytes rest lines s → s.phase ≡ AtEnd → IsSoundPlan (kept_plan s)
 kept_sound bytes rest lines s r e = subst IsSoundPlan (sym (kept_is s (at_end s r.good e))) r.good.plan.sound
@@ -380,13 +400,15 @@ kept_sound bytes rest lines s r e = subst IsSoundPlan (sym (kept_is s (at_end s 
 found : (bytes rest : List ℕ) (lines : ℕ) (s : StateContent) → IsReading bytes rest lines s → rest ≡ [] → s.phase ≡ AtEnd → IsTextOf (kept_plan s) bytes
 found bytes rest lines s r none e =
     let plan = r.good.plan in
-    subst (λ (q : PlanContent). IsTextOf q bytes) (sym (kept_is s (at_end s r.good e)))
-    (s.text_version, record {
-      sound = plan.sound;
-      fits = plan.fits;
-      tables = plan.tables;
-      spelled = r.split ∙ (ap (λ x. ended r.before ++ x) none ∙ (append-nil (ended r.before) ∙ (r.text ∙ (ap lines_text (ended_lines s e) ∙ plan_text s.text_version (plan_at s)))));
-    })
+    subst (λ (q : PlanContent). IsTextOf q bytes) (sym (kept_is s (at_end s r.good e))) (
+      s.text_version,
+      record {
+        sound = plan.sound;
+        fits = plan.fits;
+        tables = plan.tables;
+        spelled = r.split ∙ (ap (λ x. ended r.before ++ x) none ∙ (append-nil (ended r.before) ∙ (r.text ∙ (ap lines_text (ended_lines s e) ∙ plan_text s.text_version (plan_at s)))));
+      },
+    )
 
 -- a plan with this text is the one that was read
 only_this : (bytes rest : List ℕ) (lines : ℕ) (s : StateContent) (q : PlanContent) → IsReading bytes rest lines s → IsUnbroken rest → IsTextOf q bytes → kept_plan s ≡ q

@@ -33,15 +33,15 @@ has_room f fs d z =
     let g = d.once Float in let h = d.once DeclTag in let i = d.once TypeTag in let j = d.once Enum64 in
     less_with f z all a b c e g h i j
   where
-  less_with : (f : BtfFeature) → times f fs ≡ 0 → length fs ≡ times Func fs + times FuncGlobal fs + times DataSec fs + times DataSecZero fs + times Float fs + times DeclTag fs + times TypeTag fs + times Enum64 fs → times Func fs ≤ 1 → times FuncGlobal fs ≤ 1 → times DataSec fs ≤ 1 → times DataSecZero fs ≤ 1 → times Float fs ≤ 1 → times DeclTag fs ≤ 1 → times TypeTag fs ≤ 1 → times Enum64 fs ≤ 1 → length fs < 8
-  less_with Func z all a b c e g h i j = omega arith
-  less_with FuncGlobal z all a b c e g h i j = omega arith
-  less_with DataSec z all a b c e g h i j = omega arith
-  less_with DataSecZero z all a b c e g h i j = omega arith
-  less_with Float z all a b c e g h i j = omega arith
-  less_with DeclTag z all a b c e g h i j = omega arith
-  less_with TypeTag z all a b c e g h i j = omega arith
-  less_with Enum64 z all a b c e g h i j = omega arith
+    less_with : (f : BtfFeature) → times f fs ≡ 0 → length fs ≡ times Func fs + times FuncGlobal fs + times DataSec fs + times DataSecZero fs + times Float fs + times DeclTag fs + times TypeTag fs + times Enum64 fs → times Func fs ≤ 1 → times FuncGlobal fs ≤ 1 → times DataSec fs ≤ 1 → times DataSecZero fs ≤ 1 → times Float fs ≤ 1 → times DeclTag fs ≤ 1 → times TypeTag fs ≤ 1 → times Enum64 fs ≤ 1 → length fs < 8
+    less_with Func z all a b c e g h i j = omega arith
+    less_with FuncGlobal z all a b c e g h i j = omega arith
+    less_with DataSec z all a b c e g h i j = omega arith
+    less_with DataSecZero z all a b c e g h i j = omega arith
+    less_with Float z all a b c e g h i j = omega arith
+    less_with DeclTag z all a b c e g h i j = omega arith
+    less_with TypeTag z all a b c e g h i j = omega arith
+    less_with Enum64 z all a b c e g h i j = omega arith
 
 length_features : (answers : Answers) → length (features answers) ≡ length answers
 length_features [] = refl

@@ -176,15 +176,14 @@ below_trans : (a b : List ℕ) (names : List (List ℕ)) → slice_cmp nat_cmp a
 below_trans a b [] h all = tt
 below_trans a b (n ∷ names) h all = (nat_list_cmp_total.trans n a b all.0 h, below_trans a b names h all.1)
 
-
 rising_push : (names : List (List ℕ)) (name : List ℕ) → AreRising names → AreBelow name names → AreRising (names ++ name ∷ [])
 unfolding IsStrictlySortedBy
 rising_push [] name r b = (tt, tt)
 rising_push (n ∷ names) name r b = (above names r.0, rising_push names name r.1 b.1)
   where
-  above : (ns : List (List ℕ)) → AllByRecursion (λ y. slice_cmp nat_cmp n y ≡ Less) ns → AllByRecursion (λ y. slice_cmp nat_cmp n y ≡ Less) (ns ++ name ∷ [])
-  above [] all = (b.0, tt)
-  above (x ∷ xs) all = (all.0, above xs all.1)
+    above : (ns : List (List ℕ)) → AllByRecursion (λ y. slice_cmp nat_cmp n y ≡ Less) ns → AllByRecursion (λ y. slice_cmp nat_cmp n y ≡ Less) (ns ++ name ∷ [])
+    above [] all = (b.0, tt)
+    above (x ∷ xs) all = (all.0, above xs all.1)
 
 below_push : (names : List (List ℕ)) (m name : List ℕ) → AreBelow name names → slice_cmp nat_cmp m name ≡ Less → AreBelow name (names ++ m ∷ [])
 below_push [] m name b h = (h, tt)
@@ -195,9 +194,9 @@ unfolding IsStrictlySortedBy
 below_last [] last r = tt
 below_last (n ∷ names) last r = (end_of names r.0, below_last names last r.1)
   where
-  end_of : (ns : List (List ℕ)) → AllByRecursion (λ y. slice_cmp nat_cmp n y ≡ Less) (ns ++ last ∷ []) → slice_cmp nat_cmp n last ≡ Less
-  end_of [] all = all.0
-  end_of (x ∷ xs) all = end_of xs all.1
+    end_of : (ns : List (List ℕ)) → AllByRecursion (λ y. slice_cmp nat_cmp n y ≡ Less) (ns ++ last ∷ []) → slice_cmp nat_cmp n last ≡ Less
+    end_of [] all = all.0
+    end_of (x ∷ xs) all = end_of xs all.1
 
 rising_one : (name : List ℕ) → AreRising (name ∷ [])
 unfolding IsStrictlySortedBy
@@ -248,26 +247,30 @@ no_tables Second q e = tt
 
 grows_header : (phase : Phase) (s : StateContent) (v : TextVersion) (t : StateContent) → IsGood (record s { phase = phase }) → step_header phase (record s { phase = phase }) v ≡ Some t → Grows (record s { phase = phase }) (Header v) t
 grows_header AtHeader s v t g e =
-    stepped (record s { phase = AtHeader }) (Header v) (record s { phase = AtLicense; text_version = v }) t e
-    (refl, record {
-      plan = record { sound = g.plan.sound; fits = g.plan.fits; tables = no_tables v (plan_at s) (no_programs s g.reached.others.others.programs g.reached.others.others.last) };
-      reached = record { features = g.reached.features; others = record { maps = g.reached.others.maps; last = g.reached.others.last; others = record { programs = g.reached.others.others.programs; last = g.reached.others.others.last } } };
-    })
+    stepped (record s { phase = AtHeader }) (Header v) (record s { phase = AtLicense; text_version = v }) t e (
+      refl,
+      record {
+        plan = record { sound = g.plan.sound; fits = g.plan.fits; tables = no_tables v (plan_at s) (no_programs s g.reached.others.others.programs g.reached.others.others.last) };
+        reached = record { features = g.reached.features; others = record { maps = g.reached.others.maps; last = g.reached.others.last; others = record { programs = g.reached.others.others.programs; last = g.reached.others.others.last } } };
+      },
+    )
 grows_header phase s v t g e = cc
 
 grows_license : (phase : Phase) (s : StateContent) (bytes : List ℕ) (t : StateContent) → IsGood (record s { phase = phase }) → IsSoundLine (License bytes) → step_license phase (record s { phase = phase }) bytes ≡ Some t → Grows (record s { phase = phase }) (License bytes) t
 grows_license AtLicense s bytes t g l e =
     let sound = g.plan.sound in
     let fits = g.plan.fits in
-    stepped (record s { phase = AtLicense }) (License bytes) (record s { phase = AtVersion; license = bytes }) t e
-    (refl, record {
-      plan = record {
-        sound = record { license = l.1; version = sound.version; features = sound.features; type_bytes = sound.type_bytes; maps = sound.maps; map_names = sound.map_names; programs = sound.programs; program_names = sound.program_names };
-        fits = record { license = l.0; version = fits.version; type_bytes = fits.type_bytes; maps = fits.maps; programs = fits.programs };
-        tables = no_tables s.text_version (plan_at (record s { license = bytes })) (no_programs s g.reached.others.others.programs g.reached.others.others.last);
-      };
-      reached = record { features = g.reached.features; others = record { maps = g.reached.others.maps; last = g.reached.others.last; others = record { programs = g.reached.others.others.programs; last = g.reached.others.others.last } } };
-    })
+    stepped (record s { phase = AtLicense }) (License bytes) (record s { phase = AtVersion; license = bytes }) t e (
+      refl,
+      record {
+        plan = record {
+          sound = record { license = l.1; version = sound.version; features = sound.features; type_bytes = sound.type_bytes; maps = sound.maps; map_names = sound.map_names; programs = sound.programs; program_names = sound.program_names };
+          fits = record { license = l.0; version = fits.version; type_bytes = fits.type_bytes; maps = fits.maps; programs = fits.programs };
+          tables = no_tables s.text_version (plan_at (record s { license = bytes })) (no_programs s g.reached.others.others.programs g.reached.others.others.last);
+        };
+        reached = record { features = g.reached.features; others = record { maps = g.reached.others.maps; last = g.reached.others.last; others = record { programs = g.reached.others.others.programs; last = g.reached.others.others.last } } };
+      },
+    )
 grows_license phase s bytes t g l e = cc
 
 known_version : (version : Option ℕ) → IsSoundLine (Version version) → IsKnownVersion version × IfSome version (λ v. v ≤ max_32)
@@ -279,15 +282,17 @@ grows_version AtVersion s version t g l e =
     let sound = g.plan.sound in
     let fits = g.plan.fits in
     let k = known_version version l in
-    stepped (record s { phase = AtVersion }) (Version version) (record s { phase = AtFeatures; version = version }) t e
-    (ap (λ (fs : Answers). Header s.text_version ∷ License s.license ∷ Version version ∷ map line_of_answer fs) g.reached.features, record {
-      plan = record {
-        sound = record { license = sound.license; version = k.0; features = sound.features; type_bytes = sound.type_bytes; maps = sound.maps; map_names = sound.map_names; programs = sound.programs; program_names = sound.program_names };
-        fits = record { license = fits.license; version = k.1; type_bytes = fits.type_bytes; maps = fits.maps; programs = fits.programs };
-        tables = no_tables s.text_version (plan_at (record s { version = version })) (no_programs s g.reached.others.others.programs g.reached.others.others.last);
-      };
-      reached = record { maps = g.reached.others.maps; last = g.reached.others.last; others = record { programs = g.reached.others.others.programs; last = g.reached.others.others.last } };
-    })
+    stepped (record s { phase = AtVersion }) (Version version) (record s { phase = AtFeatures; version = version }) t e (
+      ap (λ (fs : Answers). Header s.text_version ∷ License s.license ∷ Version version ∷ map line_of_answer fs) g.reached.features,
+      record {
+        plan = record {
+          sound = record { license = sound.license; version = k.0; features = sound.features; type_bytes = sound.type_bytes; maps = sound.maps; map_names = sound.map_names; programs = sound.programs; program_names = sound.program_names };
+          fits = record { license = fits.license; version = k.1; type_bytes = fits.type_bytes; maps = fits.maps; programs = fits.programs };
+          tables = no_tables s.text_version (plan_at (record s { version = version })) (no_programs s g.reached.others.others.programs g.reached.others.others.last);
+        };
+        reached = record { maps = g.reached.others.maps; last = g.reached.others.last; others = record { programs = g.reached.others.others.programs; last = g.reached.others.others.last } };
+      },
+    )
 grows_version phase s version t g l e = cc
 
 -- ---- features
@@ -325,15 +330,17 @@ grows_feature AtFeatures s f b t g e =
     let sound = g.plan.sound in
     let p = guard_none (is_asked s.features f) _ t e in
     let asked = distinct_with f (features s.features) sound.features (times_none f s.features p.0) in
-    stepped (record s { phase = AtFeatures }) (Feature f b) (record s { phase = AtFeatures; features = s.features ++ (f, b) ∷ [] }) t p.1
-    (ap (λ ls. Header s.text_version ∷ License s.license ∷ Version s.version ∷ ls) (map-append line_of_answer s.features ((f, b) ∷ [])), record {
-      plan = record {
-        sound = record { license = sound.license; version = sound.version; features = subst AreDistinct (sym (features-append s.features ((f, b) ∷ []))) asked; type_bytes = sound.type_bytes; maps = sound.maps; map_names = sound.map_names; programs = sound.programs; program_names = sound.program_names };
-        fits = record { license = g.plan.fits.license; version = g.plan.fits.version; type_bytes = g.plan.fits.type_bytes; maps = g.plan.fits.maps; programs = g.plan.fits.programs };
-        tables = no_tables s.text_version (plan_at (record s { features = s.features ++ (f, b) ∷ [] })) (no_programs s g.reached.others.programs g.reached.others.last);
-      };
-      reached = record { maps = g.reached.maps; last = g.reached.last; others = record { programs = g.reached.others.programs; last = g.reached.others.last } };
-    })
+    stepped (record s { phase = AtFeatures }) (Feature f b) (record s { phase = AtFeatures; features = s.features ++ (f, b) ∷ [] }) t p.1 (
+      ap (λ ls. Header s.text_version ∷ License s.license ∷ Version s.version ∷ ls) (map-append line_of_answer s.features ((f, b) ∷ [])),
+      record {
+        plan = record {
+          sound = record { license = sound.license; version = sound.version; features = subst AreDistinct (sym (features-append s.features ((f, b) ∷ []))) asked; type_bytes = sound.type_bytes; maps = sound.maps; map_names = sound.map_names; programs = sound.programs; program_names = sound.program_names };
+          fits = record { license = g.plan.fits.license; version = g.plan.fits.version; type_bytes = g.plan.fits.type_bytes; maps = g.plan.fits.maps; programs = g.plan.fits.programs };
+          tables = no_tables s.text_version (plan_at (record s { features = s.features ++ (f, b) ∷ [] })) (no_programs s g.reached.others.programs g.reached.others.last);
+        };
+        reached = record { maps = g.reached.maps; last = g.reached.last; others = record { programs = g.reached.others.programs; last = g.reached.others.last } };
+      },
+    )
 grows_feature phase s f b t g e = cc
 
 type_bytes_fit : (type_bytes : Option (List ℕ)) → IsSoundLine (Types type_bytes) → AreTypeBytes type_bytes × IfSome type_bytes AreBytes
@@ -346,19 +353,21 @@ grows_types AtFeatures s type_bytes t g l e =
     let fits = g.plan.fits in
     let k = type_bytes_fit type_bytes l in
     let lines = asked_lines s ++ Types type_bytes ∷ [] in
-    stepped (record s { phase = AtFeatures }) (Types type_bytes) (record s { phase = AtMaps; type_bytes = type_bytes }) t e
-    (ap (λ (ms : List MapContent). lines ++ flat_map lines_of_map ms) (no_maps s g.reached.maps g.reached.last) ∙ append-nil lines, record {
-      plan = record {
-        sound = record { license = sound.license; version = sound.version; features = sound.features; type_bytes = k.0; maps = sound.maps; map_names = sound.map_names; programs = sound.programs; program_names = sound.program_names };
-        fits = record { license = fits.license; version = fits.version; type_bytes = k.1; maps = fits.maps; programs = fits.programs };
-        tables = no_tables s.text_version (plan_at (record s { type_bytes = type_bytes })) (no_programs s g.reached.others.programs g.reached.others.last);
-      };
-      reached = record { maps = none s.last_map g.reached.maps g.reached.last; others = record { programs = g.reached.others.programs; last = g.reached.others.last } };
-    })
+    stepped (record s { phase = AtFeatures }) (Types type_bytes) (record s { phase = AtMaps; type_bytes = type_bytes }) t e (
+      ap (λ (ms : List MapContent). lines ++ flat_map lines_of_map ms) (no_maps s g.reached.maps g.reached.last) ∙ append-nil lines,
+      record {
+        plan = record {
+          sound = record { license = sound.license; version = sound.version; features = sound.features; type_bytes = k.0; maps = sound.maps; map_names = sound.map_names; programs = sound.programs; program_names = sound.program_names };
+          fits = record { license = fits.license; version = fits.version; type_bytes = k.1; maps = fits.maps; programs = fits.programs };
+          tables = no_tables s.text_version (plan_at (record s { type_bytes = type_bytes })) (no_programs s g.reached.others.programs g.reached.others.last);
+        };
+        reached = record { maps = none s.last_map g.reached.maps g.reached.last; others = record { programs = g.reached.others.programs; last = g.reached.others.last } };
+      },
+    )
   where
-  none : (last : Option MapContent) → s.maps ≡ [] → last ≡ None → HasLast s.maps last
-  none None e f = e
-  none (Some m) e f = tt
+    none : (last : Option MapContent) → s.maps ≡ [] → last ≡ None → HasLast s.maps last
+    none None e f = e
+    none (Some m) e f = tt
 grows_types phase s type_bytes t g l e = cc
 
 -- ---- maps
@@ -371,9 +380,9 @@ with_maps v q maps g sound fits rising = record {
   tables = same v g.tables;
 }
   where
-  same : (w : TextVersion) → AreTablesIn w q → AreTablesIn w (record q { maps = maps })
-  same First h = h
-  same Second h = tt
+    same : (w : TextVersion) → AreTablesIn w q → AreTablesIn w (record q { maps = maps })
+    same First h = h
+    same Second h = tt
 
 grows_map : (phase : Phase) (s : StateContent) (name : List ℕ) (number : ℕ) (is_btf : Bool) (words : MapWords) (contents : List ℕ) (t : StateContent) → IsGood (record s { phase = phase }) → IsSoundLine (Map name number is_btf words contents) → step_map phase (record s { phase = phase }) (map_of name number is_btf words contents) ≡ Some t → Grows (record s { phase = phase }) (Map name number is_btf words contents) t
 grows_map AtMaps s name number is_btf words contents t g l e =
@@ -382,12 +391,14 @@ grows_map AtMaps s name number is_btf words contents t g l e =
     let p = guard_some (follows (last_map_name s) name) _ t e in
     let sound : IsSoundMap m = record { number = omega (arith, l.1); words = l.3; inner = tt } in
     let fits : FitsMap m = record { name = l.0; words = l.2; inner = tt; contents = l.4 } in
-    stepped (record s { phase = AtMaps }) (Map name number is_btf words contents) (record s { phase = AtMaps; maps = maps; last_map = Some m }) t p.1
-    (ap (λ ls. typed_lines s ++ ls) (flat_map-snoc lines_of_map maps m) ∙ sym (append_assoc (typed_lines s) (flat_map lines_of_map maps) (Map name number is_btf words contents ∷ [])), record {
-      plan = with_maps s.text_version (plan_at s) (maps ++ m ∷ []) g.plan (All-push IsSoundMap maps m g.plan.sound.maps sound) (All-push FitsMap maps m g.plan.fits.maps fits)
-        (rising_next (λ x. x.name) s.maps s.last_map m g.reached.maps g.plan.sound.map_names p.0);
-      reached = record { maps = tt; others = record { programs = g.reached.others.programs; last = g.reached.others.last } };
-    })
+    stepped (record s { phase = AtMaps }) (Map name number is_btf words contents) (record s { phase = AtMaps; maps = maps; last_map = Some m }) t p.1 (
+      ap (λ ls. typed_lines s ++ ls) (flat_map-snoc lines_of_map maps m) ∙ sym (append_assoc (typed_lines s) (flat_map lines_of_map maps) (Map name number is_btf words contents ∷ [])),
+      record {
+        plan = with_maps s.text_version (plan_at s) (maps ++ m ∷ []) g.plan (All-push IsSoundMap maps m g.plan.sound.maps sound) (All-push FitsMap maps m g.plan.fits.maps fits)
+            (rising_next (λ x. x.name) s.maps s.last_map m g.reached.maps g.plan.sound.map_names p.0);
+        reached = record { maps = tt; others = record { programs = g.reached.others.programs; last = g.reached.others.last } };
+      },
+    )
 grows_map phase s name number is_btf words contents t g l e = cc
 
 both_true : (a b : Bool) → (a && b) ≡ true → (a ≡ true) × (b ≡ true)
@@ -426,19 +437,21 @@ grows_inner AtMaps s (Some m) words t g l e =
     let there = record s { phase = AtMaps; last_map = Some n } in
     let before = typed_lines s ++ flat_map lines_of_map s.maps in
     let lines : mapped_lines there ≡ mapped_lines here ++ Inner words ∷ [] =
-        ap (λ ls. typed_lines s ++ ls) (flat_map-snoc lines_of_map s.maps n)
-        ∙ (ap (λ ls. typed_lines s ++ (flat_map lines_of_map s.maps ++ ((head ∷ ls) ++ Inner words ∷ []))) (sym (ap inner_of none))
-        ∙ (regroup (typed_lines s) (flat_map lines_of_map s.maps) (lines_of_map m) (Inner words ∷ [])
-        ∙ ap (λ ls. (typed_lines s ++ ls) ++ Inner words ∷ []) (sym (flat_map-snoc lines_of_map s.maps m)))) in
-    stepped here (Inner words) there t (ap (λ (x : MapContent). Some (record s { phase = AtMaps; last_map = Some x })) (some_is n p.0 q.1) ∙ ap Some p.2)
-    (lines, record {
-      plan = with_maps s.text_version (plan_at here) (s.maps ++ n ∷ []) g.plan (change_last IsSoundMap s.maps m n g.plan.sound.maps sound) (change_last FitsMap s.maps m n g.plan.fits.maps fits)
-        (subst AreRising (same_names (λ x. x.name) s.maps m n refl) g.plan.sound.map_names);
-      reached = record { maps = tt; others = record { programs = g.reached.others.programs; last = g.reached.others.last } };
-    })
+    ap (λ ls. typed_lines s ++ ls) (flat_map-snoc lines_of_map s.maps n)
+    ∙ (ap (λ ls. typed_lines s ++ (flat_map lines_of_map s.maps ++ ((head ∷ ls) ++ Inner words ∷ []))) (sym (ap inner_of none))
+    ∙ (regroup (typed_lines s) (flat_map lines_of_map s.maps) (lines_of_map m) (Inner words ∷ [])
+    ∙ ap (λ ls. (typed_lines s ++ ls) ++ Inner words ∷ []) (sym (flat_map-snoc lines_of_map s.maps m)))) in
+    stepped here (Inner words) there t (ap (λ (x : MapContent). Some (record s { phase = AtMaps; last_map = Some x })) (some_is n p.0 q.1) ∙ ap Some p.2) (
+      lines,
+      record {
+        plan = with_maps s.text_version (plan_at here) (s.maps ++ n ∷ []) g.plan (change_last IsSoundMap s.maps m n g.plan.sound.maps sound) (change_last FitsMap s.maps m n g.plan.fits.maps fits)
+            (subst AreRising (same_names (λ x. x.name) s.maps m n refl) g.plan.sound.map_names);
+        reached = record { maps = tt; others = record { programs = g.reached.others.programs; last = g.reached.others.last } };
+      },
+    )
   where
-  regroup : (a b c d : List LineContent) → a ++ (b ++ (c ++ d)) ≡ (a ++ (b ++ c)) ++ d
-  regroup a b c d = simp append_assoc
+    regroup : (a b c d : List LineContent) → a ++ (b ++ (c ++ d)) ≡ (a ++ (b ++ c)) ++ d
+    regroup a b c d = simp append_assoc
 grows_inner phase s last words t g l e = cc
 
 -- ---- programs
@@ -472,12 +485,14 @@ begins_after phase s name section t g h l e lines =
     let all = with_last s.programs s.last_program in
     let f = flat_map (lines_of_program s.text_version) all in
     let c = guard_some (follows (option_map (λ x. x.name) s.last_program) name) _ t e in
-    stepped (record s { phase = phase }) (Program name section) (record s { phase = AtSlots; programs = all; last_program = Some p }) t c.1
-    (sym (append_assoc (mapped_lines s) f (Program name section ∷ [])) ∙ ap (λ ls. ls ++ Program name section ∷ []) (sym lines), record {
-      plan = with_programs s.text_version (plan_at s) (all ++ p ∷ []) g (All-push IsSoundProgram all p g.sound.programs (record { tables = tt })) (All-push FitsProgram all p g.fits.programs (bare_fits name section l))
-        (rising_next (λ x. x.name) s.programs s.last_program p h g.sound.program_names c.0) (tables_push s.text_version (plan_at s) p g.tables refl);
-      reached = refl;
-    })
+    stepped (record s { phase = phase }) (Program name section) (record s { phase = AtSlots; programs = all; last_program = Some p }) t c.1 (
+      sym (append_assoc (mapped_lines s) f (Program name section ∷ [])) ∙ ap (λ ls. ls ++ Program name section ∷ []) (sym lines),
+      record {
+        plan = with_programs s.text_version (plan_at s) (all ++ p ∷ []) g (All-push IsSoundProgram all p g.sound.programs (record { tables = tt })) (All-push FitsProgram all p g.fits.programs (bare_fits name section l))
+            (rising_next (λ x. x.name) s.programs s.last_program p h g.sound.program_names c.0) (tables_push s.text_version (plan_at s) p g.tables refl);
+        reached = refl;
+      },
+    )
 
 has_last : (programs : List ProgramContent) (last : Option ProgramContent) → programs ≡ [] → HasLast programs last
 has_last programs None e = e
@@ -567,9 +582,9 @@ with_last_program v s p n g e sound fits none =
     with_programs v (plan_at (record s { last_program = Some p })) (s.programs ++ n ∷ []) g (change_last IsSoundProgram s.programs p n g.sound.programs sound) (change_last FitsProgram s.programs p n g.fits.programs fits)
     (subst AreRising (same_names (λ x. x.name) s.programs p n e) g.sound.program_names) (tables v g.tables none)
   where
-  tables : (w : TextVersion) → AreTablesIn w (plan_at (record s { last_program = Some p })) → (w ≡ First → n.tables ≡ None) → AreTablesIn w (record (plan_at (record s { last_program = Some p })) { programs = s.programs ++ n ∷ [] })
-  tables First h none = change_last (λ x. x.tables ≡ None) s.programs p n h (none refl)
-  tables Second h none = tt
+    tables : (w : TextVersion) → AreTablesIn w (plan_at (record s { last_program = Some p })) → (w ≡ First → n.tables ≡ None) → AreTablesIn w (record (plan_at (record s { last_program = Some p })) { programs = s.programs ++ n ∷ [] })
+    tables First h none = change_last (λ x. x.tables ≡ None) s.programs p n h (none refl)
+    tables Second h none = tt
 
 -- the tables of the last program of a text of the first version
 no_tables_last : (v : TextVersion) (s : StateContent) (p : ProgramContent) → AreTablesIn v (plan_at (record s { last_program = Some p })) → v ≡ First → p.tables ≡ None
@@ -599,13 +614,15 @@ grows_slots AtSlots First s (Some p) bytes t g l e =
     let there = record s { phase = AtFuncs; text_version = First; last_program = Some n } in
     let bare : n ≡ record (bare_program p.name p.section) { slots = slots_of bytes } = ap (λ (x : ProgramContent). record x { slots = slots_of bytes }) g.reached in
     let lines : lines_of_program First n ≡ (Program p.name p.section ∷ []) ++ Slots bytes ∷ [] =
-        ap (lines_of_program First) bare ∙ ap (λ b. Program p.name p.section ∷ Slots b ∷ []) are.bytes_are in
+    ap (lines_of_program First) bare ∙ ap (λ b. Program p.name p.section ∷ Slots b ∷ []) are.bytes_are in
     let old = the_last FitsProgram s.programs p g.plan.fits.programs in
-    stepped here (Slots bytes) there t e
-    (last_grows there n (Program p.name p.section ∷ []) (Slots bytes) lines, record {
-      plan = with_last_program First here p n g.plan refl (record { tables = (the_last IsSoundProgram s.programs p g.plan.sound.programs).tables }) (record { name = old.name; slots = are.fit; func_records = old.func_records; few_funcs = old.few_funcs; line_records = old.line_records; few_lines = old.few_lines }) (no_tables_last First here p g.plan.tables);
-      reached = ap (λ (x : ProgramContent). x.line_records) g.reached;
-    })
+    stepped here (Slots bytes) there t e (
+      last_grows there n (Program p.name p.section ∷ []) (Slots bytes) lines,
+      record {
+        plan = with_last_program First here p n g.plan refl (record { tables = (the_last IsSoundProgram s.programs p g.plan.sound.programs).tables }) (record { name = old.name; slots = are.fit; func_records = old.func_records; few_funcs = old.few_funcs; line_records = old.line_records; few_lines = old.few_lines }) (no_tables_last First here p g.plan.tables);
+        reached = ap (λ (x : ProgramContent). x.line_records) g.reached;
+      },
+    )
 grows_slots AtSlots Second s (Some p) bytes t g l e =
     let are = slots_of_are bytes l in
     let n : ProgramContent = record p { slots = slots_of bytes } in
@@ -613,11 +630,13 @@ grows_slots AtSlots Second s (Some p) bytes t g l e =
     let there = record s { phase = AtTables; text_version = Second; last_program = Some n } in
     let front = flat_map (lines_of_program Second) s.programs in
     let old = the_last FitsProgram s.programs p g.plan.fits.programs in
-    stepped here (Slots bytes) there t e
-    (ap (λ b. mapped_lines there ++ (front ++ Program p.name p.section ∷ Slots b ∷ [])) are.bytes_are ∙ regroup_four (mapped_lines there) front (Program p.name p.section ∷ []) (Slots bytes ∷ []), record {
-      plan = with_last_program Second here p n g.plan refl (record { tables = (the_last IsSoundProgram s.programs p g.plan.sound.programs).tables }) (record { name = old.name; slots = are.fit; func_records = old.func_records; few_funcs = old.few_funcs; line_records = old.line_records; few_lines = old.few_lines }) (no_tables_last Second here p g.plan.tables);
-      reached = record { last = ap (λ (x : ProgramContent). record x { slots = slots_of bytes }) g.reached; second = refl };
-    })
+    stepped here (Slots bytes) there t e (
+      ap (λ b. mapped_lines there ++ (front ++ Program p.name p.section ∷ Slots b ∷ [])) are.bytes_are ∙ regroup_four (mapped_lines there) front (Program p.name p.section ∷ []) (Slots bytes ∷ []),
+      record {
+        plan = with_last_program Second here p n g.plan refl (record { tables = (the_last IsSoundProgram s.programs p g.plan.sound.programs).tables }) (record { name = old.name; slots = are.fit; func_records = old.func_records; few_funcs = old.few_funcs; line_records = old.line_records; few_lines = old.few_lines }) (no_tables_last Second here p g.plan.tables);
+        reached = record { last = ap (λ (x : ProgramContent). record x { slots = slots_of bytes }) g.reached; second = refl };
+      },
+    )
 grows_slots phase v s last bytes t g l e = cc
 
 not_first : (v : TextVersion) → v ≡ Second → v ≡ First → ⊥
@@ -631,13 +650,15 @@ grows_tables AtTables s (Some p) tables t g l e =
     let there = record s { phase = AtFuncs; last_program = Some n } in
     let bare : n ≡ record (bare_program p.name p.section) { slots = p.slots; tables = tables } = ap (λ (x : ProgramContent). record x { tables = tables }) g.reached.last in
     let lines : lines_of_program s.text_version n ≡ (Program p.name p.section ∷ Slots (slot_bytes p.slots) ∷ []) ++ Tables tables ∷ [] =
-        ap (λ (w : TextVersion). lines_of_program w n) g.reached.second ∙ ap (lines_of_program Second) bare in
+    ap (λ (w : TextVersion). lines_of_program w n) g.reached.second ∙ ap (lines_of_program Second) bare in
     let old = the_last FitsProgram s.programs p g.plan.fits.programs in
-    stepped here (Tables tables) there t e
-    (last_grows there n (Program p.name p.section ∷ Slots (slot_bytes p.slots) ∷ []) (Tables tables) lines, record {
-      plan = with_last_program s.text_version here p n g.plan refl (record { tables = l }) (record { name = old.name; slots = old.slots; func_records = old.func_records; few_funcs = old.few_funcs; line_records = old.line_records; few_lines = old.few_lines }) (λ f. absurd (not_first s.text_version g.reached.second f));
-      reached = ap (λ (x : ProgramContent). x.line_records) g.reached.last;
-    })
+    stepped here (Tables tables) there t e (
+      last_grows there n (Program p.name p.section ∷ Slots (slot_bytes p.slots) ∷ []) (Tables tables) lines,
+      record {
+        plan = with_last_program s.text_version here p n g.plan refl (record { tables = l }) (record { name = old.name; slots = old.slots; func_records = old.func_records; few_funcs = old.few_funcs; line_records = old.line_records; few_lines = old.few_lines }) (λ f. absurd (not_first s.text_version g.reached.second f));
+        reached = ap (λ (x : ProgramContent). x.line_records) g.reached.last;
+      },
+    )
 grows_tables phase s last tables t g l e = cc
 
 room_is : (n : ℕ) → nat_lt (n + 1) (2 ^ 32) ≡ true → n + 1 < 2 ^ 32
@@ -654,21 +675,23 @@ grows_func AtFuncs s (Some p) r t g l e =
     let front = Program p.name p.section ∷ Slots (slot_bytes p.slots) ∷ [] in
     let tables = tables_of s.text_version p.tables in
     let records : map line_of_func (p.func_records ++ r ∷ []) ++ map line_of_source p.line_records ≡ (map line_of_func p.func_records ++ map line_of_source p.line_records) ++ line_of_func r ∷ [] =
-        ap (λ ls. ls ++ map line_of_source p.line_records) (map-append line_of_func p.func_records (r ∷ [])) ∙ swapped (map line_of_func p.func_records) (line_of_func r) p.line_records g.reached in
+    ap (λ ls. ls ++ map line_of_source p.line_records) (map-append line_of_func p.func_records (r ∷ [])) ∙ swapped (map line_of_func p.func_records) (line_of_func r) p.line_records g.reached in
     let lines : lines_of_program s.text_version n ≡ lines_of_program s.text_version p ++ line_of_func r ∷ [] =
-        ap (λ ls. Program p.name p.section ∷ Slots (slot_bytes p.slots) ∷ (tables ++ ls)) records
-        ∙ ap (λ ls. Program p.name p.section ∷ Slots (slot_bytes p.slots) ∷ ls) (sym (append_assoc tables (lines_of_records p) (line_of_func r ∷ []))) in
+    ap (λ ls. Program p.name p.section ∷ Slots (slot_bytes p.slots) ∷ (tables ++ ls)) records
+    ∙ ap (λ ls. Program p.name p.section ∷ Slots (slot_bytes p.slots) ∷ ls) (sym (append_assoc tables (lines_of_records p) (line_of_func r ∷ []))) in
     let old = the_last FitsProgram s.programs p g.plan.fits.programs in
     let few : length (p.func_records ++ r ∷ []) < 2 ^ 32 = omega (arith, room_is (length p.func_records) d.0, length-append p.func_records (r ∷ [])) in
-    stepped here (line_of_func r) there t (ap (λ (x : ProgramContent). Some (record s { phase = AtFuncs; last_program = Some x })) (some_is n c.0 d.1) ∙ ap Some c.2)
-    (last_grows there n (lines_of_program s.text_version p) (line_of_func r) lines ∙ ap (λ ls. ls ++ line_of_func r ∷ []) (sym (last_lines there p)), record {
-      plan = with_last_program s.text_version here p n g.plan refl (record { tables = (the_last IsSoundProgram s.programs p g.plan.sound.programs).tables }) (record { name = old.name; slots = old.slots; func_records = All-push FitsFunc p.func_records r old.func_records l; few_funcs = few; line_records = old.line_records; few_lines = old.few_lines }) (no_tables_last s.text_version here p g.plan.tables);
-      reached = g.reached;
-    })
+    stepped here (line_of_func r) there t (ap (λ (x : ProgramContent). Some (record s { phase = AtFuncs; last_program = Some x })) (some_is n c.0 d.1) ∙ ap Some c.2) (
+      last_grows there n (lines_of_program s.text_version p) (line_of_func r) lines ∙ ap (λ ls. ls ++ line_of_func r ∷ []) (sym (last_lines there p)),
+      record {
+        plan = with_last_program s.text_version here p n g.plan refl (record { tables = (the_last IsSoundProgram s.programs p g.plan.sound.programs).tables }) (record { name = old.name; slots = old.slots; func_records = All-push FitsFunc p.func_records r old.func_records l; few_funcs = few; line_records = old.line_records; few_lines = old.few_lines }) (no_tables_last s.text_version here p g.plan.tables);
+        reached = g.reached;
+      },
+    )
   where
-  swapped : (a : List LineContent) (b : LineContent) (sources : List bpf_line_info) → sources ≡ [] → (a ++ b ∷ []) ++ map line_of_source sources ≡ (a ++ map line_of_source sources) ++ b ∷ []
-  swapped a b [] h = append-nil (a ++ b ∷ []) ∙ ap (λ ls. ls ++ b ∷ []) (sym (append-nil a))
-  swapped a b (x ∷ sources) h = cc
+    swapped : (a : List LineContent) (b : LineContent) (sources : List bpf_line_info) → sources ≡ [] → (a ++ b ∷ []) ++ map line_of_source sources ≡ (a ++ map line_of_source sources) ++ b ∷ []
+    swapped a b [] h = append-nil (a ++ b ∷ []) ∙ ap (λ ls. ls ++ b ∷ []) (sym (append-nil a))
+    swapped a b (x ∷ sources) h = cc
 grows_func phase s last r t g l e = cc
 
 -- a record of a source line more
@@ -682,17 +705,19 @@ source_more phase s p r t g l e so =
     let tables = tables_of s.text_version p.tables in
     let funcs = map line_of_func p.func_records in
     let records : funcs ++ map line_of_source (p.line_records ++ r ∷ []) ≡ lines_of_records p ++ line_of_source r ∷ [] =
-        ap (λ ls. funcs ++ ls) (map-append line_of_source p.line_records (r ∷ [])) ∙ sym (append_assoc funcs (map line_of_source p.line_records) (line_of_source r ∷ [])) in
+    ap (λ ls. funcs ++ ls) (map-append line_of_source p.line_records (r ∷ [])) ∙ sym (append_assoc funcs (map line_of_source p.line_records) (line_of_source r ∷ [])) in
     let lines : lines_of_program s.text_version n ≡ lines_of_program s.text_version p ++ line_of_source r ∷ [] =
-        ap (λ ls. Program p.name p.section ∷ Slots (slot_bytes p.slots) ∷ (tables ++ ls)) records
-        ∙ ap (λ ls. Program p.name p.section ∷ Slots (slot_bytes p.slots) ∷ ls) (sym (append_assoc tables (lines_of_records p) (line_of_source r ∷ []))) in
+    ap (λ ls. Program p.name p.section ∷ Slots (slot_bytes p.slots) ∷ (tables ++ ls)) records
+    ∙ ap (λ ls. Program p.name p.section ∷ Slots (slot_bytes p.slots) ∷ ls) (sym (append_assoc tables (lines_of_records p) (line_of_source r ∷ []))) in
     let old = the_last FitsProgram s.programs p g.fits.programs in
     let few : length (p.line_records ++ r ∷ []) < 2 ^ 32 = omega (arith, room_is (length p.line_records) d.0, length-append p.line_records (r ∷ [])) in
-    stepped here (line_of_source r) there t (ap (λ (x : ProgramContent). Some (record s { phase = AtLines; last_program = Some x })) (some_is n c.0 d.1) ∙ ap Some c.2)
-    (last_grows there n (lines_of_program s.text_version p) (line_of_source r) lines ∙ ap (λ ls. ls ++ line_of_source r ∷ []) (sym (last_lines there p) ∙ sym so), record {
-      plan = with_last_program s.text_version here p n g refl (record { tables = (the_last IsSoundProgram s.programs p g.sound.programs).tables }) (record { name = old.name; slots = old.slots; func_records = old.func_records; few_funcs = old.few_funcs; line_records = All-push FitsSource p.line_records r old.line_records l; few_lines = few }) (no_tables_last s.text_version here p g.tables);
-      reached = tt;
-    })
+    stepped here (line_of_source r) there t (ap (λ (x : ProgramContent). Some (record s { phase = AtLines; last_program = Some x })) (some_is n c.0 d.1) ∙ ap Some c.2) (
+      last_grows there n (lines_of_program s.text_version p) (line_of_source r) lines ∙ ap (λ ls. ls ++ line_of_source r ∷ []) (sym (last_lines there p) ∙ sym so),
+      record {
+        plan = with_last_program s.text_version here p n g refl (record { tables = (the_last IsSoundProgram s.programs p g.sound.programs).tables }) (record { name = old.name; slots = old.slots; func_records = old.func_records; few_funcs = old.few_funcs; line_records = All-push FitsSource p.line_records r old.line_records l; few_lines = few }) (no_tables_last s.text_version here p g.tables);
+        reached = tt;
+      },
+    )
 
 grows_source : (phase : Phase) (s : StateContent) (last : Option ProgramContent) (r : bpf_line_info) (t : StateContent) → IsGood (record s { phase = phase; last_program = last }) → FitsSource r → step_source phase (record s { phase = phase; last_program = last }) r ≡ Some t → Grows (record s { phase = phase; last_program = last }) (line_of_source r) t
 grows_source AtFuncs s None r t g l e = cc

@@ -123,12 +123,12 @@ not_true false h = refl
 not_asked : (before : Answers) (a : BtfFeature × Bool) (after : Answers) → AreDistinct (features (before ++ a ∷ after)) → is_asked before a.0 ≡ false
 not_asked before a after d = not_true (is_asked before a.0) (λ h. twice (times_asked a.0 before h) (d.once a.0))
   where
-  twice : 0 < times a.0 (features before) → times a.0 (features (before ++ a ∷ after)) ≤ 1 → ⊥
-  twice h k =
-      let e = ap (times a.0) (features-append before (a ∷ after)) in
-      let f = times-append a.0 (features before) (features (a ∷ after)) in
-      let g = times_self a.0 (features after) in
-      absurd (omega (arith, h, k, e, f, g))
+    twice : 0 < times a.0 (features before) → times a.0 (features (before ++ a ∷ after)) ≤ 1 → ⊥
+    twice h k =
+        let e = ap (times a.0) (features-append before (a ∷ after)) in
+        let f = times-append a.0 (features before) (features (a ∷ after)) in
+        let g = times_self a.0 (features after) in
+        absurd (omega (arith, h, k, e, f, g))
 
 features_steps : (v : TextVersion) (license : List ℕ) (version : Option ℕ) (type_bytes : Option (List ℕ)) (before answers : Answers) (rest : List LineContent) → AreDistinct (features (before ++ answers)) →
     steps (state AtFeatures v license version before type_bytes [] None [] None) (map line_of_answer answers ++ rest)
@@ -173,16 +173,16 @@ unfolding IsStrictlySortedBy
 rise_sorted last [] h f = tt
 rise_sorted last (name ∷ names) h f = (f, rise_sorted (Some name) names h.1 (next name names h.0))
   where
-  next : (name : List ℕ) (names : List (List ℕ)) → AllByRecursion (λ y. slice_cmp nat_cmp name y ≡ Less) names → FollowsFirst (Some name) names
-  next name [] all = tt
-  next name (n ∷ ns) all = ap is_lt all.0
+    next : (name : List ℕ) (names : List (List ℕ)) → AllByRecursion (λ y. slice_cmp nat_cmp name y ≡ Less) names → FollowsFirst (Some name) names
+    next name [] all = tt
+    next name (n ∷ ns) all = ap is_lt all.0
 
 pub rising_from_none : (names : List (List ℕ)) → AreRising names → RiseFrom None names
 rising_from_none names h = rise_sorted None names h (first names)
   where
-  first : (names : List (List ℕ)) → FollowsFirst None names
-  first [] = tt
-  first (n ∷ ns) = refl
+    first : (names : List (List ℕ)) → FollowsFirst None names
+    first [] = tt
+    first (n ∷ ns) = refl
 
 -- ---- maps
 
@@ -200,15 +200,17 @@ map_steps : (v : TextVersion) (license : List ℕ) (version : Option ℕ) (answe
     ≡ steps (state AtMaps v license version answers type_bytes (with_last maps last) (Some m) [] None) rest
 map_steps v license version answers type_bytes maps last m rest sound f = by_inner m.inner sound
   where
-  bare : MapContent
-  bare = map_of m.name m.number m.is_btf m.words m.contents
-  at : Option MapContent → StateContent
-  at x = state AtMaps v license version answers type_bytes (with_last maps last) x [] None
-  by_inner : (inner : Option MapWords) → IsSoundMap (record m { inner = inner }) →
-      steps (state AtMaps v license version answers type_bytes maps last [] None) ((Map m.name m.number m.is_btf m.words m.contents ∷ inner_of inner) ++ rest)
-      ≡ steps (at (Some (record m { inner = inner }))) rest
-  by_inner None s = rw f refl
-  by_inner (Some words) s = rw (f, words_of_again m.is_btf words s.inner) refl
+    bare : MapContent
+    bare = map_of m.name m.number m.is_btf m.words m.contents
+
+    at : Option MapContent → StateContent
+    at x = state AtMaps v license version answers type_bytes (with_last maps last) x [] None
+
+    by_inner : (inner : Option MapWords) → IsSoundMap (record m { inner = inner }) →
+        steps (state AtMaps v license version answers type_bytes maps last [] None) ((Map m.name m.number m.is_btf m.words m.contents ∷ inner_of inner) ++ rest)
+        ≡ steps (at (Some (record m { inner = inner }))) rest
+    by_inner None s = rw f refl
+    by_inner (Some words) s = rw (f, words_of_again m.is_btf words s.inner) refl
 
 maps_steps : (v : TextVersion) (license : List ℕ) (version : Option ℕ) (answers : Answers) (type_bytes : Option (List ℕ)) (maps : List MapContent) (last : Option MapContent) (ms : List MapContent) (rest : List LineContent) →
     All IsSoundMap ms → RiseFrom (option_map (λ x. x.name) last) (map_names ms) →
@@ -235,12 +237,13 @@ slots_first bytes rest h =
     let count : length (bytes ++ rest) / 8 ≡ suc (length rest / 8) = omega (arith, length-append bytes rest) in
     rw count (ap₂ (λ x y. slot_of x ∷ slots_in y (length rest / 8)) (front bytes h) (back bytes h))
   where
-  front : (bytes : List ℕ) → length bytes ≡ 8 → take 8 (bytes ++ rest) ≡ bytes
-  front (a ∷ b ∷ c ∷ d ∷ e ∷ f ∷ g ∷ i ∷ []) h = refl
-  front bytes h = absurd (omega arith)
-  back : (bytes : List ℕ) → length bytes ≡ 8 → drop 8 (bytes ++ rest) ≡ rest
-  back (a ∷ b ∷ c ∷ d ∷ e ∷ f ∷ g ∷ i ∷ []) h = refl
-  back bytes h = absurd (omega arith)
+    front : (bytes : List ℕ) → length bytes ≡ 8 → take 8 (bytes ++ rest) ≡ bytes
+    front (a ∷ b ∷ c ∷ d ∷ e ∷ f ∷ g ∷ i ∷ []) h = refl
+    front bytes h = absurd (omega arith)
+
+    back : (bytes : List ℕ) → length bytes ≡ 8 → drop 8 (bytes ++ rest) ≡ rest
+    back (a ∷ b ∷ c ∷ d ∷ e ∷ f ∷ g ∷ i ∷ []) h = refl
+    back bytes h = absurd (omega arith)
 
 -- slots are found again in their bytes
 pub slots_again : (slots : List bpf_insn) → All FitsSlot slots → slots_of (slot_bytes slots) ≡ slots
@@ -311,11 +314,11 @@ module _ (v : TextVersion) (license : List ℕ) (version : Option ℕ) (answers 
   all_sources programs p [] rest none few = ap (λ (x : List bpf_line_info). steps (at AtFuncs programs (Some (record p { line_records = x }))) rest) none
   all_sources programs p (r ∷ records) rest none few = from p.line_records none
     where
-    from : (before : List bpf_line_info) → before ≡ [] →
-        steps (at AtFuncs programs (Some (record p { line_records = before }))) (map line_of_source (r ∷ records) ++ rest)
-        ≡ steps (at AtLines programs (Some (record p { line_records = r ∷ records }))) rest
-    from [] e = sources_steps programs (record p { line_records = r ∷ [] }) records rest (omega arith)
-    from (x ∷ before) e = cc
+      from : (before : List bpf_line_info) → before ≡ [] →
+          steps (at AtFuncs programs (Some (record p { line_records = before }))) (map line_of_source (r ∷ records) ++ rest)
+          ≡ steps (at AtLines programs (Some (record p { line_records = r ∷ records }))) rest
+      from [] e = sources_steps programs (record p { line_records = r ∷ [] }) records rest (omega arith)
+      from (x ∷ before) e = cc
 
   begins : (phase : Phase) → IsBetween phase → (programs : List ProgramContent) (last : Option ProgramContent) (name : List ℕ) (section : ProgramSection) → follows (option_map (λ p. p.name) last) name ≡ true →
       step (at phase programs last) (Program name section) ≡ Some (at AtSlots (with_last programs last) (Some (bare_program name section)))
@@ -381,14 +384,14 @@ module _ (v : TextVersion) (license : List ℕ) (version : Option ℕ) (answers 
 all_know_none : (v : TextVersion) (q : PlanContent) → AreTablesIn v q → AllKnowNone v q.programs
 all_know_none First q h = each q.programs h
   where
-  each : (ps : List ProgramContent) → All (λ p. p.tables ≡ None) ps → AllKnowNone First ps
-  each [] h = tt
-  each (p ∷ ps) h = (All-head (λ x. x.tables ≡ None) p ps h, each ps (All-tail (λ x. x.tables ≡ None) p ps h))
+    each : (ps : List ProgramContent) → All (λ p. p.tables ≡ None) ps → AllKnowNone First ps
+    each [] h = tt
+    each (p ∷ ps) h = (All-head (λ x. x.tables ≡ None) p ps h, each ps (All-tail (λ x. x.tables ≡ None) p ps h))
 all_know_none Second q h = each q.programs
   where
-  each : (ps : List ProgramContent) → AllKnowNone Second ps
-  each [] = tt
-  each (p ∷ ps) = (tt, each ps)
+    each : (ps : List ProgramContent) → AllKnowNone Second ps
+    each [] = tt
+    each (p ∷ ps) = (tt, each ps)
 
 -- the lines of a plan lead to it
 pub plan_steps : (v : TextVersion) (q : PlanContent) → IsSoundPlan q → FitsPlan q → AreTablesIn v q → steps start (lines_of_plan v q) ≡ Some (done v q)

@@ -20,7 +20,8 @@ use btf_records::BtfFeature;
 use btf_sanitizing::Answers;
 use ebpf_items::{ProgramSection, Slots, bpf_insn, copy_instructions};
 use plan_lines::{
-    LineError, MapLine, MapWords, PlanLine, TextVersion, are_words_of, lines_are_unbroken, read_line,
+    LineError, MapLine, MapWords, PlanLine, TextVersion, are_words_of, lines_are_unbroken,
+    read_line,
 };
 use std::alloc::{AllocError, Global};
 
@@ -570,7 +571,9 @@ impl Plan<'static> {
         ensures refused { IfErr result (IsReadFault bytes.now) }
     {
         let mut reader = Reader::new(alloc);
-        reader.take_all(alloc, bytes)?;
-        Ok(reader.into_plan())
+        match reader.take_all(alloc, bytes) {
+            Ok(()) => Ok(reader.into_plan()),
+            Err(error) => Err(error),
+        }
     }
 }

@@ -4,14 +4,14 @@ use Rattle.plan_text.specs.Content.{PlanContent}
 use Rattle.plan_text.specs.PlanGrammar.{IsTextOf}
 use Rattle.plan_text.proofs.plan.Plan.read.Goals as goal
 
-pub returns-in_err-take_all-clause-only : goal.returns-in_err-take_all-clause-only
-returns-in_err-take_all-clause-only c = ?
-
 pub into_plan-requires : goal.into_plan-requires
-into_plan-requires c = c.in_ok-take_all.ensures.read.sound
+into_plan-requires c = c.in-Ok.ensures.read.sound
 
-pub returns-clause-found : goal.returns-clause-found
-returns-clause-found c = subst (λ (q : PlanContent). IsTextOf q c.args.bytes.now) (sym c.into_plan.ensures) c.in_ok-take_all.ensures.read.text
+pub returns-in-Ok-clause-found : goal.returns-in-Ok-clause-found
+returns-in-Ok-clause-found c = subst (λ (q : PlanContent). IsTextOf q c.args.bytes.now) (sym c.into_plan.ensures) c.in-Ok.ensures.read.text
+
+pub returns-in-Ok-clause-only : goal.returns-in-Ok-clause-only
+returns-in-Ok-clause-only c = λ q h. c.into_plan.ensures ∙ c.in-Ok.ensures.read.only q h
 
 pub returns-clause-only : goal.returns-clause-only
-returns-clause-only c = λ q h. c.into_plan.ensures ∙ c.in_ok-take_all.ensures.read.only q h
+returns-clause-only c = λ q h. not_as c.args.bytes.now c.in-Err.error q c.in-Err.ensures.refused h

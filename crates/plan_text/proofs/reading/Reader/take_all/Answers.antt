@@ -25,7 +25,7 @@ loop-line-preserved c =
     let cut : length c.loop-line.rest.now ≡ length c.in-Some.line.now + (1 + length c.in-Some.others.now) = ap length c.in-Some.ensures.0 ∙ (length-append c.in-Some.line.now (10 ∷ c.in-Some.others.now) ∙ omega arith) in (
       omega arith,
       reading_next c.lines_are_unbroken.ensures c.args.bytes.now c.loop-line.rest.now c.in-Some.line.now c.in-Some.others.now c.loop-line.lines (state_view c.loop-line.self) (state_view c.take.new.self)
-      c.loop-line.invariant.1 c.in-Some.ensures.0 c.in-Some.ensures.1 (rw c.if-not-branch.false at c.in_ok-take.ensures),
+          c.loop-line.invariant.1 c.in-Some.ensures.0 c.in-Some.ensures.1 (rw c.if-not-branch.false at c.in_ok-take.ensures),
     )
 
 pub returns-then-not-is_empty-clause-refused : goal.returns-then-not-is_empty-clause-refused
