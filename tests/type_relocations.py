@@ -38,6 +38,9 @@ Step = collections.namedtuple("Step", "name index inside type width")
 # What a kernel's type has of what is asked for: the bits before it, and its value, or None where it can't be computed.
 Match = collections.namedtuple("Match", "bits value")
 
+# What a relocation comes to: its value, or None, and the place of the table of its first match, or None.
+Outcome = collections.namedtuple("Outcome", "value table", defaults=(None,))
+
 # A number to be written, and the field of which it is the offset, as its size and the record of its type.
 Value = collections.namedtuple("Value", "number size type", defaults=(0, None))
 
@@ -297,28 +300,29 @@ def question_of(kind, types, id, access):
 
 
 def candidates(kind, record, tables):
-    """The tables of a kernel and the ids in them that a relocation of a type is looked for in, in order."""
+    """The places of a kernel's tables and the ids in them that a relocation of a type is looked for in, in order."""
     searched = {LOCAL_ID: [], KERNEL_ID: tables[:1]}.get(kind, tables)
     wanted = (record["kind"], cut(record["name"]))
-    return [(types, id) for types in searched for id, other in enumerate(types.records)
+    return [(table, id) for table, types in enumerate(searched) for id, other in enumerate(types.records)
             if other and (other["kind"], cut(other["name"])) == wanted]
 
 
 def outcome(kind, question, record, tables):
-    """The value that a relocation comes to, or None."""
+    """What a relocation comes to."""
     if kind == LOCAL_ID:
-        return question.local_value
-    matches = [match for match in (question.match(*candidate) for candidate in candidates(kind, record, tables)) if match]
+        return Outcome(question.local_value)
+    found = [(question.match(tables[table], id), table) for table, id in candidates(kind, record, tables)]
+    matches = [(match, table) for match, table in found if match]
     if not matches and kind in (KERNEL_ID, TYPE_SIZE):
         raise Refused("MissingTargetDefinition")
     if not matches:
-        return Value(0) if kind in (EXISTS, TYPE_EXISTS, VALUE_EXISTS) else None
-    first = matches[0]
-    for other in matches[1:]:
+        return Outcome(Value(0) if kind in (EXISTS, TYPE_EXISTS, VALUE_EXISTS) else None)
+    first, table = matches[0]
+    for other, _ in matches[1:]:
         is_other = first.value and other.value and first.value.number != other.value.number
         if first.bits != other.bits or is_other:
             raise Refused("ConflictingCandidates")
-    return first.value
+    return Outcome(first.value, table)
 
 
 def is_unsigned(record):
@@ -376,8 +380,8 @@ def make(slots, at, local, value):
 def relocate(types, groups, sections, functions, tables):
     """Makes the relocations of an object, group by group.
 
-    Functions are by key, with `offset` and `slots`; a group names the last section of its name, and its relocations are made in the
-    first function that holds their offset.
+    Functions are by key, with `offset`, `slots` and `tables`, to which the tables of first matches are added, by place; a group
+    names the last section of its name, and its relocations are made in the first function that holds their offset.
     """
     for name, records in groups:
         index = {section["name"]: section["index"] for section in sections}[name]
@@ -386,7 +390,8 @@ def relocate(types, groups, sections, functions, tables):
             function = next(f for f in inside if f.offset <= offset < f.offset + 8 * len(f.slots))
             question = question_of(kind, types, id, types.text(access))
             try:
-                value = outcome(kind, question, types.records[id], tables)
+                value, table = outcome(kind, question, types.records[id], tables)
+                function.tables |= {table} - {None}
                 make(function.slots, (offset - function.offset) // 8, question.local_value, value)
             except Refused as why:
                 raise Refused(f"{why} {name}") from why

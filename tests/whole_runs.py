@@ -8,11 +8,11 @@ import sys
 TOP = os.path.dirname(os.path.dirname(os.path.realpath(__file__)))
 sys.path.insert(0, os.path.join(TOP, "bin"))
 
+# What a run gave: its status, and what it wrote on both outputs.
+from toolkit.unproved import Run
+
 # The seconds that a run may take.
 SECONDS = 60
-
-# What a run gave: its status, and what it wrote on both outputs.
-Run = collections.namedtuple("Run", "status out err")
 
 
 def bytes_of(path):

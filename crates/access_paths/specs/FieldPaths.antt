@@ -51,31 +51,50 @@ is_in_array table len last index = nat_lt index len || is_flexible table len (pl
 
 -- the first number
 abbrev pub begun : Table → ℕ → ℕ → Result Reached AccessError
-begun table root index = with_found (type_size_in_32_bits table root) (λ size. Ok (record { type_id = root; last = Element (record { type_id = root; index = index }); bits = elements_after (Some 0) index size }))
+begun table root index =
+    with_found (type_size_in_32_bits table root) (λ size. Ok (record {
+      type_id = root;
+      last = Element (record { type_id = root; index = index });
+      bits = elements_after (Some 0) index size;
+    }))
 
 -- a member makes a step unless its name's offset is 0
 abbrev pub member_step : Table → Place → BtfMember → Result (Option Step) AccessError
-member_step table place m = if m.name_offset == 0 then Ok None else with_text table m.name_offset (λ _. Ok (Some (Member place)))
+member_step table place m =
+    if m.name_offset == 0 then Ok None else with_text table m.name_offset (λ _. Ok (Some (Member place)))
 
 abbrev pub at_member : Table → Reached → BtfType → Place → BtfMember → Result Advance AccessError
 at_member table from t place m = and_then (member_step table place m) (λ step. Ok (record {
-  reached = record { type_id = m.btf_type; last = unwrap_or step from.last; bits = bits_after from.bits (bit_offset_of (bits_of t).flag m) };
+  reached = record {
+    type_id = m.btf_type;
+    last = unwrap_or step from.last;
+    bits = bits_after from.bits (bit_offset_of (bits_of t).flag m);
+  };
   step = step;
 }))
 
 -- on to a member
 abbrev pub to_member : Table → Reached → BtfType → Place → Result Advance AccessError
-to_member table from t place = option_map_or (at_member table from t place) (slice_get (members_of t) place.index) (Err (errors.InvalidAccessIndex place (count_of t)))
+to_member table from t place =
+    option_map_or (at_member table from t place) (slice_get (members_of t) place.index)
+    (Err (errors.InvalidAccessIndex place (count_of t)))
 
 abbrev pub at_element : Table → Reached → ℕ → ℕ → Result Advance AccessError
 at_element table from element index = with_found (type_size_in_32_bits table element) (λ size. Ok (record {
-  reached = record { type_id = element; last = Element (record { type_id = element; index = index }); bits = elements_after from.bits index size };
+  reached = record {
+    type_id = element;
+    last = Element (record { type_id = element; index = index });
+    bits = elements_after from.bits index size;
+  };
   step = Some (Element (record { type_id = element; index = index }));
 }))
 
 -- on to an element
 abbrev pub to_element : Table → Reached → BtfArray → Place → Result Advance AccessError
-to_element table from array place = with_found (resolved_type table array.element_type) (λ element. if is_in_array table array.len from.last place.index then at_element table from element place.index else Err (errors.InvalidAccessIndex place array.len))
+to_element table from array place =
+    with_found (resolved_type table array.element_type) (λ element.
+    if is_in_array table array.len from.last place.index then at_element table from element place.index
+    else Err (errors.InvalidAccessIndex place array.len))
 
 -- on by a number from a record without modifiers
 abbrev pub to_part : Table → Reached → Place → BtfType → Result Advance AccessError
@@ -85,7 +104,9 @@ to_part table from place (types.Array t) = to_element table from t.array place
 to_part table from place _ = Err (errors.InvalidRelocationKindForType place.type_id)
 
 abbrev pub advanced : Table → Reached → ℕ → Result Advance AccessError
-advanced table from index = with_found (resolved_type table from.type_id) (λ id. with_type table id (to_part table from (record { type_id = id; index = index })))
+advanced table from index =
+    with_found (resolved_type table from.type_id) (λ id.
+    with_type table id (to_part table from (record { type_id = id; index = index })))
 
 -- the path at its end: the sum of bits has 32
 abbrev pub ended : ℕ → List Step → Option ℕ → Result AccessPath AccessError
@@ -95,8 +116,11 @@ ended asked steps (Some bits) = Ok (record { type_id = asked; steps = steps; bit
 -- the path that goes on by these numbers
 unfoldable pub path_from : Table → ℕ → List Step → Reached → List ℕ → Result AccessPath AccessError
 path_from table asked steps reached [] = ended asked steps reached.bits
-path_from table asked steps reached (n ∷ ns) = and_then (advanced table reached n) (λ next. path_from table asked (steps ++ option_to_list next.step) next.reached ns)
+path_from table asked steps reached (n ∷ ns) =
+    and_then (advanced table reached n) (λ next.
+    path_from table asked (steps ++ option_to_list next.step) next.reached ns)
 
 abbrev pub field_path : Table → ℕ → ℕ → List ℕ → Result AccessPath AccessError
 field_path table asked root [] = Err errors.InvalidAccessString
-field_path table asked root (n ∷ ns) = and_then (begun table root n) (λ reached. path_from table asked (reached.last ∷ []) reached ns)
+field_path table asked root (n ∷ ns) =
+    and_then (begun table root n) (λ reached. path_from table asked (reached.last ∷ []) reached ns)

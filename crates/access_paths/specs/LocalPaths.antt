@@ -25,12 +25,23 @@ type_path asked _ = Err InvalidAccessString
 abbrev pub path_of : Subject → Table → ℕ → ℕ → List ℕ → Result AccessPath AccessError
 path_of subjects.Field table asked root numbers = field_path table asked root numbers
 path_of subjects.Type table asked root numbers = type_path asked numbers
-path_of subjects.Variant table asked root numbers = and_then (variant_place table root numbers) (λ place. Ok (record { type_id = asked; steps = Variant place ∷ []; bit_offset = 0 }))
+path_of subjects.Variant table asked root numbers =
+    and_then (variant_place table root numbers) (λ place.
+    Ok (record { type_id = asked; steps = Variant place ∷ []; bit_offset = 0 }))
 
 abbrev pub with_numbers : {U : Type 0} → Option (List ℕ) → (List ℕ → Result U AccessError) → Result U AccessError
 with_numbers None go = Err InvalidAccessString
 with_numbers (Some numbers) go = go numbers
 
 -- the type's name and the access string can be read, and the type can be looked up behind its modifiers
+abbrev pub subject_path : Table → Subject → ℕ → ℕ → Result AccessPath AccessError
+subject_path table subject id access_str_off =
+    with_type table id (λ t.
+    with_text table (name_offset_of t) (λ _.
+    with_text table access_str_off (λ text.
+    with_numbers (access_numbers text) (λ numbers.
+    with_found (resolved_type table id) (λ root.
+    path_of subject table id root numbers)))))
+
 abbrev pub local_path : Table → RelocationKind → ℕ → ℕ → Result AccessPath AccessError
-local_path table kind id access_str_off = with_type table id (λ t. with_text table (name_offset_of t) (λ _. with_text table access_str_off (λ text. with_numbers (access_numbers text) (λ numbers. with_found (resolved_type table id) (λ root. path_of (subject_of kind) table id root numbers)))))
+local_path table kind id access_str_off = subject_path table (subject_of kind) id access_str_off

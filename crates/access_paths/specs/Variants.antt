@@ -24,7 +24,9 @@ variant_name _ index = None
 
 -- the variant of an enum that has so many, where its name can be read
 abbrev pub variant_at : Table → ℕ → BtfType → ℕ → ℕ → Result Place AccessError
-variant_at table id t len index = option_map_or (λ offset. with_text table offset (λ _. Ok (record { type_id = id; index = index }))) (variant_name t index) (Err (InvalidAccessIndex (record { type_id = id; index = index }) len))
+variant_at table id t len index =
+    option_map_or (λ offset. with_text table offset (λ _. Ok (record { type_id = id; index = index })))
+    (variant_name t index) (Err (InvalidAccessIndex (record { type_id = id; index = index }) len))
 
 -- one number names it
 abbrev pub one_variant : Table → ℕ → BtfType → ℕ → List ℕ → Result Place AccessError
@@ -32,4 +34,6 @@ one_variant table id t len (index ∷ []) = variant_at table id t len index
 one_variant table id t len _ = Err InvalidAccessString
 
 abbrev pub variant_place : Table → ℕ → List ℕ → Result Place AccessError
-variant_place table id numbers = with_type table id (λ t. option_map_or (λ len. one_variant table id t len numbers) (variant_count t) (Err (InvalidRelocationKindForType id)))
+variant_place table id numbers =
+    with_type table id (λ t.
+    option_map_or (λ len. one_variant table id t len numbers) (variant_count t) (Err (InvalidRelocationKindForType id)))

@@ -1,9 +1,15 @@
--- An object without types has no type relocations.
-use Rattle.std.proofs.Common.{◌≡◌, ℕ, List, [], ◌∷◌, ◌++◌, Option, Some, None, refl, inl, inr}
-use Rattle.std.specs.Option.{option_map}
+-- An object without types, or without groups of type relocations, has no type relocations.
+use Rattle.std.proofs.Common.{◌≡◌, ◌==◌, ℕ, Bool, false, List, [], ◌∷◌, ◌++◌, length, Option, Some, None, refl, inl, inr, sym, subst, arith}
+use Rattle.std.proofs.lemmas.Grind.{common_steps}
+use Rattle.std.specs.Option.{option_map, option_map_or}
+use Rattle.std.specs.Prelude.{not}
+use Rattle.btf_extension.specs.Extensions.{Extension}
+use Rattle.btf_tables.specs.Tables.{Table}
+use Rattle.ebpf_object.specs.ParsedObject.{ObjectContent}
+use Rattle.ebpf_object.specs.TypeRelocations.{groups_beside, type_groups, types_of}
 use Rattle.object_parts.specs.Content.{FunctionContent, function_at}
 use Rattle.type_relocation.specs.Faults.{CanBeRelocated, HasTypesFault, WritesFault}
-use Rattle.type_relocation.specs.Relocations.{TypesGiven}
+use Rattle.type_relocation.specs.Relocations.{Groups, TypesGiven}
 use Rattle.type_relocation.specs.Writes.{AreRelocated, types_inside, with_types}
 use Rattle.type_relocation.specs.declared.error.BtfRelocationCause.{BtfRelocationCause}
 
@@ -32,3 +38,27 @@ no_fault g c (inr stands) = no_writes_fault g g.functions c stands
 
 pub none_refused : (g : TypesGiven) → CanBeRelocated g []
 none_refused g = record { none = no_fault g }
+
+-- whether groups stand beside an object's types
+abbrev pub has_groups : Option Extension → Bool
+has_groups extension = option_map_or (λ x. not (length x.relocations == 0)) extension false
+
+no_group : (groups : Groups) → not (length groups == 0) ≡ false → groups ≡ []
+no_group [] h = refl
+no_group (x ∷ xs) h = grind (arith, common_steps)
+
+none_beside : (types : Option Table) (extension : Option Extension) → has_groups extension ≡ false → groups_beside types extension ≡ []
+none_beside None None h = refl
+none_beside None (Some x) h = refl
+none_beside (Some t) None h = refl
+none_beside (Some t) (Some x) h = no_group x.relocations h
+
+pub unasked_written : (o : ObjectContent) (targets : List Table) → has_groups o.extension ≡ false → AreRelocated (types_of o targets) (type_groups o) o.functions
+unasked_written o targets h =
+    let g = types_of o targets in
+    subst (λ gs. AreRelocated g gs g.functions) (sym (none_beside o.types o.extension h)) (none_written g)
+
+pub unasked_refused : (o : ObjectContent) (targets : List Table) → has_groups o.extension ≡ false → CanBeRelocated (types_of o targets) (type_groups o)
+unasked_refused o targets h =
+    let g = types_of o targets in
+    subst (λ gs. CanBeRelocated g gs) (sym (none_beside o.types o.extension h)) (none_refused g)

@@ -12,7 +12,7 @@ use std::alloc::{AllocError, Global};
 /// A kernel's types and the text of its symbols.
 #[derive(Drop)]
 pub(crate) struct Kernel<'k> {
-    pub types: Vec<Btf<'k>>,
+    pub types: [Btf<'k>; 1],
     pub symbols: &'k [u8],
 }
 

@@ -1,6 +1,6 @@
 //! The passes over a parsed object.
 
-ghost use Rattle.std.specs.Prelude.{◌≡◌, ◌≢◌, ℕ, List, slice_get, IfErr, IfOk, OnOk};
+ghost use Rattle.std.specs.Prelude.{◌≡◌, ◌≢◌, ◌≤◌, ◌^◌, ℕ, List, length, slice_get, IfErr, IfOk, OnOk};
 ghost use Rattle.ebpf_object.specs.Calls as calls;
 ghost use Rattle.ebpf_object.specs.Rewriting.{AreAnswered};
 ghost use Rattle.load_plan.specs.Inputs.{inputs, symbols_given};
@@ -89,6 +89,7 @@ fn resolve<R: BufRead>(
 
 /// Writes what an object's type relocations come to into its slots.
 fn relocate_types(kernel_types: &[Btf<'_>], object: &mut Object<'_>) -> Result<(), PrepareError>
+    requires { length kernel_types.now ≤ 2 ^ 32 }
     ensures made { OnOk result (RelocatesTypes kernel_types.now object.old object.new) }
     ensures refused { IfErr result (λ e. e ≢ OutOfMemory → OfTypeRelocation (CannotRelocateTypes kernel_types.now object.old) e) }
 {
@@ -170,7 +171,8 @@ fn make_types<F: FnMut(BtfFeature) -> bool>(
     object: &mut Object<'_>,
     predicate: F,
 ) -> Result<Answers, PrepareError>
-    requires { F.IsAlwaysCallable predicate }
+    requires tables { length kernel_types.now ≤ 2 ^ 32 }
+    requires predicate { F.IsAlwaysCallable predicate }
     ensures made { IfOk result (λ answers. AreTypesMade F.FnMut predicate kernel_types.now order answers.items object.old object.new) }
     ensures refused { IfErr result (λ e. e ≢ OutOfMemory → AreTypesRefused F.FnMut predicate kernel_types.now order object.old e) }
 {
@@ -200,6 +202,7 @@ pub(crate) fn make<R: BufRead, F: FnMut(BtfFeature) -> bool, P: FnOnce() -> bool
     predicate: F,
     probe: P,
 ) -> Result<Answers, PrepareError>
+    requires tables { length kernel_types.now ≤ 2 ^ 32 }
     requires predicate { F.IsAlwaysCallable predicate }
     requires probe { P.pre probe }
     ensures made { IfOk result (λ answers. (file : List ℕ) → IsMade F.FnMut predicate (P.post probe) (inputs file kernel_types.now (symbols_given (R.remaining (watched_inner symbols.old)) (has_failed symbols.new)) settings.now order) answers.items object.old object.new) }

@@ -1,6 +1,6 @@
 //! From an object's bytes to its plan.
 
-ghost use Rattle.std.specs.Prelude.{◌≢◌, ℕ, List, IfErr, IfOk};
+ghost use Rattle.std.specs.Prelude.{◌≢◌, ◌≤◌, ◌^◌, ℕ, List, length, IfErr, IfOk};
 ghost use Rattle.ebpf_object.specs.Faults.{HasFault};
 ghost use Rattle.load_plan.specs.Inputs.{inputs, symbols_given};
 ghost use Rattle.load_plan.specs.Passes.{OfParse};
@@ -44,6 +44,7 @@ fn plan_object<'a, R: BufRead, F: FnMut(BtfFeature) -> bool, P: FnOnce() -> bool
     predicate: F,
     probe: P,
 ) -> Result<Plan<'a>, PrepareError>
+    requires tables { length kernel_types.now ≤ 2 ^ 32 }
     requires predicate { F.IsAlwaysCallable predicate }
     requires probe { P.pre probe }
     ensures planned { IfOk result (λ plan. (file : List ℕ) → IsPlannedObject F.FnMut predicate (P.post probe) (inputs file kernel_types.now (symbols_given (R.remaining (watched_inner symbols.old)) (has_failed symbols.new)) settings.now order) object.old plan) }
@@ -76,8 +77,8 @@ fn plan_object<'a, R: BufRead, F: FnMut(BtfFeature) -> bool, P: FnOnce() -> bool
 /// grants; and its programs, whose slots name the maps by these numbers and the kernel's functions and
 /// variables by what is known of them, each linked to the functions that it leads to.
 ///
-/// `kernel_types` are the kernel's types, in which type relocations are looked up, and of which the
-/// first table has its functions and variables;
+/// `kernel_types` are the kernel's types, in no more than 2^32 tables, in which type relocations are
+/// looked up, and of which the first has its functions and variables;
 /// `symbols` are its symbols as `/proc/kallsyms` lists them, which are read only where a variable
 /// without a type is looked for; `predicate` says whether it takes a feature of types, and `probe`
 /// whether it has the newer helpers that read memory: where it lacks them, older ones are called.
@@ -105,6 +106,7 @@ pub fn prepare<'a, R: BufRead, F: FnMut(BtfFeature) -> bool, P: FnOnce() -> bool
     predicate: F,
     probe: P,
 ) -> Result<Plan<'a>, PrepareError>
+    requires tables { length kernel_types.now ≤ 2 ^ 32 }
     requires predicate { F.IsAlwaysCallable predicate }
     requires probe { P.pre probe }
     ensures planned { IfOk result (IsPlanned F.FnMut predicate (P.post probe) (inputs object.entry.now kernel_types.now (symbols_given (R.remaining (watched_inner symbols.old)) (has_failed symbols.new)) settings.now order)) }

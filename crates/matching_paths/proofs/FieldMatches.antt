@@ -10,7 +10,7 @@ use Rattle.access_paths.specs.declared.path.Step.{Step}
 use Rattle.access_paths.specs.declared.path.Step.TheVariants.{Element}
 use Rattle.btf_records.specs.declared.error.BtfError.TheVariants.{OutOfMemory}
 use Rattle.btf_tables.specs.Tables.{Table}
-use Rattle.matching_paths.specs.Matches.{ended, matched_from}
+use Rattle.matching_paths.specs.Matches.{path_found, matched_from}
 use Rattle.matching_paths.specs.Steps.{step_matched}
 use Rattle.matching_paths.specs.declared.step.Progress.{Progress}
 
@@ -24,7 +24,7 @@ step_at path i = get_or path i (Element (record { type_id = 0; index = 0 }))
 this_step : (path : List Step) (i : ℕ) → i < length path → drop i path ≡ step_at path i ∷ drop (i + 1) path
 this_step path i lt = rw add-one (drop-cons path i (Element (record { type_id = 0; index = 0 })) lt)
 
-pub none_left : (local target : Table) (id : ℕ) (steps path : List Step) (from : Progress) (i : ℕ) → length path ≤ i → matched_from local target id steps from (drop i path) ≡ ended id steps from.bits
+pub none_left : (local target : Table) (id : ℕ) (steps path : List Step) (from : Progress) (i : ℕ) → length path ≤ i → matched_from local target id steps from (drop i path) ≡ path_found id steps from.bits
 unfolding matched_from
 none_left local target id steps path from i le = rw (nothing_left path i le) refl
 

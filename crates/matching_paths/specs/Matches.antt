@@ -17,14 +17,16 @@ use Rattle.matching_paths.specs.VariantMatches.{variant_matched}
 use Rattle.matching_paths.specs.declared.step.Progress.{Progress}
 
 -- the path at its end: the sum of bits has 32
-abbrev pub ended : ℕ → List Step → Option ℕ → Result (Option AccessPath) AccessError
-ended id steps None = Err (errors.BtfError InvalidTypeInfo)
-ended id steps (Some bits) = Ok (Some (record { type_id = id; steps = steps; bit_offset = bits }))
+abbrev pub path_found : ℕ → List Step → Option ℕ → Result (Option AccessPath) AccessError
+path_found id steps None = Err (errors.BtfError InvalidTypeInfo)
+path_found id steps (Some bits) = Ok (Some (record { type_id = id; steps = steps; bit_offset = bits }))
 
 -- the path that goes on by these steps of a local one
 unfoldable pub matched_from : Table → Table → ℕ → List Step → Progress → List Step → Result (Option AccessPath) AccessError
-matched_from local target id steps from [] = ended id steps from.bits
-matched_from local target id steps from (s ∷ ss) = and_then (step_matched local s target from) (λ next. option_map_or (λ n. matched_from local target id (steps ++ option_to_list n.last) n ss) next (Ok None))
+matched_from local target id steps from [] = path_found id steps from.bits
+matched_from local target id steps from (s ∷ ss) =
+    and_then (step_matched local s target from) (λ next.
+    option_map_or (λ n. matched_from local target id (steps ++ option_to_list n.last) n ss) next (Ok None))
 
 abbrev pub first_progress : ℕ → Progress
 first_progress id = record { type_id = id; last = None; bits = Some 0; parts = 0 }
@@ -34,11 +36,15 @@ fields_matched local path target id = matched_from local target id [] (first_pro
 
 -- a whole type
 abbrev pub type_matched : Table → ℕ → Table → ℕ → Result (Option AccessPath) AccessError
-type_matched local local_id target id = with_found (types_compatible local local_id target id) (λ yes. if yes then Ok (Some (record { type_id = id; steps = []; bit_offset = 0 })) else Ok None)
+type_matched local local_id target id =
+    with_found (types_compatible local local_id target id) (λ yes.
+    if yes then Ok (Some (record { type_id = id; steps = []; bit_offset = 0 })) else Ok None)
 
 -- a variant, which a local path ends at
 abbrev pub enum_matched : Table → Option Step → Table → ℕ → Result (Option AccessPath) AccessError
-enum_matched local (Some (Variant place)) target id = and_then (variant_matched local place target id) (λ found. Ok (option_map (λ p. record { type_id = id; steps = Variant p ∷ []; bit_offset = 0 }) found))
+enum_matched local (Some (Variant place)) target id =
+    and_then (variant_matched local place target id) (λ found.
+    Ok (option_map (λ p. record { type_id = id; steps = Variant p ∷ []; bit_offset = 0 }) found))
 enum_matched local _ target id = Err (errors.InvalidRelocationKindForType id)
 
 abbrev pub matching_path : Subject → Table → AccessPath → Table → ℕ → Result (Option AccessPath) AccessError

@@ -2,7 +2,7 @@
 
 ghost use Rattle.std.specs.Prelude.{◌≡◌, ◌≢◌, ◌++◌, ◌∷◌, [], IfOk, IfErr, IfSome, Ok, Err};
 ghost use Rattle.std.specs.Option.{option_to_list};
-ghost use Rattle.matching_paths.specs.Matches.{ended, enum_matched, fields_matched, matching_path, type_matched};
+ghost use Rattle.matching_paths.specs.Matches.{path_found, enum_matched, fields_matched, matching_path, type_matched};
 ghost use Rattle.matching_paths.specs.Steps.{step_matched};
 ghost use Rattle.access_paths.specs.declared.error.AccessError.TheVariants.{BtfError as TypeError};
 ghost use Rattle.btf_records.specs.declared.error.BtfError.TheVariants.{OutOfMemory};
@@ -15,8 +15,12 @@ use btf_records::BtfError;
 use btf_tables::Btf;
 
 /// The path at its end.
-fn ended(type_id: u32, steps: Steps, bits: Option<u32>) -> Result<Option<AccessPath>, AccessError>
-    ensures { result ≡ ended type_id steps bits }
+fn path_found(
+    type_id: u32,
+    steps: Steps,
+    bits: Option<u32>,
+) -> Result<Option<AccessPath>, AccessError>
+    ensures { result ≡ path_found type_id steps bits }
 {
     match bits {
         Some(bit_offset) => Ok(Some(AccessPath {
@@ -73,7 +77,7 @@ fn fields_matched<'t>(
         };
         progress = next;
     }
-    ended(type_id, steps, progress.bits)
+    path_found(type_id, steps, progress.bits)
 }
 
 /// The whole of a type of the target that is compatible with the local one.

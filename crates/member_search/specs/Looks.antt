@@ -30,7 +30,10 @@ is_composite _ = false
 
 -- one without a name may be a struct or union
 abbrev pub look_inside : Table → BtfMember → Result Look AccessError
-look_inside target m = with_found (resolved_type target m.btf_type) (λ id. with_type target id (λ t. if is_composite t then Ok (Inside id) else Ok GoOn))
+look_inside target m =
+    with_found (resolved_type target m.btf_type) (λ id.
+    with_type target id (λ t.
+    if is_composite t then Ok (Inside id) else Ok GoOn))
 
 -- one of the name is compared
 abbrev pub look_at_type : Table → ℕ → Table → BtfMember → Result Look AccessError
@@ -38,7 +41,9 @@ look_at_type local id target m = with_found (fields_compatible local id target m
 
 abbrev pub look_by_name : Search → BtfMember → List ℕ → Result Look AccessError
 look_by_name search m [] = look_inside search.target m
-look_by_name search m (b ∷ bs) = if pointwise nat_eq (b ∷ bs) search.name then look_at_type search.local search.type_id search.target m else Ok GoOn
+look_by_name search m (b ∷ bs) =
+    if pointwise nat_eq (b ∷ bs) search.name then look_at_type search.local search.type_id search.target m
+    else Ok GoOn
 
 abbrev pub look_at : Search → BtfMember → Result Look AccessError
 look_at search m = with_text search.target m.name_offset (look_by_name search m)

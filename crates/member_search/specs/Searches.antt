@@ -25,7 +25,8 @@ or_next (Err e) next = Err e
 
 -- after a look at a member that begins at these bits, where `next` is the answer for the members behind it; `go`
 -- searches inside
-abbrev pub by_look : (ℕ → Option ℕ → Result (Option Found) AccessError) → Found → Result (Option Found) AccessError → Look → Result (Option Found) AccessError
+abbrev pub by_look : (ℕ → Option ℕ → Result (Option Found) AccessError) → Found → Result (Option Found) AccessError → Look
+    → Result (Option Found) AccessError
 by_look go here next GoOn = next
 by_look go here next NotHere = Ok None
 by_look go here next Here = Ok (Some here)
@@ -33,12 +34,20 @@ by_look go here next (Inside id) = or_next (go id here.bits) next
 
 -- a member of this index, where the struct or union begins at these bits and is the last of so many open ones
 abbrev pub member_here : ℕ → BtfType → ℕ → Option ℕ → ℕ → BtfMember → Found
-member_here id t depth bits index m = record { place = record { type_id = id; index = index }; type_id = m.btf_type; bits = bits_after bits (bit_offset_of (bits_of t).flag m); parts = depth }
+member_here id t depth bits index m = record {
+  place = record { type_id = id; index = index };
+  type_id = m.btf_type;
+  bits = bits_after bits (bit_offset_of (bits_of t).flag m);
+  parts = depth;
+}
 
 -- the members from this index on
-unfoldable pub members_found : (ℕ → Option ℕ → Result (Option Found) AccessError) → Search → ℕ → BtfType → ℕ → Option ℕ → ℕ → List BtfMember → Result (Option Found) AccessError
+unfoldable pub members_found : (ℕ → Option ℕ → Result (Option Found) AccessError) → Search → ℕ → BtfType → ℕ → Option ℕ → ℕ → List BtfMember
+    → Result (Option Found) AccessError
 members_found go search id t depth bits index [] = Ok None
-members_found go search id t depth bits index (m ∷ ms) = and_then (look_at search m) (by_look go (member_here id t depth bits index m) (members_found go search id t depth bits (suc index) ms))
+members_found go search id t depth bits index (m ∷ ms) =
+    and_then (look_at search m)
+    (by_look go (member_here id t depth bits index m) (members_found go search id t depth bits (suc index) ms))
 
 abbrev pub is_among : List ℕ → ℕ → Bool
 is_among open_ids id = list_any (λ other. other == id) open_ids
@@ -47,7 +56,10 @@ is_among open_ids id = list_any (λ other. other == id) open_ids
 -- most are opened one inside the other
 unfoldable pub found_in : ℕ → Search → List ℕ → ℕ → Option ℕ → Result (Option Found) AccessError
 found_in zero search open_ids id bits = Err MaximumNestingLevelReached
-found_in (suc n) search open_ids id bits = if is_among open_ids id then Err MaximumNestingLevelReached else with_type search.target id (λ t. members_found (found_in n search (open_ids ++ id ∷ [])) search id t (length (open_ids ++ id ∷ [])) bits 0 (members_of t))
+found_in (suc n) search open_ids id bits =
+    if is_among open_ids id then Err MaximumNestingLevelReached
+    else with_type search.target id (λ t.
+    members_found (found_in n search (open_ids ++ id ∷ [])) search id t (length (open_ids ++ id ∷ [])) bits 0 (members_of t))
 
 -- all types are fewer
 abbrev pub most_open : Table → ℕ

@@ -35,12 +35,15 @@ opened outer f = ids outer ++ f.type_id ∷ []
 
 -- what the members that are left of the last of the open ones give
 unfoldable pub rest_of : Search → List ℕ → Frame → Result (Option Found) AccessError
-rest_of search open_ids f = with_type search.target f.type_id (λ t. members_found (found_in (most_open search.target - length open_ids) search open_ids) search f.type_id t (length open_ids) f.bits f.next (drop f.next (members_of t)))
+rest_of search open_ids f =
+    with_type search.target f.type_id (λ t.
+    members_found (found_in (most_open search.target - length open_ids) search open_ids) search f.type_id t (length open_ids) f.bits f.next (drop f.next (members_of t)))
 
 -- and then those of the ones that it lies in; `below` is what comes after all of these
 unfoldable pub value_above : Search → List ℕ → List Frame → Result (Option Found) AccessError → Result (Option Found) AccessError
 value_above search open_ids [] below = below
-value_above search open_ids (f ∷ fs) below = value_above search (open_ids ++ f.type_id ∷ []) fs (or_next (rest_of search (open_ids ++ f.type_id ∷ []) f) below)
+value_above search open_ids (f ∷ fs) below =
+    value_above search (open_ids ++ f.type_id ∷ []) fs (or_next (rest_of search (open_ids ++ f.type_id ∷ []) f) below)
 
 abbrev pub stack_value : Search → List Frame → Result (Option Found) AccessError
 stack_value search stack = value_above search [] stack (Ok None)
@@ -85,7 +88,14 @@ IsLeft id old before turns.Over new after = (length old ≡ 0) × (length new �
 
 -- one that isn't open is entered
 abbrev pub IsEntered : Table → ℕ → Option ℕ → Frame → List Frame → List ℕ → Turn → List Frame → List ℕ → Type 0
-IsEntered target id bits f old before turn new after = (turn ≡ turns.On (inside id bits)) × (new ≡ old ++ f ∷ []) × (after ≡ before) × (is_noted before id ≡ false) × (is_open (old ++ f ∷ []) id ≡ false) × (length old + 1 < most_open target) × (left_of target (inside id bits) < 65536)
+IsEntered target id bits f old before turn new after =
+    (turn ≡ turns.On (inside id bits))
+    × (new ≡ old ++ f ∷ [])
+    × (after ≡ before)
+    × (is_noted before id ≡ false)
+    × (is_open (old ++ f ∷ []) id ≡ false)
+    × (length old + 1 < most_open target)
+    × (left_of target (inside id bits) < 65536)
 
 -- what a look at a member makes of the stack without the innermost: `f` is the innermost after that member. One that is
 -- known to hold nothing isn't entered
@@ -93,7 +103,8 @@ abbrev pub IsFollowed : Table → Look → Found → Frame → List Frame → Li
 IsFollowed target GoOn here f old before turn new after = GoesOn f old before turn new after
 IsFollowed target NotHere here f old before turn new after = IsLeft f.type_id old before turn new after
 IsFollowed target Here here f old before turn new after = turn ≡ turns.Found here
-IsFollowed target (Inside id) here f old before turn new after = ((is_noted before id ≡ true) × GoesOn f old before turn new after) ⊎ IsEntered target id here.bits f old before turn new after
+IsFollowed target (Inside id) here f old before turn new after =
+    ((is_noted before id ≡ true) × GoesOn f old before turn new after) ⊎ IsEntered target id here.bits f old before turn new after
 
 -- why it is refused
 abbrev pub IsTooDeep : Table → Look → List Frame → AccessError → Type 0

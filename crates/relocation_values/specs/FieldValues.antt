@@ -32,7 +32,9 @@ shift_past bits = if nat_lt 64 bits then Err (errors.BtfError InvalidTypeInfo) e
 
 -- an element of a type has an offset and a size
 abbrev pub element_value : Table → RelocationKind → ℕ → ℕ → Result RelocationValue AccessError
-element_value table kinds.FieldByteOffset id at = with_found (type_size_in_32_bits table id) (λ size. Ok (record { value = at / 8; field = Some (record { type_id = id; size = size }) }))
+element_value table kinds.FieldByteOffset id at =
+    with_found (type_size_in_32_bits table id) (λ size.
+    Ok (record { value = at / 8; field = Some (record { type_id = id; size = size }) }))
 element_value table kinds.FieldByteSize id at = with_found (type_size_in_32_bits table id) (λ size. Ok (plain size))
 element_value table _ id at = Err (errors.InvalidRelocationKindForType id)
 
@@ -45,15 +47,25 @@ is_signed _ = false
 
 -- what a member says of its field
 abbrev pub field_at : Table → Place → Result Field AccessError
-field_at table place = with_type table place.type_id (λ t. option_map_or (λ m. with_found (resolved_type table m.btf_type) (λ id. with_found (type_size_in_32_bits table id) (λ size. Ok (record { type_id = id; size = size; bit_size = bit_size_of (bits_of t).flag m }))))
+field_at table place =
+    with_type table place.type_id (λ t.
+    option_map_or
+    (λ m.
+    with_found (resolved_type table m.btf_type) (λ id.
+    with_found (type_size_in_32_bits table id) (λ size.
+    Ok (record { type_id = id; size = size; bit_size = bit_size_of (bits_of t).flag m }))))
     (slice_get (members_of t) place.index) (Err (errors.InvalidRelocationKindForType place.type_id)))
 
 -- offset and size of the bytes that hold it, whether it is signed, and the shifts that bring it to the upper end of 64
 -- bits and from there to the lower
 abbrev pub of_extent : Table → RelocationKind → Field → Extent → Result RelocationValue AccessError
-of_extent table kinds.FieldByteOffset field extent = Ok (record { value = extent.byte_offset; field = if field.bit_size == 0 then Some (record { type_id = field.type_id; size = field.size }) else None })
+of_extent table kinds.FieldByteOffset field extent = Ok (record {
+  value = extent.byte_offset;
+  field = if field.bit_size == 0 then Some (record { type_id = field.type_id; size = field.size }) else None;
+})
 of_extent table kinds.FieldByteSize field extent = Ok (plain extent.byte_size)
-of_extent table kinds.FieldSigned field extent = with_type table field.type_id (λ t. Ok (plain (bit (is_signed t))))
+of_extent table kinds.FieldSigned field extent =
+    with_type table field.type_id (λ t. Ok (plain (bit (is_signed t))))
 of_extent table kinds.FieldLShift64 field extent = shift_past (extent.start + extent.bits)
 of_extent table kinds.FieldRShift64 field extent = shift_past extent.bits
 of_extent table _ field extent = Err (errors.InvalidRelocationKindForType field.type_id)

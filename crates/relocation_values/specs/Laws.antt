@@ -8,4 +8,5 @@ use Rattle.relocation_values.specs.PathValues.{path_value}
 
 -- the value of a path is the same in every other table that agrees on what the path reaches
 pub record ValuesRest : Type 0 where
-  pub same : (reached : ℕ → Bool) (one other : Table) → AreAlike reached one other → (kind : RelocationKind) (path : AccessPath) → IsReachedPath reached path → path_value other kind path ≡ path_value one kind path
+  pub same : (reached : ℕ → Bool) (one other : Table) → AreAlike reached one other → (kind : RelocationKind) (path : AccessPath) → IsReachedPath reached path
+      → path_value other kind path ≡ path_value one kind path

@@ -33,7 +33,10 @@ type_size_value table id = with_found (type_size_in_32_bits table id) (λ size. 
 
 -- a path to a variant ends at it
 abbrev pub enum_value_at : Table → AccessPath → Option Step → Result RelocationValue AccessError
-enum_value_at table path (Some (Variant place)) = with_type table place.type_id (λ t. option_map_or (λ value. Ok (plain value)) (variant_value t place.index) (Err (InvalidRelocationKindForType place.type_id)))
+enum_value_at table path (Some (Variant place)) =
+    with_type table place.type_id (λ t.
+    option_map_or (λ value. Ok (plain value)) (variant_value t place.index)
+    (Err (InvalidRelocationKindForType place.type_id)))
 enum_value_at table path _ = Err (InvalidRelocationKindForType path.type_id)
 
 abbrev pub enum_value : Table → AccessPath → Result RelocationValue AccessError

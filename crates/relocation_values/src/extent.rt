@@ -3,7 +3,7 @@
 ghost use Rattle.std.specs.Prelude.{◌≡◌, ◌<◌, ◌+◌, ◌*◌, ◌/◌, ◌^◌, IfSome};
 ghost use Rattle.relocation_values.specs.Extents.{bit_field_extent, extent_of, fits_unit, unit_of};
 
-/// Units of 1, 2, 4 and 8 bytes are the most that there are.
+/// No type has more units to try: one of a byte has 1, 2, 4 and 8 bytes.
 const UNITS: u32 = 4;
 
 /// What a member says of its field.
@@ -40,7 +40,7 @@ fn fits_unit(at: u32, bits: u32, unit: u32) -> bool
 }
 
 /// The bytes of the least aligned unit for a bit field of a type of a size: of the type, or doubled
-/// until the field fits. None of 8 bytes or more is doubled.
+/// until the field fits. One of 8 bytes or more isn't doubled.
 #[tactic(auto, using(crate::proofs::Units::no_rounds, crate::proofs::Units::fitting_unit, crate::proofs::Units::large_unit, crate::proofs::Units::next_unit))]
 fn unit_of(size: u32, at: u32, bits: u32) -> Option<u32>
     ensures value { result ≡ unit_of size at bits }

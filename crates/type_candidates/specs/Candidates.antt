@@ -29,10 +29,17 @@ wanted_of t name = record { kind = kind_of_type t; or_enum64 = is_some (fallback
 
 -- those of a local type, whose name must be readable
 abbrev pub wanted_for : Table → ℕ → Result Wanted BtfError
-wanted_for local id = option_map_or (λ t. option_map_or (λ name. Ok (wanted_of t name)) (text_at local.strings (name_offset_of t)) (Err (InvalidStringOffset (name_offset_of t)))) (type_by_id local id) (Err (UnknownBtfType id))
+wanted_for local id =
+    option_map_or
+    (λ t.
+    option_map_or (λ name. Ok (wanted_of t name)) (text_at local.strings (name_offset_of t))
+    (Err (InvalidStringOffset (name_offset_of t))))
+    (type_by_id local id) (Err (UnknownBtfType id))
 
 abbrev pub is_of_kind : Wanted → BtfType → Bool
-is_of_kind wanted t = (number_of (kind_of_type t) == number_of wanted.kind) || (wanted.or_enum64 && (number_of (kind_of_type t) == number_of kinds.Enum64))
+is_of_kind wanted t =
+    (number_of (kind_of_type t) == number_of wanted.kind)
+    || (wanted.or_enum64 && (number_of (kind_of_type t) == number_of kinds.Enum64))
 
 -- of the kind, with a name that can't be read
 abbrev pub is_unreadable : Wanted → List ℕ → BtfType → Bool
@@ -40,7 +47,9 @@ is_unreadable wanted strings t = is_of_kind wanted t && is_none (text_at strings
 
 -- of the kind and the name, flavours aside
 abbrev pub is_named : Wanted → List ℕ → BtfType → Bool
-is_named wanted strings t = is_of_kind wanted t && option_map_or (λ text. pointwise nat_eq (essential_name text) wanted.name) (text_at strings (name_offset_of t)) false
+is_named wanted strings t =
+    is_of_kind wanted t
+    && option_map_or (λ text. pointwise nat_eq (essential_name text) wanted.name) (text_at strings (name_offset_of t)) false
 
 -- so many types of a table, by id
 abbrev pub first_types : ℕ → ℕ → List KernelType
@@ -64,11 +73,14 @@ abbrev pub is_candidate : Wanted → List Table → KernelType → Bool
 is_candidate wanted targets place = asked_of (is_named wanted) (slice_get targets place.table) place.type_id
 
 abbrev pub name_offset_at : List Table → KernelType → ℕ
-name_offset_at targets place = option_map_or name_offset_of (option_and_then (λ table. type_by_id table place.type_id) (slice_get targets place.table)) 0
+name_offset_at targets place =
+    option_map_or name_offset_of (option_and_then (λ table. type_by_id table place.type_id) (slice_get targets place.table)) 0
 
 abbrev pub unreadable : List Table → KernelType → CandidateError
 unreadable targets place = UnreadableName place (name_offset_at targets place)
 
 -- every name of the kind in these tables must be readable
 abbrev pub candidates : Wanted → List Table → Result (List KernelType) CandidateError
-candidates wanted targets = option_map_or (λ place. Err (unreadable targets place)) (find (is_unreadable_at wanted targets) (all_types targets)) (Ok (filter (is_candidate wanted targets) (all_types targets)))
+candidates wanted targets =
+    option_map_or (λ place. Err (unreadable targets place)) (find (is_unreadable_at wanted targets) (all_types targets))
+    (Ok (filter (is_candidate wanted targets) (all_types targets)))

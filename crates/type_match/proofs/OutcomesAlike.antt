@@ -17,17 +17,15 @@ use Rattle.ebpf_items.specs.declared.relocation_kind.RelocationKind.{RelocationK
 use Rattle.ebpf_items.specs.declared.relocation_kind.RelocationKind.TheVariants as kinds
 use Rattle.matching_paths.specs.Laws.{MatchesRest}
 use Rattle.relocation_values.specs.Laws.{ValuesRest}
-use Rattle.relocation_values.specs.declared.value.RelocationValue.{RelocationValue}
 use Rattle.string_table.specs.Texts.{text_at}
 use Rattle.type_candidates.specs.Candidates.{Wanted, candidates, wanted_for, wanted_of}
 use Rattle.type_candidates.specs.declared.error.CandidateError.{CandidateError}
 use Rattle.type_candidates.specs.declared.kernel_type.KernelType.{KernelType}
 use Rattle.type_match.specs.Laws.{OutcomesRest}
-use Rattle.type_match.specs.Matches.{followed_by, kernel_matches, match_at, match_in, matches_of, of_path, searched_tables, with_candidates, with_found, with_kernel, with_local}
-use Rattle.type_match.specs.RelocationOutcomes.{local_value, relocation_outcome, settled}
+use Rattle.type_match.specs.Matches.{followed_by, kernel_matches, match_at, match_in, matches_of, of_path, searched_tables, with_candidates, with_own_type, with_kernel, with_local}
+use Rattle.type_match.specs.RelocationOutcomes.{local_value, relocation_outcome}
 use Rattle.type_match.specs.declared.error.TypeRelocationError.{TypeRelocationError}
 use Rattle.type_match.specs.declared.matches.Match.{Match}
-use Rattle.type_match.specs.declared.relocation.RelocationOutcome.{RelocationOutcome}
 use Rattle.type_match.specs.declared.relocation.TypeRelocation.{TypeRelocation}
 
 -- the tables, and what is reached
@@ -49,9 +47,9 @@ local-then {T} {U} r r' go go' e h = ap (λ (s : Result T AccessError). with_loc
   by (Ok x) is = h x is
   by (Err f) is = refl
 
-found-then : {T U : Type 0} (r r' : Result T BtfError) (go go' : T → Result U TypeRelocationError) → r' ≡ r → ((x : T) → go' x ≡ go x) → with_found r' go' ≡ with_found r go
-found-then {T} {U} r r' go go' e h = ap (λ (s : Result T BtfError). with_found s go') e ∙ by r where
-  by : (s : Result T BtfError) → with_found s go' ≡ with_found s go
+found-then : {T U : Type 0} (r r' : Result T BtfError) (go go' : T → Result U TypeRelocationError) → r' ≡ r → ((x : T) → go' x ≡ go x) → with_own_type r' go' ≡ with_own_type r go
+found-then {T} {U} r r' go go' e h = ap (λ (s : Result T BtfError). with_own_type s go') e ∙ by r where
+  by : (s : Result T BtfError) → with_own_type s go' ≡ with_own_type s go
   by (Ok x) = h x
   by (Err f) = refl
 

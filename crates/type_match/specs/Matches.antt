@@ -22,7 +22,8 @@ use Rattle.type_match.specs.declared.error.TypeRelocationError.TheVariants as er
 use Rattle.type_match.specs.declared.matches.Match.{Match}
 
 -- what comes of an answer
-abbrev pub followed_by : {T U : Type 0} → Result T TypeRelocationError → (T → Result U TypeRelocationError) → Result U TypeRelocationError
+abbrev pub followed_by : {T U : Type 0} → Result T TypeRelocationError → (T → Result U TypeRelocationError)
+    → Result U TypeRelocationError
 followed_by (Ok x) go = go x
 followed_by (Err e) go = Err e
 
@@ -32,9 +33,9 @@ with_local (Ok x) go = go x
 with_local (Err e) go = Err (errors.Local e)
 
 -- of what is looked up there
-abbrev pub with_found : {T U : Type 0} → Result T BtfError → (T → Result U TypeRelocationError) → Result U TypeRelocationError
-with_found (Ok x) go = go x
-with_found (Err e) go = Err (errors.Local (TypeError e))
+abbrev pub with_own_type : {T U : Type 0} → Result T BtfError → (T → Result U TypeRelocationError) → Result U TypeRelocationError
+with_own_type (Ok x) go = go x
+with_own_type (Err e) go = Err (errors.Local (TypeError e))
 
 -- of the candidates
 abbrev pub of_candidates : CandidateError → TypeRelocationError
@@ -46,7 +47,8 @@ with_candidates (Ok x) go = go x
 with_candidates (Err e) go = Err (of_candidates e)
 
 -- of one about a type of a kernel's
-abbrev pub with_kernel : {T U : Type 0} → KernelType → Result T AccessError → (T → Result U TypeRelocationError) → Result U TypeRelocationError
+abbrev pub with_kernel : {T U : Type 0} → KernelType → Result T AccessError → (T → Result U TypeRelocationError)
+    → Result U TypeRelocationError
 with_kernel place (Ok x) go = go x
 with_kernel place (Err e) go = Err (errors.Kernel place e)
 
@@ -57,7 +59,9 @@ if_computed kinds.TypeSize (Err e) = Err e
 if_computed kind (Err e) = Ok None
 
 abbrev pub match_of : RelocationKind → Table → ℕ → AccessPath → Result Match AccessError
-match_of kind target table path = and_then (if_computed kind (path_value target kind path)) (λ value. Ok (record { table = table; type_id = path.type_id; bit_offset = path.bit_offset; value = value }))
+match_of kind target table path =
+    and_then (if_computed kind (path_value target kind path)) (λ value.
+    Ok (record { table = table; type_id = path.type_id; bit_offset = path.bit_offset; value = value }))
 
 abbrev pub of_path : RelocationKind → Table → ℕ → Option AccessPath → Result (Option Match) AccessError
 of_path kind target table None = Ok None
@@ -65,15 +69,21 @@ of_path kind target table (Some path) = and_then (match_of kind target table pat
 
 -- the match that a candidate is, if it is one
 abbrev pub match_in : RelocationKind → Table → AccessPath → Table → KernelType → Result (Option Match) AccessError
-match_in kind local path target place = and_then (matching_path (subject_of kind) local path target place.type_id) (of_path kind target place.table)
+match_in kind local path target place =
+    and_then (matching_path (subject_of kind) local path target place.type_id) (of_path kind target place.table)
 
 abbrev pub match_at : RelocationKind → Table → AccessPath → List Table → KernelType → Result (Option Match) TypeRelocationError
-match_at kind local path targets place = option_map_or (λ target. with_kernel place (match_in kind local path target place) (λ m. Ok m)) (slice_get targets place.table) (Ok None)
+match_at kind local path targets place =
+    option_map_or (λ target. with_kernel place (match_in kind local path target place) (λ m. Ok m))
+    (slice_get targets place.table) (Ok None)
 
 -- the matches so far, and those of these candidates, in order
-unfoldable pub matches_of : RelocationKind → Table → AccessPath → List Table → List Match → List KernelType → Result (List Match) TypeRelocationError
+unfoldable pub matches_of : RelocationKind → Table → AccessPath → List Table → List Match → List KernelType
+    → Result (List Match) TypeRelocationError
 matches_of kind local path targets done [] = Ok done
-matches_of kind local path targets done (c ∷ cs) = followed_by (match_at kind local path targets c) (λ m. matches_of kind local path targets (done ++ option_to_list m) cs)
+matches_of kind local path targets done (c ∷ cs) =
+    followed_by (match_at kind local path targets c) (λ m.
+    matches_of kind local path targets (done ++ option_to_list m) cs)
 
 -- which tables are searched: an id of the object's own types is in none, one of the kernel's in the first alone
 abbrev pub searched_tables : {T : Type 0} → RelocationKind → List T → List T
@@ -83,4 +93,6 @@ searched_tables _ targets = targets
 
 -- all candidates are found before one is matched
 abbrev pub kernel_matches : RelocationKind → Table → AccessPath → List Table → Result (List Match) TypeRelocationError
-kernel_matches kind local path targets = with_found (wanted_for local path.type_id) (λ wanted. with_candidates (candidates wanted (searched_tables kind targets)) (matches_of kind local path targets []))
+kernel_matches kind local path targets =
+    with_own_type (wanted_for local path.type_id) (λ wanted.
+    with_candidates (candidates wanted (searched_tables kind targets)) (matches_of kind local path targets []))

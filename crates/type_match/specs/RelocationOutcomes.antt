@@ -1,5 +1,5 @@
 -- What a type relocation comes to.
-use Rattle.std.specs.Prelude.{ℕ, List, [], ◌∷◌, Option, None, Some, Result, Ok}
+use Rattle.std.specs.Prelude.{ℕ, ◌<◌, List, [], ◌∷◌, length, Option, None, Some, IfSome, Result, Ok}
 use Rattle.access_paths.specs.LocalPaths.{local_path}
 use Rattle.access_paths.specs.declared.error.AccessError.{AccessError}
 use Rattle.access_paths.specs.declared.path.AccessPath.{AccessPath}
@@ -34,10 +34,19 @@ first_table [] = None
 first_table (m ∷ ms) = Some m.table
 
 abbrev pub settled : RelocationKind → List Match → RelocationValue → Result RelocationOutcome TypeRelocationError
-settled kind matches value = followed_by (decided kind value matches) (λ outcome. Ok (record { outcome = outcome; local_field = value.field; table = first_table matches }))
+settled kind matches value =
+    followed_by (decided kind value matches) (λ outcome.
+    Ok (record { outcome = outcome; local_field = value.field; table = first_table matches }))
 
 abbrev pub relocation_outcome : Table → TypeRelocation → List Table → Result RelocationOutcome TypeRelocationError
-relocation_outcome local r targets = with_local (local_path local r.kind r.type_id r.access_str_off) (λ path. followed_by (kernel_matches r.kind local path targets) (λ matches. with_local (local_value local r.kind path) (settled r.kind matches)))
+relocation_outcome local r targets =
+    with_local (local_path local r.kind r.type_id r.access_str_off) (λ path.
+    followed_by (kernel_matches r.kind local path targets) (λ matches.
+    with_local (local_value local r.kind path) (settled r.kind matches)))
+
+-- the table, if there is one, is one of these
+abbrev pub IsTableOf : List Table → Option ℕ → Type 0
+IsTableOf targets table = IfSome table (λ place. place < length targets)
 
 -- the object's own types, and those of a kernel
 pub record Matched : Type 0 where

@@ -1,7 +1,7 @@
 //! What type relocations come to.
 
 ghost use Rattle.std.specs.Prelude.{◌≡◌, ◌≢◌, IfOk, IfErr, Ok, Err};
-ghost use Rattle.type_match.specs.RelocationOutcomes.{decided, first_table, local_value, relocation_outcome, settled};
+ghost use Rattle.type_match.specs.RelocationOutcomes.{IsTableOf, decided, first_table, local_value, relocation_outcome, settled};
 ghost use Rattle.type_match.specs.declared.error.TypeRelocationError.TheVariants.{OutOfMemory};
 
 use crate::error::TypeRelocationError;
@@ -104,7 +104,9 @@ pub fn relocation_outcome<'t>(
     targets: &[Btf<'t>],
 ) -> Result<RelocationOutcome, TypeRelocationError>
     ensures value { IfOk result (λ outcome. relocation_outcome local.now relocation targets.now ≡ Ok outcome) }
+    ensures table { IfOk result (λ outcome. IsTableOf targets.now outcome.table) }
     ensures refused { IfErr result (λ e. e ≢ OutOfMemory → relocation_outcome local.now relocation targets.now ≡ Err e) }
 {
-    TypeMatcher::new(local, targets).found_outcome(relocation)
+    let mut matcher = TypeMatcher::new(local, targets);
+    matcher.found_outcome(relocation)
 }

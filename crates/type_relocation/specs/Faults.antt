@@ -9,7 +9,7 @@ use Rattle.slot_relocation.specs.Writes.{HasFaultAmong}
 use Rattle.string_table.specs.Texts.{text_at}
 use Rattle.type_match.specs.declared.error.TypeRelocationError.{TypeRelocationError}
 use Rattle.type_match.specs.declared.error.TypeRelocationError.TheVariants as match
-use Rattle.type_relocation.specs.Relocations.{Groups, TypesGiven, function_holding, outcome_of, section_at, section_named}
+use Rattle.type_relocation.specs.Relocations.{Groups, TypesGiven, function_holding, record_outcome, section_at, section_named}
 use Rattle.type_relocation.specs.Writes.{type_rule, types_inside}
 use Rattle.type_relocation.specs.declared.error.BtfRelocationCause.{BtfRelocationCause}
 use Rattle.type_relocation.specs.declared.error.BtfRelocationCause.TheVariants as cause
@@ -60,7 +60,7 @@ LacksFunction g section r _ = ⊥
 
 -- a relocation comes to nothing in the kernel's types
 abbrev pub LacksOutcome : TypesGiven → bpf_core_relo → BtfRelocationCause → Type 0
-LacksOutcome g r c = (e : TypeRelocationError) × (outcome_of g r ≡ Err e) × OfMatch e c
+LacksOutcome g r c = (e : TypeRelocationError) × (record_outcome g r ≡ Err e) × OfMatch e c
 
 -- some relocation of a group does
 abbrev pub RecordsFault : TypesGiven → Option ℕ → List bpf_core_relo → BtfRelocationCause → Type 0

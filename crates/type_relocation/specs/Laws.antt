@@ -23,7 +23,9 @@ pub record HasTypes (g : TypesGiven) (groups : Groups) (old new : FunctionConten
 
 -- of the function of each key
 abbrev pub HaveTypes : TypesGiven → Groups → List ((ℕ × ℕ) × FunctionContent) → Type 0
-HaveTypes g groups new = (key : ℕ × ℕ) (f : FunctionContent) → function_at g.functions key ≡ Some f → (h : FunctionContent) × (function_at new key ≡ Some h) × HasTypes g groups f h
+HaveTypes g groups new =
+    (key : ℕ × ℕ) (f : FunctionContent) → function_at g.functions key ≡ Some f
+    → (h : FunctionContent) × (function_at new key ≡ Some h) × HasTypes g groups f h
 
 -- it holds of relocated functions
 pub record TypesAreWritten : Type 0 where

@@ -17,8 +17,8 @@ use Rattle.type_relocation.specs.declared.patch.Width.{Width}
 use Rattle.type_relocation.specs.declared.patch.Width.TheVariants.{Changed, Kept, Unknown}
 
 -- the size of a field; what is no whole field has none
-abbrev pub size_of : Option WholeField → ℕ
-size_of field = option_map_or (λ f. f.size) field 0
+abbrev pub field_size : Option WholeField → ℕ
+field_size field = option_map_or (λ f. f.size) field 0
 
 -- the record of a field's type
 abbrev pub type_of : Option Table → Option WholeField → Option BtfType
@@ -44,8 +44,8 @@ may_stand_for _ _ = false
 -- what becomes of the width of a load or a store
 abbrev pub width_of : Table → Option Table → Option WholeField → Option WholeField → Width
 width_of local target compiled field =
-    if size_of compiled == size_of field then Kept
-    else if may_stand_for (type_of (Some local) compiled) (type_of target field) then Changed (size_of field)
+    if field_size compiled == field_size field then Kept
+    else if may_stand_for (type_of (Some local) compiled) (type_of target field) then Changed (field_size field)
     else Unknown
 
 abbrev pub patch_for : Table → Option Table → Option WholeField → Outcome → Patch

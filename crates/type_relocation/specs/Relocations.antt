@@ -53,15 +53,15 @@ abbrev pub outcome_of_kind : TypesGiven → bpf_core_relo → Option RelocationK
 outcome_of_kind g r None = Err (Local (TypeError (InvalidRelocationKind r.kind)))
 outcome_of_kind g r (Some kind) = relocation_outcome g.local (record { kind = kind; type_id = r.type_id; access_str_off = r.access_str_off }) g.targets
 
-abbrev pub outcome_of : TypesGiven → bpf_core_relo → Result RelocationOutcome TypeRelocationError
-outcome_of g r = outcome_of_kind g r (slice_get relocation_kinds r.kind)
+abbrev pub record_outcome : TypesGiven → bpf_core_relo → Result RelocationOutcome TypeRelocationError
+record_outcome g r = outcome_of_kind g r (slice_get relocation_kinds r.kind)
 
 -- a relocation in a function, with what its outcome gives to its instruction
 abbrev pub placed_as : TypesGiven → Position → bpf_core_relo → FunctionContent → RelocationOutcome → Placed
 placed_as g position r f o = record { key = key_of f; offset = r.insn_off; position = position; patch = patch_of g.local g.targets o; table = o.table }
 
 abbrev pub placed_in : TypesGiven → Position → bpf_core_relo → FunctionContent → Option Placed
-placed_in g position r f = option_map (placed_as g position r f) (result_ok (outcome_of g r))
+placed_in g position r f = option_map (placed_as g position r f) (result_ok (record_outcome g r))
 
 -- in the function that holds its offset; one without section, function or outcome has no place
 abbrev pub placed : TypesGiven → Position → Option ℕ → bpf_core_relo → Option Placed

@@ -26,7 +26,10 @@ at_position position place count (Refused fault) = Refused (record { position = 
 -- The rule: a relocation is made at the slot in which its offset lies, counted from the function's beginning. One inside a function has
 -- such a slot.
 abbrev pub type_rule : RuleOf Placed PlacedFault
-type_rule slots distance p = option_map_or (λ slot. at_position p.position (distance / 8) (length slots) (patched slot (slice_get slots (distance / 8 + 1)) p.patch)) (slice_get slots (distance / 8)) Skipped
+type_rule slots distance p =
+    option_map_or
+    (λ slot. at_position p.position (distance / 8) (length slots) (patched slot (slice_get slots (distance / 8 + 1)) p.patch))
+    (slice_get slots (distance / 8)) Skipped
 
 -- whether a relocation stands before another: by group, and then by number
 abbrev pub precedes : Position → Position → Bool

@@ -2,7 +2,7 @@
 
 ghost use Rattle.std.specs.Prelude.{◌≡◌, None, Some, slice_get, option_and_then};
 ghost use Rattle.std.specs.Option.{option_copied};
-ghost use Rattle.type_relocation.specs.Patches.{are_alike, is_unsigned, may_stand_for, patch_for, patch_of, size_of, type_of, width_of};
+ghost use Rattle.type_relocation.specs.Patches.{are_alike, is_unsigned, may_stand_for, patch_for, patch_of, field_size, type_of, width_of};
 
 use btf_encoding::TypeRef;
 use btf_records::BtfKind;
@@ -30,8 +30,8 @@ pub enum Patch {
 }
 
 /// The size of a field; what is no whole field has none.
-fn size_of(field: Option<WholeField>) -> u32
-    ensures { result ≡ size_of field }
+fn field_size(field: Option<WholeField>) -> u32
+    ensures { result ≡ field_size field }
 {
     match field {
         Some(field) => field.size,
@@ -86,8 +86,8 @@ fn width_of(
 ) -> Width
     ensures { result ≡ width_of local.now (option_copied target.entry) compiled field }
 {
-    let size = size_of(field);
-    if size_of(compiled) == size {
+    let size = field_size(field);
+    if field_size(compiled) == size {
         return Width::Kept;
     }
     if may_stand_for(type_of(Some(local), compiled), type_of(target, field)) {

@@ -24,7 +24,7 @@ pub struct Placed {
     pub position: Position,
     pub patch: Patch,
     /// The kernel table of its first match, by its place in the list of tables, if it has one.
-    pub table: Option<usize>,
+    pub table: Option<u32>,
 }
 
 /// What a type relocation would write doesn't fit its instruction.

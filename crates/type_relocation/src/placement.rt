@@ -1,13 +1,14 @@
 //! Type relocations, looked up in functions and among a kernel's types.
 
-ghost use Rattle.std.specs.Prelude.{◌≡◌, ◌≢◌, ℕ, ◌++◌, Ok, Err, Some, IfOk, IfErr, IfSome, OnOk};
+ghost use Rattle.std.specs.Prelude.{◌≡◌, ◌≢◌, ◌<◌, ◌≤◌, ◌^◌, ℕ, ◌++◌, length, Ok, Err, Some, IfOk, IfErr, IfSome, OnOk};
 ghost use Rattle.std.specs.Option.{option_copied};
 ghost use Rattle.object_names.specs.Named.{AreIndexes};
 ghost use Rattle.object_file.specs.Reading.{read_sections};
 ghost use Rattle.type_relocation.specs.Faults.{FaultOfGroup, GroupsFault, LacksOutcome, RecordsFault};
-ghost use Rattle.type_relocation.specs.Relocations.{all_placed, function_holding, outcome_of, placed, placed_from, placed_group, section_at};
+ghost use Rattle.type_relocation.specs.Relocations.{all_placed, function_holding, record_outcome, placed, placed_from, placed_group, section_at};
 ghost use Rattle.type_relocation.specs.Walks.{GroupFault, IsFront, RecordFault, StandsNone, matched};
 ghost use Rattle.type_relocation.specs.declared.error.BtfRelocationCause.TheVariants.{OutOfMemory};
+ghost use Rattle.type_match.specs.RelocationOutcomes.{IsTableOf};
 
 use crate::cause::{Told, cause_of_match};
 use crate::error::{BtfRelocationCause, BtfRelocationError};
@@ -68,6 +69,17 @@ pub(crate) fn function_holding<'g, 'f>(
     None
 }
 
+/// The place of a table of which no more than 2^32 are there.
+fn table_place(table: Option<usize>) -> Option<u32>
+    requires { IfSome table (λ place. place < 2 ^ 32) }
+    ensures { result ≡ table }
+{
+    match table {
+        Some(place) => Some(place as u32),
+        None => None,
+    }
+}
+
 impl<'r, 'o, 'f, 't, 'k> Lookup<'r, 'o, 'f, 't, 'k> {
     /// The section whose name stands at an offset of the strings.
     fn section(&self, name_offset: u32) -> Result<usize, BtfRelocationCause>
@@ -87,14 +99,15 @@ impl<'r, 'o, 'f, 't, 'k> Lookup<'r, 'o, 'f, 't, 'k> {
     }
 
     /// What a relocation of a number in its group comes to in the kernel's types.
-    fn outcome_of(
+    fn record_outcome(
         &self,
         matcher: &mut TypeMatcher<'_>,
         number: usize,
         relocation: bpf_core_relo,
     ) -> Result<RelocationOutcome, BtfRelocationCause>
         requires { matcher.old ≡ matched self.now }
-        ensures value { IfOk result (λ o. outcome_of self.now relocation ≡ Ok o) }
+        ensures value { IfOk result (λ o. record_outcome self.now relocation ≡ Ok o) }
+        ensures table { IfOk result (λ o. IsTableOf self.now.targets o.table) }
         ensures accepted { OnOk result (StandsNone (LacksOutcome self.now relocation)) }
         ensures refused { IfErr result (λ c. c ≢ OutOfMemory → LacksOutcome self.now relocation c) }
         ensures same { matcher.new ≡ matcher.old }
@@ -132,7 +145,8 @@ impl<'r, 'o, 'f, 't, 'k> Lookup<'r, 'o, 'f, 't, 'k> {
         position: Position,
         relocation: bpf_core_relo,
     ) -> Result<Placed, BtfRelocationCause>
-        requires { matcher.old ≡ matched self.now }
+        requires few { length self.now.targets ≤ 2 ^ 32 }
+        requires same { matcher.old ≡ matched self.now }
         ensures value { IfOk result (λ p. placed self.now position (Some section_index) relocation ≡ Some p) }
         ensures accepted { OnOk result (StandsNone (RecordFault self.now (Some section_index) relocation)) }
         ensures refused { IfErr result (λ c. c ≢ OutOfMemory → RecordFault self.now (Some section_index) relocation c) }
@@ -142,13 +156,13 @@ impl<'r, 'o, 'f, 't, 'k> Lookup<'r, 'o, 'f, 't, 'k> {
         let Some(function) = function_holding(self.functions, section_index, offset) else {
             return Err(BtfRelocationCause::FunctionNotFound);
         };
-        let outcome = self.outcome_of(matcher, position.number, relocation)?;
+        let outcome = self.record_outcome(matcher, position.number, relocation)?;
         Ok(Placed {
             key: function.key(),
             offset,
             position,
             patch: patch_of(self.local, self.targets, outcome),
-            table: outcome.table,
+            table: table_place(outcome.table),
         })
     }
 
@@ -162,7 +176,8 @@ impl<'r, 'o, 'f, 't, 'k> Lookup<'r, 'o, 'f, 't, 'k> {
         records: &[bpf_core_relo],
         list: &mut Vec<Placed>,
     ) -> Result<(), BtfRelocationCause>
-        requires { matcher.old ≡ matched self.now }
+        requires few { length self.now.targets ≤ 2 ^ 32 }
+        requires same { matcher.old ≡ matched self.now }
         ensures ok { OnOk result (list.new.items ≡ list.old.items ++ placed_from self.now first.group first.name_offset (Some section_index) 0 records.now) }
         ensures front { IsFront list.new.items (list.old.items ++ placed_from self.now first.group first.name_offset (Some section_index) 0 records.now) }
         ensures accepted { OnOk result (StandsNone (RecordsFault self.now (Some section_index) records.now)) }
@@ -185,7 +200,8 @@ impl<'r, 'o, 'f, 't, 'k> Lookup<'r, 'o, 'f, 't, 'k> {
         group: &RelocationGroup,
         list: &mut Vec<Placed>,
     ) -> Result<(), BtfRelocationCause>
-        requires { matcher.old ≡ matched self.now }
+        requires few { length self.now.targets ≤ 2 ^ 32 }
+        requires same { matcher.old ≡ matched self.now }
         ensures ok { OnOk result (list.new.items ≡ list.old.items ++ placed_group self.now number group.now) }
         ensures front { IsFront list.new.items (list.old.items ++ placed_group self.now number group.now) }
         ensures accepted { OnOk result (StandsNone (GroupFault self.now group.now)) }
@@ -259,7 +275,8 @@ impl<'r, 'o, 'f, 't, 'k> Lookup<'r, 'o, 'f, 't, 'k> {
         groups: &[RelocationGroup],
         list: &mut Vec<Placed>,
     ) -> Result<(), BtfRelocationError>
-        requires { matcher.old ≡ matched self.now }
+        requires few { length self.now.targets ≤ 2 ^ 32 }
+        requires same { matcher.old ≡ matched self.now }
         ensures ok { OnOk result (list.new.items ≡ list.old.items ++ all_placed self.now groups.now) }
         ensures front { IsFront list.new.items (list.old.items ++ all_placed self.now groups.now) }
         ensures accepted { OnOk result (StandsNone (GroupsFault self.now groups.now)) }

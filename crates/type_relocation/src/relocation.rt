@@ -1,6 +1,6 @@
 //! Type relocations of an object.
 
-ghost use Rattle.std.specs.Prelude.{◌≡◌, ◌≢◌, ◌⊎◌, map, None, IfErr, IfOk, IfSome, OnErr, OnOk};
+ghost use Rattle.std.specs.Prelude.{◌≡◌, ◌≢◌, ◌≤◌, ◌^◌, ◌⊎◌, length, map, None, IfErr, IfOk, IfSome, OnErr, OnOk};
 ghost use Rattle.std.specs.Map.{values_of};
 ghost use Rattle.object_parts.specs.Content.{AreKeyed};
 ghost use Rattle.object_parts.specs.Installed.{AreChanged};
@@ -44,6 +44,7 @@ fn placement_of(
     targets: &[Btf<'_>],
     groups: &[RelocationGroup],
 ) -> Result<Placement, AllocError>
+    requires { length targets.now ≤ 2 ^ 32 }
     ensures front { IfOk result (λ p. IsFront p.all.items (all_placed (types_given file.now functions.now local.now targets.now) groups.now)) }
     ensures whole { IfOk result (λ p. p.stopped ≡ None → (p.all.items ≡ all_placed (types_given file.now functions.now local.now targets.now) groups.now) × StandsNone (GroupsFault (types_given file.now functions.now local.now targets.now) groups.now)) }
     ensures stopped { IfOk result (λ p. IfSome p.stopped (λ e. e.error ≢ OutOfMemory → GroupsFault (types_given file.now functions.now local.now targets.now) groups.now e.error)) }
@@ -185,7 +186,7 @@ fn first_error(
 /// integers; a load of 64 bits gets the low word in its own slot and the high word in the next one.
 /// Where the kernel has nothing to give, the instruction becomes a call of a helper that isn't
 /// there, a load of 64 bits two of these. The functions know in which tables their relocations have
-/// their first matches.
+/// their first matches; there are no more than 2^32 tables.
 ///
 /// # Errors
 ///
@@ -204,6 +205,7 @@ pub fn relocate_types<'f>(
     targets: &[Btf<'_>],
     functions: &mut Functions<'f>,
 ) -> Result<(), BtfRelocationError>
+    requires { length targets.now ≤ 2 ^ 32 }
     ensures relocated { OnOk result (AreRelocated (types_given file.now functions.old local.now targets.now) extension.now.relocations functions.new) }
     ensures sound { OnOk result (CanBeRelocated (types_given file.now functions.old local.now targets.now) extension.now.relocations) }
     ensures fault { IfErr result (λ e. e.error ≢ OutOfMemory → HasTypesFault (types_given file.now functions.old local.now targets.now) extension.now.relocations e.error) }
