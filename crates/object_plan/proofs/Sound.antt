@@ -4,7 +4,8 @@ use Rattle.std.specs.Prelude.{◌^◌}
 use Rattle.std.specs.List.Sorted.{IsStrictlySortedBy}
 use Rattle.std.proofs.lemmas.List.Elements.{All-nil, All-push}
 use Rattle.std.specs.List.{All}
-use Rattle.plan_text.specs.Content.{AreTables, IsSoundProgram, ProgramContent}
+use Rattle.plan_text.specs.Content.{IsSoundProgram, ProgramContent}
+use Rattle.plan_lines.specs.Lines.{AreTables}
 
 -- a sound program behind sound ones
 pub with_sound : (ps old : List ProgramContent) (p : ProgramContent) → ps ≡ old ++ p ∷ [] → All IsSoundProgram old → IsSoundProgram p → All IsSoundProgram ps

@@ -5,7 +5,8 @@ ghost use Rattle.std.specs.List.{All};
 ghost use Rattle.std.specs.Option.{option_copied, option_map};
 ghost use Rattle.btf_sanitizing.specs.Answers.{AreDistinct, features};
 ghost use Rattle.object_plan.specs.Plans.{HoldsTypeBytes, func_records_of, line_records_of, plan_of, plan_program_of, program_of, type_bytes};
-ghost use Rattle.plan_text.specs.Content.{AreRising, AreTables, AreTypeBytes, IsSoundMap, IsSoundProgram, map_names, program_names};
+ghost use Rattle.plan_text.specs.Content.{AreRising, AreTypeBytes, IsSoundMap, IsSoundProgram, map_names, program_names};
+ghost use Rattle.plan_lines.specs.Lines.{AreTables};
 
 use btf_extension::{FuncSecInfo, LineSecInfo};
 use btf_sanitizing::Answers;
@@ -13,7 +14,7 @@ use btf_tables::Btf;
 use ebpf_items::{ProgramSection, Slots};
 use ebpf_object::{Function, Object};
 use function_types::is_denied;
-use plan_text::{Plan, PlanMap, PlanParts, PlanProgram};
+use plan_text::{Plan, PlanMap, PlanParts, PlanProgram, plan_of_parts};
 use std::alloc::{AllocError, Global};
 
 /// The section as which an object's types are written: none where it has no type.
@@ -156,7 +157,7 @@ pub fn plan_of<'a>(
 {
     let type_bytes = type_bytes(object.btf())?;
     let programs = plan_programs(alloc, object, &answers, type_bytes.is_some())?;
-    Ok(Plan::new(PlanParts {
+    Ok(plan_of_parts(PlanParts {
         license: object.license(),
         version: object.kernel_version(),
         features: answers,

@@ -5,8 +5,9 @@ use Rattle.std.specs.List.{All}
 use Rattle.ebpf_items.specs.Maps.{map_view}
 use Rattle.ebpf_items.specs.declared.maps.Map.{Map}
 use Rattle.ebpf_items.specs.declared.maps.Map.TheVariants.{Legacy, Btf}
-use Rattle.plan_text.specs.Content.{AreWordsOf, IsSoundMap, MapContent}
-use Rattle.plan_text.specs.declared.plan.MapWords.{MapWords}
+use Rattle.plan_text.specs.Content.{IsSoundMap, MapContent}
+use Rattle.plan_lines.specs.Lines.{AreWordsOf}
+use Rattle.plan_lines.specs.declared.map_words.MapWords.{MapWords}
 use Rattle.plan_maps.specs.PlanMaps.{is_typed, plan_words}
 
 sound_of : (m : Map) → AreWordsOf (is_typed m) (plan_words (map_view m).words)

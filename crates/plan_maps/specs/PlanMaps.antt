@@ -5,7 +5,7 @@ use Rattle.ebpf_items.specs.Maps as items
 use Rattle.ebpf_items.specs.Maps.{MapView, map_view}
 use Rattle.ebpf_items.specs.declared.maps.Map.{Map}
 use Rattle.plan_text.specs.Content.{MapContent}
-use Rattle.plan_text.specs.declared.plan.MapWords.{MapWords}
+use Rattle.plan_lines.specs.declared.map_words.MapWords.{MapWords}
 use Rattle.settings.specs.Content.{SettingsContent}
 use Rattle.plan_maps.specs.Numbers.{number_of}
 

@@ -5,7 +5,8 @@ ghost use Rattle.std.specs.List.{All};
 ghost use Rattle.std.specs.Option.{option_map};
 ghost use Rattle.ebpf_items.specs.Maps.{map_view};
 ghost use Rattle.plan_maps.specs.PlanMaps.{is_typed, plan_map, plan_map_of, plan_words};
-ghost use Rattle.plan_text.specs.Content.{map_names, AreRising, AreWordsOf, IsSoundMap};
+ghost use Rattle.plan_text.specs.Content.{map_names, AreRising, IsSoundMap};
+ghost use Rattle.plan_lines.specs.Lines.{AreWordsOf};
 
 use crate::numbers::number_of;
 use ebpf_items::Map;

@@ -1,1 +1,6 @@
-pub mod Texts
+mod ReadingLaws
+mod Room
+mod StateLaws
+mod StepLaws
+mod Texts
+mod Unbroken

@@ -9,9 +9,11 @@ use Rattle.hex.specs.Hex.{encode_with, encode_lower, lower_digits}
 use Rattle.ebpf_items.specs.declared.instruction.bpf_insn.{bpf_insn}
 use Rattle.ebpf_items.specs.Instruction.{bytes_of}
 use Rattle.plan_text.specs.Content.{MapContent, PlanContent, ProgramContent}
-use Rattle.plan_text.specs.PlanGrammar.{hex_word, words_onto, line_onto, lines_onto, text_of_lines, slot_bytes, numbers_of, form_word, map_line, map_lines, program_line, slots_line, func_line, source_line, program_lines, first_lines, feature_line, types_line, end_line, table_words, tables_line, text_in, text_of}
-use Rattle.plan_text.specs.PlanGrammar.{Second}
-use Rattle.plan_text.specs.ProgramKinds.{kind_numbers}
+use Rattle.plan_text.specs.PlanGrammar.{slot_bytes, map_line, map_lines, program_line, slots_line, func_line, source_line, program_lines, first_lines, feature_line, types_line, end_line, tables_line, text_in, text_of}
+use Rattle.plan_lines.specs.Words.{hex_word, words_onto, line_onto, lines_onto, text_of_lines}
+use Rattle.plan_lines.specs.Lines.{numbers_of, form_word, table_words}
+use Rattle.plan_lines.specs.declared.line.TextVersion.TheVariants.{Second}
+use Rattle.plan_lines.specs.ProgramKinds.{kind_numbers}
 
 pub encode_with-append : (digits xs ys : List ℕ) → encode_with digits (xs ++ ys) ≡ encode_with digits xs ++ encode_with digits ys
 unfolding encode_with

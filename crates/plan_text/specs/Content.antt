@@ -1,5 +1,5 @@
 -- What a load plan says.
-use Rattle.std.specs.Prelude.{◌≡◌, ℕ, ◌<◌, ◌^◌, Bool, true, false, List, length, map, Option, IfSome}
+use Rattle.std.specs.Prelude.{◌≡◌, ℕ, ◌<◌, ◌≤◌, ◌^◌, Bool, List, [], ◌∷◌, length, map, Option, IfSome}
 use Rattle.std.specs.List.{All}
 use Rattle.std.specs.List.Sorted.{IsStrictlySortedBy}
 use Rattle.std.specs.Ordering.{nat_cmp}
@@ -8,9 +8,12 @@ use Rattle.btf_extension.specs.declared.record.bpf_func_info.{bpf_func_info}
 use Rattle.btf_extension.specs.declared.record.bpf_line_info.{bpf_line_info}
 use Rattle.btf_sanitizing.specs.Answers.{Answers, AreDistinct, features}
 use Rattle.ebpf_items.specs.declared.instruction.bpf_insn.{bpf_insn}
+use Rattle.ebpf_items.specs.Instruction.{bytes_of, slot_of}
 use Rattle.object_file.specs.License.{HasNoNul}
 use Rattle.object_file.specs.Version.{IsKnownVersion}
-use Rattle.plan_text.specs.declared.plan.MapWords.{MapWords}
+use Rattle.plan_lines.specs.Lines.{AreTables, AreWithin, AreWordsOf, IsName, max_32, numbers_of, word_limits}
+use Rattle.plan_lines.specs.Words.{AreBytes}
+use Rattle.plan_lines.specs.declared.map_words.MapWords.{MapWords}
 use Rattle.program_kinds.specs.declared.program_section.ProgramSection.{ProgramSection}
 
 -- a map of the plan: its name's bytes, its number, whether types define it, its words, the bytes of
@@ -43,6 +46,16 @@ pub record PlanContent : Type 0 where
   pub maps : List MapContent
   pub programs : List ProgramContent
 
+abbrev pub plan_content : List ℕ → Option ℕ → Answers → Option (List ℕ) → List MapContent → List ProgramContent → PlanContent
+plan_content license version features type_bytes maps programs = record {
+  license = license;
+  version = version;
+  features = features;
+  type_bytes = type_bytes;
+  maps = maps;
+  programs = programs;
+}
+
 abbrev pub map_names : List MapContent → List (List ℕ)
 map_names maps = map (λ m. m.name) maps
 
@@ -53,20 +66,11 @@ program_names programs = map (λ p. p.name) programs
 abbrev pub AreRising : List (List ℕ) → Type 0
 AreRising names = IsStrictlySortedBy (slice_cmp nat_cmp) names
 
--- the words of a map that types define have no id; those of another have no extra word and no types
-abbrev pub AreWordsOf : Bool → MapWords → Type 0
-AreWordsOf true words = words.id ≡ 0
-AreWordsOf false words = (words.map_extra ≡ 0) × (words.btf_key_type_id ≡ 0) × (words.btf_value_type_id ≡ 0)
-
 -- what each map of a plan keeps to
 pub record IsSoundMap (m : MapContent) : Type 0 where
   pub number : m.number < 2 ^ 31
   pub words : AreWordsOf m.is_btf m.words
   pub inner : IfSome m.inner (AreWordsOf m.is_btf)
-
--- places of kernel tables strictly rise
-abbrev pub AreTables : List ℕ → Type 0
-AreTables places = IsStrictlySortedBy nat_cmp places × All (λ place. place < 2 ^ 32) places
 
 -- what each program of a plan keeps to
 pub record IsSoundProgram (p : ProgramContent) : Type 0 where
@@ -86,3 +90,39 @@ pub record IsSoundPlan (plan : PlanContent) : Type 0 where
   pub map_names : AreRising (map_names plan.maps)
   pub programs : All IsSoundProgram plan.programs
   pub program_names : AreRising (program_names plan.programs)
+
+-- ---- numbers that fit their words
+
+pub record FitsMap (m : MapContent) : Type 0 where
+  pub name : IsName m.name
+  pub words : AreWithin word_limits (numbers_of m.words)
+  pub inner : IfSome m.inner (λ words. AreWithin word_limits (numbers_of words))
+  pub contents : AreBytes m.contents
+
+-- a slot is the one that its bytes encode
+pub record FitsSlot (slot : bpf_insn) : Type 0 where
+  pub bytes : AreBytes (bytes_of slot)
+  pub again : slot_of (bytes_of slot) ≡ slot
+
+abbrev pub FitsFunc : bpf_func_info → Type 0
+FitsFunc r = AreWithin (max_32 ∷ max_32 ∷ []) (r.insn_off ∷ r.type_id ∷ [])
+
+abbrev pub FitsSource : bpf_line_info → Type 0
+FitsSource r =
+    AreWithin (max_32 ∷ max_32 ∷ max_32 ∷ max_32 ∷ []) (r.insn_off ∷ r.file_name_off ∷ r.line_off ∷ r.line_col ∷ [])
+
+-- records are counted in 32 bits
+pub record FitsProgram (p : ProgramContent) : Type 0 where
+  pub name : IsName p.name
+  pub slots : All FitsSlot p.slots
+  pub func_records : All FitsFunc p.func_records
+  pub few_funcs : length p.func_records < 2 ^ 32
+  pub line_records : All FitsSource p.line_records
+  pub few_lines : length p.line_records < 2 ^ 32
+
+pub record FitsPlan (plan : PlanContent) : Type 0 where
+  pub license : AreBytes plan.license
+  pub version : IfSome plan.version (λ version. version ≤ max_32)
+  pub type_bytes : IfSome plan.type_bytes AreBytes
+  pub maps : All FitsMap plan.maps
+  pub programs : All FitsProgram plan.programs

@@ -1,4 +1,5 @@
 pub mod Content
+pub mod Machine
 pub mod PlanGrammar
 pub mod PlanParts
-pub mod ProgramKinds
+pub mod Reading

@@ -1,88 +1,30 @@
 -- The text of a load plan, line by line.
-use Rattle.std.specs.Prelude.{ℕ, Bool, true, false, List, [], ◌∷◌, ◌++◌, map, flat_map, codes, Option, Some, None}
+use Rattle.std.specs.Prelude.{◌≡◌, ℕ, Bool, List, [], ◌∷◌, ◌++◌, map, flat_map, codes, Option, Some, None}
+use Rattle.std.specs.List.{All}
 use Rattle.std.specs.Fmt.{decimal}
-use Rattle.hex.specs.Hex.{encode_lower}
 use Rattle.btf_extension.specs.declared.record.bpf_func_info.{bpf_func_info}
 use Rattle.btf_extension.specs.declared.record.bpf_line_info.{bpf_line_info}
 use Rattle.btf_records.specs.declared.feature.BtfFeature.{BtfFeature}
-use Rattle.btf_records.specs.declared.feature.BtfFeature.TheVariants as feature
 use Rattle.ebpf_items.specs.declared.instruction.bpf_insn.{bpf_insn}
-use Rattle.ebpf_items.specs.declared.maps.PinningType.{PinningType}
-use Rattle.ebpf_items.specs.declared.maps.PinningType.TheVariants as pinning
 use Rattle.ebpf_items.specs.Instruction.{bytes_of}
-use Rattle.plan_text.specs.Content.{PlanContent, MapContent, ProgramContent}
-use Rattle.plan_text.specs.declared.plan.MapWords.{MapWords}
-use Rattle.plan_text.specs.declared.program_kind.KindNumbers.{KindNumbers}
-use Rattle.plan_text.specs.ProgramKinds.{kind_numbers}
-
--- ---- versions
-
--- the versions of the text: the second one also says which kernel tables each program's type relocations matched
-pub data TextVersion : Type 0 where
-  First : TextVersion
-  Second : TextVersion
-
-abbrev pub number_word : TextVersion → List ℕ
-number_word First = codes "1"
-number_word Second = codes "2"
-
--- ---- words and lines
-
--- words with a space before each, and then more
-abbrev pub words_onto : List (List ℕ) → List ℕ → List ℕ
-words_onto [] more = more
-words_onto (word ∷ words) more = 32 ∷ word ++ words_onto words more
-
--- a line: words with one space between them, then a line feed, and then more
-abbrev pub line_onto : List (List ℕ) → List ℕ → List ℕ
-line_onto [] more = 10 ∷ more
-line_onto (word ∷ words) more = word ++ words_onto words (10 ∷ more)
-
--- lines, and then more
-abbrev pub lines_onto : List (List (List ℕ)) → List ℕ → List ℕ
-lines_onto [] more = more
-lines_onto (line ∷ lines) more = line_onto line (lines_onto lines more)
-
--- the text of some lines
-abbrev pub text_of_lines : List (List (List ℕ)) → List ℕ
-text_of_lines lines = lines_onto lines []
-
--- bytes in lower case hexadecimal; no bytes are a dash
-abbrev pub hex_word : List ℕ → List ℕ
-hex_word [] = codes "-"
-hex_word (byte ∷ bytes) = encode_lower (byte ∷ bytes)
+use Rattle.plan_text.specs.Content.{FitsPlan, IsSoundPlan, MapContent, PlanContent, ProgramContent}
+use Rattle.plan_lines.specs.Lines.{answer_word, feature_word, form_word, number_word, numbers_of, table_words, types_word, version_word}
+use Rattle.plan_lines.specs.ProgramKinds.{kind_numbers}
+use Rattle.plan_lines.specs.Words.{hex_word, text_of_lines}
+use Rattle.plan_lines.specs.declared.line.TextVersion.{TextVersion}
+use Rattle.plan_lines.specs.declared.line.TextVersion.TheVariants.{First, Second}
+use Rattle.plan_lines.specs.declared.map_words.MapWords.{MapWords}
+use Rattle.plan_lines.specs.declared.program_kind.KindNumbers.{KindNumbers}
 
 -- ---- the plan as a whole
-
-abbrev pub version_word : Option ℕ → List ℕ
-version_word None = codes "any"
-version_word (Some version) = decimal version
 
 abbrev pub first_lines : TextVersion → PlanContent → List (List (List ℕ))
 first_lines text_version plan =
     (codes "bpf-plan" ∷ number_word text_version ∷ []) ∷ (codes "license" ∷ hex_word plan.license ∷ []) ∷ (codes "version" ∷ version_word plan.version ∷ []) ∷ []
 
-abbrev pub feature_word : BtfFeature → List ℕ
-feature_word feature.Func = codes "Func"
-feature_word feature.FuncGlobal = codes "FuncGlobal"
-feature_word feature.DataSec = codes "DataSec"
-feature_word feature.DataSecZero = codes "DataSecZero"
-feature_word feature.Float = codes "Float"
-feature_word feature.DeclTag = codes "DeclTag"
-feature_word feature.TypeTag = codes "TypeTag"
-feature_word feature.Enum64 = codes "Enum64"
-
-abbrev pub answer_word : Bool → List ℕ
-answer_word true = codes "yes"
-answer_word false = codes "no"
-
 -- the line of a question about a feature
 abbrev pub feature_line : BtfFeature × Bool → List (List ℕ)
 feature_line answer = codes "feature" ∷ feature_word answer.0 ∷ answer_word answer.1 ∷ []
-
-abbrev pub types_word : Option (List ℕ) → List ℕ
-types_word None = codes "none"
-types_word (Some bytes) = hex_word bytes
 
 abbrev pub types_line : Option (List ℕ) → List (List ℕ)
 types_line type_bytes = codes "types" ∷ types_word type_bytes ∷ []
@@ -91,19 +33,6 @@ abbrev pub end_line : List (List ℕ)
 end_line = codes "end" ∷ []
 
 -- ---- maps
-
-abbrev pub form_word : Bool → List ℕ
-form_word true = codes "btf"
-form_word false = codes "legacy"
-
-abbrev pub pinning_number : PinningType → ℕ
-pinning_number pinning.None = 0
-pinning_number pinning.ByName = 1
-
--- the numbers that define a map, in their order
-abbrev pub numbers_of : MapWords → List ℕ
-numbers_of words =
-    words.map_type ∷ words.key_size ∷ words.value_size ∷ words.max_entries ∷ words.map_flags ∷ words.map_extra ∷ pinning_number words.pinning ∷ words.id ∷ words.btf_key_type_id ∷ words.btf_value_type_id ∷ []
 
 abbrev pub map_line : MapContent → List (List ℕ)
 map_line m =
@@ -133,12 +62,6 @@ program_line name numbers =
 
 abbrev pub slots_line : List bpf_insn → List (List ℕ)
 slots_line slots = codes "slots" ∷ hex_word (slot_bytes slots) ∷ []
-
--- places of kernel tables: none is a dash, and a question mark says that they aren't known
-abbrev pub table_words : Option (List ℕ) → List (List ℕ)
-table_words None = codes "?" ∷ []
-table_words (Some []) = codes "-" ∷ []
-table_words (Some (place ∷ places)) = map decimal (place ∷ places)
 
 abbrev pub tables_line : Option (List ℕ) → List (List ℕ)
 tables_line tables = codes "tables" ∷ table_words tables
@@ -175,3 +98,29 @@ text_in text_version plan = text_of_lines (plan_lines text_version plan)
 -- the text of a plan, as it is written
 abbrev pub text_of : PlanContent → List ℕ
 text_of plan = text_in Second plan
+
+-- ---- texts of plans
+
+-- the first version says nothing of tables
+abbrev pub AreTablesIn : TextVersion → PlanContent → Type 0
+AreTablesIn First plan = All (λ p. p.tables ≡ None) plan.programs
+AreTablesIn Second plan = Unit {0}
+
+-- a text of a plan in a version
+pub record Spells (text_version : TextVersion) (plan : PlanContent) (text : List ℕ) : Type 0 where
+  pub sound : IsSoundPlan plan
+  pub fits : FitsPlan plan
+  pub tables : AreTablesIn text_version plan
+  pub spelled : text ≡ text_in text_version plan
+
+-- a text of a plan
+abbrev pub IsTextOf : PlanContent → List ℕ → Type 0
+IsTextOf plan text = (text_version : TextVersion) × Spells text_version plan text
+
+-- a plan has this text
+abbrev pub IsPlanText : List ℕ → Type 0
+IsPlanText text = (plan : PlanContent) × IsTextOf plan text
+
+-- a plan has a text that begins so
+abbrev pub BeginsPlanText : List ℕ → Type 0
+BeginsPlanText front = (rest : List ℕ) × IsPlanText (front ++ rest)

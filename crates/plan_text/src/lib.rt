@@ -3,8 +3,8 @@
 
 mod map_lines;
 mod plan;
-mod program_kind;
 mod program_lines;
+mod reading;
 mod words;
 mod writing;
 
@@ -12,4 +12,6 @@ pub use btf_extension::{FuncSecInfo, LineSecInfo, bpf_func_info, bpf_line_info};
 pub use btf_records::BtfFeature;
 pub use btf_sanitizing::Answers;
 pub use ebpf_items::{PinningType, ProgramSection, Slots, Watched, bpf_insn};
-pub use plan::{MapWords, Plan, PlanMap, PlanParts, PlanProgram};
+pub use plan::{Plan, PlanMap, PlanParts, PlanProgram, plan_of_parts};
+pub use plan_lines::MapWords;
+pub use reading::PlanReadError;

@@ -2,11 +2,14 @@
 
 ghost use Rattle.std.specs.Prelude.{◌≡◌, [], ◌∷◌, flat_map};
 ghost use Rattle.watched.specs.Watched.{Sends};
-ghost use Rattle.plan_text.specs.PlanGrammar.{form_word, inner_line, inner_lines, map_line, map_lines, numbers_of, pinning_number, text_of_lines};
+ghost use Rattle.plan_text.specs.PlanGrammar.{inner_line, inner_lines, map_line, map_lines};
+ghost use Rattle.plan_lines.specs.Words.{text_of_lines};
+ghost use Rattle.plan_lines.specs.Lines.{form_word, numbers_of, pinning_number};
 
-use crate::plan::{MapWords, PlanMap};
+use crate::plan::PlanMap;
 use crate::words::{send_bytes, send_decimal, send_numbers};
 use ebpf_items::{PinningType, Watched};
+use plan_lines::MapWords;
 use std::io::Write;
 
 fn pinning_number(pinning: PinningType) -> u64

@@ -1,44 +1,28 @@
 //! What a plan holds.
 
-ghost use Rattle.std.specs.Prelude.{◌≡◌};
+ghost use Rattle.std.specs.Prelude.{◌≡◌, Some, None};
 ghost use Rattle.std.specs.List.{All};
 ghost use Rattle.std.specs.Option.{option_map};
+ghost use Rattle.std.specs.String.{string_bytes};
 ghost use Rattle.btf_sanitizing.specs.Answers as answers;
 ghost use Rattle.object_file.specs.License.{HasNoNul};
 ghost use Rattle.object_file.specs.Version.{IsKnownVersion};
-ghost use Rattle.plan_text.specs.Content.{map_names, program_names, AreRising, AreTypeBytes, IsSoundMap, IsSoundPlan, IsSoundProgram};
+ghost use Rattle.plan_text.specs.Content.{map_names, plan_content, program_names, AreRising, AreTypeBytes, IsSoundMap, IsSoundPlan, IsSoundProgram};
 ghost use Rattle.plan_text.specs.PlanParts.{content_of};
 
 use btf_extension::{FuncSecInfo, LineSecInfo};
 use btf_records::BtfFeature;
 use btf_sanitizing::Answers;
-use ebpf_items::{PinningType, ProgramSection, Slots};
+use ebpf_items::{ProgramSection, Slots};
+use plan_lines::MapWords;
+use std::alloc::Global;
+use std::borrow::{CowSlice, CowStr};
 use std::marker::Model;
-
-/// The words that define a map, sizes in bytes.
-#[derive(Clone, Copy, Debug, PartialEq, Eq)]
-pub struct MapWords {
-    /// The kernel's number of the map's type.
-    pub map_type: u32,
-    pub key_size: u32,
-    pub value_size: u32,
-    pub max_entries: u32,
-    pub map_flags: u32,
-    /// The per-type extra word: 0 for a map that types don't define.
-    pub map_extra: u64,
-    pub pinning: PinningType,
-    /// The id in the map's definition: 0 for a map that types define.
-    pub id: u32,
-    /// The type of keys, by its id in the plan's types: 0 for none.
-    pub btf_key_type_id: u32,
-    /// The type of values, by its id in the plan's types: 0 for none.
-    pub btf_value_type_id: u32,
-}
 
 /// A map of a plan.
 #[derive(Debug, Drop)]
 pub struct PlanMap<'a> {
-    name: &'a str,
+    name: CowStr<'a, Global>,
     number: u32,
     is_btf: bool,
     words: MapWords,
@@ -47,11 +31,12 @@ pub struct PlanMap<'a> {
 }
 
 impl<'a> Model for PlanMap<'a> {
+    ghost use Rattle.std.specs.Cow.{cow_str_bytes};
     ghost use Rattle.plan_text.specs.Content.{MapContent};
 
     ghost Value = { MapContent };
 
-    ghost view = { λ m. record { name = m.name.now; number = m.number; is_btf = m.is_btf; words = m.words; contents = m.contents.items; inner = m.inner } };
+    ghost view = { λ m. record { name = cow_str_bytes m.name; number = m.number; is_btf = m.is_btf; words = m.words; contents = m.contents.items; inner = m.inner } };
 }
 
 impl<'a> PlanMap<'a> {
@@ -68,7 +53,7 @@ impl<'a> PlanMap<'a> {
         ensures { result ≡ record { name = name.now; number = number; is_btf = is_btf; words = words; contents = contents.items; inner = inner } }
     {
         PlanMap {
-            name,
+            name: CowStr::Borrowed(name),
             number,
             is_btf,
             words,
@@ -77,11 +62,45 @@ impl<'a> PlanMap<'a> {
         }
     }
 
+    /// A map that owns its name, and holds no maps.
+    pub(crate) fn owned(
+        name: String,
+        number: u32,
+        is_btf: bool,
+        words: MapWords,
+        contents: Vec<u8>,
+    ) -> PlanMap<'a>
+        ensures { result ≡ record { name = string_bytes name; number = number; is_btf = is_btf; words = words; contents = contents.items; inner = None } }
+    {
+        PlanMap {
+            name: CowStr::Owned(name),
+            number,
+            is_btf,
+            words,
+            contents,
+            inner: None,
+        }
+    }
+
+    /// The map, which holds maps of these words.
+    pub(crate) fn with_inner(self, words: MapWords) -> PlanMap<'a>
+        ensures { result ≡ record self.entry { inner = Some words } }
+    {
+        PlanMap {
+            name: self.name,
+            number: self.number,
+            is_btf: self.is_btf,
+            words: self.words,
+            contents: self.contents,
+            inner: Some(words),
+        }
+    }
+
     /// The map's name in the object.
-    pub fn name(&self) -> &'a str
+    pub fn name(&self) -> &str
         ensures { result.now ≡ self.now.name }
     {
-        self.name
+        self.name.as_str()
     }
 
     /// The number that stands for the map in the slots of programs, in a plan below 2^31.
@@ -122,7 +141,7 @@ impl<'a> PlanMap<'a> {
 /// A program of a plan.
 #[derive(Debug, Drop)]
 pub struct PlanProgram<'a> {
-    name: &'a str,
+    name: CowStr<'a, Global>,
     section: ProgramSection,
     slots: Slots<'a>,
     func_records: FuncSecInfo<'a>,
@@ -131,12 +150,13 @@ pub struct PlanProgram<'a> {
 }
 
 impl<'a> Model for PlanProgram<'a> {
+    ghost use Rattle.std.specs.Cow.{cow_str_bytes};
     ghost use Rattle.std.specs.Option.{option_map};
     ghost use Rattle.plan_text.specs.Content.{ProgramContent};
 
     ghost Value = { ProgramContent };
 
-    ghost view = { λ p. record { name = p.name.now; section = p.section; slots = p.slots; func_records = p.func_records; line_records = p.line_records; tables = option_map (λ places. places.items) p.tables } };
+    ghost view = { λ p. record { name = cow_str_bytes p.name; section = p.section; slots = p.slots; func_records = p.func_records; line_records = p.line_records; tables = option_map (λ places. places.items) p.tables } };
 }
 
 impl<'a> PlanProgram<'a> {
@@ -153,7 +173,28 @@ impl<'a> PlanProgram<'a> {
         ensures { result ≡ record { name = name.now; section = section; slots = slots.entry; func_records = func_records.entry; line_records = line_records.entry; tables = option_map (λ places. places.items) tables } }
     {
         PlanProgram {
-            name,
+            name: CowStr::Borrowed(name),
+            section,
+            slots,
+            func_records,
+            line_records,
+            tables,
+        }
+    }
+
+    /// A program that owns its name.
+    pub(crate) fn owned(
+        name: String,
+        section: ProgramSection,
+        slots: Slots<'a>,
+        func_records: FuncSecInfo<'a>,
+        line_records: LineSecInfo<'a>,
+        tables: Option<Vec<u32>>,
+    ) -> PlanProgram<'a>
+        ensures { result ≡ record { name = string_bytes name; section = section; slots = slots.entry; func_records = func_records.entry; line_records = line_records.entry; tables = option_map (λ places. places.items) tables } }
+    {
+        PlanProgram {
+            name: CowStr::Owned(name),
             section,
             slots,
             func_records,
@@ -163,10 +204,10 @@ impl<'a> PlanProgram<'a> {
     }
 
     /// The program's name in the object.
-    pub fn name(&self) -> &'a str
+    pub fn name(&self) -> &str
         ensures { result.now ≡ self.now.name }
     {
-        self.name
+        self.name.as_str()
     }
 
     /// The kind of program, with its attach type.
@@ -232,35 +273,70 @@ pub struct PlanParts<'a> {
 /// name.
 #[derive(Debug, Drop)]
 pub struct Plan<'a> {
-    parts: PlanParts<'a>,
+    license: CowSlice<'a, u8, Global>,
+    version: Option<u32>,
+    features: Answers,
+    type_bytes: Option<Vec<u8>>,
+    maps: Vec<PlanMap<'a>>,
+    programs: Vec<PlanProgram<'a>>,
 }
 
 impl<'a> Model for Plan<'a> {
-    ghost use Rattle.plan_text.specs.Content.{IsSoundPlan, PlanContent};
-    ghost use Rattle.plan_text.specs.PlanParts.{content_of};
+    ghost use Rattle.std.specs.Cow.{cow_slice_items};
+    ghost use Rattle.std.specs.Option.{option_map};
+    ghost use Rattle.plan_text.specs.Content.{IsSoundPlan, plan_content, PlanContent};
 
     ghost Value = { PlanContent };
 
-    ghost view = { λ p. content_of p.parts };
+    ghost view = { λ p. plan_content (cow_slice_items p.license) p.version p.features.items (option_map (λ bytes. bytes.items) p.type_bytes) p.maps.items p.programs.items };
 
-    ghost invariant = { λ p. IsSoundPlan (content_of p.parts) };
+    ghost invariant = { λ p. IsSoundPlan (plan_content (cow_slice_items p.license) p.version p.features.items (option_map (λ bytes. bytes.items) p.type_bytes) p.maps.items p.programs.items) };
+}
+
+/// The plan of these parts.
+pub fn plan_of_parts<'a>(parts: PlanParts<'a>) -> Plan<'a>
+    requires { IsSoundPlan (content_of parts) }
+    ensures { result ≡ content_of parts.entry }
+{
+    Plan {
+        license: CowSlice::Borrowed(parts.license),
+        version: parts.version,
+        features: parts.features,
+        type_bytes: parts.type_bytes,
+        maps: parts.maps,
+        programs: parts.programs,
+    }
 }
 
 impl<'a> Plan<'a> {
-    /// The plan of these parts.
-    pub fn new(parts: PlanParts<'a>) -> Plan<'a>
-        requires { IsSoundPlan (content_of parts) }
-        ensures { result ≡ content_of parts.entry }
+    /// A plan that owns all that it holds.
+    pub(crate) fn owned(
+        license: Vec<u8>,
+        version: Option<u32>,
+        features: Answers,
+        type_bytes: Option<Vec<u8>>,
+        maps: Vec<PlanMap<'a>>,
+        programs: Vec<PlanProgram<'a>>,
+    ) -> Plan<'a>
+        requires { IsSoundPlan (plan_content license.items version features.items (option_map (λ bytes. bytes.items) type_bytes) maps.items programs.items) }
+        ensures { result ≡ plan_content license.items version features.items (option_map (λ bytes. bytes.items) type_bytes) maps.entry.items programs.entry.items }
     {
-        Plan { parts }
+        Plan {
+            license: CowSlice::Owned(license),
+            version,
+            features,
+            type_bytes,
+            maps,
+            programs,
+        }
     }
 
     /// The license, without the NUL that ends it in the object.
-    pub fn license(&self) -> &'a [u8]
+    pub fn license(&self) -> &[u8]
         ensures value { result.now ≡ self.now.license }
         ensures text { HasNoNul self.now.license }
     {
-        self.parts.license
+        self.license.as_slice()
     }
 
     /// The kernel version that the object was made for. `None` is any version.
@@ -268,7 +344,7 @@ impl<'a> Plan<'a> {
         ensures value { result ≡ self.now.version }
         ensures known { IsKnownVersion self.now.version }
     {
-        self.parts.version
+        self.version
     }
 
     /// The kernel's features that were asked about, each once, with the answers, in the order
@@ -277,7 +353,7 @@ impl<'a> Plan<'a> {
         ensures value { result.now ≡ self.now.features }
         ensures distinct { answers.AreDistinct (answers.features self.now.features) }
     {
-        self.parts.features.as_slice()
+        self.features.as_slice()
     }
 
     /// The types as the kernel takes them, at least one byte. `None` is no types.
@@ -285,7 +361,7 @@ impl<'a> Plan<'a> {
         ensures value { option_map (λ bytes. bytes.now) result ≡ self.now.type_bytes }
         ensures some { AreTypeBytes self.now.type_bytes }
     {
-        match &self.parts.type_bytes {
+        match &self.type_bytes {
             Some(bytes) => Some(bytes.as_slice()),
             None => None,
         }
@@ -297,7 +373,7 @@ impl<'a> Plan<'a> {
         ensures sound { All IsSoundMap self.now.maps }
         ensures rising { AreRising (map_names self.now.maps) }
     {
-        self.parts.maps.as_slice()
+        self.maps.as_slice()
     }
 
     /// The programs, names strictly rising by bytes.
@@ -306,6 +382,6 @@ impl<'a> Plan<'a> {
         ensures sound { All IsSoundProgram self.now.programs }
         ensures rising { AreRising (program_names self.now.programs) }
     {
-        self.parts.programs.as_slice()
+        self.programs.as_slice()
     }
 }

@@ -4,14 +4,16 @@ ghost use Rattle.std.specs.Prelude.{◌≡◌, [], ◌∷◌, flat_map, map, Som
 ghost use Rattle.std.specs.Fmt.{decimal};
 ghost use Rattle.std.specs.Option.{option_map};
 ghost use Rattle.watched.specs.Watched.{Sends};
-ghost use Rattle.plan_text.specs.PlanGrammar.{func_line, program_line, program_lines, slots_line, source_line, table_words, tables_line, text_of_lines, words_onto};
-ghost use Rattle.plan_text.specs.PlanGrammar.{Second};
+ghost use Rattle.plan_text.specs.PlanGrammar.{func_line, program_line, program_lines, slots_line, source_line, tables_line};
+ghost use Rattle.plan_lines.specs.Words.{text_of_lines, words_onto};
+ghost use Rattle.plan_lines.specs.Lines.{table_words};
+ghost use Rattle.plan_lines.specs.declared.line.TextVersion.TheVariants.{Second};
 
 use crate::plan::PlanProgram;
-use crate::program_kind::{KindNumbers, kind_numbers};
 use crate::words::{send_bytes, send_number, send_numbers, send_slots};
 use btf_extension::{FuncSecInfo, LineSecInfo, bpf_func_info, bpf_line_info};
 use ebpf_items::{Slots, Watched};
+use plan_lines::{KindNumbers, kind_numbers};
 use std::io::Write;
 
 fn numbers_of_kind(numbers: KindNumbers) -> [u64; 3]

@@ -5,7 +5,8 @@ ghost use Rattle.std.specs.Fmt.{decimal};
 ghost use Rattle.ebpf_items.specs.Instruction.{bytes_of};
 ghost use Rattle.watched.specs.Watched.{Sends};
 ghost use Rattle.hex.specs.Hex.{encode_lower};
-ghost use Rattle.plan_text.specs.PlanGrammar.{hex_word, slot_bytes, words_onto};
+ghost use Rattle.plan_text.specs.PlanGrammar.{slot_bytes};
+ghost use Rattle.plan_lines.specs.Words.{hex_word, words_onto};
 
 use ebpf_items::{Slots, Watched, bpf_insn};
 use std::io::Write;

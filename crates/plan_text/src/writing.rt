@@ -4,8 +4,10 @@ ghost use Rattle.std.specs.Prelude.{◌≡◌, ◌↔◌, [], ◌∷◌, map, tr
 ghost use Rattle.std.specs.Io.KnownBytes.{Appends};
 ghost use Rattle.std.specs.Option.{option_map};
 ghost use Rattle.watched.specs.Watched.{watched_inner, has_failed, AppendsPart, Sends};
-ghost use Rattle.plan_text.specs.PlanGrammar.{answer_word, feature_line, feature_word, first_lines, text_of, text_of_lines, types_line, types_word, version_word};
-ghost use Rattle.plan_text.specs.PlanGrammar.{Second};
+ghost use Rattle.plan_text.specs.PlanGrammar.{feature_line, first_lines, text_of, types_line};
+ghost use Rattle.plan_lines.specs.Words.{text_of_lines};
+ghost use Rattle.plan_lines.specs.Lines.{answer_word, feature_word, types_word, version_word};
+ghost use Rattle.plan_lines.specs.declared.line.TextVersion.TheVariants.{Second};
 
 use crate::map_lines::send_maps;
 use crate::plan::Plan;
@@ -13,6 +15,7 @@ use crate::program_lines::send_programs;
 use crate::words::{send_bytes, send_decimal};
 use btf_records::BtfFeature;
 use ebpf_items::Watched;
+use plan_lines::feature_word;
 use std::io;
 use std::io::{ErrorKind, Write};
 
@@ -33,21 +36,6 @@ fn send_first_lines<W: Write>(out: &mut Watched<W>, plan: &Plan<'_>)
     out.send(b"\nversion ");
     send_version(out, plan.version());
     out.send(b"\n");
-}
-
-fn feature_word(feature: BtfFeature) -> &'static [u8]
-    ensures { result.now ≡ feature_word feature }
-{
-    match feature {
-        BtfFeature::Func => b"Func",
-        BtfFeature::FuncGlobal => b"FuncGlobal",
-        BtfFeature::DataSec => b"DataSec",
-        BtfFeature::DataSecZero => b"DataSecZero",
-        BtfFeature::Float => b"Float",
-        BtfFeature::DeclTag => b"DeclTag",
-        BtfFeature::TypeTag => b"TypeTag",
-        BtfFeature::Enum64 => b"Enum64",
-    }
 }
 
 fn answer_word(answer: bool) -> &'static [u8]

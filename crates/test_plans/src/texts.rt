@@ -1,10 +1,10 @@
 //! Plans and their texts, and writers that fail.
 
-ghost use Rattle.plan_text.specs.Content.{AreTables};
+ghost use Rattle.plan_lines.specs.Lines.{AreTables};
 
 use plan_text::{
     Answers, BtfFeature, FuncSecInfo, LineSecInfo, MapWords, PinningType, Plan, PlanMap, PlanParts,
-    PlanProgram, ProgramSection, Slots, Watched, bpf_func_info, bpf_line_info,
+    PlanProgram, ProgramSection, Slots, Watched, bpf_func_info, bpf_line_info, plan_of_parts,
 };
 use std::alloc::Global;
 use std::io;
@@ -165,7 +165,7 @@ fn maps_plan(alloc: Global) -> Result<Plan<'static>, Fail> {
     let lines = LineSecInfo::from_records(Vec::new(alloc));
     let program = PlanProgram::new("f", ProgramSection::KProbe, slots, funcs, lines, None);
     let programs = Vec::from_array(alloc, [program])?;
-    Ok(Plan::new(PlanParts {
+    Ok(plan_of_parts(PlanParts {
         license: b"GPL",
         version: None,
         features: Answers::new(),
@@ -223,7 +223,7 @@ fn typed_plan(
     let mut features = Answers::new();
     features.push((BtfFeature::Func, true));
     features.push((BtfFeature::FuncGlobal, true));
-    Ok(Plan::new(PlanParts {
+    Ok(plan_of_parts(PlanParts {
         license: b"GPL",
         version: None,
         features,
@@ -300,7 +300,7 @@ fn inner_maps(rt: HostRuntime) -> Result<(), Fail> {
         Vec::new(alloc),
         Some(inner),
     );
-    let plan = Plan::new(PlanParts {
+    let plan = plan_of_parts(PlanParts {
         license: b"",
         version: Some(0x0005_0a00),
         features: Answers::new(),
@@ -324,7 +324,7 @@ fn names_of_features(rt: HostRuntime) -> Result<(), Fail> {
     features.push((BtfFeature::DeclTag, false));
     features.push((BtfFeature::TypeTag, true));
     features.push((BtfFeature::Enum64, false));
-    let plan = Plan::new(PlanParts {
+    let plan = plan_of_parts(PlanParts {
         license: b"",
         version: None,
         features,

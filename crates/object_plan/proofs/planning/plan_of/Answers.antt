@@ -1,7 +1,7 @@
 use Rattle.object_plan.proofs.planning.plan_of.Goals as goal
 
-pub new-requires : goal.new-requires
-new-requires c = record {
+pub plan_of_parts-requires : goal.plan_of_parts-requires
+plan_of_parts-requires c = record {
   license = c.license.ensures.text;
   version = c.kernel_version.ensures.known;
   features = c.requires.answers;

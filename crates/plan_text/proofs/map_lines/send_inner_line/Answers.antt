@@ -2,7 +2,7 @@ use Rattle.std.proofs.Common.{map, sym, subst}
 use Rattle.std.specs.Prelude.{codes}
 use Rattle.std.specs.Fmt.{decimal}
 use Rattle.watched.specs.Watched.{Sends, Sends-then}
-use Rattle.plan_text.specs.PlanGrammar.{numbers_of}
+use Rattle.plan_lines.specs.Lines.{numbers_of}
 use Rattle.plan_text.proofs.Texts.{line-parts}
 use Rattle.plan_text.proofs.map_lines.send_inner_line.Goals as goal
 

@@ -1,7 +1,7 @@
 use Rattle.std.proofs.Common.{[], map, take}
 use Rattle.std.specs.Fmt.{decimal}
 use Rattle.watched.specs.Watched.{Sends}
-use Rattle.plan_text.specs.PlanGrammar.{words_onto}
+use Rattle.plan_lines.specs.Words.{words_onto}
 use Rattle.plan_text.proofs.program_lines.send_places.Given as goal
 
 abbrev pub invariant-loop-place : goal.invariant-loop-place

@@ -1,6 +1,6 @@
 use Rattle.std.proofs.Common.{◌<◌, length, arith}
 use Rattle.watched.specs.Watched.{Sends-then}
-use Rattle.plan_text.specs.PlanGrammar.{Second}
+use Rattle.plan_lines.specs.declared.line.TextVersion.TheVariants.{Second}
 use Rattle.plan_text.specs.PlanGrammar.{program_lines}
 use Rattle.plan_text.proofs.Texts.{each_lines-more}
 use Rattle.plan_text.proofs.program_lines.send_programs.Goals as goal

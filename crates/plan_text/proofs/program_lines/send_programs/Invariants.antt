@@ -1,8 +1,9 @@
 use Rattle.std.proofs.Common.{take}
 use Rattle.std.specs.Prelude.{flat_map}
 use Rattle.watched.specs.Watched.{Sends}
-use Rattle.plan_text.specs.PlanGrammar.{Second}
-use Rattle.plan_text.specs.PlanGrammar.{program_lines, text_of_lines}
+use Rattle.plan_lines.specs.declared.line.TextVersion.TheVariants.{Second}
+use Rattle.plan_text.specs.PlanGrammar.{program_lines}
+use Rattle.plan_lines.specs.Words.{text_of_lines}
 use Rattle.plan_text.proofs.program_lines.send_programs.Given as goal
 
 abbrev pub invariant-loop-program : goal.invariant-loop-program

@@ -1,6 +1,7 @@
 use Rattle.std.proofs.Common.{map, sym, subst, ◌∙◌}
 use Rattle.watched.specs.Watched.{Sends, Sends-then}
-use Rattle.plan_text.specs.PlanGrammar.{source_line, text_of_lines}
+use Rattle.plan_text.specs.PlanGrammar.{source_line}
+use Rattle.plan_lines.specs.Words.{text_of_lines}
 use Rattle.plan_text.proofs.Texts.{each_line-next, take-all}
 use Rattle.plan_text.proofs.program_lines.send_source_lines.Goals as goal
 

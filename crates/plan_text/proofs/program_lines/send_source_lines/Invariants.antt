@@ -1,6 +1,7 @@
 use Rattle.std.proofs.Common.{◌-◌, length, map, take}
 use Rattle.watched.specs.Watched.{Sends}
-use Rattle.plan_text.specs.PlanGrammar.{source_line, text_of_lines}
+use Rattle.plan_text.specs.PlanGrammar.{source_line}
+use Rattle.plan_lines.specs.Words.{text_of_lines}
 use Rattle.plan_text.proofs.program_lines.send_source_lines.Given as goal
 
 abbrev pub invariant-loop-info : goal.invariant-loop-info

@@ -2,7 +2,7 @@ use Rattle.std.proofs.Common.{sym, subst}
 use Rattle.std.specs.Option.{option_map}
 use Rattle.std.specs.Prelude.{codes}
 use Rattle.watched.specs.Watched.{Sends, Sends-then}
-use Rattle.plan_text.specs.PlanGrammar.{table_words}
+use Rattle.plan_lines.specs.Lines.{table_words}
 use Rattle.plan_text.proofs.Texts.{line-parts}
 use Rattle.plan_text.proofs.program_lines.send_tables_line.Goals as goal
 

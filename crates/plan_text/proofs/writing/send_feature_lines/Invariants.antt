@@ -1,6 +1,7 @@
 use Rattle.std.proofs.Common.{map, take}
 use Rattle.watched.specs.Watched.{Sends}
-use Rattle.plan_text.specs.PlanGrammar.{feature_line, text_of_lines}
+use Rattle.plan_text.specs.PlanGrammar.{feature_line}
+use Rattle.plan_lines.specs.Words.{text_of_lines}
 use Rattle.plan_text.proofs.writing.send_feature_lines.Given as goal
 
 abbrev pub invariant-loop-answer : goal.invariant-loop-answer

@@ -4,8 +4,8 @@ use Rattle.plan_text.specs.Content.{IsSoundMap}
 use Rattle.test_plans.proofs.Samples.{distinct-none, rising-none, rising-one}
 use Rattle.test_plans.proofs.texts.inner_maps.Goals as goal
 
-pub new-plan-requires : goal.new-plan-requires
-new-plan-requires g c = record {
+pub plan_of_parts-plan-requires : goal.plan_of_parts-plan-requires
+plan_of_parts-plan-requires g c = record {
   license = refl;
   version = λ e. absurd (omega (arith, e));
   features = rw c.new-2.ensures distinct-none;

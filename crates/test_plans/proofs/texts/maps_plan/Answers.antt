@@ -4,8 +4,8 @@ use Rattle.plan_text.specs.Content.{IsSoundMap}
 use Rattle.test_plans.proofs.Samples.{distinct-none, rising-one, rising-two}
 use Rattle.test_plans.proofs.texts.maps_plan.Goals as goal
 
-pub new-requires-7 : goal.new-requires-7
-new-requires-7 c = record {
+pub plan_of_parts-requires : goal.plan_of_parts-requires
+plan_of_parts-requires c = record {
   license = refl;
   version = tt;
   features = rw c.new-6.ensures distinct-none;

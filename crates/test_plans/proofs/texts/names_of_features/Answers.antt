@@ -4,8 +4,8 @@ use Rattle.plan_text.specs.Content.{IsSoundMap}
 use Rattle.test_plans.proofs.Samples.{distinct-all, rising-none}
 use Rattle.test_plans.proofs.texts.names_of_features.Goals as goal
 
-pub new-plan-requires : goal.new-plan-requires
-new-plan-requires g c = record {
+pub plan_of_parts-plan-requires : goal.plan_of_parts-plan-requires
+plan_of_parts-plan-requires g c = record {
   license = refl;
   version = tt;
   features = rw (c.push-8.ensures.items, c.push-7.ensures.items, c.push-6.ensures.items, c.push-5.ensures.items, c.push-4.ensures.items, c.push-3.ensures.items, c.push-2.ensures.items, c.push.ensures.items, c.new-features.ensures) distinct-all;

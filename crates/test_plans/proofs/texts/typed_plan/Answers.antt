@@ -4,8 +4,8 @@ use Rattle.plan_text.specs.Content.{IsSoundMap}
 use Rattle.test_plans.proofs.Samples.{distinct-two, rising-none, rising-one}
 use Rattle.test_plans.proofs.texts.typed_plan.Goals as goal
 
-pub new-requires-2 : goal.new-requires-2
-new-requires-2 c = record {
+pub plan_of_parts-requires : goal.plan_of_parts-requires
+plan_of_parts-requires c = record {
   license = refl;
   version = tt;
   features = rw (c.push-2.ensures.items, c.push.ensures.items, c.new-features.ensures) distinct-two;

@@ -1,16 +1,16 @@
 //! The numbers that stand for a kind of program in a plan's text.
 
 ghost use Rattle.std.specs.Prelude.{◌≡◌};
-ghost use Rattle.plan_text.specs.ProgramKinds.{xdp_number, sk_skb_number, reuseport_number, skb_number, sockopt_number, sock_number, sock_addr_number, flag_number, kind_numbers, numbered};
+ghost use Rattle.plan_lines.specs.ProgramKinds.{xdp_number, sk_skb_number, reuseport_number, skb_number, sockopt_number, sock_number, sock_addr_number, flag_number, kind_numbers, numbered};
 
-use ebpf_items::{
+use program_kinds::{
     CgroupSkbAttachType, CgroupSockAddrAttachType, CgroupSockAttachType, CgroupSockoptAttachType,
     ProgramSection, SkReuseportAttachType, SkSkbKind, XdpAttachType,
 };
 
 /// The kind's number, and the numbers of its fields in order, 0 for a missing one.
 #[derive(Clone, Copy, Debug)]
-pub(crate) struct KindNumbers {
+pub struct KindNumbers {
     pub kind: u8,
     pub first: u8,
     pub second: u8,
@@ -78,7 +78,7 @@ fn sock_addr_number(attach_type: CgroupSockAddrAttachType) -> u8
 }
 
 /// The numbers of a kind of program: its place in the list of kinds, and those of its fields.
-pub(crate) fn kind_numbers(section: &ProgramSection) -> KindNumbers
+pub fn kind_numbers(section: &ProgramSection) -> KindNumbers
     ensures { result ≡ kind_numbers section.now }
 {
     match section {

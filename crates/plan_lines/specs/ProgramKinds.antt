@@ -16,7 +16,7 @@ use Rattle.program_kinds.specs.declared.attach.XdpAttachType.{XdpAttachType}
 use Rattle.program_kinds.specs.declared.attach.XdpAttachType.TheVariants as xdp
 use Rattle.program_kinds.specs.declared.program_section.ProgramSection.{ProgramSection}
 use Rattle.program_kinds.specs.declared.program_section.ProgramSection.TheVariants as kind
-use Rattle.plan_text.specs.declared.program_kind.KindNumbers.{KindNumbers}
+use Rattle.plan_lines.specs.declared.program_kind.KindNumbers.{KindNumbers}
 
 -- a flag
 abbrev pub flag_number : Bool → ℕ

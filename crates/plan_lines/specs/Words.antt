@@ -1,0 +1,37 @@
+-- The words of a text, and its lines of words.
+use Rattle.std.specs.Prelude.{ℕ, ◌<◌, List, [], ◌∷◌, ◌++◌, codes}
+use Rattle.std.specs.List.{All}
+use Rattle.hex.specs.Hex.{encode_lower}
+
+-- words with a space before each, and then more
+abbrev pub words_onto : List (List ℕ) → List ℕ → List ℕ
+words_onto [] more = more
+words_onto (word ∷ words) more = 32 ∷ word ++ words_onto words more
+
+-- a line: words with one space between them, then a line feed, and then more
+abbrev pub line_onto : List (List ℕ) → List ℕ → List ℕ
+line_onto [] more = 10 ∷ more
+line_onto (word ∷ words) more = word ++ words_onto words (10 ∷ more)
+
+-- words with one space between them
+abbrev pub joined : List (List ℕ) → List ℕ
+joined [] = []
+joined (word ∷ words) = word ++ words_onto words []
+
+-- lines, and then more
+abbrev pub lines_onto : List (List (List ℕ)) → List ℕ → List ℕ
+lines_onto [] more = more
+lines_onto (line ∷ lines) more = line_onto line (lines_onto lines more)
+
+-- the text of some lines
+abbrev pub text_of_lines : List (List (List ℕ)) → List ℕ
+text_of_lines lines = lines_onto lines []
+
+-- bytes in lower case hexadecimal; no bytes are a dash
+abbrev pub hex_word : List ℕ → List ℕ
+hex_word [] = codes "-"
+hex_word (byte ∷ bytes) = encode_lower (byte ∷ bytes)
+
+-- each is a byte
+abbrev pub AreBytes : List ℕ → Type 0
+AreBytes bytes = All (λ b. b < 256) bytes
