@@ -34,11 +34,14 @@ with_numbers None go = Err InvalidAccessString
 with_numbers (Some numbers) go = go numbers
 
 -- the type's name and the access string can be read, and the type can be looked up behind its modifiers
-abbrev pub local_path : Table → RelocationKind → ℕ → ℕ → Result AccessPath AccessError
-local_path table kind id access_str_off =
+abbrev pub subject_path : Table → Subject → ℕ → ℕ → Result AccessPath AccessError
+subject_path table subject id access_str_off =
     with_type table id (λ t.
     with_text table (name_offset_of t) (λ _.
     with_text table access_str_off (λ text.
     with_numbers (access_numbers text) (λ numbers.
     with_found (resolved_type table id) (λ root.
-    path_of (subject_of kind) table id root numbers)))))
+    path_of subject table id root numbers)))))
+
+abbrev pub local_path : Table → RelocationKind → ℕ → ℕ → Result AccessPath AccessError
+local_path table kind id access_str_off = subject_path table (subject_of kind) id access_str_off

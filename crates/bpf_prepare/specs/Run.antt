@@ -1,25 +1,27 @@
--- What a run says of the object's bytes, the kernel's types and symbols, and the settings.
+-- What a run says of the object's bytes, the kernel's types and symbols, and what a user sets.
 use Rattle.std.specs.Prelude.{◌≢◌, ℕ, List, Bool, Option}
 use Rattle.load_plan.specs.Content.{PlanContent}
-use Rattle.load_plan.specs.Inputs.{Inputs, Predicate, SettingsContent, Table, inputs, symbols_given}
+use Rattle.load_plan.specs.Inputs.{Inputs, Table, inputs, symbols_given}
+use Rattle.load_plan.specs.Known.{IsPlanFor, IsRefusalFor}
 use Rattle.load_plan.specs.PlanGrammar as grammar
-use Rattle.load_plan.specs.Planned.{IsPlanned, IsRefusal}
 use Rattle.load_plan.specs.declared.error.PrepareError.TheVariants as prepare
 use Rattle.load_plan.specs.declared.order.Order.{Order}
+use Rattle.run_settings.specs.Documents.{RunContent}
+use Rattle.run_settings.specs.Features.{grants}
 use Rattle.bpf_prepare.specs.declared.error.RunError.{RunError}
 use Rattle.bpf_prepare.specs.declared.error.RunError.TheVariants.{Output, Refused}
 
 -- the inputs of a run: the bytes of the symbols' reader, if they are known, and whether reading them failed
-abbrev pub inputs_of : List ℕ → List Table → Option (List ℕ) → Bool → SettingsContent → Order → Inputs
-inputs_of file kernel_types symbols failed settings order = inputs file kernel_types (symbols_given symbols failed) settings order
+abbrev pub inputs_of : List ℕ → List Table → Option (List ℕ) → Bool → RunContent → Order → Inputs
+inputs_of file kernel_types symbols failed s order = inputs file kernel_types (symbols_given symbols failed) s.settings order
 
--- something holds of the text of the plan of these inputs, for a kernel of which the predicate and the probe tell
-pub record HoldsOfText {F : Type 0} (predicate : Predicate F) (before : F) (Says : Bool → Type 0) (inputs : Inputs) (Holds : List ℕ → Type 0) : Type 0 where
+-- something holds of the text of the plan of these inputs, for a kernel as it is set
+pub record HoldsOfText (s : RunContent) (i : Inputs) (Holds : List ℕ → Type 0) : Type 0 where
   pub plan : PlanContent
-  pub planned : IsPlanned predicate before Says inputs plan
+  pub planned : IsPlanFor (grants s.features) s.probe i plan
   pub holds : Holds (grammar.text_of plan)
 
 -- what an error says of the inputs
-abbrev pub IsRunRefusal : {F : Type 0} → Predicate F → F → Inputs → RunError → Type 0
-IsRunRefusal predicate before inputs (Refused e) = e ≢ prepare.OutOfMemory → IsRefusal predicate before inputs e
-IsRunRefusal predicate before inputs Output = Unit {0}
+abbrev pub IsRunRefusal : RunContent → Inputs → RunError → Type 0
+IsRunRefusal s i (Refused e) = e ≢ prepare.OutOfMemory → IsRefusalFor (grants s.features) i e
+IsRunRefusal s i Output = Unit {0}

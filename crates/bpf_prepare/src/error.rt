@@ -1,10 +1,11 @@
 //! Why the program prints no plan.
 
 ghost use Rattle.std.specs.Prelude.{◌≡◌};
-ghost use Rattle.bpf_prepare.specs.declared.error.ProgramError.TheVariants.{OutOfMemory, Run};
+ghost use Rattle.bpf_prepare.specs.declared.error.ProgramError.TheVariants.{OutOfMemory, Run, Word};
 ghost use Rattle.bpf_prepare.specs.declared.error.RunError.TheVariants.{Refused};
 ghost use Rattle.bpf_prepare.specs.Program.{status_of};
 
+use command_line::WordError;
 use load_plan::{BtfError, ParseError, Place, PrepareError};
 use std::alloc::{AllocError, AllocFailed};
 use std::io;
@@ -33,11 +34,20 @@ impl From<PrepareError> for RunError {
 #[derive(Debug, Drop, Error)]
 pub enum ProgramError {
     /// It was called with other words.
-    #[error("usage: bpf_prepare OBJECT [--types FILE].. [--types-order little|big] [--symbols FILE] [--map NAME=NUMBER].. [--global NAME=HEX].. [--deny FEATURE].. [--rewrite-first] [--older-helpers]")]
-    Usage,
+    #[error("{text}")]
+    Line { text: String },
+    /// A word sets nothing.
+    #[error("{0}")]
+    Word(WordError),
+    /// More files with kernel types are named than tables are taken.
+    #[error("more than 4294967296 files of kernel types")]
+    TooManyTypes,
     /// A file can't be read.
     #[error("can't read {name:?}: {error}")]
     Read { name: String, error: io::Error },
+    /// A file's text holds no settings.
+    #[error("settings in {name:?}: {fault}")]
+    Settings { name: String, fault: String },
     /// The kernel types of a file can't be parsed.
     #[error("kernel types in {name:?}: {error}")]
     Types { name: String, error: BtfError },
@@ -57,6 +67,14 @@ impl From<RunError> for ProgramError {
 
     fn from(error: RunError) -> ProgramError {
         ProgramError::Run(error)
+    }
+}
+
+impl From<WordError> for ProgramError {
+    ghost from_gives = { λ error e. e ≡ Word error };
+
+    fn from(error: WordError) -> ProgramError {
+        ProgramError::Word(error)
     }
 }
 

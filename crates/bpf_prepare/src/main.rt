@@ -4,27 +4,28 @@
 ghost use Rattle.std.specs.Prelude.{◌≤◌, ◌^◌, length, IfOk};
 
 mod error;
+mod line_text;
 mod running;
-mod words;
 
+use command_line::{Arguments, LineError, arguments};
 use error::{ProgramError, RunError};
-use load_plan::{Btf, BtfError, Endianness, PrepareError, Settings, Watched, place_of};
+use line_text::{fault_text, line_text};
+use load_plan::{Btf, BtfError, Endianness, Order, PrepareError, Watched, place_of};
+use run_settings::{RunSettings, SettingsError};
 use running::run;
 use std::alloc::Global;
 use std::fs::File;
 use std::io::{BufRead, BufReader, BufWriter, Write};
 use std::process::ExitCode;
 use std::{env, fs, io};
-use words::Words;
 
-/// The words behind the program's name.
+/// The words that the program is called with, its name first.
 fn words_of(rt: &HostRuntime) -> Result<Vec<String>, ProgramError> {
-    let Ok(mut rest) = env::args(rt) else {
-        return Err(ProgramError::Usage);
-    };
-    let _program = rest.next();
     let mut words = Vec::new(rt.alloc());
-    for word in rest {
+    let Ok(given) = env::args(rt) else {
+        return Ok(words);
+    };
+    for word in given {
         words.push(word)?;
     }
     Ok(words)
@@ -99,48 +100,93 @@ const MAX_TABLES: usize = 0x1_0000_0000;
 /// The kernel's tables of types that files hold.
 fn kernel_types<'t>(
     alloc: Global,
-    words: &Words<'_>,
+    line: &Arguments<'_>,
     files: &'t [Vec<u8>],
 ) -> Result<Vec<Btf<'t>>, ProgramError>
     ensures { IfOk result (λ tables. length tables.items ≤ 2 ^ 32) }
 {
     let mut tables = Vec::new(alloc);
-    for (name, bytes) in words.types.iter().zip(files) {
-        tables.push(types_of(alloc, name, bytes, words.types_order)?)?;
+    for (name, bytes) in line.types.iter().zip(files) {
+        tables.push(types_of(alloc, name, bytes, line.types_order)?)?;
     }
     if tables.len() > MAX_TABLES {
-        return Err(ProgramError::Usage);
+        return Err(ProgramError::TooManyTypes);
     }
     Ok(tables)
 }
 
-/// Prints the plan of an object, by the files of kernel types and the text of symbols.
+/// The settings of a file's text, of nothing where there is no file, and over them those of the line.
+fn settings_of(
+    alloc: Global,
+    line: &Arguments<'_>,
+    file: Option<&[u8]>,
+) -> Result<RunSettings, ProgramError> {
+    let mut settings = match (line.settings, file) {
+        (Some(name), Some(bytes)) => file_settings(alloc, name, bytes)?,
+        _ => RunSettings::new(alloc),
+    };
+    line.set_over(alloc, &mut settings)?;
+    Ok(settings)
+}
+
+/// The settings of a file's text.
+fn file_settings(alloc: Global, name: &str, bytes: &[u8]) -> Result<RunSettings, ProgramError> {
+    let Ok(text) = std::str::from_utf8(bytes) else {
+        return Err(ProgramError::Settings {
+            name: String::from_str(alloc, name)?,
+            fault: String::from_str(alloc, "the text isn't UTF-8")?,
+        });
+    };
+    match RunSettings::from_toml(alloc, text) {
+        Ok(settings) => Ok(settings),
+        Err(SettingsError::OutOfMemory) => Err(ProgramError::OutOfMemory),
+        Err(SettingsError::Invalid) => Err(ProgramError::Settings {
+            name: String::from_str(alloc, name)?,
+            fault: fault_text(alloc, text)?,
+        }),
+    }
+}
+
+/// What a run is made of, beside its symbols and its output.
+#[derive(Drop)]
+struct Given<'g, 'w> {
+    line: &'g Arguments<'w>,
+    object: &'g [u8],
+    settings: &'g RunSettings,
+    types: &'g [Vec<u8>],
+}
+
+/// The order of the passes over types.
+fn order_of(line: &Arguments<'_>) -> Order {
+    if line.rewrite_first {
+        Order::RewriteFirst
+    } else {
+        Order::RelocateFirst
+    }
+}
+
+/// Prints the plan of an object.
 fn print_plan<R: BufRead>(
     rt: &HostRuntime,
-    words: &Words<'_>,
-    settings: &Settings,
-    object: &[u8],
-    types: &[Vec<u8>],
+    given: &Given<'_, '_>,
     symbols: &mut Watched<R>,
 ) -> Result<(), ProgramError> {
-    let types = kernel_types(rt.alloc(), words, types)?;
+    let types = kernel_types(rt.alloc(), given.line, given.types)?;
     let Ok(writer) = BufWriter::new(rt.alloc(), io::writer(rt)) else {
         return Err(ProgramError::OutOfMemory);
     };
     let mut out = Watched::new(writer);
     let written = run(
         rt.alloc(),
-        object,
+        given.object,
         &types,
         symbols,
-        settings,
-        words.order,
-        |feature| words.grants(feature),
-        || words.has_newer_helpers,
+        given.settings,
+        order_of(given.line),
         &mut out,
     );
     if let Err(error) = written {
-        return Err(located(rt.alloc(), object, error));
+        return Err(located(rt.alloc(), given.object, error));
     }
     match out.into_inner().flush() {
         Ok(()) => Ok(()),
@@ -148,28 +194,52 @@ fn print_plan<R: BufRead>(
     }
 }
 
-/// Prints the plan of the object that the command line names.
-fn print_named(rt: &HostRuntime) -> Result<(), ProgramError> {
-    let words = words_of(rt)?;
-    let words = Words::read(rt.alloc(), &words)?;
-    let symbols = words.symbols;
-    let settings = words.settings(rt.alloc())?;
-    let object = read(rt, words.object)?;
-    let types = read_all(rt, &words.types)?;
+/// Reads the files that a line names, and prints the plan of its object.
+fn print_named(rt: &HostRuntime, line: &Arguments<'_>) -> Result<(), ProgramError> {
+    let alloc = rt.alloc();
+    // Faults of the line come first.
+    settings_of(alloc, line, None)?;
+    let object = read(rt, line.object)?;
+    let file = match line.settings {
+        Some(name) => Some(read(rt, name)?),
+        None => None,
+    };
+    let types = read_all(rt, &line.types)?;
+    let symbols = match line.symbols {
+        Some(name) => Some(open(rt, name)?),
+        None => None,
+    };
+    let settings = settings_of(alloc, line, file.as_deref())?;
+    let given = Given {
+        line,
+        object: &object,
+        settings: &settings,
+        types: &types,
+    };
     match symbols {
-        Some(name) => {
-            let mut symbols = Watched::new(open(rt, name)?);
-            print_plan(rt, &words, &settings, &object, &types, &mut symbols)
-        }
-        None => {
-            let mut symbols = Watched::new(io::empty());
-            print_plan(rt, &words, &settings, &object, &types, &mut symbols)
-        }
+        Some(reader) => print_plan(rt, &given, &mut Watched::new(reader)),
+        None => print_plan(rt, &given, &mut Watched::new(io::empty())),
+    }
+}
+
+/// Prints what a line asks for: a plan, the program's help or its version.
+fn print_asked(rt: &HostRuntime) -> Result<(), ProgramError> {
+    let words = words_of(rt)?;
+    match arguments(rt.alloc(), &words) {
+        Ok(line) => print_named(rt, &line),
+        Err(LineError::OutOfMemory) => Err(ProgramError::OutOfMemory),
+        Err(LineError::Line(error)) if error.use_stderr() => Err(ProgramError::Line {
+            text: line_text(rt.alloc(), &error)?,
+        }),
+        Err(LineError::Line(text)) => match print!(rt; "{text}") {
+            Ok(()) => Ok(()),
+            Err(_) => Err(ProgramError::Run(RunError::Output)),
+        },
     }
 }
 
 fn main(rt: HostRuntime) -> ExitCode {
-    match print_named(&rt) {
+    match print_asked(&rt) {
         Ok(()) => ExitCode::SUCCESS,
         Err(error) => {
             let _ = eprintln!(rt; "bpf_prepare: {error}");

@@ -5,6 +5,7 @@ pub mod Made
 pub mod Passes
 pub mod Places
 pub mod Planned
+pub mod Known
 pub mod Programs
 pub use Rattle.plan_text.specs.Content
 pub use Rattle.plan_text.specs.PlanGrammar

@@ -47,7 +47,8 @@ fn send_places<W: Write>(out: &mut Watched<W>, places: &[u32])
     ensures { Sends W.contents out.old out.new (words_onto (map decimal places.now) []) }
 {
     for place in places {
-        send_number(out, u64::from(*place));
+        let number: u64 = u64::from(*place);
+        send_number(out, number);
     }
 }
 

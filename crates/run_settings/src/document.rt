@@ -14,7 +14,7 @@ use std::alloc::{AllocError, Global};
 use toml::{Table, Value};
 
 /// The number of a map, below 2^31.
-fn number_of(value: &Value) -> Option<u32>
+pub(crate) fn number_of(value: &Value) -> Option<u32>
     ensures { result ≡ number_of (view value.now) }
 {
     let number = value.as_integer()?;

@@ -78,7 +78,7 @@ impl GlobalParts {
 }
 
 /// The value of a variable.
-fn global_of(alloc: Global, value: &Value) -> Result<Option<GlobalValue>, AllocError>
+pub(crate) fn global_of(alloc: Global, value: &Value) -> Result<Option<GlobalValue>, AllocError>
     ensures { IfOk result (λ r. r ≡ global_of (view value.now)) }
 {
     let Some(table) = value.as_table() else {

@@ -6,8 +6,10 @@ mod document;
 mod error;
 mod features;
 mod globals;
+mod invalid;
 mod run_settings;
 
 pub use error::SettingsError;
 pub use features::{GrantedFeatures, feature_named};
+pub use invalid::invalid_key;
 pub use run_settings::RunSettings;

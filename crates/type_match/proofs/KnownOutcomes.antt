@@ -5,14 +5,13 @@ use Rattle.std.proofs.lemmas.Map.Views.{All-values-insert_entry}
 use Rattle.std.specs.BTreeMap.{insert_entry}
 use Rattle.std.specs.List.{IsAmong}
 use Rattle.std.specs.Map.{values_of}
-use Rattle.std.specs.Prelude.{All, slice_get}
+use Rattle.std.specs.Prelude.{slice_get}
 use Rattle.std.specs.declared.cmp.Ordering.{Ordering}
 use Rattle.btf_tables.specs.Tables.{Table}
 use Rattle.ebpf_items.specs.RelocationKind.{relocation_kinds}
 use Rattle.ebpf_items.specs.declared.relocation_kind.RelocationKind.{RelocationKind}
 use Rattle.type_match.specs.KnownOutcomes.{AreOutcomes, IsOutcome}
 use Rattle.type_match.specs.declared.known.KnownOutcome.{KnownOutcome}
-use Rattle.type_match.specs.declared.relocation.RelocationOutcome.{RelocationOutcome}
 use Rattle.type_match.specs.declared.relocation.TypeRelocation.{TypeRelocation}
 
 -- a relocation by its parts

@@ -17,17 +17,15 @@ use Rattle.ebpf_items.specs.declared.relocation_kind.RelocationKind.{RelocationK
 use Rattle.ebpf_items.specs.declared.relocation_kind.RelocationKind.TheVariants as kinds
 use Rattle.matching_paths.specs.Laws.{MatchesRest}
 use Rattle.relocation_values.specs.Laws.{ValuesRest}
-use Rattle.relocation_values.specs.declared.value.RelocationValue.{RelocationValue}
 use Rattle.string_table.specs.Texts.{text_at}
 use Rattle.type_candidates.specs.Candidates.{Wanted, candidates, wanted_for, wanted_of}
 use Rattle.type_candidates.specs.declared.error.CandidateError.{CandidateError}
 use Rattle.type_candidates.specs.declared.kernel_type.KernelType.{KernelType}
 use Rattle.type_match.specs.Laws.{OutcomesRest}
 use Rattle.type_match.specs.Matches.{followed_by, kernel_matches, match_at, match_in, matches_of, of_path, searched_tables, with_candidates, with_own_type, with_kernel, with_local}
-use Rattle.type_match.specs.RelocationOutcomes.{local_value, relocation_outcome, settled}
+use Rattle.type_match.specs.RelocationOutcomes.{local_value, relocation_outcome}
 use Rattle.type_match.specs.declared.error.TypeRelocationError.{TypeRelocationError}
 use Rattle.type_match.specs.declared.matches.Match.{Match}
-use Rattle.type_match.specs.declared.relocation.RelocationOutcome.{RelocationOutcome}
 use Rattle.type_match.specs.declared.relocation.TypeRelocation.{TypeRelocation}
 
 -- the tables, and what is reached

@@ -7,13 +7,16 @@ use Rattle.ebpf_items.specs.declared.relocation_kind.RelocationKind.TheVariants.
 use Rattle.string_table.specs.Texts.{text_at}
 use Rattle.type_candidates.specs.Candidates.{all_types, first_types}
 use Rattle.type_match.specs.Matches.{searched_tables}
+use Rattle.type_match.specs.OneTable.{outcome_in_one}
 use Rattle.type_match.specs.RelocationOutcomes.{relocation_outcome}
 use Rattle.type_match.specs.declared.relocation.TypeRelocation.{TypeRelocation}
 
--- of one table the types are its own, by id, and each kind but an id of the object's own types is looked for in it
+-- of one table the types are its own, by id, and each kind but an id of the object's own types is looked for in it; what a
+-- relocation comes to is what that table gives alone
 pub record ListsOfOneTable : Type 0 where
   pub types : (target : Table) → all_types (target ∷ []) ≡ first_types 0 (suc (length target.types))
   pub searched : (kind : RelocationKind) (target : Table) → kind ≢ TypeIdLocal → searched_tables kind (target ∷ []) ≡ target ∷ []
+  pub outcomes : (local : Table) (r : TypeRelocation) (target : Table) → relocation_outcome local r (target ∷ []) ≡ outcome_in_one local r target
 
 -- what a type relocation comes to is the same for every other table of the object's own types that agrees on what is
 -- reached from its type, and whose texts there, and the access string, can be read alike

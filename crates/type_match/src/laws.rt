@@ -6,7 +6,8 @@ use access_paths::{lookups_rest, paths_rest};
 use matching_paths::matches_rest;
 use relocation_values::values_rest;
 
-/// A list of one table is searched as that table is.
+/// A list of one table is searched as that table is, and a type relocation comes to what that table
+/// gives alone.
 pub fn lists_of_one_table()
     ensures { ListsOfOneTable }
 {}

@@ -8,6 +8,7 @@ mod laws;
 mod matcher;
 mod matches;
 mod outcome;
+mod paths;
 mod relocation;
 
 pub use error::TypeRelocationError;

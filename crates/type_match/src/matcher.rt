@@ -1,8 +1,11 @@
 //! Matches of an object's type relocations, for which each of a kernel's tables is gone over once.
 
-ghost use Rattle.std.specs.Prelude.{◌≡◌, ◌≢◌, [], IfOk, IfErr, IfSome, Ok, Err};
+ghost use Rattle.std.specs.Prelude.{◌≡◌, ◌≢◌, [], true, IfOk, IfErr, IfSome, Ok, Err};
+ghost use Rattle.access_paths.specs.LocalPaths.{local_path};
+ghost use Rattle.access_paths.specs.Subjects.{subject_of};
 ghost use Rattle.type_candidates.specs.Candidates.{candidates};
 ghost use Rattle.type_candidates.specs.declared.error.CandidateError.TheVariants.{OutOfMemory as NoMemory};
+ghost use Rattle.type_match.specs.FoundPaths.{ArePathsOf, found_paths, is_part};
 ghost use Rattle.type_match.specs.KnownOutcomes.{IsOutcome};
 ghost use Rattle.type_match.specs.Matches.{kernel_matches, searched_tables};
 ghost use Rattle.type_match.specs.RelocationOutcomes.{IsTableOf, relocation_outcome};
@@ -11,8 +14,9 @@ ghost use Rattle.type_match.specs.declared.error.TypeRelocationError.TheVariants
 use crate::error::TypeRelocationError;
 use crate::known::{AccessKey, KnownOutcome, access_key, is_same};
 use crate::matches::{Match, matches_of, searched_tables};
+use crate::paths::{FoundPath, KnownPaths, ask_for_one, is_part, matches_from, paths_of};
 use crate::relocation::{RelocationOutcome, TypeRelocation, local_value, settled};
-use access_paths::{AccessError, AccessPath, local_path};
+use access_paths::{AccessError, AccessPath, local_path, subject_of};
 use btf_tables::Btf;
 use ebpf_items::RelocationKind;
 use std::alloc::AllocError;
@@ -31,11 +35,15 @@ pub struct TypeMatcher<'m> {
     in_first: Option<Candidates<'m>>,
     /// What relocations came to.
     known: BTreeMap<AccessKey, KnownOutcome>,
+    /// The paths that were found for relocations about fields and variants, by type and access
+    /// string.
+    paths: BTreeMap<(u32, u32), KnownPaths>,
 }
 
 impl<'m> Model for TypeMatcher<'m> {
     ghost use Rattle.std.specs.Prelude.{◌≡◌, IfSome, take};
     ghost use Rattle.std.specs.Map.{values_of};
+    ghost use Rattle.type_match.specs.FoundPaths.{AreKnown};
     ghost use Rattle.type_match.specs.KnownOutcomes.{AreOutcomes};
     ghost use Rattle.type_match.specs.RelocationOutcomes.{Matched};
 
@@ -43,7 +51,7 @@ impl<'m> Model for TypeMatcher<'m> {
 
     ghost view = { λ m. record { local = m.local.now; targets = m.targets.now } };
 
-    ghost invariant = { λ m. (IfSome m.in_all (λ c. c ≡ m.targets.now)) × (IfSome m.in_first (λ c. c ≡ take 1 m.targets.now)) × AreOutcomes m.local.now m.targets.now (values_of m.known.entries) };
+    ghost invariant = { λ m. (IfSome m.in_all (λ c. c ≡ m.targets.now)) × (IfSome m.in_first (λ c. c ≡ take 1 m.targets.now)) × AreOutcomes m.local.now m.targets.now (values_of m.known.entries) × AreKnown m.local.now m.targets.now (values_of m.paths.entries) };
 }
 
 /// The local types of relocations that are looked for in all tables, or else of those that are in
@@ -84,7 +92,7 @@ fn collected<'m>(
 
 impl<'m> TypeMatcher<'m> {
     /// The types of an object and of a kernel. Each relocation goes over the kernel's tables.
-    #[tactic(auto, using(crate::proofs::KnownOutcomes::none_known))]
+    #[tactic(auto, using(crate::proofs::KnownOutcomes::none_known, crate::proofs::FoundPaths::no_paths_known))]
     pub fn new(local: &'m Btf<'m>, targets: &'m [Btf<'m>]) -> TypeMatcher<'m>
         ensures { result ≡ record { local = local.now; targets = targets.now } }
     {
@@ -94,12 +102,13 @@ impl<'m> TypeMatcher<'m> {
             in_all: None,
             in_first: None,
             known: BTreeMap::new(local.allocator()),
+            paths: BTreeMap::new(local.allocator()),
         }
     }
 
     /// The types of an object and of a kernel, of which each table is gone over once for all of
     /// these relocations, the first once more where ids of a kernel's types are asked for.
-    #[tactic(auto, using(crate::proofs::KnownOutcomes::none_known))]
+    #[tactic(auto, using(crate::proofs::KnownOutcomes::none_known, crate::proofs::FoundPaths::no_paths_known))]
     pub fn collect(
         local: &'m Btf<'m>,
         relocations: &[TypeRelocation],
@@ -118,6 +127,7 @@ impl<'m> TypeMatcher<'m> {
             in_all,
             in_first,
             known: BTreeMap::new(local.allocator()),
+            paths: BTreeMap::new(local.allocator()),
         })
     }
 
@@ -165,19 +175,106 @@ impl<'m> TypeMatcher<'m> {
         matches_of(kind, self.local, path, self.targets, found.as_slice())
     }
 
-    /// What `relocation_outcome` answers.
-    pub fn found_outcome(
+    /// The paths in all tables that lead to a part of a local type.
+    #[tactic(auto, using(crate::proofs::FoundPaths::all_searched))]
+    fn found_paths(
         &self,
+        kind: RelocationKind,
+        path: &AccessPath,
+    ) -> Result<Vec<FoundPath>, TypeRelocationError>
+        requires { is_part (subject_of kind) ≡ true }
+        ensures value { IfOk result (λ found. found_paths (subject_of kind) self.now.local path.now self.now.targets ≡ Ok found.items) }
+        ensures refused { IfErr result (λ e. e ≢ OutOfMemory → found_paths (subject_of kind) self.now.local path.now self.now.targets ≡ Err e) }
+    {
+        let wanted = match WantedType::find(self.local, path.type_id) {
+            Ok(wanted) => wanted,
+            Err(error) => return Err(TypeRelocationError::Local(AccessError::BtfError(error))),
+        };
+        let found = self.candidates(kind, &wanted)?;
+        paths_of(
+            subject_of(kind),
+            self.local,
+            path,
+            self.targets,
+            found.as_slice(),
+        )
+    }
+
+    /// The paths that were found for a relocation that asks for the same.
+    #[tactic(auto, using(crate::proofs::FoundPaths::paths_known))]
+    fn known_paths(&self, relocation: TypeRelocation) -> Option<&[FoundPath]>
+        ensures { IfSome result (λ paths. ArePathsOf self.now.local self.now.targets relocation paths.now) }
+    {
+        let known = self
+            .paths
+            .get(&(relocation.type_id, relocation.access_str_off))?;
+        if ask_for_one(known.relocation, relocation) {
+            Some(known.paths.as_slice())
+        } else {
+            None
+        }
+    }
+
+    /// The matches of a relocation about a part of a type, which has this path; the paths in the
+    /// kernel's types are remembered.
+    fn part_matches(
+        &mut self,
+        relocation: TypeRelocation,
+        path: &AccessPath,
+    ) -> Result<Vec<Match>, TypeRelocationError>
+        requires part { is_part (subject_of relocation.kind) ≡ true }
+        requires path { local_path self.old.local relocation.kind relocation.type_id relocation.access_str_off ≡ Ok path.now }
+        ensures value { IfOk result (λ found. kernel_matches relocation.kind self.old.local path.now self.old.targets ≡ Ok found.items) }
+        ensures refused { IfErr result (λ e. e ≢ OutOfMemory → kernel_matches relocation.kind self.old.local path.now self.old.targets ≡ Err e) }
+        ensures same { self.new ≡ self.old }
+    {
+        let alloc = self.local.allocator();
+        let kind = relocation.kind;
+        if let Some(paths) = self.known_paths(relocation) {
+            let matches = matches_from(alloc, kind, self.targets, paths)?;
+            return Ok(matches);
+        }
+        let paths = self.found_paths(kind, path)?;
+        let matches = matches_from(alloc, kind, self.targets, paths.as_slice())?;
+        self.paths.insert(
+            (relocation.type_id, relocation.access_str_off),
+            KnownPaths { relocation, paths },
+        )?;
+        Ok(matches)
+    }
+
+    /// The matches of a relocation that has this path.
+    fn matches(
+        &mut self,
+        relocation: TypeRelocation,
+        path: &AccessPath,
+    ) -> Result<Vec<Match>, TypeRelocationError>
+        requires { local_path self.old.local relocation.kind relocation.type_id relocation.access_str_off ≡ Ok path.now }
+        ensures value { IfOk result (λ found. kernel_matches relocation.kind self.old.local path.now self.old.targets ≡ Ok found.items) }
+        ensures refused { IfErr result (λ e. e ≢ OutOfMemory → kernel_matches relocation.kind self.old.local path.now self.old.targets ≡ Err e) }
+        ensures same { self.new ≡ self.old }
+    {
+        if is_part(subject_of(relocation.kind)) {
+            self.part_matches(relocation, path)
+        } else {
+            self.kernel_matches(relocation.kind, path)
+        }
+    }
+
+    /// What `relocation_outcome` answers.
+    pub(crate) fn found_outcome(
+        &mut self,
         relocation: TypeRelocation,
     ) -> Result<RelocationOutcome, TypeRelocationError>
-        ensures value { IfOk result (λ outcome. relocation_outcome self.now.local relocation self.now.targets ≡ Ok outcome) }
-        ensures table { IfOk result (λ outcome. IsTableOf self.now.targets outcome.table) }
-        ensures refused { IfErr result (λ e. e ≢ OutOfMemory → relocation_outcome self.now.local relocation self.now.targets ≡ Err e) }
+        ensures value { IfOk result (λ outcome. relocation_outcome self.old.local relocation self.old.targets ≡ Ok outcome) }
+        ensures table { IfOk result (λ outcome. IsTableOf self.old.targets outcome.table) }
+        ensures refused { IfErr result (λ e. e ≢ OutOfMemory → relocation_outcome self.old.local relocation self.old.targets ≡ Err e) }
+        ensures same { self.new ≡ self.old }
     {
         let kind = relocation.kind;
         let local = self.local;
         let path = local_path(local, kind, relocation.type_id, relocation.access_str_off)?;
-        let matches = self.kernel_matches(kind, &path)?;
+        let matches = self.matches(relocation, &path)?;
         let value = local_value(local, kind, &path)?;
         settled(kind, matches.as_slice(), value)
     }

@@ -107,5 +107,6 @@ pub fn relocation_outcome<'t>(
     ensures table { IfOk result (λ outcome. IsTableOf targets.now outcome.table) }
     ensures refused { IfErr result (λ e. e ≢ OutOfMemory → relocation_outcome local.now relocation targets.now ≡ Err e) }
 {
-    TypeMatcher::new(local, targets).found_outcome(relocation)
+    let mut matcher = TypeMatcher::new(local, targets);
+    matcher.found_outcome(relocation)
 }

@@ -1,0 +1,83 @@
+//! What the words of a command line ask for.
+
+use crate::setting_words::{WordError, deny, set_global, set_map};
+use btf_records::Endianness;
+use clap::Error;
+use run_settings::RunSettings;
+use std::alloc::{AllocError, Global};
+
+/// What the words of a command line ask for. File names are as the words have them.
+#[derive(Debug, Drop)]
+pub struct Arguments<'w> {
+    /// The object's file.
+    pub object: &'w str,
+    /// Files with kernel types, in order.
+    pub types: Vec<&'w str>,
+    /// The byte order of all of them.
+    pub types_order: Endianness,
+    /// The file with the kernel's symbols.
+    pub symbols: Option<&'w str>,
+    /// The file of settings.
+    pub settings: Option<&'w str>,
+    /// Whether types are rewritten before type relocations are looked up in them.
+    pub rewrite_first: bool,
+    pub(crate) has_older_helpers: bool,
+    pub(crate) maps: Vec<&'w str>,
+    pub(crate) globals: Vec<&'w str>,
+    pub(crate) denied: Vec<&'w str>,
+}
+
+/// Why a command line asks for nothing.
+#[derive(Debug, Drop)]
+pub enum LineError {
+    /// Words that the command line may not have, or that ask for its help or version: clap's error,
+    /// with the text to show.
+    Line(Error),
+    OutOfMemory,
+}
+
+impl From<AllocError> for LineError {
+    ghost use Rattle.std.specs.Prelude.{◌≡◌};
+    ghost use Rattle.command_line.specs.declared.line.LineError.TheVariants.{OutOfMemory};
+
+    ghost from_gives = { λ _ e. e ≡ OutOfMemory };
+
+    fn from(_error: AllocError) -> LineError {
+        LineError::OutOfMemory
+    }
+}
+
+impl From<Error> for LineError {
+    ghost use Rattle.std.specs.Prelude.{◌≡◌};
+    ghost use Rattle.command_line.specs.declared.line.LineError.TheVariants.{Line};
+
+    ghost from_gives = { λ error e. e ≡ Line error };
+
+    fn from(error: Error) -> LineError {
+        LineError::Line(error)
+    }
+}
+
+impl<'w> Arguments<'w> {
+    /// Sets what the line sets, over what is set already.
+    ///
+    /// # Errors
+    ///
+    /// The first word that sets nothing, numbers of maps first, then values of variables; and
+    /// `OutOfMemory`.
+    pub fn set_over(&self, alloc: Global, settings: &mut RunSettings) -> Result<(), WordError> {
+        for word in &self.maps {
+            set_map(alloc, settings, word)?;
+        }
+        for word in &self.globals {
+            set_global(alloc, settings, word)?;
+        }
+        for word in &self.denied {
+            deny(alloc, settings, word)?;
+        }
+        if self.has_older_helpers {
+            settings.probe = false;
+        }
+        Ok(())
+    }
+}

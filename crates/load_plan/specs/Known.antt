@@ -1,0 +1,40 @@
+-- Plans and refusals where the answers about a kernel are known beforehand: whether it grants a feature goes by the feature alone.
+use Rattle.std.specs.Prelude.{◌≡◌, ◌⊎◌, Bool, [], ◌∷◌}
+use Rattle.btf_records.specs.declared.feature.BtfFeature.{BtfFeature}
+use Rattle.btf_sanitizing.specs.Answers.{Answers}
+use Rattle.ebpf_object.specs.Faults.{HasFault}
+use Rattle.plan_text.specs.Content.{PlanContent}
+use Rattle.load_plan.specs.Inputs.{Inputs, IsSaid, State, Under}
+use Rattle.load_plan.specs.Passes.{OfParse, Refused, passes}
+use Rattle.load_plan.specs.Planned.{IsPlanOf, IsWholeObject}
+use Rattle.load_plan.specs.declared.error.PrepareError.{PrepareError}
+
+-- each answer about a feature is the one that goes by the feature
+abbrev pub GoByFeature : (BtfFeature → Bool) → Answers → Type 0
+GoByFeature grants [] = Unit {0}
+GoByFeature grants (a ∷ others) = (a.1 ≡ grants a.0) × GoByFeature grants others
+
+-- what is answered about a kernel of these features, that has the newer helpers or lacks them
+pub record AreKnown (grants : BtfFeature → Bool) (has_helpers : Bool) (u : Under) : Type 0 where
+  pub features : GoByFeature grants u.answers
+  pub helpers : IsSaid (λ answer. answer ≡ has_helpers) u.has_helpers
+
+-- the plan of the object that a file holds, for such a kernel
+pub record IsPlanFor (grants : BtfFeature → Bool) (has_helpers : Bool) (i : Inputs) (plan : PlanContent) : Type 0 where
+  pub object : State
+  pub whole : IsWholeObject i.file object
+  pub under : Under
+  pub known : AreKnown grants has_helpers under
+  pub planned : IsPlanOf i under object plan
+
+-- a pass refuses the object, under the answers that were given so far
+pub record IsPassRefusalFor (grants : BtfFeature → Bool) (i : Inputs) (e : PrepareError) : Type 0 where
+  pub object : State
+  pub whole : IsWholeObject i.file object
+  pub under : Under
+  pub known : GoByFeature grants under.answers
+  pub refused : Refused (passes i.order) i under object e
+
+-- what a refusal says, memory apart
+abbrev pub IsRefusalFor : (BtfFeature → Bool) → Inputs → PrepareError → Type 0
+IsRefusalFor grants i e = OfParse (HasFault i.file) e ⊎ IsPassRefusalFor grants i e
