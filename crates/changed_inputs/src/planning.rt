@@ -1,0 +1,146 @@
+//! Plans of changed objects, and of an object for changed kernel types, for a kernel without symbols.
+
+use crate::changes::{Run, counts_of};
+use crate::counts::{Answer, Counts};
+use load_plan::{Btf, BtfError, Endianness, Order, Plan, PrepareError, Settings, Watched, prepare};
+use std::alloc::{AllocError, Global};
+use std::io;
+
+/// Whether a text begins and ends as that of a plan.
+fn is_plan_text(text: &[u8]) -> bool {
+    match std::str::from_utf8(text) {
+        Ok(text) => text.starts_with("bpf-plan ") && text.ends_with("\nend\n"),
+        Err(_) => false,
+    }
+}
+
+/// Whether a plan is written into memory, as a text of a plan.
+fn is_written(alloc: Global, plan: &Plan<'_>) -> bool {
+    let mut out = Watched::new(Vec::new(alloc));
+    plan.write(&mut out).is_ok() && is_plan_text(out.into_inner().as_slice())
+}
+
+/// What an answer of `prepare` is.
+fn answer_in(alloc: Global, planned: Result<Plan<'_>, PrepareError>) -> Answer {
+    match planned {
+        Ok(plan) => {
+            if is_written(alloc, &plan) {
+                Answer::Planned
+            } else {
+                Answer::Failed
+            }
+        }
+        Err(PrepareError::OutOfMemory) => Answer::Failed,
+        Err(_error) => Answer::Refused,
+    }
+}
+
+/// What comes of an object. The kernel grants all features where relocations come first, and none
+/// where rewriting does.
+fn answer_of(
+    alloc: Global,
+    object: &[u8],
+    kernel_types: &[Btf<'_>],
+    settings: &Settings,
+    order: Order,
+) -> Answer {
+    let grants_all = order == Order::RelocateFirst;
+    let mut symbols = Watched::new(io::empty());
+    let planned = prepare(
+        alloc,
+        object,
+        kernel_types,
+        &mut symbols,
+        settings,
+        order,
+        |_feature| grants_all,
+        || true,
+    );
+    answer_in(alloc, planned)
+}
+
+/// Runs on objects.
+#[derive(Clone, Copy)]
+struct ObjectRuns<'r> {
+    kernel_types: &'r [Btf<'r>],
+    settings: &'r Settings,
+}
+
+impl<'r> Run for ObjectRuns<'r> {
+    fn answer(&self, alloc: Global, file: &[u8], order: Order) -> Answer {
+        answer_of(alloc, file, self.kernel_types, self.settings, order)
+    }
+}
+
+/// Runs on kernel types, for one object. Types that can't be parsed are refused.
+#[derive(Clone, Copy)]
+struct TypesRuns<'r> {
+    object: &'r [u8],
+    endianness: Endianness,
+    settings: &'r Settings,
+}
+
+impl<'r> Run for TypesRuns<'r> {
+    fn answer(&self, alloc: Global, file: &[u8], order: Order) -> Answer {
+        match Btf::parse(alloc, file, self.endianness) {
+            Ok(table) => answer_of(alloc, self.object, &[table], self.settings, order),
+            Err(BtfError::OutOfMemory) => Answer::Failed,
+            Err(_error) => Answer::Refused,
+        }
+    }
+}
+
+/// Settings in which maps of these names, parted by commas, have the number 7.
+fn numbered(alloc: Global, maps: &str) -> Result<Settings, AllocError> {
+    let mut settings = Settings::new(alloc);
+    for name in maps.split(',') {
+        settings.set_map(name, 7)?;
+    }
+    Ok(settings)
+}
+
+/// What comes of changed objects for kernel types, with numbers for maps of names that are parted by
+/// commas.
+///
+/// # Errors
+///
+/// Where the kernel types can't be parsed, or memory for them is refused.
+pub fn changed_object_counts(
+    alloc: Global,
+    maps: &str,
+    object: &mut [u8],
+    types: &[Vec<u8>],
+    endianness: Endianness,
+) -> Result<Counts, BtfError> {
+    let settings = numbered(alloc, maps)?;
+    let mut tables = Vec::new(alloc);
+    for bytes in types {
+        tables.push(Btf::parse(alloc, bytes.as_slice(), endianness)?)?;
+    }
+    let runs = ObjectRuns {
+        kernel_types: &tables,
+        settings: &settings,
+    };
+    Ok(counts_of(alloc, &runs, object))
+}
+
+/// What comes of an object for changed kernel types, with numbers for maps likewise.
+///
+/// # Errors
+///
+/// Where memory for the settings is refused.
+pub fn changed_types_counts(
+    alloc: Global,
+    maps: &str,
+    object: &[u8],
+    types: &mut [u8],
+    endianness: Endianness,
+) -> Result<Counts, AllocError> {
+    let settings = numbered(alloc, maps)?;
+    let runs = TypesRuns {
+        object,
+        endianness,
+        settings: &settings,
+    };
+    Ok(counts_of(alloc, &runs, types))
+}
