@@ -2,11 +2,8 @@
 use Rattle.std.proofs.Common.{◌≡◌, ◌⊎◌, Bool, List, [], ◌∷◌, Option, None, Some, inl, inr, subst, sym}
 use Rattle.std.specs.Fn.{Called, Mut}
 use Rattle.std.specs.List.{FoldsTo}
-use Rattle.btf_records.specs.declared.feature.BtfFeature.{BtfFeature}
-use Rattle.btf_sanitizing.specs.Answers.{Answers}
-use Rattle.ebpf_object.specs.Rewriting.{AreAnswered}
 use Rattle.load_plan.specs.Content.{PlanContent}
-use Rattle.load_plan.specs.Inputs.{Inputs, IsSaid, Predicate}
+use Rattle.load_plan.specs.Inputs.{Answers, AreAnswered, BtfFeature, Inputs, IsSaid, Predicate}
 use Rattle.load_plan.specs.Known.{GoByFeature, IsPlanFor, IsRefusalFor}
 use Rattle.load_plan.specs.Planned.{IsPlanned, IsRefusal}
 use Rattle.load_plan.specs.declared.error.PrepareError.{PrepareError}

@@ -1,11 +1,11 @@
 -- What a plan is made of.
 use Rattle.std.specs.Prelude.{ℕ, List, Bool, Option, None, Some, unwrap_or, true}
 use Rattle.std.specs.Fn.{Mut}
-use Rattle.btf_records.specs.declared.feature.BtfFeature.{BtfFeature}
-use Rattle.btf_sanitizing.specs.Answers.{Answers}
+pub use Rattle.btf_records.specs.declared.feature.BtfFeature.{BtfFeature}
+pub use Rattle.btf_sanitizing.specs.Answers.{Answers}
 pub use Rattle.btf_tables.specs.Tables.{Table}
 use Rattle.ebpf_object.specs.ParsedObject.{ObjectContent}
-use Rattle.ebpf_object.specs.Rewriting.{AreAnswered}
+pub use Rattle.ebpf_object.specs.Rewriting.{AreAnswered}
 pub use Rattle.settings.specs.Content.{SettingsContent}
 use Rattle.load_plan.specs.declared.order.Order.{Order}
 
