@@ -16,7 +16,7 @@ pub use ebpf_object::{
 pub use error::PrepareError;
 pub use order::Order;
 pub use places::{Place, place_of};
-pub use plan_text::{Answers, MapWords, Plan, PlanMap, PlanProgram};
+pub use plan_text::{Answers, MapWords, Plan, PlanMap, PlanProgram, PlanReadError};
 pub use planning::prepare;
 pub use relocation_errors::{EbpfRelocationError, RelocationError};
 pub use settings::Settings;

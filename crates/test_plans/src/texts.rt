@@ -1,11 +1,6 @@
-//! Plans and their texts, and writers that fail.
+//! Plans read from their texts and written again, and writers that fail.
 
-ghost use Rattle.plan_lines.specs.Lines.{AreTables};
-
-use plan_text::{
-    Answers, BtfFeature, FuncSecInfo, LineSecInfo, MapWords, PinningType, Plan, PlanMap, PlanParts,
-    PlanProgram, ProgramSection, Slots, Watched, bpf_func_info, bpf_line_info, plan_of_parts,
-};
+use plan_text::{BtfFeature, PinningType, Plan, PlanReadError, Watched};
 use std::alloc::Global;
 use std::io;
 use std::io::{ErrorKind, Write};
@@ -85,11 +80,90 @@ const FEATURES_PLAN: &[u8] = b"bpf-plan 2\n\
       types none\n\
       end\n";
 
-const RETURN: [u8; 8] = [0x95, 0, 0, 0, 0, 0, 0, 0];
+const EMPTY_PLAN: &[u8] = b"bpf-plan 2\n\
+      license 47504c\n\
+      version any\n\
+      types none\n\
+      end\n";
 
-const CALL: [u8; 32] = [
-    0x85, 0x10, 0, 0, 1, 0, 0, 0, 0x95, 0, 0, 0, 0, 0, 0, 0, 0xb7, 0, 0, 0, 7, 0, 0, 0, 0x95, 0, 0,
-    0, 0, 0, 0, 0,
+/// The text of a plan in the first version, and the same in the second.
+const FIRST_VERSION: &[u8] = b"bpf-plan 1\n\
+      license 47504c\n\
+      version any\n\
+      types none\n\
+      program 666f6f 1 0 0\n\
+      slots b7000000000000009500000000000000\n\
+      end\n";
+
+const FROM_FIRST_VERSION: &[u8] = b"bpf-plan 2\n\
+      license 47504c\n\
+      version any\n\
+      types none\n\
+      program 666f6f 1 0 0\n\
+      slots b7000000000000009500000000000000\n\
+      tables ?\n\
+      end\n";
+
+/// Bytes that are no plan's text, with the first line with which none begins.
+const NO_PLANS: [(&[u8], usize); 22] = [
+    (b"bpf-plan 3\n", 1),
+    (b"bpf-plan 2\nlicense 47504C\nversion any\n", 2),
+    (b"bpf-plan 2\nlicense 00\n", 2),
+    (b"bpf-plan 2\nlicense  47504c\n", 2),
+    (b"bpf-plan 2\nlicense -\nversion 007\n", 3),
+    (b"bpf-plan 2\nlicense -\nversion +1\n", 3),
+    (b"bpf-plan 2\nlicense -\nversion any\r\n", 3),
+    (b"bpf-plan 2\nlicense -\nversion 4294967294\n", 3),
+    (b"bpf-plan 2\nlicense -\nversion 4294967296\n", 3),
+    (
+        b"bpf-plan 2\nlicense -\nversion any\nfeature Func yes\nfeature Func yes\n",
+        5,
+    ),
+    (b"bpf-plan 2\nlicense -\nversion any\ntypes -\n", 4),
+    (
+        b"bpf-plan 2\nlicense -\nversion any\ntypes none\nend\n\n",
+        6,
+    ),
+    (
+        b"bpf-plan 2\nlicense -\nversion any\ntypes none\nmap 61 2147483648 legacy 1 4 8 16 0 0 0 0 0 0 -\n",
+        5,
+    ),
+    (
+        b"bpf-plan 2\nlicense -\nversion any\ntypes none\nmap 61 7 legacy 1 4 8 16 0 1 0 0 0 0 -\n",
+        5,
+    ),
+    (
+        b"bpf-plan 2\nlicense -\nversion any\ntypes none\nprogram 66 30 0 0\n",
+        5,
+    ),
+    (
+        b"bpf-plan 2\nlicense -\nversion any\ntypes none\nprogram 66 1 0 0\nslots 95\n",
+        6,
+    ),
+    (
+        b"bpf-plan 2\nlicense -\nversion any\ntypes none\nprogram 66 1 0 0\nslots -\ntables 1 0\nend\n",
+        7,
+    ),
+    (
+        b"bpf-plan 2\nlicense -\nversion any\ntypes none\nprogram 66 1 0 0\nslots -\ntables 01\nend\n",
+        7,
+    ),
+    (
+        b"bpf-plan 2\nlicense -\nversion any\ntypes none\nprogram 66 1 0 0\nslots -\ntables 4294967296\nend\n",
+        7,
+    ),
+    (
+        b"bpf-plan 2\nlicense -\nversion any\ntypes none\nprogram 66 1 0 0\nslots -\nend\n",
+        7,
+    ),
+    (
+        b"bpf-plan 1\nlicense -\nversion any\ntypes none\nprogram 66 1 0 0\nslots -\ntables -\nend\n",
+        7,
+    ),
+    (
+        b"bpf-plan 2\nlicense -\nversion any\ntypes none\nprogram 62 1 0 0\nslots -\ntables -\nprogram 61 1 0 0\nslots -\ntables -\nend\n",
+        8,
+    ),
 ];
 
 /// Takes so many bytes, one at a time, and then fails or takes nothing.
@@ -127,69 +201,105 @@ fn text_of(alloc: Global, plan: &Plan<'_>) -> io::Result<Vec<u8>> {
     Ok(out.into_inner())
 }
 
-fn maps_plan(alloc: Global) -> Result<Plan<'static>, Fail> {
-    let variables = MapWords {
-        map_type: 2,
-        key_size: 4,
-        value_size: 4,
-        max_entries: 1,
-        map_flags: 128,
-        map_extra: 0,
-        pinning: PinningType::None,
-        id: 0,
-        btf_key_type_id: 0,
-        btf_value_type_id: 0,
-    };
-    let counter = MapWords {
-        map_type: 1,
-        key_size: 4,
-        value_size: 8,
-        max_entries: 16,
-        map_flags: 0,
-        map_extra: 0,
-        pinning: PinningType::None,
-        id: 0,
-        btf_key_type_id: 0,
-        btf_value_type_id: 0,
-    };
-    let ten = Vec::from_array(alloc, [10, 0, 0, 0])?;
-    let maps = [
-        PlanMap::new(".rodata", 1, false, variables, ten, None),
-        PlanMap::new("counter", 7, false, counter, Vec::new(alloc), None),
-    ];
-    let maps = Vec::from_array(alloc, maps)?;
-    let Some(slots) = Slots::borrowed(alloc, &RETURN) else {
-        return Err(Fail::from("slots"));
-    };
-    let funcs = FuncSecInfo::from_records(Vec::new(alloc));
-    let lines = LineSecInfo::from_records(Vec::new(alloc));
-    let program = PlanProgram::new("f", ProgramSection::KProbe, slots, funcs, lines, None);
-    let programs = Vec::from_array(alloc, [program])?;
-    Ok(plan_of_parts(PlanParts {
-        license: b"GPL",
-        version: None,
-        features: Answers::new(),
-        type_bytes: None,
-        maps,
-        programs,
-    }))
+fn read(alloc: Global, text: &[u8]) -> Result<Plan<'static>, Fail> {
+    match Plan::read(alloc, text) {
+        Ok(plan) => Ok(plan),
+        Err(_) => Err(Fail::from("no plan")),
+    }
+}
+
+/// The line that is named where bytes are no plan's text.
+fn refused_line(alloc: Global, text: &[u8]) -> Option<usize> {
+    match Plan::read(alloc, text) {
+        Err(PlanReadError::Line(line)) => Some(line),
+        _ => None,
+    }
+}
+
+#[test]
+fn texts_are_written_again(rt: HostRuntime) -> Result<(), Fail> {
+    let alloc = rt.alloc();
+    for text in [
+        MAPS_PLAN,
+        FUNCTIONS_PLAN,
+        LINES_PLAN,
+        INNER_PLAN,
+        FEATURES_PLAN,
+        EMPTY_PLAN,
+    ] {
+        let plan = read(alloc, text)?;
+        assert_eq!(rt; text_of(alloc, &plan)?.as_slice(), text);
+    }
+    let plan = read(alloc, FIRST_VERSION)?;
+    assert_eq!(rt; text_of(alloc, &plan)?.as_slice(), FROM_FIRST_VERSION);
+    Ok(())
+}
+
+#[test]
+fn fronts_are_refused(rt: HostRuntime) {
+    for text in [MAPS_PLAN, LINES_PLAN, INNER_PLAN, FIRST_VERSION] {
+        for end in 0..text.len() {
+            let front = &text[..end];
+            let lines = front.iter().filter(|byte| **byte == b'\n').count();
+            assert_eq!(rt; refused_line(rt.alloc(), front), lines.checked_add(1));
+        }
+    }
+}
+
+#[test]
+fn first_bad_line_is_named(rt: HostRuntime) {
+    for (text, line) in NO_PLANS {
+        assert_eq!(rt; refused_line(rt.alloc(), text), Some(line));
+    }
 }
 
 #[test]
 fn maps(rt: HostRuntime) -> Result<(), Fail> {
-    let plan = maps_plan(rt.alloc())?;
+    let plan = read(rt.alloc(), MAPS_PLAN)?;
+    assert_eq!(rt; plan.maps().len(), 2);
     for map in plan.maps() {
         assert!(rt; map.is_btf() == false && map.inner().is_none());
         assert!(rt; (map.name() == "counter") == (map.number() == 7));
         assert!(rt; map.contents().is_empty() == (map.words().map_flags == 0));
     }
-    assert_eq!(rt; text_of(rt.alloc(), &plan)?.as_slice(), MAPS_PLAN);
+    let plan = read(rt.alloc(), INNER_PLAN)?;
+    for map in plan.maps() {
+        assert!(rt; map.is_btf() && map.number() == 0x7fff_ffff);
+        assert!(rt; map.words().pinning == PinningType::ByName);
+        assert!(rt; map.words().map_extra == 0x8000_0000_0000_0000);
+        let extra = map.inner().map(|words| words.map_extra);
+        assert_eq!(rt; extra, Some(7));
+    }
+    Ok(())
+}
+
+#[test]
+fn programs(rt: HostRuntime) -> Result<(), Fail> {
+    let plan = read(rt.alloc(), FUNCTIONS_PLAN)?;
+    assert_eq!(rt; plan.type_bytes(), Some(TYPES.as_slice()));
+    for program in plan.programs() {
+        assert!(rt; program.name() == "f" && program.slots().len() == 4);
+        assert_eq!(rt; program.tables(), Some([0, 12].as_slice()));
+    }
+    let plan = read(rt.alloc(), FIRST_VERSION)?;
+    for program in plan.programs() {
+        assert!(rt; program.tables().is_none());
+    }
+    Ok(())
+}
+
+#[test]
+fn features(rt: HostRuntime) -> Result<(), Fail> {
+    let plan = read(rt.alloc(), FEATURES_PLAN)?;
+    assert_eq!(rt; plan.features().len(), 8);
+    assert!(rt; plan.features().first() == Some(&(BtfFeature::Func, true)));
+    assert!(rt; plan.features().last() == Some(&(BtfFeature::Enum64, false)));
     Ok(())
 }
 
 #[test]
 fn writers_that_fail(rt: HostRuntime) -> Result<(), Fail> {
-    let plan = maps_plan(rt.alloc())?;
+    let plan = read(rt.alloc(), MAPS_PLAN)?;
     for left in 0..=MAPS_PLAN.len() {
         for is_failing in [false, true] {
             let mut out = Watched::new(Short {
@@ -203,136 +313,5 @@ fn writers_that_fail(rt: HostRuntime) -> Result<(), Fail> {
             assert_eq!(rt; out.into_inner().taken.as_slice(), &MAPS_PLAN[..left]);
         }
     }
-    Ok(())
-}
-
-fn typed_plan(
-    alloc: Global,
-    funcs: FuncSecInfo<'static>,
-    lines: LineSecInfo<'static>,
-    tables: Vec<u32>,
-) -> Result<Plan<'static>, Fail>
-    requires { AreTables tables.items }
-{
-    let Some(slots) = Slots::borrowed(alloc, &CALL) else {
-        return Err(Fail::from("slots"));
-    };
-    let section = ProgramSection::KProbe;
-    let program = PlanProgram::new("f", section, slots, funcs, lines, Some(tables));
-    let programs = Vec::from_array(alloc, [program])?;
-    let mut features = Answers::new();
-    features.push((BtfFeature::Func, true));
-    features.push((BtfFeature::FuncGlobal, true));
-    Ok(plan_of_parts(PlanParts {
-        license: b"GPL",
-        version: None,
-        features,
-        type_bytes: Some(Vec::from_array(alloc, TYPES)?),
-        maps: Vec::new(alloc),
-        programs,
-    }))
-}
-
-fn line(insn_off: u32, words: (u32, u32, u32)) -> bpf_line_info {
-    bpf_line_info {
-        insn_off,
-        file_name_off: words.0,
-        line_off: words.1,
-        line_col: words.2,
-    }
-}
-
-#[test]
-fn records(rt: HostRuntime) -> Result<(), Fail> {
-    let alloc = rt.alloc();
-    let funcs = [(0, 3), (2, 5)].map(|(insn_off, type_id)| bpf_func_info { insn_off, type_id });
-    let funcs = FuncSecInfo::from_records(Vec::from_array(alloc, funcs)?);
-    let tables = Vec::from_array(alloc, [0, 12])?;
-    let lines = LineSecInfo::from_records(Vec::new(alloc));
-    let plan = typed_plan(alloc, funcs, lines, tables)?;
-    assert_eq!(rt; text_of(alloc, &plan)?.as_slice(), FUNCTIONS_PLAN);
-    let lines = [
-        line(0, (1, 2, 3)),
-        line(1, (4, 5, 6)),
-        line(2, (1, 2, 3)),
-        line(3, (4, 5, 6)),
-    ];
-    let lines = LineSecInfo::from_records(Vec::from_array(alloc, lines)?);
-    let funcs = FuncSecInfo::from_records(Vec::new(alloc));
-    let plan = typed_plan(alloc, funcs, lines, Vec::new(alloc))?;
-    assert_eq!(rt; text_of(alloc, &plan)?.as_slice(), LINES_PLAN);
-    assert_eq!(rt; plan.type_bytes(), Some(TYPES.as_slice()));
-    Ok(())
-}
-
-#[test]
-fn inner_maps(rt: HostRuntime) -> Result<(), Fail> {
-    let alloc = rt.alloc();
-    let words = MapWords {
-        map_type: 12,
-        key_size: 4,
-        value_size: 4,
-        max_entries: 8,
-        map_flags: 1,
-        map_extra: 0x8000_0000_0000_0000,
-        pinning: PinningType::ByName,
-        id: 0,
-        btf_key_type_id: 3,
-        btf_value_type_id: 4,
-    };
-    let inner = MapWords {
-        map_type: 2,
-        key_size: 4,
-        value_size: 8,
-        max_entries: 1,
-        map_flags: 0,
-        map_extra: 7,
-        pinning: PinningType::None,
-        id: 0,
-        btf_key_type_id: 5,
-        btf_value_type_id: 6,
-    };
-    let map = PlanMap::new(
-        "outer",
-        0x7fff_ffff,
-        true,
-        words,
-        Vec::new(alloc),
-        Some(inner),
-    );
-    let plan = plan_of_parts(PlanParts {
-        license: b"",
-        version: Some(0x0005_0a00),
-        features: Answers::new(),
-        type_bytes: None,
-        maps: Vec::from_array(alloc, [map])?,
-        programs: Vec::new(alloc),
-    });
-    assert_eq!(rt; text_of(alloc, &plan)?.as_slice(), INNER_PLAN);
-    Ok(())
-}
-
-#[test]
-fn names_of_features(rt: HostRuntime) -> Result<(), Fail> {
-    let alloc = rt.alloc();
-    let mut features = Answers::new();
-    features.push((BtfFeature::Func, true));
-    features.push((BtfFeature::FuncGlobal, false));
-    features.push((BtfFeature::DataSec, true));
-    features.push((BtfFeature::DataSecZero, false));
-    features.push((BtfFeature::Float, true));
-    features.push((BtfFeature::DeclTag, false));
-    features.push((BtfFeature::TypeTag, true));
-    features.push((BtfFeature::Enum64, false));
-    let plan = plan_of_parts(PlanParts {
-        license: b"",
-        version: None,
-        features,
-        type_bytes: None,
-        maps: Vec::new(alloc),
-        programs: Vec::new(alloc),
-    });
-    assert_eq!(rt; plan.features().len(), 8);
-    assert_eq!(rt; text_of(alloc, &plan)?.as_slice(), FEATURES_PLAN);
     Ok(())
 }
