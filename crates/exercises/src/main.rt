@@ -2,8 +2,6 @@
 //!
 //! - `memory-calls`: the calls that take memory;
 //! - `changed-bytes OBJECT`: each front of an object, and the object with each byte changed;
-//! - `changed-plans MAP[,MAP].. OBJECT little|big [TYPES..]`, `counted-plans ..`: plans of these, and of the object for
-//!   kernel types that are changed likewise; the second one also says how many plans there are;
 //! - `linkers OBJECT..`: linked programs beside those of the plain linker;
 //! - `matchings COUNT [counts]`: type relocations over random tables of types, beside the plain definitions;
 //! - `refused-objects COUNT TYPES SYMBOLS OBJECT..`, `refused-structs COUNT`, `refused-tables COUNT`: steps while a
@@ -12,7 +10,7 @@
 //!   `measure-object OBJECT [COUNT]`: how long calls take.
 #![tactic(auto)]
 
-mod changed_files;
+mod changed_objects;
 mod error;
 mod linked_objects;
 mod matchings;
@@ -49,9 +47,7 @@ fn status_of(rt: &HostRuntime, answer: Result<(), ExerciseError>) -> ExitCode {
 fn run(rt: &HostRuntime, exercise: &str, words: &mut Args) -> ExitCode {
     match exercise {
         "memory-calls" => memory_calls::run(rt),
-        "changed-bytes" => status_of(rt, changed_files::parse(rt, words)),
-        "changed-plans" => status_of(rt, changed_files::plan(rt, words, false)),
-        "counted-plans" => status_of(rt, changed_files::plan(rt, words, true)),
+        "changed-bytes" => status_of(rt, changed_objects::run(rt, words)),
         "linkers" => status_of(rt, linked_objects::run(rt, words)),
         "matchings" => status_of(rt, matchings::run(rt, words)),
         "refused-objects" => status_of(rt, relocated_objects::run(rt, words)),

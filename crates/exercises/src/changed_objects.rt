@@ -1,8 +1,12 @@
-//! Parsing of objects that are cut off, or changed in one byte.
+//! Each front of an object, and the object with each byte set to 0 and to 255 in turn: how many answers
+//! are as they must be.
 
+use crate::error::ExerciseError;
 use ebpf_object::{Object, ParseError};
 use elf64::ElfError;
 use std::alloc::Global;
+use std::env::Args;
+use std::fs;
 
 /// The size of an ELF64 header.
 const HEADER: usize = 64;
@@ -18,7 +22,7 @@ fn is_front_refused(alloc: Global, front: &[u8]) -> bool {
 }
 
 /// How many of the proper fronts are refused as they must be.
-pub fn count_refused_fronts(alloc: Global, object: &[u8]) -> usize {
+fn count_fronts(alloc: Global, object: &[u8]) -> usize {
     let mut count: usize = 0;
     for len in 0..object.len() {
         if is_front_refused(alloc, &object[..len]) {
@@ -38,15 +42,31 @@ fn is_answered(alloc: Global, object: &[u8], is_changed: bool) -> bool {
 }
 
 /// How many of the objects with one byte of this value are answered.
-pub fn count_parsed_changes(alloc: Global, object: &mut [u8], byte: u8) -> usize {
+fn count_changes(alloc: Global, object: &mut Vec<u8>, byte: u8) -> usize {
     let mut count: usize = 0;
     for at in 0..object.len() {
         let before = object[at];
         object[at] = byte;
-        if is_answered(alloc, object, before != byte) {
+        if is_answered(alloc, object.as_slice(), before != byte) {
             count = count.saturating_add(1);
         }
         object[at] = before;
     }
     count
+}
+
+/// Counts the answers over the file that the words name, and prints the counts.
+pub(crate) fn run(rt: &HostRuntime, words: &mut Args) -> Result<(), ExerciseError> {
+    let Some(name) = words.next() else {
+        return Err(ExerciseError::Usage);
+    };
+    let mut object = fs::read(rt, name.as_str())?;
+    let len = object.len();
+    let fronts = count_fronts(rt.alloc(), object.as_slice());
+    println!(rt; "{fronts} of {len} fronts are refused by their length")?;
+    for byte in [0, 0xff] {
+        let answered = count_changes(rt.alloc(), &mut object, byte);
+        println!(rt; "{answered} of {len} objects with a byte {byte} are parsed or refused")?;
+    }
+    Ok(())
 }
