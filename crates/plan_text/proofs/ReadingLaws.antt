@@ -27,7 +27,7 @@ use Rattle.plan_text.proofs.StateLaws.{IsAtEnd, IsGood, Reached, the_last, compl
 use Rattle.plan_text.proofs.StepLaws.{done, inner_of, line_of_answer, line_of_func, line_of_source, lines_of_map, lines_of_plan, lines_of_program, lines_of_records, plan_steps, steps, tables_of}
 use Rattle.plan_text.proofs.Texts.{text_of_lines-append, words_onto-split}
 use Rattle.plan_text.proofs.Unbroken.{not_unbroken, one_line}
-use Rattle.plan_text.specs.Content.{FitsFunc, FitsMap, FitsPlan, FitsProgram, FitsSlot, FitsSource, IsSoundMap, IsSoundPlan, IsSoundProgram, MapContent, PlanContent, ProgramContent}
+use Rattle.plan_text.specs.Content.{FitsFunc, FitsMap, FitsPlan, FitsProgram, FitsSlot, FitsSource, IsPlan, IsSoundMap, IsSoundPlan, IsSoundProgram, MapContent, PlanContent, ProgramContent}
 use Rattle.plan_text.specs.declared.reading.PlanReadError.{PlanReadError}
 use Rattle.plan_text.specs.declared.reading.PlanReadError.TheVariants as error
 use Rattle.plan_text.specs.declared.reading.Phase.{Phase}
@@ -393,8 +393,8 @@ at_end s g e = from s.phase e g.reached
     from AtEnd e r = r
     from phase e r = cc
 
-kept_sound : (bytes rest : List ℕ) (lines : ℕ) (s : StateContent) → IsReading bytes rest lines s → s.phase ≡ AtEnd → IsSoundPlan (kept_plan s)
-kept_sound bytes rest lines s r e = subst IsSoundPlan (sym (kept_is s (at_end s r.good e))) r.good.plan.sound
+kept_sound : (bytes rest : List ℕ) (lines : ℕ) (s : StateContent) → IsReading bytes rest lines s → s.phase ≡ AtEnd → IsPlan (kept_plan s)
+kept_sound bytes rest lines s r e = subst IsPlan (sym (kept_is s (at_end s r.good e))) (record { sound = r.good.plan.sound; fits = r.good.plan.fits })
 
 -- the whole text is that of the plan
 found : (bytes rest : List ℕ) (lines : ℕ) (s : StateContent) → IsReading bytes rest lines s → rest ≡ [] → s.phase ≡ AtEnd → IsTextOf (kept_plan s) bytes

@@ -126,3 +126,8 @@ pub record FitsPlan (plan : PlanContent) : Type 0 where
   pub type_bytes : IfSome plan.type_bytes AreBytes
   pub maps : All FitsMap plan.maps
   pub programs : All FitsProgram plan.programs
+
+-- what each plan is
+pub record IsPlan (plan : PlanContent) : Type 0 where
+  pub sound : IsSoundPlan plan
+  pub fits : FitsPlan plan

@@ -1,6 +1,7 @@
 //! Load plans, what a loader hands to one kernel, and their text.
 #![tactic(auto)]
 
+mod limits;
 mod map_lines;
 mod plan;
 mod program_lines;

@@ -7,7 +7,7 @@ ghost use Rattle.btf_sanitizing.specs.Answers.{features, AreDistinct};
 ghost use Rattle.ebpf_items.specs.Instruction.{slots_of};
 ghost use Rattle.plan_lines.specs.LineViews.{line_view};
 ghost use Rattle.plan_lines.specs.WordReading.{IsUnbroken};
-ghost use Rattle.plan_text.specs.Content.{IsSoundPlan, PlanContent};
+ghost use Rattle.plan_text.specs.Content.{IsPlan, PlanContent};
 ghost use Rattle.plan_text.specs.Machine.{after_slots, at_program, bare_program, begin_program, finished, follows, is_asked, kept_plan, last_map_name, last_program_name, map_of, program_view, start, state_view, step, step_end, step_feature, step_func, step_header, step_inner, step_license, step_map, step_program, step_slots, step_source, step_tables, step_types, step_version, with_last, with_source, HasFewRecords, Takes, TakesLine};
 ghost use Rattle.plan_text.specs.PlanGrammar.{IsTextOf};
 ghost use Rattle.plan_text.specs.Reading.{IsReadFault, IsReadPlan, ReadsAs};
@@ -491,7 +491,7 @@ impl Reader {
     }
 
     fn into_plan(self) -> Plan<'static>
-        requires { IsSoundPlan (kept_plan (state_view self)) }
+        requires { IsPlan (kept_plan (state_view self)) }
         ensures { result ≡ kept_plan (state_view self) }
     {
         Plan::owned(
