@@ -1,5 +1,5 @@
 -- Texts that are written piece by piece.
-use Rattle.std.proofs.Common.{◌≡◌, ℕ, ◌+◌, ◌<◌, List, [], ◌∷◌, ◌++◌, length, take, get_or, map, slice_get, zero, suc, None, Some, refl, ap, sym, ◌∙◌, append_assoc, append-nil, arith}
+use Rattle.std.proofs.Common.{◌≡◌, ℕ, ◌+◌, ◌<◌, ◌≤◌, List, [], ◌∷◌, ◌++◌, length, take, get_or, map, slice_get, zero, suc, None, Some, refl, ap, sym, ◌∙◌, append_assoc, append-nil, arith}
 use Rattle.std.specs.Prelude.{flat_map, codes, slice_index, ◌/◌, ◌%◌}
 use Rattle.std.specs.Fmt.{decimal}
 use Rattle.std.proofs.lemmas.Grind.{flat_map-append}
@@ -144,3 +144,10 @@ pub text_of-parts : (plan : PlanContent) → text_of plan ≡ text_of_lines (fir
 unfolding text_in
 text_of-parts plan =
     five_parts (first_lines Second plan) (map feature_line plan.features) (flat_map map_lines plan.maps) (flat_map (program_lines Second) plan.programs) (end_line ∷ []) (types_line plan.type_bytes)
+
+-- as many elements as there are, or more, are all
+pub take-whole : {A : Type 0} (xs : List A) (i : ℕ) → length xs ≤ i → take i xs ≡ xs
+take-whole [] zero h = refl
+take-whole [] (suc i) h = refl
+take-whole (x ∷ xs) zero h = absurd (omega (arith, h))
+take-whole (x ∷ xs) (suc i) h = ap (λ rest. x ∷ rest) (take-whole xs i (omega (arith, h)))

@@ -14,8 +14,7 @@ use plan_lines::MapWords;
 
 pub(crate) fn bytes_fit(bytes: &[u8])
     ensures { AreBytes bytes.now }
-{
-}
+{}
 
 pub(crate) fn name_fits(name: &str)
     ensures { IsName name.now }
@@ -25,8 +24,7 @@ pub(crate) fn name_fits(name: &str)
 
 pub(crate) fn words_fit(words: MapWords)
     ensures { AreWithin word_limits (numbers_of words) }
-{
-}
+{}
 
 pub(crate) fn inner_fits(inner: Option<MapWords>)
     ensures { IfSome inner (λ words. AreWithin word_limits (numbers_of words)) }
@@ -54,8 +52,7 @@ pub(crate) fn slots_fit(slots: &Slots<'_>)
 
 fn func_fits(info: bpf_func_info)
     ensures { FitsFunc info }
-{
-}
+{}
 
 pub(crate) fn funcs_fit(records: &FuncSecInfo<'_>)
     ensures fits { All FitsFunc records.now }
@@ -71,8 +68,7 @@ pub(crate) fn funcs_fit(records: &FuncSecInfo<'_>)
 
 fn source_fits(info: bpf_line_info)
     ensures { FitsSource info }
-{
-}
+{}
 
 pub(crate) fn sources_fit(records: &LineSecInfo<'_>)
     ensures fits { All FitsSource records.now }

@@ -100,6 +100,7 @@ impl<'a> PlanMap<'a> {
     pub(crate) fn fits(&self)
         ensures { FitsMap self.now }
     {
+        let _name = &self.name;
     }
 
     /// The map, which holds maps of these words.
@@ -238,6 +239,7 @@ impl<'a> PlanProgram<'a> {
     pub(crate) fn fits(&self)
         ensures { FitsProgram self.now }
     {
+        let _name = &self.name;
     }
 
     /// The program's name in the object.
@@ -377,6 +379,7 @@ impl<'a> Plan<'a> {
     pub fn has_text(&self)
         ensures { IsTextOf self.now (text_of self.now) }
     {
+        let _license = &self.license;
     }
 
     /// The license, without the NUL that ends it in the object.
