@@ -9,6 +9,8 @@ pub enum Answer {
     Refused,
     /// Memory ran out, or the plan's text is none.
     Failed,
+    /// It isn't made, since it would take much memory.
+    LeftOut,
 }
 
 /// How many runs came to what.
@@ -17,6 +19,7 @@ pub struct Counts {
     pub plans: u64,
     pub refusals: u64,
     pub failures: u64,
+    pub left_out: u64,
 }
 
 impl Counts {
@@ -26,6 +29,7 @@ impl Counts {
             plans: 0,
             refusals: 0,
             failures: 0,
+            left_out: 0,
         }
     }
 
@@ -35,6 +39,7 @@ impl Counts {
             Answer::Planned => self.plans = self.plans.saturating_add(1),
             Answer::Refused => self.refusals = self.refusals.saturating_add(1),
             Answer::Failed => self.failures = self.failures.saturating_add(1),
+            Answer::LeftOut => self.left_out = self.left_out.saturating_add(1),
         }
     }
 
@@ -43,7 +48,7 @@ impl Counts {
         self.plans.saturating_add(self.refusals)
     }
 
-    /// How many runs there were.
+    /// How many runs were made.
     pub fn all(&self) -> u64 {
         self.answered().saturating_add(self.failures)
     }

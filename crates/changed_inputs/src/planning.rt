@@ -2,9 +2,16 @@
 
 use crate::changes::{Run, counts_of};
 use crate::counts::{Answer, Counts};
+use elf64::ElfFile;
 use load_plan::{Btf, BtfError, Endianness, Order, Plan, PrepareError, Settings, Watched, prepare};
 use std::alloc::{AllocError, Global};
 use std::io;
+
+/// As many tables of types as `prepare` takes.
+const MAX_TABLES: usize = 0x1_0000_0000;
+
+/// The bytes of a section without bytes in the file that a plan is made with.
+const MOST_ZEROS: u64 = 1 << 24;
 
 /// Whether a text begins and ends as that of a plan.
 fn is_plan_text(text: &[u8]) -> bool {
@@ -44,6 +51,9 @@ fn answer_of(
     settings: &Settings,
     order: Order,
 ) -> Answer {
+    if kernel_types.len() > MAX_TABLES {
+        return Answer::Refused;
+    }
     let grants_all = order == Order::RelocateFirst;
     let mut symbols = Watched::new(io::empty());
     let planned = prepare(
@@ -59,6 +69,21 @@ fn answer_of(
     answer_in(alloc, planned)
 }
 
+/// Whether an object has a section of more zeros than a plan is made with here: 4 GiB of them would be
+/// written.
+fn has_many_zeros(file: &[u8]) -> bool {
+    let Ok(elf) = ElfFile::parse(file) else {
+        return false;
+    };
+    for section in elf.sections() {
+        let is_large = section.size() > MOST_ZEROS && section.size() <= u64::from(u32::MAX);
+        if is_large && matches!(section.data(), Ok(data) if data.is_empty()) {
+            return true;
+        }
+    }
+    false
+}
+
 /// Runs on objects.
 #[derive(Clone, Copy)]
 struct ObjectRuns<'r> {
@@ -68,6 +93,9 @@ struct ObjectRuns<'r> {
 
 impl<'r> Run for ObjectRuns<'r> {
     fn answer(&self, alloc: Global, file: &[u8], order: Order) -> Answer {
+        if has_many_zeros(file) {
+            return Answer::LeftOut;
+        }
         answer_of(alloc, file, self.kernel_types, self.settings, order)
     }
 }

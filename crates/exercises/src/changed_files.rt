@@ -38,6 +38,12 @@ fn print_counts(
         counts.answered(),
         counts.all()
     )?;
+    if counts.left_out > 0 {
+        println!(rt;
+            "{} runs are left out, for zeros of more than 16 MiB",
+            counts.left_out
+        )?;
+    }
     if shows_plans {
         println!(rt; "{} plans, {} refusals", counts.plans, counts.refusals)?;
     }
