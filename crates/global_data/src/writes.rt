@@ -36,12 +36,7 @@ impl<'a, 's> Model for MapWrite<'a, 's> {
 }
 
 /// Says that a value doesn't fit its symbol, or the symbol its map.
-fn bad_data(
-    alloc: Global,
-    name: &str,
-    value: &GlobalValue,
-    symbol: &ReadSymbol<'_>,
-) -> ParseError
+fn bad_data(alloc: Global, name: &str, value: &GlobalValue, symbol: &ReadSymbol<'_>) -> ParseError
     ensures { result ≢ OutOfMemory → fault_of result ≡ Some (bad_data (name.now, value.now) symbol.now) }
 {
     match String::from_str(alloc, name) {

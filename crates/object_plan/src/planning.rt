@@ -57,6 +57,15 @@ fn line_records<'a>(
     function.line_info.try_clone()
 }
 
+/// No kernel tables.
+#[tactic(auto, using(crate::proofs::Sound::none_sound))]
+fn no_tables(alloc: Global) -> Vec<u32>
+    ensures value { result.items ≡ [] }
+    ensures sound { AreTables result.items }
+{
+    Vec::new(alloc)
+}
+
 /// The places of the kernel tables that a function's type relocations matched.
 fn tables_of(alloc: Global, function: &Function<'_>) -> Result<Vec<u32>, AllocError>
     ensures value { IfOk result (λ places. places.items ≡ function.now.matched_tables) }
@@ -85,7 +94,7 @@ fn program_of<'a>(
         let slots = Slots::owned(Vec::new(alloc));
         let functions = FuncSecInfo::from_records(Vec::new(alloc));
         let lines = LineSecInfo::from_records(Vec::new(alloc));
-        let tables = Some(Vec::new(alloc));
+        let tables = Some(no_tables(alloc));
         return Ok(PlanProgram::new(name, section, slots, functions, lines, tables));
     };
     let slots = function.instructions.try_clone()?;

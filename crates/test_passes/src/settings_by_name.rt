@@ -27,9 +27,11 @@ fn values_come_by_name(rt: HostRuntime) -> Result<(), Fail> {
     }
     let mut globals = settings.globals();
     for expected in ["B", "a", "ab", "b"] {
-        let next = globals
-            .next()
-            .map(|(name, value)| (*name, value.bytes, value.must_exist));
+        let next = globals.next().map(|(name, value)| (
+            name.as_str(),
+            value.bytes.as_slice(),
+            value.must_exist,
+        ));
         assert!(rt; next == Some((expected, expected.as_bytes(), expected.len() == 1)));
     }
     assert!(rt; globals.next().is_none());
