@@ -12,7 +12,7 @@ use std::alloc::{AllocError, Global};
 /// A kernel's types and the text of its symbols.
 #[derive(Drop)]
 pub(crate) struct Kernel<'k> {
-    pub types: [Btf<'k>; 1],
+    pub types: Vec<Btf<'k>>,
     pub symbols: &'k [u8],
 }
 
@@ -157,14 +157,15 @@ pub(crate) fn resolve_externs(
     Ok(outcome(alloc, object, &before, answer)?)
 }
 
-/// Writes what an object's type relocations come to into its slots.
-pub(crate) fn relocate_types(
-    alloc: Global,
-    object: &mut Object<'_>,
-    kernel: &Kernel<'_>,
-) -> Result<&'static str, ExerciseError> {
-    let before = bytes_of(alloc, object)?;
-    let answer = match object.relocate_btf(&kernel.types) {
+/// As many tables of types as are taken.
+const MAX_TABLES: usize = 0x1_0000_0000;
+
+/// What comes of an object's type relocations in tables of a kernel.
+fn relocated(object: &mut Object<'_>, types: &[Btf<'_>]) -> Answer {
+    if types.len() > MAX_TABLES {
+        return Answer::Refused("too many tables");
+    }
+    match object.relocate_btf(types) {
         Ok(()) => Answer::Made,
         Err(error) => match error.error() {
             BtfRelocationCause::OutOfMemory => Answer::OutOfMemory,
@@ -173,7 +174,17 @@ pub(crate) fn relocate_types(
             }
             _ => Answer::Refused("refused"),
         },
-    };
+    }
+}
+
+/// Writes what an object's type relocations come to into its slots.
+pub(crate) fn relocate_types(
+    alloc: Global,
+    object: &mut Object<'_>,
+    kernel: &Kernel<'_>,
+) -> Result<&'static str, ExerciseError> {
+    let before = bytes_of(alloc, object)?;
+    let answer = relocated(object, &kernel.types);
     Ok(outcome(alloc, object, &before, answer)?)
 }
 

@@ -94,11 +94,13 @@ fn relocate_files(
     types: &[u8],
     symbols: &[u8],
 ) -> Result<(), ExerciseError> {
-    let types = Btf::parse(rt.alloc(), types, Endianness::Little)?;
-    let kernel = Kernel {
-        types: [types],
+    let mut kernel = Kernel {
+        types: Vec::new(rt.alloc()),
         symbols,
     };
+    kernel
+        .types
+        .push(Btf::parse(rt.alloc(), types, Endianness::Little)?)?;
     for name in words {
         relocate_file(rt, name.as_str(), &kernel)?;
     }
