@@ -1,5 +1,5 @@
 -- Kinds of programs and their numbers.
-use Rattle.std.proofs.Common.{◌≡◌, ℕ, ◌≤◌, Bool, true, false, cond, List, [], ◌∷◌, Option, None, Some, refl, ap, sym, ◌∙◌, arith, lit≤}
+use Rattle.std.proofs.Common.{◌≡◌, ℕ, ◌≤◌, Bool, true, false, cond, [], ◌∷◌, Option, None, Some, refl, ap, sym, ◌∙◌, arith, lit≤}
 use Rattle.std.specs.Prelude.{◌==◌, ◌&&◌}
 use Rattle.std.proofs.lemmas.Bool.Decides.{nat_tests}
 use Rattle.plan_lines.specs.Kinds.{likely_flag, likely_xdp, likely_sk_skb, likely_reuseport, likely_skb, likely_sockopt, likely_sock, likely_sock_addr, likely_section, are_same, section_of}

@@ -6,3 +6,4 @@ mod Pieces
 mod ReadLaws
 mod Utf8
 mod WordTexts
+mod Written

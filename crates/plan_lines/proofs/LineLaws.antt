@@ -1,5 +1,5 @@
 -- Lines and what they say.
-use Rattle.std.proofs.Common.{◌≡◌, ◌≢◌, ℕ, ◌%◌, ◌^◌, ◌<◌, ◌≤◌, Bool, true, false, cond, nat_lt, List, [], ◌∷◌, ◌++◌, length, map, refl, ap, sym, ◌∙◌, subst, arith, rules, lit<, append-nil, Option, None, Some, inl, inr, ◌⊎◌, codes}
+use Rattle.std.proofs.Common.{◌≡◌, ◌≢◌, ℕ, ◌%◌, ◌^◌, ◌<◌, Bool, true, false, cond, nat_lt, List, [], ◌∷◌, ◌++◌, length, map, refl, ap, sym, ◌∙◌, subst, arith, rules, lit<, append-nil, Option, None, Some, inl, inr, ◌⊎◌, codes}
 use Rattle.std.specs.Fmt.{decimal}
 use Rattle.std.specs.List.{find, list_any}
 use Rattle.std.specs.Option.{option_map}
@@ -14,12 +14,12 @@ use Rattle.plan_lines.proofs.NumberLists.{AreFew, Rise, first_again, first_takes
 use Rattle.plan_lines.proofs.Pieces.{ArePlain, joined_pieces, pieces_joined, unbroken_joined}
 use Rattle.plan_lines.proofs.WordTexts.{IsPlain, bind_some, both_true, eq_is, eq_less, first_digit, guard_none, guard_some, hex_first, hex_of_hex, hex_of_is, number_upto_decimal, number_upto_is, plain_decimal, plain_hex}
 use Rattle.plan_lines.specs.Kinds.{section_by}
-use Rattle.plan_lines.specs.LineReading.{all_features, all_keywords, answer_by, are_words_of, arguments_by, feature_by, form_by, header_by, keyword_by, license_by, license_in, line_by, line_in, map_by, map_words_by, name_by, numbers_by, only_word, places_by, section_words_by, slots_by, slots_in, some_tables, tables_by, tables_in, text_in, then_by, types_by, types_in, version_by, version_in, whole}
+use Rattle.plan_lines.specs.LineReading.{all_features, all_keywords, answer_by, are_words_of, arguments_by, feature_by, form_by, header_by, keyword_by, license_by, license_in, line_by, line_in, map_by, map_words_by, name_by, numbers_by, places_by, section_words_by, slots_by, slots_in, some_tables, tables_by, text_in, then_by, types_by, types_in, version_by, version_in, whole}
 use Rattle.plan_lines.specs.LineReads.{line_text}
-use Rattle.plan_lines.specs.Lines.{AreTables, AreWithin, AreWordsOf, End, Feature, Func, Header, Inner, IsName, IsSoundLine, License, LineContent, Map, Program, Slots, Source, Tables, Types, Version, answer_word, arguments_of, feature_word, form_word, keyword_of, keyword_word, kind_list, max_32, number_word, numbers_of, table_words, types_word, version_word, word_limits, words_of_line}
+use Rattle.plan_lines.specs.Lines.{AreTables, AreWithin, AreWordsOf, End, Feature, Func, Header, Inner, IsName, IsSoundLine, License, LineContent, Map, Program, Slots, Source, Tables, Types, Version, answer_word, arguments_of, feature_word, form_word, keyword_of, keyword_word, kind_list, max_32, numbers_of, table_words, types_word, version_word, word_limits, words_of_line}
 use Rattle.plan_lines.specs.ProgramKinds.{kind_numbers, numbered}
 use Rattle.plan_lines.specs.WordReading.{IsUnbroken, first_by, hex_of, number_upto, pieces_of}
-use Rattle.plan_lines.specs.Words.{AreBytes, hex_word, joined}
+use Rattle.plan_lines.specs.Words.{hex_word, joined}
 use Rattle.plan_lines.specs.declared.line.Keyword.{Keyword}
 use Rattle.plan_lines.specs.declared.line.Keyword.TheVariants as keyword
 use Rattle.plan_lines.specs.declared.line.TextVersion.TheVariants.{First, Second}

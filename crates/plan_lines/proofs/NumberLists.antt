@@ -1,12 +1,11 @@
 -- Lists of numbers, and the words of maps.
-use Rattle.std.proofs.Common.{◌≡◌, ℕ, zero, suc, drop, ◌^◌, ◌<◌, ◌≤◌, Bool, true, false, cond, nat_lt, List, [], ◌∷◌, ◌++◌, map, refl, ap, sym, ◌∙◌, subst, arith, lit<, lit≤, Option, None, Some}
+use Rattle.std.proofs.Common.{◌≡◌, ℕ, zero, suc, drop, ◌^◌, ◌<◌, ◌≤◌, Bool, true, false, cond, nat_lt, List, [], ◌∷◌, ◌++◌, map, refl, ap, sym, ◌∙◌, subst, arith, lit<, Option, None, Some}
 use Rattle.std.specs.Fmt.{decimal}
 use Rattle.std.specs.List.{All, AllByRecursion}
 use Rattle.std.specs.List.Sorted.{IsStrictlySortedBy}
 use Rattle.std.specs.Option.{option_map}
 use Rattle.std.specs.Ordering.{nat_cmp}
 use Rattle.std.specs.Prelude.{◌==◌, option_and_then, slice_index}
-use Rattle.std.specs.declared.cmp.Ordering.{Ordering}
 use Rattle.std.specs.declared.cmp.Ordering.TheVariants.{Less, Equal, Greater}
 use Rattle.std.proofs.lemmas.Bool.Decides.{nat_tests}
 use Rattle.std.proofs.lemmas.List.Elements.{All-cons, All-head, All-nil, All-tail}
@@ -14,7 +13,7 @@ use Rattle.ebpf_items.specs.declared.maps.PinningType.{PinningType}
 use Rattle.ebpf_items.specs.declared.maps.PinningType.TheVariants as pinning
 use Rattle.plan_lines.proofs.WordTexts.{bind_some, guard_some, number_upto_decimal, number_upto_is}
 use Rattle.plan_lines.specs.LineReading.{is_above, map_words_by, numbers_by, pinning_of, place_by, places_by, then_by, words_of}
-use Rattle.plan_lines.specs.Lines.{AreTables, AreWithin, max_32, max_64, numbers_of, pinning_number, word_limits}
+use Rattle.plan_lines.specs.Lines.{AreTables, AreWithin, max_32, numbers_of, pinning_number, word_limits}
 use Rattle.plan_lines.specs.WordReading.{first_by, number_upto, onto}
 use Rattle.plan_lines.specs.declared.map_words.MapWords.{MapWords}
 

@@ -1,5 +1,5 @@
 -- Reading a line.
-use Rattle.std.proofs.Common.{◌≡◌, ◌≢◌, ℕ, Bool, true, false, List, Option, None, Some, Result, Ok, Err, refl, ap, sym, ◌∙◌}
+use Rattle.std.proofs.Common.{◌≡◌, ℕ, List, None, Some, Result, Ok, Err, refl, ap, sym, ◌∙◌}
 use Rattle.plan_lines.proofs.LineLaws.{line_again, line_takes}
 use Rattle.plan_lines.proofs.NumberLists.{some_is}
 use Rattle.plan_lines.specs.LineReading.{Says, line_in}
@@ -12,6 +12,10 @@ use Rattle.plan_lines.specs.declared.line.PlanLine.{PlanLine}
 
 said_some : (bytes : List ℕ) (line : LineContent) → IsSoundLine line → bytes ≡ line_text line → line_in bytes ≡ Some line
 said_some bytes line sound e = ap line_in e ∙ line_again line sound
+
+-- a text is that of one line
+pub told_apart : (line other : LineContent) → IsSoundLine line → IsSoundLine other → line_text line ≡ line_text other → line ≡ other
+told_apart line other a b e = some_is line other (sym (line_again line a) ∙ said_some (line_text line) other b e)
 
 pub is_read : (bytes : List ℕ) (answer : Result PlanLine LineError) → Says line_view (line_in bytes) answer → IsReadLine bytes answer
 is_read bytes (Ok read) said = record {

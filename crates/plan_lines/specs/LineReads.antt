@@ -17,6 +17,10 @@ pub record IsReadLine (bytes : List ℕ) (answer : Result PlanLine LineError) : 
   pub taken : IfOk answer (λ line. IsSoundLine (line_view line) × (bytes ≡ line_text (line_view line)))
   pub only : (line : LineContent) → IsSoundLine line → bytes ≡ line_text line → MatchResult answer (λ read. line_view read ≡ line) (λ e. e ≡ OutOfMemory)
 
+-- no two lines have the same text
+pub record LinesAreToldApart : Type 0 where
+  pub same : (line other : LineContent) → IsSoundLine line → IsSoundLine other → line_text line ≡ line_text other → line ≡ other
+
 -- no line feed stands within a line
 pub record LinesAreUnbroken : Type 0 where
   pub each : (line : LineContent) → IsSoundLine line → IsUnbroken (line_text line)

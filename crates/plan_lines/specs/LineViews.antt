@@ -1,5 +1,4 @@
 -- What a line that was read says.
-use Rattle.std.specs.Prelude.{◌≡◌, ℕ, List}
 use Rattle.std.specs.Option.{option_map}
 use Rattle.std.specs.String.{string_bytes}
 use Rattle.plan_lines.specs.Lines.{LineContent, Header, License, Version, Feature, Types, Map, Inner, Program, Slots, Tables, Func, Source, End}

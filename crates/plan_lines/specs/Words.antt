@@ -1,6 +1,8 @@
 -- The words of a text, and its lines of words.
-use Rattle.std.specs.Prelude.{ℕ, ◌<◌, List, [], ◌∷◌, ◌++◌, codes}
+use Rattle.std.specs.Prelude.{ℕ, ◌<◌, List, [], ◌∷◌, ◌++◌, flat_map, codes}
 use Rattle.std.specs.List.{All}
+use Rattle.ebpf_items.specs.declared.instruction.bpf_insn.{bpf_insn}
+use Rattle.ebpf_items.specs.Instruction.{bytes_of}
 use Rattle.hex.specs.Hex.{encode_lower}
 
 -- words with a space before each, and then more
@@ -35,3 +37,7 @@ hex_word (byte ∷ bytes) = encode_lower (byte ∷ bytes)
 -- each is a byte
 abbrev pub AreBytes : List ℕ → Type 0
 AreBytes bytes = All (λ b. b < 256) bytes
+
+-- the bytes of slots, one slot after another
+abbrev pub slot_bytes : List bpf_insn → List ℕ
+slot_bytes slots = flat_map bytes_of slots

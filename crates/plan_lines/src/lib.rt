@@ -3,16 +3,20 @@
 
 mod error;
 mod kind_reading;
+mod limits;
 mod line;
 mod line_reading;
 mod map_words;
 mod program_kind;
 mod values;
+mod word_writing;
 mod words;
 
 pub use error::LineError;
+pub use limits::{bytes_fit, name_fits, words_fit};
 pub use line::{MapLine, PlanLine, TextVersion};
-pub use line_reading::{lines_are_unbroken, read_line};
-pub use map_words::MapWords;
+pub use line_reading::{lines_are_told_apart, lines_are_unbroken, read_line};
+pub use map_words::{MapWords, numbers_of};
 pub use program_kind::{KindNumbers, kind_numbers};
 pub use values::{are_words_of, feature_word};
+pub use word_writing::{send_bytes, send_decimal, send_numbers, send_slots, send_tables};

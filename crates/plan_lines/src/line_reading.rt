@@ -1,7 +1,7 @@
 //! Reading a line of a plan's text.
 
 ghost use Rattle.plan_lines.specs.LineReading.{arguments_by, header_by, license_by, line_in, Reads, Says, slots_by, types_by, version_by};
-ghost use Rattle.plan_lines.specs.LineReads.{IsReadLine, LinesAreUnbroken};
+ghost use Rattle.plan_lines.specs.LineReads.{IsReadLine, LinesAreToldApart, LinesAreUnbroken};
 ghost use Rattle.plan_lines.specs.LineViews.{line_view};
 ghost use Rattle.plan_lines.specs.declared.line.Keyword.TheVariants as keyword;
 
@@ -187,4 +187,9 @@ pub fn read_line(alloc: Global, bytes: &[u8]) -> Result<PlanLine, LineError>
 /// No line feed stands within the text of a line.
 pub fn lines_are_unbroken()
     ensures { LinesAreUnbroken }
+{}
+
+/// No two lines have the same text.
+pub fn lines_are_told_apart()
+    ensures { LinesAreToldApart }
 {}

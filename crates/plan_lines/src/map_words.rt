@@ -1,5 +1,8 @@
 //! The words that define a map.
 
+ghost use Rattle.std.specs.Prelude.{◌≡◌};
+ghost use Rattle.plan_lines.specs.Lines.{numbers_of, pinning_number};
+
 use ebpf_items::PinningType;
 
 /// The words that define a map, sizes in bytes.
@@ -20,4 +23,28 @@ pub struct MapWords {
     pub btf_key_type_id: u32,
     /// The type of values, by its id in the plan's types: 0 for none.
     pub btf_value_type_id: u32,
+}
+
+fn pinning_number(pinning: PinningType) -> u64
+    ensures { result ≡ pinning_number pinning }
+{
+    pinning as u64
+}
+
+/// The numbers that define a map, in the order of a line.
+pub fn numbers_of(words: MapWords) -> [u64; 10]
+    ensures { result ≡ numbers_of words }
+{
+    [
+        u64::from(words.map_type),
+        u64::from(words.key_size),
+        u64::from(words.value_size),
+        u64::from(words.max_entries),
+        u64::from(words.map_flags),
+        words.map_extra,
+        pinning_number(words.pinning),
+        u64::from(words.id),
+        u64::from(words.btf_key_type_id),
+        u64::from(words.btf_value_type_id),
+    ]
 }

@@ -1,3 +1,4 @@
+mod OwnText
 mod ReadingLaws
 mod Room
 mod StateLaws

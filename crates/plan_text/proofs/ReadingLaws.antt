@@ -1,7 +1,6 @@
 -- Reading a plan line by line.
-use Rattle.std.proofs.Common.{◌≡◌, ◌≢◌, ℕ, zero, suc, ◌+◌, ◌*◌, ◌%◌, ◌^◌, ◌<◌, ◌≤◌, Bool, true, false, cond, List, [], ◌∷◌, ◌++◌, length, map, refl, ap, ap₂, sym, ◌∙◌, subst, arith, lit<, Option, None, Some, Result, Ok, Err, append_assoc, append-nil, length-append, inl, inr, ◌⊎◌, rules}
+use Rattle.std.proofs.Common.{◌≡◌, ℕ, ◌+◌, ◌*◌, ◌%◌, ◌<◌, ◌≤◌, Bool, true, false, List, [], ◌∷◌, ◌++◌, length, map, refl, ap, ap₂, sym, ◌∙◌, subst, arith, Option, None, Some, Result, Ok, Err, append_assoc, append-nil, length-append, inl, inr, rules}
 use Rattle.std.specs.Prelude.{flat_map, option_and_then, IfOk, IfSome}
-use Rattle.std.specs.Fmt.{decimal}
 use Rattle.std.specs.List.{All}
 use Rattle.std.specs.declared.alloc.AllocError.{AllocError}
 use Rattle.std.proofs.lemmas.List.{map-append}
@@ -12,28 +11,27 @@ use Rattle.btf_sanitizing.specs.Answers.{Answers}
 use Rattle.ebpf_items.specs.declared.instruction.bpf_insn.{bpf_insn}
 use Rattle.ebpf_items.specs.Instruction.{bytes_of}
 use Rattle.object_file.specs.Version.{IsKnownVersion}
-use Rattle.plan_lines.specs.LineReads.{IsReadLine, LinesAreUnbroken, line_text}
+use Rattle.plan_lines.specs.LineReads.{IsReadLine, LinesAreToldApart, LinesAreUnbroken, line_text}
 use Rattle.plan_lines.specs.LineViews.{line_view}
-use Rattle.plan_lines.specs.Lines.{AreWithin, End, Feature, Func, Header, Inner, License, LineContent, Map, Program, Slots, Source, Tables, Types, Version, IsSoundLine, max_32, numbers_of, word_limits, words_of_line}
+use Rattle.plan_lines.specs.Lines.{AreWithin, End, Header, License, LineContent, Map, Program, Slots, Types, Version, IsSoundLine, max_32, numbers_of, word_limits, words_of_line}
 use Rattle.plan_lines.specs.WordReading.{IsUnbroken}
-use Rattle.plan_lines.specs.Words.{AreBytes, joined, line_onto, lines_onto, text_of_lines, words_onto}
-use Rattle.plan_lines.specs.declared.error.LineError.{LineError}
+use Rattle.plan_lines.specs.Words.{AreBytes, joined, line_onto, slot_bytes, text_of_lines, words_onto}
 use Rattle.plan_lines.specs.declared.error.LineError.TheVariants.{Invalid, OutOfMemory}
 use Rattle.plan_lines.specs.declared.line.PlanLine.{PlanLine}
 use Rattle.plan_lines.specs.declared.line.TextVersion.{TextVersion}
 use Rattle.plan_lines.specs.declared.line.TextVersion.TheVariants.{First, Second}
 use Rattle.plan_lines.specs.declared.map_words.MapWords.{MapWords}
-use Rattle.plan_text.proofs.StateLaws.{IsAtEnd, IsGood, Reached, the_last, completes, ended_lines, grows, so_far, start_good}
+use Rattle.plan_text.proofs.StateLaws.{IsAtEnd, IsGood, Reached, completes, ended_lines, grows, so_far, start_good}
 use Rattle.plan_text.proofs.StepLaws.{done, inner_of, line_of_answer, line_of_func, line_of_source, lines_of_map, lines_of_plan, lines_of_program, lines_of_records, plan_steps, steps, tables_of}
 use Rattle.plan_text.proofs.Texts.{text_of_lines-append, words_onto-split}
 use Rattle.plan_text.proofs.Unbroken.{not_unbroken, one_line}
-use Rattle.plan_text.specs.Content.{FitsFunc, FitsMap, FitsPlan, FitsProgram, FitsSlot, FitsSource, IsSoundMap, IsSoundPlan, IsSoundProgram, MapContent, PlanContent, ProgramContent}
+use Rattle.plan_text.specs.Content.{FitsFunc, FitsMap, FitsPlan, FitsProgram, FitsSlot, FitsSource, IsPlan, IsSoundMap, IsSoundPlan, IsSoundProgram, MapContent, PlanContent, ProgramContent}
 use Rattle.plan_text.specs.declared.reading.PlanReadError.{PlanReadError}
 use Rattle.plan_text.specs.declared.reading.PlanReadError.TheVariants as error
 use Rattle.plan_text.specs.declared.reading.Phase.{Phase}
-use Rattle.plan_text.specs.Machine.{HasFewRecords, RefusedLine, StateContent, Takes, TakesLine, TookLine, kept_plan, plan_at, start, step, with_last}
-use Rattle.plan_text.specs.PlanGrammar.{AreTablesIn, BeginsPlanText, IsPlanText, IsTextOf, Spells, end_line, feature_line, func_line, inner_lines, map_lines, plan_lines, program_lines, slot_bytes, source_line, tables_lines, text_in}
-use Rattle.plan_text.specs.Reading.{AreUnbroken, EndsPlanText, IsFirstBadLine, IsReadFault, IsReadPlan, ReadsAs, ended}
+use Rattle.plan_text.specs.Machine.{RefusedLine, StateContent, Takes, TakesLine, TookLine, kept_plan, plan_at, start, step}
+use Rattle.plan_text.specs.PlanGrammar.{BeginsPlanText, IsTextOf, Spells, end_line, feature_line, func_line, inner_lines, map_lines, plan_lines, program_lines, source_line, tables_lines, text_in}
+use Rattle.plan_text.specs.Reading.{AreUnbroken, IsFirstBadLine, IsReadFault, IsReadPlan, ReadsAs, ended}
 use Rattle.plan_text.specs.declared.reading.Phase.TheVariants.{AtEnd}
 
 -- ---- the words of the lines of a plan
@@ -251,6 +249,25 @@ leads_end s rest v q u h = by_rows h.rows h.lead h.spelled
 some_is : {A : Type 0} (x y : A) → Some x ≡ Some y → x ≡ y
 some_is x y e = cc
 
+-- ---- texts tell plans apart
+
+same_lines : LinesAreUnbroken → LinesAreToldApart → (xs ys : List LineContent) → AllSound xs → AllSound ys → lines_text xs ≡ lines_text ys → xs ≡ ys
+same_lines law apart [] [] a b e = refl
+same_lines law apart [] (y ∷ ys) a b e = absurd (not_empty (line_text y) (lines_text ys) (sym (e ∙ first_text y (lines_text ys))))
+same_lines law apart (x ∷ xs) [] a b e = absurd (not_empty (line_text x) (lines_text xs) (sym (first_text x (lines_text xs)) ∙ e))
+same_lines law apart (x ∷ xs) (y ∷ ys) a b e =
+    let o = one_line (line_text x) (line_text y) (lines_text xs) (lines_text ys) (law.each x a.0) (law.each y b.0) (sym (first_text x (lines_text xs)) ∙ (e ∙ first_text y (lines_text ys))) in
+    ap₂ (λ (l : LineContent) (ls : List LineContent). l ∷ ls) (apart.same x y a.0 b.0 o.0) (same_lines law apart xs ys a.1 b.1 o.1)
+
+-- a text is that of one plan
+pub same_plan : LinesAreUnbroken → LinesAreToldApart → (text : List ℕ) (p q : PlanContent) → IsTextOf p text → IsTextOf q text → p ≡ q
+same_plan law apart text p q h k =
+    let a = leads_start h.0 p text h.1 in
+    let b = leads_start k.0 q text k.1 in
+    let e = same_lines law apart a.rows b.rows a.sound b.sound (sym a.spelled ∙ b.spelled) in
+    let s : Some (done h.0 p) ≡ Some (done k.0 q) = sym a.lead ∙ (ap (steps start) e ∙ b.lead) in
+    ap kept_plan (some_is (done h.0 p) (done k.0 q) s)
+
 -- ---- how far a text was read
 
 -- what follows the front in a plan's text leads on to that plan
@@ -393,8 +410,8 @@ at_end s g e = from s.phase e g.reached
     from AtEnd e r = r
     from phase e r = cc
 
-kept_sound : (bytes rest : List ℕ) (lines : ℕ) (s : StateContent) → IsReading bytes rest lines s → s.phase ≡ AtEnd → IsSoundPlan (kept_plan s)
-kept_sound bytes rest lines s r e = subst IsSoundPlan (sym (kept_is s (at_end s r.good e))) r.good.plan.sound
+kept_sound : (bytes rest : List ℕ) (lines : ℕ) (s : StateContent) → IsReading bytes rest lines s → s.phase ≡ AtEnd → IsPlan (kept_plan s)
+kept_sound bytes rest lines s r e = subst IsPlan (sym (kept_is s (at_end s r.good e))) (record { sound = r.good.plan.sound; fits = r.good.plan.fits })
 
 -- the whole text is that of the plan
 found : (bytes rest : List ℕ) (lines : ℕ) (s : StateContent) → IsReading bytes rest lines s → rest ≡ [] → s.phase ≡ AtEnd → IsTextOf (kept_plan s) bytes
@@ -415,13 +432,6 @@ only_this : (bytes rest : List ℕ) (lines : ℕ) (s : StateContent) (q : PlanCo
 only_this bytes rest lines s q r u h =
     let e = leads_end s rest h.0 q u (r.knows.each h.0 q rest (respell h.0 q bytes (ended r.before ++ rest) r.split h.1)) in
     ap kept_plan e.1
-
-few_records : (last : Option ProgramContent) (programs : List ProgramContent) → All FitsProgram (with_last programs last) → HasFewRecords last
-few_records None programs h = tt
-few_records (Some p) programs h = let f = the_last FitsProgram programs p h in (f.few_funcs, f.few_lines)
-
-pub few : (s : StateContent) → IsGood s → HasFewRecords s.last_program
-few s g = few_records s.last_program s.programs g.plan.fits.programs
 
 -- a text that was read to its end
 pub is_read : (bytes rest : List ℕ) (lines : ℕ) (s : StateContent) → IsReading bytes rest lines s → IsUnbroken rest → rest ≡ [] → s.phase ≡ AtEnd → IsReadPlan bytes (kept_plan s)

@@ -1,10 +1,9 @@
 -- The lines that lead to a state, and the plan of them.
-use Rattle.std.proofs.Common.{◌≡◌, ◌≢◌, ℕ, zero, suc, ◌+◌, ◌*◌, ◌/◌, ◌%◌, ◌^◌, ◌<◌, ◌≤◌, Bool, true, false, cond, nat_lt, List, [], ◌∷◌, ◌++◌, length, take, drop, get_or, map, refl, ap, ap₂, sym, ◌∙◌, subst, arith, lit<, Option, None, Some, append_assoc, append-nil, length-append, rules}
-use Rattle.std.specs.Prelude.{flat_map, option_and_then, ◌==◌, ◌||◌, ◌&&◌, is_none, IfSome}
-use Rattle.std.specs.Cmp.{IsTotalOrder}
+use Rattle.std.proofs.Common.{◌≡◌, ℕ, zero, suc, ◌+◌, ◌*◌, ◌/◌, ◌^◌, ◌<◌, ◌≤◌, Bool, true, false, cond, List, [], ◌∷◌, ◌++◌, length, get_or, map, refl, ap, ap₂, sym, ◌∙◌, subst, arith, lit<, Option, None, Some, append_assoc, append-nil}
+use Rattle.std.specs.Prelude.{flat_map, ◌==◌, ◌||◌, ◌&&◌, is_none, IfSome}
 use Rattle.std.specs.Cmp.Lexicographic.{nat_list_cmp_total, slice_cmp}
 use Rattle.std.specs.Int.{w16, w32, from_le_bytes, to_le_bytes}
-use Rattle.std.specs.List.{All, AllByRecursion, list_any}
+use Rattle.std.specs.List.{All, AllByRecursion}
 use Rattle.std.specs.List.Sorted.{IsStrictlySortedBy}
 use Rattle.std.specs.Option.{option_map}
 use Rattle.std.specs.Ordering.{is_lt, nat_cmp}
@@ -12,25 +11,24 @@ use Rattle.std.specs.declared.cmp.Ordering.{Ordering}
 use Rattle.std.specs.declared.cmp.Ordering.TheVariants.{Less, Equal, Greater}
 use Rattle.std.proofs.lemmas.Bool.Decides.{nat_tests}
 use Rattle.std.proofs.lemmas.Int.{of_z-to_z}
-use Rattle.std.proofs.lemmas.List.{get_or-drop, map-append}
-use Rattle.std.proofs.lemmas.List.Elements.{All-append, All-cons, All-drop, All-head, All-nil, All-push, All-tail, All-take}
+use Rattle.std.proofs.lemmas.List.{map-append}
+use Rattle.std.proofs.lemmas.List.Elements.{All-cons, All-drop, All-head, All-nil, All-push, All-tail, All-take}
 use Rattle.std.proofs.lemmas.Nat.{le_bytes_2, le_bytes_4}
 use Rattle.btf_extension.specs.declared.record.bpf_func_info.{bpf_func_info}
 use Rattle.btf_extension.specs.declared.record.bpf_line_info.{bpf_line_info}
 use Rattle.btf_records.specs.declared.feature.BtfFeature.{BtfFeature}
 use Rattle.btf_sanitizing.specs.Answers.{Answers, AreDistinct, features, is_same, place_of, times}
-use Rattle.ebpf_items.specs.declared.instruction.bpf_insn.{bpf_insn}
 use Rattle.ebpf_items.specs.Instruction.{bytes_of, slot_of, slots_in, slots_of}
 use Rattle.object_file.specs.Version.{IsKnownVersion}
 use Rattle.plan_lines.specs.LineReading.{are_words_of}
-use Rattle.plan_lines.specs.Lines.{AreTables, AreWithin, AreWordsOf, End, Feature, Func, Header, Inner, IsName, License, LineContent, Map, Program, Slots, Source, Tables, Types, Version, IsSoundLine, max_32, numbers_of, word_limits}
-use Rattle.plan_lines.specs.Words.{AreBytes}
+use Rattle.plan_lines.specs.Lines.{AreWordsOf, End, Feature, Func, Header, Inner, IsName, License, LineContent, Map, Program, Slots, Source, Tables, Types, Version, IsSoundLine, max_32}
+use Rattle.plan_lines.specs.Words.{AreBytes, slot_bytes}
 use Rattle.plan_lines.specs.declared.line.TextVersion.{TextVersion}
 use Rattle.plan_lines.specs.declared.line.TextVersion.TheVariants.{First, Second}
 use Rattle.plan_lines.specs.declared.map_words.MapWords.{MapWords}
 use Rattle.plan_text.specs.Content.{AreRising, AreTypeBytes, FitsFunc, FitsMap, FitsPlan, FitsProgram, FitsSlot, FitsSource, IsSoundMap, IsSoundPlan, IsSoundProgram, MapContent, PlanContent, ProgramContent, map_names, program_names}
-use Rattle.plan_text.specs.Machine.{StateContent, after_slots, at_program, bare_program, begin_program, finished, follows, func_of, has_room, holding, is_asked, last_map_name, map_of, may_hold, plan_at, source_of, start, step, step_end, step_feature, step_func, step_header, step_inner, step_license, step_map, step_program, step_slots, step_source, step_tables, step_types, step_version, with_func, with_last, with_source}
-use Rattle.plan_text.specs.PlanGrammar.{AreTablesIn, slot_bytes}
+use Rattle.plan_text.specs.Machine.{StateContent, at_program, bare_program, begin_program, finished, follows, func_of, holding, is_asked, last_map_name, map_of, may_hold, plan_at, source_of, start, step, step_end, step_feature, step_func, step_header, step_inner, step_license, step_map, step_program, step_slots, step_source, step_tables, step_types, step_version, with_last, with_source}
+use Rattle.plan_text.specs.PlanGrammar.{AreTablesIn}
 use Rattle.plan_text.proofs.StepLaws.{features-append, inner_of, line_of_answer, line_of_func, line_of_source, lines_of_map, lines_of_plan, lines_of_program, lines_of_records, tables_of}
 use Rattle.plan_text.specs.declared.reading.Phase.{Phase}
 use Rattle.plan_text.specs.declared.reading.Phase.TheVariants.{AtHeader, AtLicense, AtVersion, AtFeatures, AtMaps, AtSlots, AtTables, AtFuncs, AtLines, AtEnd}
@@ -222,7 +220,7 @@ all_before : {A : Type 0} (P : A → Type 0) (xs : List A) (x : A) → All P (xs
 all_before P [] x h = All-nil P
 all_before P (y ∷ xs) x h = All-cons P y xs (All-head P y (xs ++ x ∷ []) h) (all_before P xs x (All-tail P y (xs ++ x ∷ []) h))
 
-pub the_last : {A : Type 0} (P : A → Type 0) (xs : List A) (x : A) → All P (xs ++ x ∷ []) → P x
+the_last : {A : Type 0} (P : A → Type 0) (xs : List A) (x : A) → All P (xs ++ x ∷ []) → P x
 the_last P [] x h = All-head P x [] h
 the_last P (y ∷ xs) x h = the_last P xs x (All-tail P y (xs ++ x ∷ []) h)
 
@@ -473,9 +471,7 @@ bare_fits name section h = record {
   name = h;
   slots = All-nil FitsSlot;
   func_records = All-nil FitsFunc;
-  few_funcs = lit< tt;
   line_records = All-nil FitsSource;
-  few_lines = lit< tt;
 }
 
 -- a program begins after others, whose lines are these
@@ -619,7 +615,7 @@ grows_slots AtSlots First s (Some p) bytes t g l e =
     stepped here (Slots bytes) there t e (
       last_grows there n (Program p.name p.section ∷ []) (Slots bytes) lines,
       record {
-        plan = with_last_program First here p n g.plan refl (record { tables = (the_last IsSoundProgram s.programs p g.plan.sound.programs).tables }) (record { name = old.name; slots = are.fit; func_records = old.func_records; few_funcs = old.few_funcs; line_records = old.line_records; few_lines = old.few_lines }) (no_tables_last First here p g.plan.tables);
+        plan = with_last_program First here p n g.plan refl (record { tables = (the_last IsSoundProgram s.programs p g.plan.sound.programs).tables }) (record { name = old.name; slots = are.fit; func_records = old.func_records; line_records = old.line_records }) (no_tables_last First here p g.plan.tables);
         reached = ap (λ (x : ProgramContent). x.line_records) g.reached;
       },
     )
@@ -633,7 +629,7 @@ grows_slots AtSlots Second s (Some p) bytes t g l e =
     stepped here (Slots bytes) there t e (
       ap (λ b. mapped_lines there ++ (front ++ Program p.name p.section ∷ Slots b ∷ [])) are.bytes_are ∙ regroup_four (mapped_lines there) front (Program p.name p.section ∷ []) (Slots bytes ∷ []),
       record {
-        plan = with_last_program Second here p n g.plan refl (record { tables = (the_last IsSoundProgram s.programs p g.plan.sound.programs).tables }) (record { name = old.name; slots = are.fit; func_records = old.func_records; few_funcs = old.few_funcs; line_records = old.line_records; few_lines = old.few_lines }) (no_tables_last Second here p g.plan.tables);
+        plan = with_last_program Second here p n g.plan refl (record { tables = (the_last IsSoundProgram s.programs p g.plan.sound.programs).tables }) (record { name = old.name; slots = are.fit; func_records = old.func_records; line_records = old.line_records }) (no_tables_last Second here p g.plan.tables);
         reached = record { last = ap (λ (x : ProgramContent). record x { slots = slots_of bytes }) g.reached; second = refl };
       },
     )
@@ -655,21 +651,16 @@ grows_tables AtTables s (Some p) tables t g l e =
     stepped here (Tables tables) there t e (
       last_grows there n (Program p.name p.section ∷ Slots (slot_bytes p.slots) ∷ []) (Tables tables) lines,
       record {
-        plan = with_last_program s.text_version here p n g.plan refl (record { tables = l }) (record { name = old.name; slots = old.slots; func_records = old.func_records; few_funcs = old.few_funcs; line_records = old.line_records; few_lines = old.few_lines }) (λ f. absurd (not_first s.text_version g.reached.second f));
+        plan = with_last_program s.text_version here p n g.plan refl (record { tables = l }) (record { name = old.name; slots = old.slots; func_records = old.func_records; line_records = old.line_records }) (λ f. absurd (not_first s.text_version g.reached.second f));
         reached = ap (λ (x : ProgramContent). x.line_records) g.reached.last;
       },
     )
 grows_tables phase s last tables t g l e = cc
 
-room_is : (n : ℕ) → nat_lt (n + 1) (2 ^ 32) ≡ true → n + 1 < 2 ^ 32
-room_is n h = grind (arith, nat_tests)
-
 grows_func : (phase : Phase) (s : StateContent) (last : Option ProgramContent) (r : bpf_func_info) (t : StateContent) → IsGood (record s { phase = phase; last_program = last }) → FitsFunc r → step_func phase (record s { phase = phase; last_program = last }) r ≡ Some t → Grows (record s { phase = phase; last_program = last }) (line_of_func r) t
 grows_func AtFuncs s None r t g l e = cc
 grows_func AtFuncs s (Some p) r t g l e =
     let here = record s { phase = AtFuncs; last_program = Some p } in
-    let c = map_some (λ (x : ProgramContent). record s { phase = AtFuncs; last_program = Some x }) (with_func r p) t e in
-    let d = guard_some (has_room p.func_records) (Some (record p { func_records = p.func_records ++ r ∷ [] })) c.0 c.1 in
     let n : ProgramContent = record p { func_records = p.func_records ++ r ∷ [] } in
     let there = record s { phase = AtFuncs; last_program = Some n } in
     let front = Program p.name p.section ∷ Slots (slot_bytes p.slots) ∷ [] in
@@ -680,11 +671,10 @@ grows_func AtFuncs s (Some p) r t g l e =
     ap (λ ls. Program p.name p.section ∷ Slots (slot_bytes p.slots) ∷ (tables ++ ls)) records
     ∙ ap (λ ls. Program p.name p.section ∷ Slots (slot_bytes p.slots) ∷ ls) (sym (append_assoc tables (lines_of_records p) (line_of_func r ∷ []))) in
     let old = the_last FitsProgram s.programs p g.plan.fits.programs in
-    let few : length (p.func_records ++ r ∷ []) < 2 ^ 32 = omega (arith, room_is (length p.func_records) d.0, length-append p.func_records (r ∷ [])) in
-    stepped here (line_of_func r) there t (ap (λ (x : ProgramContent). Some (record s { phase = AtFuncs; last_program = Some x })) (some_is n c.0 d.1) ∙ ap Some c.2) (
+    stepped here (line_of_func r) there t e (
       last_grows there n (lines_of_program s.text_version p) (line_of_func r) lines ∙ ap (λ ls. ls ++ line_of_func r ∷ []) (sym (last_lines there p)),
       record {
-        plan = with_last_program s.text_version here p n g.plan refl (record { tables = (the_last IsSoundProgram s.programs p g.plan.sound.programs).tables }) (record { name = old.name; slots = old.slots; func_records = All-push FitsFunc p.func_records r old.func_records l; few_funcs = few; line_records = old.line_records; few_lines = old.few_lines }) (no_tables_last s.text_version here p g.plan.tables);
+        plan = with_last_program s.text_version here p n g.plan refl (record { tables = (the_last IsSoundProgram s.programs p g.plan.sound.programs).tables }) (record { name = old.name; slots = old.slots; func_records = All-push FitsFunc p.func_records r old.func_records l; line_records = old.line_records }) (no_tables_last s.text_version here p g.plan.tables);
         reached = g.reached;
       },
     )
@@ -698,8 +688,6 @@ grows_func phase s last r t g l e = cc
 source_more : (phase : Phase) (s : StateContent) (p : ProgramContent) (r : bpf_line_info) (t : StateContent) → IsGoodPlan s.text_version (plan_at (record s { last_program = Some p })) → FitsSource r → at_program (record s { phase = phase; last_program = Some p }) AtLines (with_source r) ≡ Some t → so_far phase (record s { phase = phase; last_program = Some p }) ≡ mapped_lines s ++ flat_map (lines_of_program s.text_version) (s.programs ++ p ∷ []) → Grows (record s { phase = phase; last_program = Some p }) (line_of_source r) t
 source_more phase s p r t g l e so =
     let here = record s { phase = phase; last_program = Some p } in
-    let c = map_some (λ (x : ProgramContent). record s { phase = AtLines; last_program = Some x }) (with_source r p) t e in
-    let d = guard_some (has_room p.line_records) (Some (record p { line_records = p.line_records ++ r ∷ [] })) c.0 c.1 in
     let n : ProgramContent = record p { line_records = p.line_records ++ r ∷ [] } in
     let there = record s { phase = AtLines; last_program = Some n } in
     let tables = tables_of s.text_version p.tables in
@@ -710,11 +698,10 @@ source_more phase s p r t g l e so =
     ap (λ ls. Program p.name p.section ∷ Slots (slot_bytes p.slots) ∷ (tables ++ ls)) records
     ∙ ap (λ ls. Program p.name p.section ∷ Slots (slot_bytes p.slots) ∷ ls) (sym (append_assoc tables (lines_of_records p) (line_of_source r ∷ []))) in
     let old = the_last FitsProgram s.programs p g.fits.programs in
-    let few : length (p.line_records ++ r ∷ []) < 2 ^ 32 = omega (arith, room_is (length p.line_records) d.0, length-append p.line_records (r ∷ [])) in
-    stepped here (line_of_source r) there t (ap (λ (x : ProgramContent). Some (record s { phase = AtLines; last_program = Some x })) (some_is n c.0 d.1) ∙ ap Some c.2) (
+    stepped here (line_of_source r) there t e (
       last_grows there n (lines_of_program s.text_version p) (line_of_source r) lines ∙ ap (λ ls. ls ++ line_of_source r ∷ []) (sym (last_lines there p) ∙ sym so),
       record {
-        plan = with_last_program s.text_version here p n g refl (record { tables = (the_last IsSoundProgram s.programs p g.sound.programs).tables }) (record { name = old.name; slots = old.slots; func_records = old.func_records; few_funcs = old.few_funcs; line_records = All-push FitsSource p.line_records r old.line_records l; few_lines = few }) (no_tables_last s.text_version here p g.tables);
+        plan = with_last_program s.text_version here p n g refl (record { tables = (the_last IsSoundProgram s.programs p g.sound.programs).tables }) (record { name = old.name; slots = old.slots; func_records = old.func_records; line_records = All-push FitsSource p.line_records r old.line_records l }) (no_tables_last s.text_version here p g.tables);
         reached = tt;
       },
     )

@@ -1,30 +1,29 @@
 -- The lines of a plan lead to it.
-use Rattle.std.proofs.Common.{◌≡◌, ◌≢◌, ℕ, zero, suc, ◌+◌, ◌/◌, ◌%◌, ◌^◌, ◌<◌, ◌≤◌, Bool, true, false, cond, nat_lt, List, [], ◌∷◌, ◌++◌, length, take, drop, get_or, map, refl, ap, ap₂, sym, ◌∙◌, subst, arith, lit<, Option, None, Some, append_assoc, append-nil, length-append, rules}
+use Rattle.std.proofs.Common.{◌≡◌, ℕ, zero, suc, ◌+◌, ◌/◌, ◌<◌, ◌≤◌, Bool, true, false, cond, List, [], ◌∷◌, ◌++◌, length, take, drop, get_or, map, refl, ap, ap₂, sym, ◌∙◌, subst, arith, lit<, Option, None, Some, append_assoc, append-nil, length-append, rules}
 use Rattle.std.specs.Prelude.{flat_map, option_and_then, ◌||◌, ◌==◌}
 use Rattle.std.specs.Cmp.Lexicographic.{slice_cmp}
-use Rattle.std.specs.Int.{w16, w32, from_le_bytes, to_le_bytes}
-use Rattle.std.specs.List.{All, AllByRecursion, list_any}
+use Rattle.std.specs.List.{All, AllByRecursion}
 use Rattle.std.specs.List.Sorted.{IsStrictlySortedBy}
 use Rattle.std.specs.Option.{option_map}
 use Rattle.std.specs.Ordering.{is_lt, nat_cmp}
-use Rattle.std.specs.declared.cmp.Ordering.{Ordering}
 use Rattle.std.specs.declared.cmp.Ordering.TheVariants.{Less}
 use Rattle.std.proofs.lemmas.Bool.Decides.{nat_tests}
-use Rattle.std.proofs.lemmas.List.Elements.{All-append, All-cons, All-head, All-nil, All-tail}
+use Rattle.std.proofs.lemmas.List.Elements.{All-head, All-tail}
 use Rattle.btf_extension.specs.declared.record.bpf_func_info.{bpf_func_info}
 use Rattle.btf_extension.specs.declared.record.bpf_line_info.{bpf_line_info}
 use Rattle.btf_records.specs.declared.feature.BtfFeature.{BtfFeature}
-use Rattle.btf_sanitizing.specs.Answers.{Answers, AreDistinct, features, is_same, place_of, times}
+use Rattle.btf_sanitizing.specs.Answers.{Answers, AreDistinct, features, is_same, times}
 use Rattle.ebpf_items.specs.declared.instruction.bpf_insn.{bpf_insn}
 use Rattle.ebpf_items.specs.Instruction.{bytes_of, slot_of, slots_in, slots_of}
 use Rattle.plan_lines.specs.LineReading.{are_words_of}
-use Rattle.plan_lines.specs.Lines.{AreWordsOf, End, Feature, Func, Header, Inner, License, LineContent, Map, Program, Slots, Source, Tables, Types, Version, IsSoundLine, words_of_line}
+use Rattle.plan_lines.specs.Lines.{AreWordsOf, End, Feature, Func, Header, Inner, License, LineContent, Map, Program, Slots, Source, Tables, Types, Version}
+use Rattle.plan_lines.specs.Words.{slot_bytes}
 use Rattle.plan_lines.specs.declared.line.TextVersion.{TextVersion}
 use Rattle.plan_lines.specs.declared.line.TextVersion.TheVariants.{First, Second}
 use Rattle.plan_lines.specs.declared.map_words.MapWords.{MapWords}
-use Rattle.plan_text.specs.Content.{AreRising, FitsMap, FitsPlan, FitsProgram, FitsSlot, IsSoundMap, IsSoundPlan, IsSoundProgram, MapContent, PlanContent, ProgramContent, map_names, program_names}
-use Rattle.plan_text.specs.Machine.{StateContent, after_slots, at_program, bare_program, finished, follows, func_of, has_room, is_asked, last_map_name, map_of, may_hold, source_of, start, step, with_func, with_last, with_source}
-use Rattle.plan_text.specs.PlanGrammar.{AreTablesIn, slot_bytes}
+use Rattle.plan_text.specs.Content.{AreRising, FitsPlan, FitsProgram, FitsSlot, IsSoundMap, IsSoundPlan, MapContent, PlanContent, ProgramContent, map_names, program_names}
+use Rattle.plan_text.specs.Machine.{StateContent, bare_program, finished, follows, is_asked, map_of, start, step, with_last}
+use Rattle.plan_text.specs.PlanGrammar.{AreTablesIn}
 use Rattle.plan_text.specs.declared.reading.Phase.{Phase}
 use Rattle.plan_text.specs.declared.reading.Phase.TheVariants.{AtHeader, AtLicense, AtVersion, AtFeatures, AtMaps, AtSlots, AtTables, AtFuncs, AtLines, AtEnd}
 use Rattle.program_kinds.specs.declared.program_section.ProgramSection.{ProgramSection}
@@ -283,41 +282,34 @@ module _ (v : TextVersion) (license : List ℕ) (version : Option ℕ) (answers 
   abbrev at : Phase → List ProgramContent → Option ProgramContent → StateContent
   at phase programs last = state phase v license version answers type_bytes maps last_map programs last
 
-  room : (n : ℕ) → n + 1 < 2 ^ 32 → nat_lt (n + 1) (2 ^ 32) ≡ true
-  room n h = grind (arith, nat_tests)
-
-  funcs_steps : (programs : List ProgramContent) (p : ProgramContent) (records : List bpf_func_info) (rest : List LineContent) → length p.func_records + length records < 2 ^ 32 →
+  funcs_steps : (programs : List ProgramContent) (p : ProgramContent) (records : List bpf_func_info) (rest : List LineContent) →
       steps (at AtFuncs programs (Some p)) (map line_of_func records ++ rest)
       ≡ steps (at AtFuncs programs (Some (record p { func_records = p.func_records ++ records }))) rest
-  funcs_steps programs p [] rest few =
+  funcs_steps programs p [] rest =
       ap (λ (x : List bpf_func_info). steps (at AtFuncs programs (Some (record p { func_records = x }))) rest) (sym (append-nil p.func_records))
-  funcs_steps programs p (r ∷ records) rest few =
-      let more : length (p.func_records ++ r ∷ []) + length records < 2 ^ 32 = omega (arith, length-append p.func_records (r ∷ [])) in
-      rw (room (length p.func_records) (omega arith))
-      (funcs_steps programs (record p { func_records = p.func_records ++ r ∷ [] }) records rest more
-      ∙ ap (λ (x : List bpf_func_info). steps (at AtFuncs programs (Some (record p { func_records = x }))) rest) (append_assoc p.func_records (r ∷ []) records))
+  funcs_steps programs p (r ∷ records) rest =
+      funcs_steps programs (record p { func_records = p.func_records ++ r ∷ [] }) records rest
+      ∙ ap (λ (x : List bpf_func_info). steps (at AtFuncs programs (Some (record p { func_records = x }))) rest) (append_assoc p.func_records (r ∷ []) records)
 
-  sources_steps : (programs : List ProgramContent) (p : ProgramContent) (records : List bpf_line_info) (rest : List LineContent) → length p.line_records + length records < 2 ^ 32 →
+  sources_steps : (programs : List ProgramContent) (p : ProgramContent) (records : List bpf_line_info) (rest : List LineContent) →
       steps (at AtLines programs (Some p)) (map line_of_source records ++ rest)
       ≡ steps (at AtLines programs (Some (record p { line_records = p.line_records ++ records }))) rest
-  sources_steps programs p [] rest few =
+  sources_steps programs p [] rest =
       ap (λ (x : List bpf_line_info). steps (at AtLines programs (Some (record p { line_records = x }))) rest) (sym (append-nil p.line_records))
-  sources_steps programs p (r ∷ records) rest few =
-      let more : length (p.line_records ++ r ∷ []) + length records < 2 ^ 32 = omega (arith, length-append p.line_records (r ∷ [])) in
-      rw (room (length p.line_records) (omega arith))
-      (sources_steps programs (record p { line_records = p.line_records ++ r ∷ [] }) records rest more
-      ∙ ap (λ (x : List bpf_line_info). steps (at AtLines programs (Some (record p { line_records = x }))) rest) (append_assoc p.line_records (r ∷ []) records))
+  sources_steps programs p (r ∷ records) rest =
+      sources_steps programs (record p { line_records = p.line_records ++ r ∷ [] }) records rest
+      ∙ ap (λ (x : List bpf_line_info). steps (at AtLines programs (Some (record p { line_records = x }))) rest) (append_assoc p.line_records (r ∷ []) records)
 
-  all_sources : (programs : List ProgramContent) (p : ProgramContent) (records : List bpf_line_info) (rest : List LineContent) → p.line_records ≡ [] → length records < 2 ^ 32 →
+  all_sources : (programs : List ProgramContent) (p : ProgramContent) (records : List bpf_line_info) (rest : List LineContent) → p.line_records ≡ [] →
       steps (at AtFuncs programs (Some p)) (map line_of_source records ++ rest)
       ≡ steps (at (after_sources records) programs (Some (record p { line_records = records }))) rest
-  all_sources programs p [] rest none few = ap (λ (x : List bpf_line_info). steps (at AtFuncs programs (Some (record p { line_records = x }))) rest) none
-  all_sources programs p (r ∷ records) rest none few = from p.line_records none
+  all_sources programs p [] rest none = ap (λ (x : List bpf_line_info). steps (at AtFuncs programs (Some (record p { line_records = x }))) rest) none
+  all_sources programs p (r ∷ records) rest none = from p.line_records none
     where
       from : (before : List bpf_line_info) → before ≡ [] →
           steps (at AtFuncs programs (Some (record p { line_records = before }))) (map line_of_source (r ∷ records) ++ rest)
           ≡ steps (at AtLines programs (Some (record p { line_records = r ∷ records }))) rest
-      from [] e = sources_steps programs (record p { line_records = r ∷ [] }) records rest (omega arith)
+      from [] e = sources_steps programs (record p { line_records = r ∷ [] }) records rest
       from (x ∷ before) e = cc
 
   begins : (phase : Phase) → IsBetween phase → (programs : List ProgramContent) (last : Option ProgramContent) (name : List ℕ) (section : ProgramSection) → follows (option_map (λ p. p.name) last) name ≡ true →
@@ -365,9 +357,9 @@ module _ (v : TextVersion) (license : List ℕ) (version : Option ℕ) (answers 
       ∙ (ap (λ ls. steps (at AtSlots all (Some bare)) (Slots (slot_bytes p.slots) ∷ ls)) (append_assoc (tables_of v p.tables) (lines_of_records p) rest)
       ∙ (slots_steps v refl all p.name p.section (slot_bytes p.slots) p.tables (lines_of_records p ++ rest) k
       ∙ (ap (λ ls. steps (at AtFuncs all (Some slotted)) ls) (append_assoc (map line_of_func p.func_records) sources rest)
-      ∙ (funcs_steps all slotted p.func_records (sources ++ rest) (omega (arith, fits.few_funcs))
+      ∙ (funcs_steps all slotted p.func_records (sources ++ rest)
       ∙ (ap (λ (x : List bpf_insn). steps (at AtFuncs all (Some (record funced { slots = x }))) (sources ++ rest)) (slots_again p.slots fits.slots)
-      ∙ all_sources all funced p.line_records rest refl fits.few_lines)))))
+      ∙ all_sources all funced p.line_records rest refl)))))
 
   programs_steps : (phase : Phase) → IsBetween phase → (programs : List ProgramContent) (last : Option ProgramContent) (ps : List ProgramContent) → All FitsProgram ps → AllKnowNone v ps → RiseFrom (option_map (λ x. x.name) last) (program_names ps) →
       steps (at phase programs last) (flat_map (lines_of_program v) ps ++ End ∷ [])

@@ -1,25 +1,16 @@
 -- Texts that are written piece by piece.
-use Rattle.std.proofs.Common.{◌≡◌, ℕ, ◌+◌, ◌<◌, List, [], ◌∷◌, ◌++◌, length, take, get_or, map, slice_get, zero, suc, None, Some, refl, ap, sym, ◌∙◌, append_assoc, append-nil, arith}
-use Rattle.std.specs.Prelude.{flat_map, codes, slice_index, ◌/◌, ◌%◌}
+use Rattle.std.proofs.Common.{◌≡◌, ℕ, ◌+◌, ◌<◌, ◌≤◌, List, [], ◌∷◌, ◌++◌, length, take, get_or, map, slice_get, zero, suc, None, Some, refl, ap, sym, ◌∙◌, append_assoc, append-nil, arith}
+use Rattle.std.specs.Prelude.{flat_map, codes}
 use Rattle.std.specs.Fmt.{decimal}
 use Rattle.std.proofs.lemmas.Grind.{flat_map-append}
 use Rattle.std.proofs.lemmas.List.{map-append, take_more}
 use Rattle.std.proofs.lemmas.Option.{get_or_from_slice_get, slice_get_within}
-use Rattle.hex.specs.Hex.{encode_with, encode_lower, lower_digits}
-use Rattle.ebpf_items.specs.declared.instruction.bpf_insn.{bpf_insn}
-use Rattle.ebpf_items.specs.Instruction.{bytes_of}
 use Rattle.plan_text.specs.Content.{MapContent, PlanContent, ProgramContent}
-use Rattle.plan_text.specs.PlanGrammar.{slot_bytes, map_line, map_lines, program_line, slots_line, func_line, source_line, program_lines, first_lines, feature_line, types_line, end_line, tables_line, text_in, text_of}
+use Rattle.plan_text.specs.PlanGrammar.{map_line, map_lines, program_line, slots_line, func_line, source_line, program_lines, first_lines, feature_line, types_line, end_line, tables_line, text_in, text_of}
 use Rattle.plan_lines.specs.Words.{hex_word, words_onto, line_onto, lines_onto, text_of_lines}
-use Rattle.plan_lines.specs.Lines.{numbers_of, form_word, table_words}
+use Rattle.plan_lines.specs.Lines.{numbers_of, form_word}
 use Rattle.plan_lines.specs.declared.line.TextVersion.TheVariants.{Second}
 use Rattle.plan_lines.specs.ProgramKinds.{kind_numbers}
-
-pub encode_with-append : (digits xs ys : List ℕ) → encode_with digits (xs ++ ys) ≡ encode_with digits xs ++ encode_with digits ys
-unfolding encode_with
-encode_with-append digits [] ys = refl
-encode_with-append digits (x ∷ xs) ys =
-    ap (λ rest. slice_index digits (x / 16) ∷ slice_index digits (x % 16) ∷ rest) (encode_with-append digits xs ys)
 
 -- some words, and then more
 pub words_onto-append : (words : List (List ℕ)) (s t : List ℕ) → words_onto words s ++ t ≡ words_onto words (s ++ t)
@@ -54,18 +45,6 @@ pub text_of_lines-first : (line : List (List ℕ)) (lines : List (List (List ℕ
 text_of_lines-first line lines = text_of_lines-append (line ∷ []) lines
 
 -- the text of the elements before i + 1 is that of the elements before i, and then that of the element at i
-pub encode_lower-more : (bytes : List ℕ) (i : ℕ) → i < length bytes → encode_lower (take (i + 1) bytes) ≡ encode_lower (take i bytes) ++ encode_lower (get_or bytes i 0 ∷ [])
-encode_lower-more bytes i within =
-    ap encode_lower (take_more bytes i 0 within) ∙ encode_with-append lower_digits (take i bytes) (get_or bytes i 0 ∷ [])
-
-pub numbers-more : (numbers : List ℕ) (i : ℕ) → i < length numbers → words_onto (map decimal (take (i + 1) numbers)) [] ≡ words_onto (map decimal (take i numbers)) [] ++ 32 ∷ decimal (get_or numbers i 0)
-numbers-more numbers i within =
-    ap (λ some. words_onto (map decimal some) []) (take_more numbers i 0 within)
-    ∙ ap (λ words. words_onto words []) (map-append decimal (take i numbers) (get_or numbers i 0 ∷ []))
-    ∙ words_onto-words (map decimal (take i numbers)) (decimal (get_or numbers i 0) ∷ []) []
-    ∙ words_onto-split (map decimal (take i numbers)) (32 ∷ decimal (get_or numbers i 0) ++ [])
-    ∙ ap (λ last. words_onto (map decimal (take i numbers)) [] ++ 32 ∷ last) (append-nil (decimal (get_or numbers i 0)))
-
 pub each_line-more : {A : Type 0} (line : A → List (List ℕ)) (xs : List A) (i : ℕ) (x : A) → i < length xs → text_of_lines (map line (take (i + 1) xs)) ≡ text_of_lines (map line (take i xs)) ++ text_of_lines (line (get_or xs i x) ∷ [])
 each_line-more line xs i x within =
     ap (λ some. text_of_lines (map line some)) (take_more xs i x within)
@@ -89,26 +68,6 @@ each_lines-more lines xs i x within =
     ap (λ some. text_of_lines (flat_map lines some)) (take_more xs i x within)
     ∙ ap text_of_lines (flat_map-append lines (take i xs) (get_or xs i x ∷ []) ∙ ap (λ last. flat_map lines (take i xs) ++ last) (append-nil (lines (get_or xs i x))))
     ∙ text_of_lines-append (flat_map lines (take i xs)) (lines (get_or xs i x))
-
--- the digits of a slot, and then those of others
-pub slot_digits-first : (slot : bpf_insn) (slots : List bpf_insn) → encode_lower (slot_bytes (slot ∷ slots)) ≡ encode_lower (bytes_of slot) ++ encode_lower (slot_bytes slots)
-slot_digits-first slot slots = encode_with-append lower_digits (bytes_of slot) (slot_bytes slots)
-
-pub hex_word-some : (bytes : List ℕ) → 0 < length bytes → hex_word bytes ≡ encode_lower bytes
-hex_word-some [] some = absurd (omega (arith, some))
-hex_word-some (byte ∷ bytes) some = refl
-
-pub hex_word-slots : (slots : List bpf_insn) → 0 < length slots → hex_word (slot_bytes slots) ≡ encode_lower (slot_bytes slots)
-hex_word-slots [] some = absurd (omega (arith, some))
-hex_word-slots (slot ∷ slots) some = refl
-
-pub table_words-some : (places : List ℕ) → 0 < length places → table_words (Some places) ≡ map decimal places
-table_words-some [] some = absurd (omega (arith, some))
-table_words-some (place ∷ places) some = refl
-
-pub encode_lower-nil : encode_lower [] ≡ []
-unfolding encode_with
-encode_lower-nil = refl
 
 -- ---- lines by their words
 
@@ -144,3 +103,10 @@ pub text_of-parts : (plan : PlanContent) → text_of plan ≡ text_of_lines (fir
 unfolding text_in
 text_of-parts plan =
     five_parts (first_lines Second plan) (map feature_line plan.features) (flat_map map_lines plan.maps) (flat_map (program_lines Second) plan.programs) (end_line ∷ []) (types_line plan.type_bytes)
+
+-- as many elements as there are, or more, are all
+pub take-whole : {A : Type 0} (xs : List A) (i : ℕ) → length xs ≤ i → take i xs ≡ xs
+take-whole [] zero h = refl
+take-whole [] (suc i) h = refl
+take-whole (x ∷ xs) zero h = absurd (omega (arith, h))
+take-whole (x ∷ xs) (suc i) h = ap (λ rest. x ∷ rest) (take-whole xs i (omega (arith, h)))

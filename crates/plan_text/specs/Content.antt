@@ -111,14 +111,11 @@ abbrev pub FitsSource : bpf_line_info → Type 0
 FitsSource r =
     AreWithin (max_32 ∷ max_32 ∷ max_32 ∷ max_32 ∷ []) (r.insn_off ∷ r.file_name_off ∷ r.line_off ∷ r.line_col ∷ [])
 
--- records are counted in 32 bits
 pub record FitsProgram (p : ProgramContent) : Type 0 where
   pub name : IsName p.name
   pub slots : All FitsSlot p.slots
   pub func_records : All FitsFunc p.func_records
-  pub few_funcs : length p.func_records < 2 ^ 32
   pub line_records : All FitsSource p.line_records
-  pub few_lines : length p.line_records < 2 ^ 32
 
 pub record FitsPlan (plan : PlanContent) : Type 0 where
   pub license : AreBytes plan.license
@@ -126,3 +123,8 @@ pub record FitsPlan (plan : PlanContent) : Type 0 where
   pub type_bytes : IfSome plan.type_bytes AreBytes
   pub maps : All FitsMap plan.maps
   pub programs : All FitsProgram plan.programs
+
+-- what each plan is
+pub record IsPlan (plan : PlanContent) : Type 0 where
+  pub sound : IsSoundPlan plan
+  pub fits : FitsPlan plan

@@ -1,10 +1,9 @@
 -- How a plan is read line by line.
-use Rattle.std.specs.Prelude.{◌≡◌, ℕ, ◌+◌, ◌<◌, ◌^◌, ◌&&◌, nat_lt, Bool, true, false, if◌then◌else◌, List, [], ◌∷◌, ◌++◌, length, Option, Some, None, is_none, IfSome, option_and_then}
+use Rattle.std.specs.Prelude.{◌≡◌, ℕ, ◌&&◌, Bool, true, false, if◌then◌else◌, List, [], ◌∷◌, ◌++◌, Option, Some, None, is_none, option_and_then}
 use Rattle.std.specs.Cmp.Lexicographic.{slice_cmp}
 use Rattle.std.specs.List.{list_any}
 use Rattle.std.specs.Option.{option_map}
 use Rattle.std.specs.Ordering.{is_lt, nat_cmp}
-use Rattle.std.specs.String.{string_bytes}
 use Rattle.btf_extension.specs.declared.record.bpf_func_info.{bpf_func_info}
 use Rattle.btf_extension.specs.declared.record.bpf_line_info.{bpf_line_info}
 use Rattle.btf_records.specs.declared.feature.BtfFeature.{BtfFeature}
@@ -20,7 +19,6 @@ use Rattle.plan_text.specs.Content.{MapContent, PlanContent, ProgramContent, pla
 use Rattle.plan_text.specs.declared.reading.Phase.{Phase}
 use Rattle.plan_text.specs.declared.reading.Phase.TheVariants.{AtHeader, AtLicense, AtVersion, AtFeatures, AtMaps, AtSlots, AtTables, AtFuncs, AtLines, AtEnd}
 use Rattle.plan_text.specs.declared.reading.Reader.{Reader}
-use Rattle.plan_text.specs.declared.reading.ReadProgram.{ReadProgram}
 use Rattle.program_kinds.specs.declared.program_section.ProgramSection.{ProgramSection}
 
 -- How far a text has been read. The last map and the last program stand apart.
@@ -130,26 +128,22 @@ step_program AtLines s p = begin_program s p
 step_program _ s p = None
 
 -- the last program, changed
-abbrev pub at_program : StateContent → Phase → (ProgramContent → Option ProgramContent) → Option StateContent
-at_program s phase change =
-    option_map (λ p. record s { phase = phase; last_program = Some p }) (option_and_then change s.last_program)
+abbrev pub at_program : StateContent → Phase → (ProgramContent → ProgramContent) → Option StateContent
+at_program s phase change = option_map (λ p. record s { phase = phase; last_program = Some (change p) }) s.last_program
 
 abbrev pub step_slots : Phase → StateContent → List ℕ → Option StateContent
-step_slots AtSlots s bytes = at_program s (after_slots s.text_version) (λ p. Some (record p { slots = slots_of bytes }))
+step_slots AtSlots s bytes = at_program s (after_slots s.text_version) (λ p. record p { slots = slots_of bytes })
 step_slots _ s bytes = None
 
 abbrev pub step_tables : Phase → StateContent → Option (List ℕ) → Option StateContent
-step_tables AtTables s tables = at_program s AtFuncs (λ p. Some (record p { tables = tables }))
+step_tables AtTables s tables = at_program s AtFuncs (λ p. record p { tables = tables })
 step_tables _ s tables = None
 
-abbrev pub has_room : {A : Type 0} → List A → Bool
-has_room records = nat_lt (length records + 1) (2 ^ 32)
+abbrev pub with_func : bpf_func_info → ProgramContent → ProgramContent
+with_func r p = record p { func_records = p.func_records ++ r ∷ [] }
 
-abbrev pub with_func : bpf_func_info → ProgramContent → Option ProgramContent
-with_func r p = if has_room p.func_records then Some (record p { func_records = p.func_records ++ r ∷ [] }) else None
-
-abbrev pub with_source : bpf_line_info → ProgramContent → Option ProgramContent
-with_source r p = if has_room p.line_records then Some (record p { line_records = p.line_records ++ r ∷ [] }) else None
+abbrev pub with_source : bpf_line_info → ProgramContent → ProgramContent
+with_source r p = record p { line_records = p.line_records ++ r ∷ [] }
 
 abbrev pub step_func : Phase → StateContent → bpf_func_info → Option StateContent
 step_func AtFuncs s r = at_program s AtFuncs (with_func r)
@@ -231,25 +225,11 @@ abbrev pub TakesLine : StateContent → List ℕ → StateContent → Bool → T
 TakesLine s bytes t true = TookLine s bytes t
 TakesLine s bytes t false = RefusedLine s bytes
 
--- records are counted in 32 bits
-abbrev pub HasFewRecords : Option ProgramContent → Type 0
-HasFewRecords program = IfSome program (λ p. (length p.func_records < 2 ^ 32) × (length p.line_records < 2 ^ 32))
-
 -- the plan of what was put among the others
 abbrev pub kept_plan : StateContent → PlanContent
 kept_plan s = plan_content s.license s.version s.features s.type_bytes s.maps s.programs
 
 -- ---- a reader without where it lies in memory
-
-abbrev pub program_view : ReadProgram → ProgramContent
-program_view p = record {
-  name = string_bytes p.name;
-  section = p.section;
-  slots = p.slots.items;
-  func_records = p.func_records.items;
-  line_records = p.line_records.items;
-  tables = option_map (λ places. places.items) p.tables;
-}
 
 abbrev pub state_view : Reader → StateContent
 state_view r = record {
@@ -262,5 +242,5 @@ state_view r = record {
   maps = r.maps.items;
   last_map = r.last_map;
   programs = r.programs.items;
-  last_program = option_map program_view r.last_program;
+  last_program = r.last_program;
 }

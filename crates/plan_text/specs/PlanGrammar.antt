@@ -6,11 +6,10 @@ use Rattle.btf_extension.specs.declared.record.bpf_func_info.{bpf_func_info}
 use Rattle.btf_extension.specs.declared.record.bpf_line_info.{bpf_line_info}
 use Rattle.btf_records.specs.declared.feature.BtfFeature.{BtfFeature}
 use Rattle.ebpf_items.specs.declared.instruction.bpf_insn.{bpf_insn}
-use Rattle.ebpf_items.specs.Instruction.{bytes_of}
 use Rattle.plan_text.specs.Content.{FitsPlan, IsSoundPlan, MapContent, PlanContent, ProgramContent}
 use Rattle.plan_lines.specs.Lines.{answer_word, feature_word, form_word, number_word, numbers_of, table_words, types_word, version_word}
 use Rattle.plan_lines.specs.ProgramKinds.{kind_numbers}
-use Rattle.plan_lines.specs.Words.{hex_word, text_of_lines}
+use Rattle.plan_lines.specs.Words.{hex_word, slot_bytes, text_of_lines}
 use Rattle.plan_lines.specs.declared.line.TextVersion.{TextVersion}
 use Rattle.plan_lines.specs.declared.line.TextVersion.TheVariants.{First, Second}
 use Rattle.plan_lines.specs.declared.map_words.MapWords.{MapWords}
@@ -51,10 +50,6 @@ abbrev pub map_lines : MapContent → List (List (List ℕ))
 map_lines m = map_line m ∷ inner_lines m.inner
 
 -- ---- programs
-
--- the bytes of slots, one slot after another
-abbrev pub slot_bytes : List bpf_insn → List ℕ
-slot_bytes slots = flat_map bytes_of slots
 
 abbrev pub program_line : List ℕ → KindNumbers → List (List ℕ)
 program_line name numbers =

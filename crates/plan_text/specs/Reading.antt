@@ -1,7 +1,7 @@
 -- What reading a plan gives.
 use Rattle.std.specs.Prelude.{◌≡◌, ℕ, ◌+◌, ◌⊎◌, List, [], ◌∷◌, ◌++◌, length, Result, Ok, Err}
 use Rattle.plan_lines.specs.WordReading.{IsUnbroken}
-use Rattle.plan_text.specs.Content.{IsSoundPlan, PlanContent}
+use Rattle.plan_text.specs.Content.{IsPlan, PlanContent}
 use Rattle.plan_text.specs.PlanGrammar.{BeginsPlanText, IsPlanText, IsTextOf}
 use Rattle.plan_text.specs.declared.reading.PlanReadError.{PlanReadError}
 use Rattle.plan_text.specs.declared.reading.PlanReadError.TheVariants as error
@@ -43,7 +43,7 @@ IsReadFault bytes error.OutOfMemory = Unit {0}
 
 -- the bytes are a text of this plan, and of no other
 pub record IsReadPlan (bytes : List ℕ) (plan : PlanContent) : Type 0 where
-  pub sound : IsSoundPlan plan
+  pub sound : IsPlan plan
   pub text : IsTextOf plan bytes
   pub only : (other : PlanContent) → IsTextOf other bytes → plan ≡ other
 

@@ -1,40 +1,15 @@
 //! The lines of maps, written without memory.
 
-ghost use Rattle.std.specs.Prelude.{◌≡◌, [], ◌∷◌, flat_map};
+ghost use Rattle.std.specs.Prelude.{[], ◌∷◌, flat_map};
 ghost use Rattle.watched.specs.Watched.{Sends};
 ghost use Rattle.plan_text.specs.PlanGrammar.{inner_line, inner_lines, map_line, map_lines};
 ghost use Rattle.plan_lines.specs.Words.{text_of_lines};
-ghost use Rattle.plan_lines.specs.Lines.{form_word, numbers_of, pinning_number};
+ghost use Rattle.plan_lines.specs.Lines.{form_word};
 
 use crate::plan::PlanMap;
-use crate::words::{send_bytes, send_decimal, send_numbers};
-use ebpf_items::{PinningType, Watched};
-use plan_lines::MapWords;
+use ebpf_items::Watched;
+use plan_lines::{MapWords, numbers_of, send_bytes, send_decimal, send_numbers};
 use std::io::Write;
-
-fn pinning_number(pinning: PinningType) -> u64
-    ensures { result ≡ pinning_number pinning }
-{
-    pinning as u64
-}
-
-/// The numbers that define a map, in the order of a line.
-fn numbers_of(words: MapWords) -> [u64; 10]
-    ensures { result ≡ numbers_of words }
-{
-    [
-        u64::from(words.map_type),
-        u64::from(words.key_size),
-        u64::from(words.value_size),
-        u64::from(words.max_entries),
-        u64::from(words.map_flags),
-        words.map_extra,
-        pinning_number(words.pinning),
-        u64::from(words.id),
-        u64::from(words.btf_key_type_id),
-        u64::from(words.btf_value_type_id),
-    ]
-}
 
 fn send_form<W: Write>(out: &mut Watched<W>, is_btf: bool)
     ensures { Sends W.contents out.old out.new (form_word is_btf) }

@@ -7,14 +7,18 @@ ghost use Rattle.std.specs.String.{string_bytes};
 ghost use Rattle.btf_sanitizing.specs.Answers as answers;
 ghost use Rattle.object_file.specs.License.{HasNoNul};
 ghost use Rattle.object_file.specs.Version.{IsKnownVersion};
-ghost use Rattle.plan_text.specs.Content.{map_names, plan_content, program_names, AreRising, AreTypeBytes, IsSoundMap, IsSoundPlan, IsSoundProgram};
+ghost use Rattle.plan_text.specs.Content.{map_names, plan_content, program_names, AreRising, AreTypeBytes, FitsMap, FitsProgram, IsPlan, IsSoundMap, IsSoundPlan, IsSoundProgram};
 ghost use Rattle.plan_text.specs.PlanParts.{content_of};
 
+use crate::limits::{
+    funcs_fit, inner_fits, maps_fit, programs_fit, slots_fit, sources_fit, type_bytes_fit,
+    version_fits,
+};
 use btf_extension::{FuncSecInfo, LineSecInfo};
 use btf_records::BtfFeature;
 use btf_sanitizing::Answers;
 use ebpf_items::{ProgramSection, Slots};
-use plan_lines::MapWords;
+use plan_lines::{MapWords, bytes_fit, name_fits, words_fit};
 use std::alloc::Global;
 use std::borrow::{CowSlice, CowStr};
 use std::marker::Model;
@@ -32,11 +36,13 @@ pub struct PlanMap<'a> {
 
 impl<'a> Model for PlanMap<'a> {
     ghost use Rattle.std.specs.Cow.{cow_str_bytes};
-    ghost use Rattle.plan_text.specs.Content.{MapContent};
+    ghost use Rattle.plan_text.specs.Content.{FitsMap, MapContent};
 
     ghost Value = { MapContent };
 
     ghost view = { λ m. record { name = cow_str_bytes m.name; number = m.number; is_btf = m.is_btf; words = m.words; contents = m.contents.items; inner = m.inner } };
+
+    ghost invariant = { λ m. FitsMap (record { name = cow_str_bytes m.name; number = m.number; is_btf = m.is_btf; words = m.words; contents = m.contents.items; inner = m.inner }) };
 }
 
 impl<'a> PlanMap<'a> {
@@ -52,6 +58,10 @@ impl<'a> PlanMap<'a> {
     ) -> PlanMap<'a>
         ensures { result ≡ record { name = name.now; number = number; is_btf = is_btf; words = words; contents = contents.items; inner = inner } }
     {
+        name_fits(name);
+        words_fit(words);
+        inner_fits(inner);
+        bytes_fit(contents.as_slice());
         PlanMap {
             name: CowStr::Borrowed(name),
             number,
@@ -72,6 +82,9 @@ impl<'a> PlanMap<'a> {
     ) -> PlanMap<'a>
         ensures { result ≡ record { name = string_bytes name; number = number; is_btf = is_btf; words = words; contents = contents.items; inner = None } }
     {
+        name_fits(name.as_str());
+        words_fit(words);
+        bytes_fit(contents.as_slice());
         PlanMap {
             name: CowStr::Owned(name),
             number,
@@ -82,10 +95,18 @@ impl<'a> PlanMap<'a> {
         }
     }
 
+    /// The map's numbers fit their words.
+    pub(crate) fn fits(&self)
+        ensures { FitsMap self.now }
+    {
+        let _name = &self.name;
+    }
+
     /// The map, which holds maps of these words.
     pub(crate) fn with_inner(self, words: MapWords) -> PlanMap<'a>
         ensures { result ≡ record self.entry { inner = Some words } }
     {
+        words_fit(words);
         PlanMap {
             name: self.name,
             number: self.number,
@@ -152,11 +173,13 @@ pub struct PlanProgram<'a> {
 impl<'a> Model for PlanProgram<'a> {
     ghost use Rattle.std.specs.Cow.{cow_str_bytes};
     ghost use Rattle.std.specs.Option.{option_map};
-    ghost use Rattle.plan_text.specs.Content.{ProgramContent};
+    ghost use Rattle.plan_text.specs.Content.{FitsProgram, ProgramContent};
 
     ghost Value = { ProgramContent };
 
     ghost view = { λ p. record { name = cow_str_bytes p.name; section = p.section; slots = p.slots; func_records = p.func_records; line_records = p.line_records; tables = option_map (λ places. places.items) p.tables } };
+
+    ghost invariant = { λ p. FitsProgram (record { name = cow_str_bytes p.name; section = p.section; slots = p.slots; func_records = p.func_records; line_records = p.line_records; tables = option_map (λ places. places.items) p.tables }) };
 }
 
 impl<'a> PlanProgram<'a> {
@@ -172,6 +195,10 @@ impl<'a> PlanProgram<'a> {
     ) -> PlanProgram<'a>
         ensures { result ≡ record { name = name.now; section = section; slots = slots.entry; func_records = func_records.entry; line_records = line_records.entry; tables = option_map (λ places. places.items) tables } }
     {
+        name_fits(name);
+        slots_fit(&slots);
+        funcs_fit(&func_records);
+        sources_fit(&line_records);
         PlanProgram {
             name: CowStr::Borrowed(name),
             section,
@@ -193,6 +220,10 @@ impl<'a> PlanProgram<'a> {
     ) -> PlanProgram<'a>
         ensures { result ≡ record { name = string_bytes name; section = section; slots = slots.entry; func_records = func_records.entry; line_records = line_records.entry; tables = option_map (λ places. places.items) tables } }
     {
+        name_fits(name.as_str());
+        slots_fit(&slots);
+        funcs_fit(&func_records);
+        sources_fit(&line_records);
         PlanProgram {
             name: CowStr::Owned(name),
             section,
@@ -201,6 +232,13 @@ impl<'a> PlanProgram<'a> {
             line_records,
             tables,
         }
+    }
+
+    /// The program's numbers fit their words.
+    pub(crate) fn fits(&self)
+        ensures { FitsProgram self.now }
+    {
+        let _name = &self.name;
     }
 
     /// The program's name in the object.
@@ -284,13 +322,13 @@ pub struct Plan<'a> {
 impl<'a> Model for Plan<'a> {
     ghost use Rattle.std.specs.Cow.{cow_slice_items};
     ghost use Rattle.std.specs.Option.{option_map};
-    ghost use Rattle.plan_text.specs.Content.{IsSoundPlan, plan_content, PlanContent};
+    ghost use Rattle.plan_text.specs.Content.{IsPlan, plan_content, PlanContent};
 
     ghost Value = { PlanContent };
 
     ghost view = { λ p. plan_content (cow_slice_items p.license) p.version p.features.items (option_map (λ bytes. bytes.items) p.type_bytes) p.maps.items p.programs.items };
 
-    ghost invariant = { λ p. IsSoundPlan (plan_content (cow_slice_items p.license) p.version p.features.items (option_map (λ bytes. bytes.items) p.type_bytes) p.maps.items p.programs.items) };
+    ghost invariant = { λ p. IsPlan (plan_content (cow_slice_items p.license) p.version p.features.items (option_map (λ bytes. bytes.items) p.type_bytes) p.maps.items p.programs.items) };
 }
 
 /// The plan of these parts.
@@ -298,6 +336,11 @@ pub fn plan_of_parts<'a>(parts: PlanParts<'a>) -> Plan<'a>
     requires { IsSoundPlan (content_of parts) }
     ensures { result ≡ content_of parts.entry }
 {
+    bytes_fit(parts.license);
+    version_fits(parts.version);
+    type_bytes_fit(&parts.type_bytes);
+    maps_fit(parts.maps.as_slice());
+    programs_fit(parts.programs.as_slice());
     Plan {
         license: CowSlice::Borrowed(parts.license),
         version: parts.version,
@@ -318,7 +361,7 @@ impl<'a> Plan<'a> {
         maps: Vec<PlanMap<'a>>,
         programs: Vec<PlanProgram<'a>>,
     ) -> Plan<'a>
-        requires { IsSoundPlan (plan_content license.items version features.items (option_map (λ bytes. bytes.items) type_bytes) maps.items programs.items) }
+        requires { IsPlan (plan_content license.items version features.items (option_map (λ bytes. bytes.items) type_bytes) maps.items programs.items) }
         ensures { result ≡ plan_content license.items version features.items (option_map (λ bytes. bytes.items) type_bytes) maps.entry.items programs.entry.items }
     {
         Plan {
@@ -329,6 +372,13 @@ impl<'a> Plan<'a> {
             maps,
             programs,
         }
+    }
+
+    /// The plan keeps to what each plan keeps to, and its numbers fit their words.
+    pub(crate) fn fits(&self)
+        ensures { IsPlan self.now }
+    {
+        let _license = &self.license;
     }
 
     /// The license, without the NUL that ends it in the object.

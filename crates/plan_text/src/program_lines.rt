@@ -1,19 +1,16 @@
 //! The lines of programs, written without memory.
 
-ghost use Rattle.std.specs.Prelude.{◌≡◌, [], ◌∷◌, flat_map, map, Some};
-ghost use Rattle.std.specs.Fmt.{decimal};
+ghost use Rattle.std.specs.Prelude.{◌≡◌, [], ◌∷◌, flat_map, map};
 ghost use Rattle.std.specs.Option.{option_map};
 ghost use Rattle.watched.specs.Watched.{Sends};
 ghost use Rattle.plan_text.specs.PlanGrammar.{func_line, program_line, program_lines, slots_line, source_line, tables_line};
-ghost use Rattle.plan_lines.specs.Words.{text_of_lines, words_onto};
-ghost use Rattle.plan_lines.specs.Lines.{table_words};
+ghost use Rattle.plan_lines.specs.Words.{text_of_lines};
 ghost use Rattle.plan_lines.specs.declared.line.TextVersion.TheVariants.{Second};
 
 use crate::plan::PlanProgram;
-use crate::words::{send_bytes, send_number, send_numbers, send_slots};
 use btf_extension::{FuncSecInfo, LineSecInfo, bpf_func_info, bpf_line_info};
 use ebpf_items::{Slots, Watched};
-use plan_lines::{KindNumbers, kind_numbers};
+use plan_lines::{KindNumbers, kind_numbers, send_bytes, send_numbers, send_slots, send_tables};
 use std::io::Write;
 
 fn numbers_of_kind(numbers: KindNumbers) -> [u64; 3]
@@ -42,35 +39,6 @@ fn send_slots_line<W: Write>(out: &mut Watched<W>, slots: &Slots<'_>)
     out.send(b"slots ");
     send_slots(out, slots);
     out.send(b"\n");
-}
-
-/// Sends places of kernel tables, a space before each.
-fn send_places<W: Write>(out: &mut Watched<W>, places: &[u32])
-    ensures { Sends W.contents out.old out.new (words_onto (map decimal places.now) []) }
-{
-    for place in places {
-        let number: u64 = u64::from(*place);
-        send_number(out, number);
-    }
-}
-
-fn send_known_tables<W: Write>(out: &mut Watched<W>, places: &[u32])
-    ensures { Sends W.contents out.old out.new (words_onto (table_words (Some places.now)) []) }
-{
-    if places.is_empty() {
-        out.send(b" -");
-    } else {
-        send_places(out, places);
-    }
-}
-
-fn send_tables<W: Write>(out: &mut Watched<W>, tables: Option<&[u32]>)
-    ensures { Sends W.contents out.old out.new (words_onto (table_words (option_map (λ places. places.now) tables.entry)) []) }
-{
-    match tables {
-        Some(places) => send_known_tables(out, places),
-        None => out.send(b" ?"),
-    }
 }
 
 fn send_tables_line<W: Write>(out: &mut Watched<W>, tables: Option<&[u32]>)

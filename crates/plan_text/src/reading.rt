@@ -7,8 +7,8 @@ ghost use Rattle.btf_sanitizing.specs.Answers.{features, AreDistinct};
 ghost use Rattle.ebpf_items.specs.Instruction.{slots_of};
 ghost use Rattle.plan_lines.specs.LineViews.{line_view};
 ghost use Rattle.plan_lines.specs.WordReading.{IsUnbroken};
-ghost use Rattle.plan_text.specs.Content.{IsSoundPlan, PlanContent};
-ghost use Rattle.plan_text.specs.Machine.{after_slots, at_program, bare_program, begin_program, finished, follows, is_asked, kept_plan, last_map_name, last_program_name, map_of, program_view, start, state_view, step, step_end, step_feature, step_func, step_header, step_inner, step_license, step_map, step_program, step_slots, step_source, step_tables, step_types, step_version, with_last, with_source, HasFewRecords, Takes, TakesLine};
+ghost use Rattle.plan_text.specs.Content.{IsPlan, PlanContent};
+ghost use Rattle.plan_text.specs.Machine.{after_slots, at_program, bare_program, begin_program, finished, follows, is_asked, kept_plan, last_map_name, last_program_name, map_of, start, state_view, step, step_end, step_feature, step_func, step_header, step_inner, step_license, step_map, step_program, step_slots, step_source, step_tables, step_types, step_version, with_func, with_last, with_source, Takes, TakesLine};
 ghost use Rattle.plan_text.specs.PlanGrammar.{IsTextOf};
 ghost use Rattle.plan_text.specs.Reading.{IsReadFault, IsReadPlan, ReadsAs};
 ghost use Rattle.plan_text.specs.declared.reading.PlanReadError.TheVariants.{OutOfMemory};
@@ -24,6 +24,7 @@ use plan_lines::{
     read_line,
 };
 use std::alloc::{AllocError, Global};
+use std::marker::Model;
 
 /// Why bytes can't be read as a plan.
 #[derive(Debug, Drop)]
@@ -58,7 +59,7 @@ pub enum Phase {
     AtEnd,
 }
 
-/// A program of which more may be read.
+/// A program of which more may be read. Its records are counted in 32 bits.
 #[derive(Drop)]
 pub struct ReadProgram {
     name: String,
@@ -84,11 +85,58 @@ pub struct Reader {
     last_program: Option<ReadProgram>,
 }
 
+impl Model for ReadProgram {
+    ghost use Rattle.std.specs.Prelude.{◌<◌, ◌^◌, length};
+    ghost use Rattle.std.specs.Option.{option_map};
+    ghost use Rattle.std.specs.String.{string_bytes};
+    ghost use Rattle.plan_text.specs.Content.{ProgramContent};
+
+    ghost Value = { ProgramContent };
+
+    ghost view = { λ p. record { name = string_bytes p.name; section = p.section; slots = p.slots.items; func_records = p.func_records.items; line_records = p.line_records.items; tables = option_map (λ places. places.items) p.tables } };
+
+    ghost invariant = { λ p. (length p.func_records.items < 2 ^ 32) × (length p.line_records.items < 2 ^ 32) };
+}
+
 impl ReadProgram {
+    /// A program of which no more was read.
+    fn new(alloc: Global, name: String, section: ProgramSection) -> ReadProgram
+        ensures { result ≡ bare_program (string_bytes name) section }
+    {
+        ReadProgram {
+            name,
+            section,
+            slots: Vec::new(alloc),
+            tables: None,
+            func_records: Vec::new(alloc),
+            line_records: Vec::new(alloc),
+        }
+    }
+
+    /// Adds the record of a function, where 32 bits still count it.
+    fn add_func(&mut self, info: bpf_func_info) -> Result<(), AllocError>
+        ensures { OnOk result (self.new ≡ with_func info self.old) }
+    {
+        if !has_room(self.func_records.len()) {
+            return Err(AllocError);
+        }
+        self.func_records.push(info)?;
+        Ok(())
+    }
+
+    /// Adds the record of a line, where 32 bits still count it.
+    fn add_source(&mut self, info: bpf_line_info) -> Result<(), AllocError>
+        ensures { OnOk result (self.new ≡ with_source info self.old) }
+    {
+        if !has_room(self.line_records.len()) {
+            return Err(AllocError);
+        }
+        self.line_records.push(info)?;
+        Ok(())
+    }
+
     fn into_program(self) -> PlanProgram<'static>
-        requires funcs { length self.func_records.items < 2 ^ 32 }
-        requires sources { length self.line_records.items < 2 ^ 32 }
-        ensures { result ≡ program_view self }
+        ensures { result ≡ self }
     {
         PlanProgram::owned(
             self.name,
@@ -262,7 +310,6 @@ impl Reader {
 
     /// Puts the last program among the others.
     fn keep_program(&mut self) -> Result<(), AllocError>
-        requires { HasFewRecords (state_view self.old).last_program }
         ensures { OnOk result (state_view self.new ≡ record (state_view self.old) { programs = with_last (state_view self.old).programs (state_view self.old).last_program; last_program = None }) }
     {
         if let Some(program) = self.last_program.take() {
@@ -277,21 +324,13 @@ impl Reader {
         name: String,
         section: ProgramSection,
     ) -> Result<bool, AllocError>
-        requires { HasFewRecords (state_view self.old).last_program }
         ensures { IfOk result (λ ok. Takes (begin_program (state_view self.old) (bare_program (string_bytes name) section)) ok (state_view self.new)) }
     {
         if !self.program_follows(name.as_str()) {
             return Ok(false);
         }
         self.keep_program()?;
-        self.last_program = Some(ReadProgram {
-            name,
-            section,
-            slots: Vec::new(alloc),
-            tables: None,
-            func_records: Vec::new(alloc),
-            line_records: Vec::new(alloc),
-        });
+        self.last_program = Some(ReadProgram::new(alloc, name, section));
         self.phase = Phase::AtSlots;
         Ok(true)
     }
@@ -302,7 +341,6 @@ impl Reader {
         name: String,
         section: ProgramSection,
     ) -> Result<bool, AllocError>
-        requires { HasFewRecords (state_view self.old).last_program }
         ensures { IfOk result (λ ok. Takes (step_program self.old.phase (state_view self.old) (bare_program (string_bytes name) section)) ok (state_view self.new)) }
     {
         match self.phase {
@@ -353,10 +391,7 @@ impl Reader {
                 let Some(program) = self.last_program.as_mut() else {
                     return Ok(false);
                 };
-                if !has_room(program.func_records.len()) {
-                    return Ok(false);
-                }
-                program.func_records.push(info)?;
+                program.add_func(info)?;
                 self.phase = Phase::AtFuncs;
                 Ok(true)
             }
@@ -370,10 +405,7 @@ impl Reader {
         let Some(program) = self.last_program.as_mut() else {
             return Ok(false);
         };
-        if !has_room(program.line_records.len()) {
-            return Ok(false);
-        }
-        program.line_records.push(info)?;
+        program.add_source(info)?;
         self.phase = Phase::AtLines;
         Ok(true)
     }
@@ -389,7 +421,6 @@ impl Reader {
     }
 
     fn finish(&mut self) -> Result<(), AllocError>
-        requires { HasFewRecords (state_view self.old).last_program }
         ensures { OnOk result (state_view self.new ≡ finished (state_view self.old)) }
     {
         self.keep_map()?;
@@ -399,7 +430,6 @@ impl Reader {
     }
 
     fn end(&mut self) -> Result<bool, AllocError>
-        requires { HasFewRecords (state_view self.old).last_program }
         ensures { IfOk result (λ ok. Takes (step_end self.old.phase (state_view self.old)) ok (state_view self.new)) }
     {
         match self.phase {
@@ -413,8 +443,7 @@ impl Reader {
 
     /// Takes the next line, if it may stand there.
     fn step(&mut self, alloc: Global, line: PlanLine) -> Result<bool, AllocError>
-        requires distinct { AreDistinct (features self.old.features.items) }
-        requires few { HasFewRecords (state_view self.old).last_program }
+        requires { AreDistinct (features self.old.features.items) }
         ensures { IfOk result (λ ok. Takes (step (state_view self.old) (line_view line)) ok (state_view self.new)) }
     {
         match line {
@@ -444,8 +473,7 @@ impl Reader {
 
     /// Takes the next line, from its bytes, if it may stand there.
     fn take(&mut self, alloc: Global, bytes: &[u8]) -> Result<bool, AllocError>
-        requires distinct { AreDistinct (features self.old.features.items) }
-        requires few { HasFewRecords (state_view self.old).last_program }
+        requires { AreDistinct (features self.old.features.items) }
         ensures { IfOk result (TakesLine (state_view self.old) bytes.now (state_view self.new)) }
     {
         match read_line(alloc, bytes) {
@@ -491,7 +519,7 @@ impl Reader {
     }
 
     fn into_plan(self) -> Plan<'static>
-        requires { IsSoundPlan (kept_plan (state_view self)) }
+        requires { IsPlan (kept_plan (state_view self)) }
         ensures { result ≡ kept_plan (state_view self) }
     {
         Plan::owned(
@@ -517,7 +545,7 @@ fn is_asked(answers: &[(BtfFeature, bool)], feature: BtfFeature) -> bool
     false
 }
 
-/// Whether one record more is counted in 32 bits.
+/// Whether 32 bits count one record more.
 fn has_room(len: usize) -> bool
     ensures { result ≡ nat_lt (len + 1) (2 ^ 32) }
 {
@@ -557,23 +585,36 @@ fn cut_line(bytes: &[u8]) -> Option<(&[u8], &[u8])>
     None
 }
 
+/// The plan of a text that isn't the longest of all.
+fn read_plan(alloc: Global, bytes: &[u8]) -> Result<Plan<'static>, PlanReadError>
+    requires { length bytes.now < 2 ^ 64 - 1 }
+    ensures found { IfOk result (λ plan. IsTextOf plan bytes.now) }
+    ensures only { (plan : PlanContent) → IsTextOf plan bytes.now → ReadsAs result plan }
+    ensures refused { IfErr result (IsReadFault bytes.now) }
+{
+    let mut reader = Reader::new(alloc);
+    match reader.take_all(alloc, bytes) {
+        Ok(()) => Ok(reader.into_plan()),
+        Err(error) => Err(error),
+    }
+}
+
 impl Plan<'static> {
     /// The plan of a text of either version. Of the first version no program's kernel tables are
     /// known.
     ///
     /// # Errors
     ///
-    /// `Line` where the bytes are no plan's text, and `OutOfMemory`.
+    /// `Line` where the bytes are no plan's text, and `OutOfMemory`, also where a program has 2^32 records
+    /// of functions or of lines, or the lines can't be counted.
     pub fn read(alloc: Global, bytes: &[u8]) -> Result<Plan<'static>, PlanReadError>
-        requires { length bytes.now < 2 ^ 64 - 1 }
         ensures found { IfOk result (λ plan. IsTextOf plan bytes.now) }
         ensures only { (plan : PlanContent) → IsTextOf plan bytes.now → ReadsAs result plan }
         ensures refused { IfErr result (IsReadFault bytes.now) }
     {
-        let mut reader = Reader::new(alloc);
-        match reader.take_all(alloc, bytes) {
-            Ok(()) => Ok(reader.into_plan()),
-            Err(error) => Err(error),
+        if bytes.len() == usize::MAX {
+            return Err(PlanReadError::OutOfMemory);
         }
+        read_plan(alloc, bytes)
     }
 }

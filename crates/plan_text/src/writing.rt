@@ -4,18 +4,18 @@ ghost use Rattle.std.specs.Prelude.{◌≡◌, ◌↔◌, [], ◌∷◌, map, tr
 ghost use Rattle.std.specs.Io.KnownBytes.{Appends};
 ghost use Rattle.std.specs.Option.{option_map};
 ghost use Rattle.watched.specs.Watched.{watched_inner, has_failed, AppendsPart, Sends};
-ghost use Rattle.plan_text.specs.PlanGrammar.{feature_line, first_lines, text_of, types_line};
+ghost use Rattle.plan_text.specs.PlanGrammar.{feature_line, first_lines, text_of, types_line, IsTextOf};
 ghost use Rattle.plan_lines.specs.Words.{text_of_lines};
 ghost use Rattle.plan_lines.specs.Lines.{answer_word, feature_word, types_word, version_word};
 ghost use Rattle.plan_lines.specs.declared.line.TextVersion.TheVariants.{Second};
 
+use crate::laws::texts_are_read_back;
 use crate::map_lines::send_maps;
 use crate::plan::Plan;
 use crate::program_lines::send_programs;
-use crate::words::{send_bytes, send_decimal};
 use btf_records::BtfFeature;
 use ebpf_items::Watched;
-use plan_lines::feature_word;
+use plan_lines::{feature_word, send_bytes, send_decimal};
 use std::io;
 use std::io::{ErrorKind, Write};
 
@@ -91,17 +91,20 @@ fn send_plan<W: Write>(out: &mut Watched<W>, plan: &Plan<'_>)
 }
 
 impl<'a> Plan<'a> {
-    /// Writes the text of the plan, in its second version, and takes no memory for it.
+    /// Writes the text of the plan, in its second version, and takes no memory for it. Each plan has its
+    /// text, and `Plan::read` gives the plan back from it.
     ///
     /// # Errors
     ///
     /// Where the writer fails, or answers 0 to some bytes; a beginning of the text went out then.
     pub fn write<W: Write>(&self, out: &mut Watched<W>) -> io::Result<()>
+        ensures text { IsTextOf self.now (text_of self.now) }
         ensures ok { OnOk result (Appends (W.contents (watched_inner out.old)) (W.contents (watched_inner out.new)) (text_of self.now)) }
         ensures part { OnErr result (AppendsPart (W.contents (watched_inner out.old)) (W.contents (watched_inner out.new)) (text_of self.now)) }
         ensures failed { IsErr result ↔ (has_failed out.new ≡ true) }
         ensures at_once { has_failed out.old ≡ true → out.new ≡ out.old }
     {
+        texts_are_read_back(self);
         send_plan(out, self);
         if out.failed() {
             return Err(io::Error::from(ErrorKind::Other));

@@ -1,4 +1,4 @@
-use Rattle.std.proofs.Common.{rules, arith}
+use Rattle.std.proofs.Common.{arith}
 use Rattle.plan_lines.proofs.Cut.{cut_at, whole_plain, no_space-more}
 use Rattle.plan_lines.proofs.words.cut.Goals as goal
 

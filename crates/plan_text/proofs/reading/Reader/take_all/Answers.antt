@@ -1,6 +1,6 @@
 use Rattle.std.proofs.Common.{◌≡◌, ◌+◌, ◌∷◌, false, true, length, arith, ap, sym, ◌∙◌, subst, length-append}
 use Rattle.std.specs.Prelude.{◌==◌}
-use Rattle.plan_text.proofs.ReadingLaws.{IsReading, bad_end, bad_line, few, is_read, reading_next, reading_start}
+use Rattle.plan_text.proofs.ReadingLaws.{IsReading, bad_end, bad_line, is_read, reading_next, reading_start}
 use Rattle.plan_text.proofs.Unbroken.{empty_is}
 use Rattle.plan_text.specs.Machine.{StateContent, state_view}
 use Rattle.plan_text.proofs.reading.Reader.take_all.Goals as goal
@@ -10,10 +10,7 @@ loop-line-init c =
     (omega arith, subst (λ (s : StateContent). IsReading c.args.bytes.now c.args.bytes.now 0 s) (sym c.requires.fresh) (reading_start c.args.bytes.now))
 
 pub take-requires : goal.take-requires
-take-requires c = record {
-  distinct = c.loop-line.invariant.1.good.plan.sound.features;
-  few = few (state_view c.loop-line.self) c.loop-line.invariant.1.good;
-}
+take-requires c = c.loop-line.invariant.1.good.plan.sound.features
 
 pub returns-then-not-branch-clause-refused : goal.returns-then-not-branch-clause-refused
 returns-then-not-branch-clause-refused c =
