@@ -1,7 +1,7 @@
 -- Values in tables that agree on what is reached.
-use Rattle.std.proofs.Common.{◌≡◌, ◌≤◌, ◌<◌, ◌-◌, ℕ, zero, suc, Bool, true, List, [], ◌∷◌, length, None, Some, Ok, Err, Option, Result, refl, sym, ap, subst, ◌∙◌, arith}
+use Rattle.std.proofs.Common.{◌≡◌, ◌≤◌, ◌<◌, ◌-◌, ◌+◌, ℕ, zero, suc, Bool, true, false, List, [], ◌∷◌, length, None, Some, Ok, Err, Option, Result, refl, sym, ap, subst, ◌∙◌, arith}
 use Rattle.std.proofs.lemmas.List.Elements.{All-head, All-tail}
-use Rattle.std.specs.Prelude.{All, IfOk, IfSome, slice_get, ◌==◌}
+use Rattle.std.specs.Prelude.{All, IfOk, IfSome, slice_get, ◌==◌, nat_lt, if◌then◌else◌}
 use Rattle.std.specs.Option.{option_map_or}
 use Rattle.access_paths.specs.FieldPaths.{place_of}
 use Rattle.access_paths.specs.Laws.{AreAlike, IsReachedPath, LookupsRest}
@@ -16,6 +16,7 @@ use Rattle.btf_encoding.specs.Records.{bits_of}
 use Rattle.btf_records.specs.Fields.{members_of}
 use Rattle.btf_records.specs.Items.{bit_size_of}
 use Rattle.btf_records.specs.declared.error.BtfError.{BtfError}
+use Rattle.btf_records.specs.declared.error.BtfError.TheVariants.{InvalidTypeInfo}
 use Rattle.btf_records.specs.declared.item.BtfMember.{BtfMember}
 use Rattle.btf_records.specs.declared.types.BtfType.{BtfType}
 use Rattle.btf_tables.specs.ResolvedTypes.{resolved_type}
@@ -24,11 +25,13 @@ use Rattle.btf_tables.specs.TypeSizes.{type_size_in_32_bits}
 use Rattle.ebpf_items.specs.declared.relocation_kind.RelocationKind.{RelocationKind}
 use Rattle.ebpf_items.specs.declared.relocation_kind.RelocationKind.TheVariants as kinds
 use Rattle.relocation_values.specs.Extents.{extent_of}
-use Rattle.relocation_values.specs.FieldValues.{element_value, field_at, member_value, of_extent, of_field, with_extent}
-use Rattle.relocation_values.specs.Laws.{ValuesRest}
+use Rattle.relocation_values.specs.FieldValues.{element_value, field_at, member_value, of_extent, of_field, plain, shift_past, with_extent}
+use Rattle.relocation_values.specs.Laws.{HasReachedField, ValuesRest}
 use Rattle.relocation_values.specs.PathValues.{enum_value_at, last_step, path_value, type_size_value, value_at}
+use Rattle.relocation_values.specs.VariantValues.{variant_value}
 use Rattle.relocation_values.specs.declared.extent.Extent.{Extent}
 use Rattle.relocation_values.specs.declared.extent.Field.{Field}
+use Rattle.relocation_values.specs.declared.field.WholeField.{WholeField}
 use Rattle.relocation_values.specs.declared.value.RelocationValue.{RelocationValue}
 
 -- the tables, and what is reached
@@ -167,5 +170,70 @@ value-same b kinds.FieldSigned path here = step-same b kinds.FieldSigned path (l
 value-same b kinds.FieldLShift64 path here = step-same b kinds.FieldLShift64 path (last_step path) (last b path here)
 value-same b kinds.FieldRShift64 path here = step-same b kinds.FieldRShift64 path (last_step path) (last b path here)
 
+-- ---- the field of a value
+
+shift-within : (b : Both) (bits : ℕ) → IfOk (shift_past bits) (HasReachedField b.reached)
+shift-within b bits = by (nat_lt 64 bits) where
+  by : (t : Bool) → IfOk (if t then Err (errors.BtfError InvalidTypeInfo) else Ok (plain (64 - bits))) (HasReachedField b.reached)
+  by true = tt
+  by false = tt
+
+whole-within : (b : Both) (field : Field) (t : Bool) → b.reached field.type_id ≡ true → IfSome {T = WholeField} (if t then Some (record { type_id = field.type_id; size = field.size }) else None) (λ f. b.reached f.type_id ≡ true)
+whole-within b field true here = here
+whole-within b field false here = tt
+
+extent-within : (b : Both) (kind : RelocationKind) (field : Field) (extent : Extent) → b.reached field.type_id ≡ true → IfOk (of_extent b.one kind field extent) (HasReachedField b.reached)
+extent-within b kinds.FieldByteOffset field extent here = whole-within b field (field.bit_size == 0) here
+extent-within b kinds.FieldByteSize field extent here = tt
+extent-within b kinds.FieldSigned field extent here = type-gives (HasReachedField b.reached) b.one field.type_id _ (λ t known. tt)
+extent-within b kinds.FieldLShift64 field extent here = shift-within b (extent.start + extent.bits)
+extent-within b kinds.FieldRShift64 field extent here = shift-within b extent.bits
+extent-within b _ field extent here = tt
+
+field-within : (b : Both) (kind : RelocationKind) (bits : ℕ) (r : Result Field AccessError) → IfOk r (λ f. b.reached f.type_id ≡ true) → IfOk (of_field b.one kind bits r) (HasReachedField b.reached)
+field-within b kind bits (Err e) here = tt
+field-within b kind bits (Ok field) here = by (extent_of field bits) where
+  by : (o : Option Extent) → IfOk (with_extent o (of_extent b.one kind field)) (HasReachedField b.reached)
+  by None = tt
+  by (Some extent) = extent-within b kind field extent here
+
+element-within : (b : Both) (kind : RelocationKind) (id bits : ℕ) → b.reached id ≡ true → IfOk (element_value b.one kind id bits) (HasReachedField b.reached)
+element-within b kinds.FieldByteOffset id bits here = found-gives (HasReachedField b.reached) (type_size_in_32_bits b.one id) _ (λ size _. here)
+element-within b kinds.FieldByteSize id bits here = found-gives (HasReachedField b.reached) (type_size_in_32_bits b.one id) _ (λ size _. tt)
+element-within b _ id bits here = tt
+
+step-within : (b : Both) (kind : RelocationKind) (path : AccessPath) (o : Option Step) → IfSome o (λ s. b.reached (place_of s).type_id ≡ true) → IfOk (value_at b.one kind path o) (HasReachedField b.reached)
+step-within b kind path None here = tt
+step-within b kind path (Some (Element place)) here = element-within b kind place.type_id path.bit_offset here
+step-within b kind path (Some (Member place)) here = field-within b kind path.bit_offset (field_at b.one place) (field-gives b place here)
+step-within b kind path (Some (Variant place)) here = tt
+
+variant-within : (b : Both) (place : Place) (o : Option ℕ) → IfOk (option_map_or (λ value. Ok (plain value)) o (Err (errors.InvalidRelocationKindForType place.type_id))) (HasReachedField b.reached)
+variant-within b place None = tt
+variant-within b place (Some value) = tt
+
+enum-within : (b : Both) (path : AccessPath) (o : Option Step) → IfOk (enum_value_at b.one path o) (HasReachedField b.reached)
+enum-within b path None = tt
+enum-within b path (Some (Element place)) = tt
+enum-within b path (Some (Member place)) = tt
+enum-within b path (Some (Variant place)) = type-gives (HasReachedField b.reached) b.one place.type_id _ (λ t known. variant-within b place (variant_value t place.index))
+
+value-within : (b : Both) (kind : RelocationKind) (path : AccessPath) → IsReachedPath b.reached path → IfOk (path_value b.one kind path) (HasReachedField b.reached)
+value-within b kinds.FieldExists path here = tt
+value-within b kinds.TypeExists path here = tt
+value-within b kinds.EnumVariantExists path here = tt
+value-within b kinds.TypeIdLocal path here = tt
+value-within b kinds.TypeIdTarget path here = tt
+value-within b kinds.TypeSize path here = found-gives (HasReachedField b.reached) (type_size_in_32_bits b.one path.type_id) _ (λ size _. tt)
+value-within b kinds.EnumVariantValue path here = enum-within b path (last_step path)
+value-within b kinds.FieldByteOffset path here = step-within b kinds.FieldByteOffset path (last_step path) (last b path here)
+value-within b kinds.FieldByteSize path here = step-within b kinds.FieldByteSize path (last_step path) (last b path here)
+value-within b kinds.FieldSigned path here = step-within b kinds.FieldSigned path (last_step path) (last b path here)
+value-within b kinds.FieldLShift64 path here = step-within b kinds.FieldLShift64 path (last_step path) (last b path here)
+value-within b kinds.FieldRShift64 path here = step-within b kinds.FieldRShift64 path (last_step path) (last b path here)
+
 pub values_rest : LookupsRest → ValuesRest
-values_rest laws = record { same = λ reached one other alike kind path here. value-same (record { laws = laws; reached = reached; one = one; other = other; alike = alike }) kind path here }
+values_rest laws = record {
+  same = λ reached one other alike kind path here. value-same (record { laws = laws; reached = reached; one = one; other = other; alike = alike }) kind path here;
+  within = λ reached one other alike kind path here. value-within (record { laws = laws; reached = reached; one = one; other = other; alike = alike }) kind path here;
+}

@@ -1,6 +1,6 @@
 -- What type relocations come to, for tables of an object's types that agree on what is reached.
 use Rattle.std.proofs.Common.{◌≡◌, ℕ, Bool, true, List, [], ◌∷◌, ◌++◌, None, Some, Ok, Err, Option, Result, refl, ap, subst, ◌∙◌}
-use Rattle.std.specs.Prelude.{IfOk, slice_get}
+use Rattle.std.specs.Prelude.{IfOk, IfSome, slice_get}
 use Rattle.std.specs.Option.{option_map_or, option_to_list}
 use Rattle.access_paths.specs.Laws.{AreAlike, IsReachedPath, LookupsRest, PathsRest}
 use Rattle.access_paths.specs.LocalPaths.{local_path}
@@ -16,16 +16,19 @@ use Rattle.btf_tables.specs.Tables.{Table, type_by_id}
 use Rattle.ebpf_items.specs.declared.relocation_kind.RelocationKind.{RelocationKind}
 use Rattle.ebpf_items.specs.declared.relocation_kind.RelocationKind.TheVariants as kinds
 use Rattle.matching_paths.specs.Laws.{MatchesRest}
-use Rattle.relocation_values.specs.Laws.{ValuesRest}
+use Rattle.relocation_values.specs.Laws.{HasReachedField, ValuesRest}
+use Rattle.relocation_values.specs.declared.value.RelocationValue.{RelocationValue}
 use Rattle.string_table.specs.Texts.{text_at}
 use Rattle.type_candidates.specs.Candidates.{Wanted, candidates, wanted_for, wanted_of}
 use Rattle.type_candidates.specs.declared.error.CandidateError.{CandidateError}
 use Rattle.type_candidates.specs.declared.kernel_type.KernelType.{KernelType}
 use Rattle.type_match.specs.Laws.{OutcomesRest}
 use Rattle.type_match.specs.Matches.{followed_by, kernel_matches, match_at, match_in, matches_of, of_path, searched_tables, with_candidates, with_own_type, with_kernel, with_local}
-use Rattle.type_match.specs.RelocationOutcomes.{local_value, relocation_outcome}
+use Rattle.type_match.specs.RelocationOutcomes.{decided, local_value, relocation_outcome, settled}
 use Rattle.type_match.specs.declared.error.TypeRelocationError.{TypeRelocationError}
 use Rattle.type_match.specs.declared.matches.Match.{Match}
+use Rattle.type_match.specs.declared.outcome.Outcome.{Outcome}
+use Rattle.type_match.specs.declared.relocation.RelocationOutcome.{RelocationOutcome}
 use Rattle.type_match.specs.declared.relocation.TypeRelocation.{TypeRelocation}
 
 -- the tables, and what is reached
@@ -126,8 +129,49 @@ outcome-same b r here text targets =
     then-same (kernel_matches r.kind b.one path targets) (kernel_matches r.kind b.other path targets) _ _ (kernel-same b r.kind path reached targets)
     (λ matches. local-then (local_value b.one r.kind path) (local_value b.other r.kind path) _ _ (value-same b r.kind path reached) (λ value _. refl)))
 
+-- ---- the field of an outcome
+
+local-gives : {T U : Type 0} (P : U → Type 0) (r : Result T AccessError) (go : T → Result U TypeRelocationError) → ((x : T) → r ≡ Ok x → IfOk (go x) P) → IfOk (with_local r go) P
+local-gives P (Ok x) go h = h x refl
+local-gives P (Err e) go h = tt
+
+then-gives : {T U : Type 0} (P : U → Type 0) (r : Result T TypeRelocationError) (go : T → Result U TypeRelocationError) → ((x : T) → IfOk (go x) P) → IfOk (followed_by r go) P
+then-gives P (Ok x) go h = h x
+then-gives P (Err e) go h = tt
+
+-- the type of the field that an instruction was compiled for is reached
+abbrev IsOfReached : (ℕ → Bool) → RelocationOutcome → Type 0
+IsOfReached reached o = IfSome o.local_field (λ f. reached f.type_id ≡ true)
+
+value-within : (b : Both) (kind : RelocationKind) (path : AccessPath) → IsReachedPath b.reached path → IfOk (local_value b.one kind path) (HasReachedField b.reached)
+value-within b kinds.TypeSize path here = tt
+value-within b kinds.FieldByteOffset path here = b.values.within b.reached b.one b.other b.alike kinds.FieldByteOffset path here
+value-within b kinds.FieldByteSize path here = b.values.within b.reached b.one b.other b.alike kinds.FieldByteSize path here
+value-within b kinds.FieldExists path here = b.values.within b.reached b.one b.other b.alike kinds.FieldExists path here
+value-within b kinds.FieldSigned path here = b.values.within b.reached b.one b.other b.alike kinds.FieldSigned path here
+value-within b kinds.FieldLShift64 path here = b.values.within b.reached b.one b.other b.alike kinds.FieldLShift64 path here
+value-within b kinds.FieldRShift64 path here = b.values.within b.reached b.one b.other b.alike kinds.FieldRShift64 path here
+value-within b kinds.TypeIdLocal path here = b.values.within b.reached b.one b.other b.alike kinds.TypeIdLocal path here
+value-within b kinds.TypeIdTarget path here = b.values.within b.reached b.one b.other b.alike kinds.TypeIdTarget path here
+value-within b kinds.TypeExists path here = b.values.within b.reached b.one b.other b.alike kinds.TypeExists path here
+value-within b kinds.EnumVariantExists path here = b.values.within b.reached b.one b.other b.alike kinds.EnumVariantExists path here
+value-within b kinds.EnumVariantValue path here = b.values.within b.reached b.one b.other b.alike kinds.EnumVariantValue path here
+
+settled-within : (b : Both) (kind : RelocationKind) (matches : List Match) (value : RelocationValue) → HasReachedField b.reached value → IfOk (settled kind matches value) (IsOfReached b.reached)
+settled-within b kind matches value here = then-gives (IsOfReached b.reached) (decided kind value matches) _ (λ outcome. here)
+
+outcome-within : (b : Both) (r : TypeRelocation) → b.reached r.type_id ≡ true → (targets : List Table) → IfOk (relocation_outcome b.one r targets) (IsOfReached b.reached)
+outcome-within b r here targets =
+    local-gives (IsOfReached b.reached) (local_path b.one r.kind r.type_id r.access_str_off) _
+    (λ path is. then-gives (IsOfReached b.reached) (kernel_matches r.kind b.one path targets) _
+    (λ matches. local-gives (IsOfReached b.reached) (local_value b.one r.kind path) (settled r.kind matches)
+    (λ value known. settled-within b r.kind matches value
+    (subst (λ (s : Result RelocationValue AccessError). IfOk s (HasReachedField b.reached)) known (value-within b r.kind path (path-reached b r path here is))))))
+
 pub outcomes_rest : LookupsRest → PathsRest → ValuesRest → MatchesRest → OutcomesRest
 outcomes_rest lookups paths values matches = record {
   same = λ reached one other alike r here text targets.
       outcome-same (record { lookups = lookups; paths = paths; values = values; matches = matches; reached = reached; one = one; other = other; alike = alike }) r here text targets;
+  field = λ reached one other alike r here targets.
+      outcome-within (record { lookups = lookups; paths = paths; values = values; matches = matches; reached = reached; one = one; other = other; alike = alike }) r here targets;
 }

@@ -1,5 +1,5 @@
 -- Laws of type relocations.
-use Rattle.std.specs.Prelude.{◌≡◌, ◌≢◌, ℕ, Bool, true, suc, List, [], ◌∷◌, length}
+use Rattle.std.specs.Prelude.{◌≡◌, ◌≢◌, ℕ, Bool, true, suc, List, [], ◌∷◌, length, IfOk, IfSome}
 use Rattle.access_paths.specs.Laws.{AreAlike}
 use Rattle.btf_tables.specs.Tables.{Table}
 use Rattle.ebpf_items.specs.declared.relocation_kind.RelocationKind.{RelocationKind}
@@ -24,3 +24,6 @@ pub record OutcomesRest : Type 0 where
   pub same : (reached : ℕ → Bool) (one other : Table) → AreAlike reached one other → (r : TypeRelocation) → reached r.type_id ≡ true
       → text_at other.strings r.access_str_off ≡ text_at one.strings r.access_str_off → (targets : List Table)
       → relocation_outcome other r targets ≡ relocation_outcome one r targets
+  -- and the type of the field that its instruction was compiled for is reached, if there is one
+  pub field : (reached : ℕ → Bool) (one other : Table) → AreAlike reached one other → (r : TypeRelocation) → reached r.type_id ≡ true
+      → (targets : List Table) → IfOk (relocation_outcome one r targets) (λ o. IfSome o.local_field (λ f. reached f.type_id ≡ true))

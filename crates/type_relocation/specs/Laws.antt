@@ -1,10 +1,15 @@
--- What holds of a function after the type relocations in it.
-use Rattle.std.specs.Prelude.{◌≡◌, ◌<◌, ℕ, List, length, slice_get, Some}
+-- Laws of type relocations: what holds of a function after those in it, and on which of the object's own types they rest.
+use Rattle.std.specs.Prelude.{◌≡◌, ◌<◌, ℕ, Bool, true, List, length, slice_get, Some, All}
+use Rattle.access_paths.specs.Laws.{AreAlike}
+use Rattle.btf_tables.specs.Tables.{Table}
 use Rattle.ebpf_items.specs.declared.instruction.bpf_insn.{bpf_insn}
 use Rattle.object_parts.specs.Content.{FunctionContent, function_at}
 use Rattle.slot_relocation.specs.WriteLaws.{IsWritten, WritesAlone}
-use Rattle.type_relocation.specs.Relocations.{Groups, TypesGiven}
+use Rattle.string_table.specs.Texts.{text_at}
+use Rattle.type_relocation.specs.Faults.{HasTypesFault}
+use Rattle.type_relocation.specs.Relocations.{Groups, TypesGiven, all_placed}
 use Rattle.type_relocation.specs.Writes.{AreRelocated, type_rule, types_inside}
+use Rattle.type_relocation.specs.declared.error.BtfRelocationCause.{BtfRelocationCause}
 
 -- some type relocation writes the slot at a place of a function: its own, or the next one
 abbrev pub WritesAt : TypesGiven → Groups → FunctionContent → ℕ → Type 0
@@ -30,3 +35,26 @@ HaveTypes g groups new =
 -- it holds of relocated functions
 pub record TypesAreWritten : Type 0 where
   pub each : (g : TypesGiven) (groups : Groups) (new : List ((ℕ × ℕ) × FunctionContent)) → AreRelocated g groups new → HaveTypes g groups new
+
+-- The types of relocations are reached, and two tables agree on what is: on the records, which lead to reached ones, on their texts,
+-- on the relocations' access strings and on the names of their groups' sections.
+pub record AgreeOnReach (reached : ℕ → Bool) (one other : Table) (groups : Groups) : Type 0 where
+  pub alike : AreAlike reached one other
+  pub types : All (λ x. All (λ r. reached r.type_id ≡ true) x.records) groups
+  pub accesses : All (λ x. All (λ r. text_at other.strings r.access_str_off ≡ text_at one.strings r.access_str_off) x.records) groups
+  pub sections : All (λ x. text_at other.strings x.name_offset ≡ text_at one.strings x.name_offset) groups
+
+-- the same with other types of the object's own
+abbrev pub with_types_of : TypesGiven → Table → TypesGiven
+with_types_of g other = record g { local = other }
+
+-- what type relocations come to, write and are refused for is the same for every other table that agrees on their reach
+pub record RelocationsRest : Type 0 where
+  pub placed : (reached : ℕ → Bool) (g : TypesGiven) (other : Table) (groups : Groups) → AgreeOnReach reached g.local other groups
+      → all_placed (with_types_of g other) groups ≡ all_placed g groups
+  pub relocated : (reached : ℕ → Bool) (g : TypesGiven) (other : Table) (groups : Groups) → AgreeOnReach reached g.local other groups
+      → (new : List ((ℕ × ℕ) × FunctionContent))
+      → (AreRelocated g groups new → AreRelocated (with_types_of g other) groups new) × (AreRelocated (with_types_of g other) groups new → AreRelocated g groups new)
+  pub refused : (reached : ℕ → Bool) (g : TypesGiven) (other : Table) (groups : Groups) → AgreeOnReach reached g.local other groups
+      → (c : BtfRelocationCause)
+      → (HasTypesFault g groups c → HasTypesFault (with_types_of g other) groups c) × (HasTypesFault (with_types_of g other) groups c → HasTypesFault g groups c)

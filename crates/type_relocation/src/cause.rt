@@ -4,15 +4,16 @@ ghost use Rattle.std.specs.Prelude.{◌≢◌, IfOk};
 ghost use Rattle.type_relocation.specs.Faults.{OfAccess, OfMatch, OfWrite};
 ghost use Rattle.type_relocation.specs.declared.error.BtfRelocationCause.TheVariants.{OutOfMemory};
 
+use crate::conflicting::matches_of;
 use crate::error::BtfRelocationCause;
 use crate::placed::PlacedFault;
 use crate::texts::{kind_name, name_or_empty, text_at, type_name};
-use access_paths::{AccessError, local_path};
+use access_paths::AccessError;
 use btf_records::BtfError;
 use btf_tables::Btf;
 use object_parts::SLOT_SIZE;
 use std::alloc::{AllocError, Global};
-use type_match::{TypeRelocation, TypeRelocationError, conflicts, kernel_matches};
+use type_match::{TypeRelocation, TypeRelocationError, conflicts};
 use type_patches::WriteFault;
 
 /// A relocation to tell of: where it stands, what it asks for, and among which types.
@@ -69,13 +70,7 @@ fn of_access(
 /// The names of the kernel's types that conflict with the first.
 fn conflict_names(told: &Told<'_, '_, '_>) -> Result<Vec<String>, AllocError> {
     let mut names = Vec::new(told.alloc);
-    let asked = told.asked;
-    let Ok(path) = local_path(told.local, asked.kind, asked.type_id, asked.access_str_off) else {
-        return Ok(names);
-    };
-    let Ok(matches) = kernel_matches(asked.kind, told.local, &path, told.targets) else {
-        return Ok(names);
-    };
+    let matches = matches_of(told.alloc, told.local, told.targets, told.asked)?;
     for found in conflicts(told.alloc, matches.as_slice())?.as_slice() {
         if let Some(target) = told.targets.get(found.table) {
             names.push(name_or_empty(told.alloc, target, found.type_id)?)?;

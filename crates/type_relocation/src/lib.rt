@@ -7,6 +7,7 @@
 
 mod by_function;
 mod cause;
+mod conflicting;
 mod error;
 mod groups;
 mod laws;
@@ -18,7 +19,7 @@ mod relocation;
 mod texts;
 
 pub use error::{BtfRelocationCause, BtfRelocationError};
-pub use laws::types_are_written;
+pub use laws::{relocations_rest, types_are_written};
 pub use place::RelocationPlace;
 pub use placed::{Placed, PlacedFault, Position};
 pub use relocation::relocate_types;

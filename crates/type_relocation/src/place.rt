@@ -1,7 +1,7 @@
 //! Where type relocations stand, for messages.
 
+use crate::conflicting::matches_of;
 use crate::placement::function_holding;
-use access_paths::local_path;
 use btf_extension::bpf_core_relo;
 use btf_tables::Btf;
 use ebpf_items::RelocationKind;
@@ -9,7 +9,7 @@ use object_parts::{Functions, SLOT_SIZE};
 use path_texts::relocation_text;
 use std::alloc::{AllocError, Global};
 use std::fmt;
-use type_match::{Match, kernel_matches};
+use type_match::{Match, TypeRelocation};
 
 /// What a fault of type relocations belongs to.
 #[derive(Debug, Drop)]
@@ -76,25 +76,6 @@ fn with_matches(alloc: Global, text: String, matches: &[Match]) -> Result<String
     Ok(text)
 }
 
-/// The matches of a record in the kernel's types, none where they can't be looked up.
-fn matches_of(
-    alloc: Global,
-    local: &Btf<'_>,
-    targets: &[Btf<'_>],
-    record: bpf_core_relo,
-) -> Vec<Match> {
-    let Ok(kind) = RelocationKind::try_from(record.kind) else {
-        return Vec::new(alloc);
-    };
-    let Ok(path) = local_path(local, kind, record.type_id, record.access_str_off) else {
-        return Vec::new(alloc);
-    };
-    match kernel_matches(kind, local, &path, targets) {
-        Ok(matches) => matches,
-        Err(_) => Vec::new(alloc),
-    }
-}
-
 /// What a record asks for, in words, with all types of the kernel that have it.
 pub(crate) fn asked_with_matches(
     alloc: Global,
@@ -103,7 +84,15 @@ pub(crate) fn asked_with_matches(
     record: bpf_core_relo,
 ) -> Result<String, AllocError> {
     let text = asked_text(alloc, local, record)?;
-    let matches = matches_of(alloc, local, targets, record);
+    let Ok(kind) = RelocationKind::try_from(record.kind) else {
+        return Ok(text);
+    };
+    let asked = TypeRelocation {
+        kind,
+        type_id: record.type_id,
+        access_str_off: record.access_str_off,
+    };
+    let matches = matches_of(alloc, local, targets, asked)?;
     with_matches(alloc, text, matches.as_slice())
 }
 
