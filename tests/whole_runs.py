@@ -47,13 +47,20 @@ class Row:
             return f"status {run.status}, wanted {self.status}; {shown(run.err[:300])}"
         if run.out != self.text("stdout"):
             return "standard output differs"
+        notes = self.text("notes")
+        if not run.err.startswith(notes):
+            return f"the notes differ: {shown(run.err)}"
+        return self.error_difference(program, run.err[len(notes) :])
+
+    def error_difference(self, program, err):
+        """Why what stands behind the notes on standard error isn't as the row wants it; nothing where it is."""
         if self.status == 0:
-            return "something on standard error" if run.err else ""
+            return "something on standard error" if err else ""
         begin = f"{program}: refused: " if self.status == 1 else f"{program}: "
-        if run.err.count(b"\n") != 1 or not run.err.startswith(begin.encode()):
+        if err.count(b"\n") != 1 or not err.startswith(begin.encode()):
             return f"standard error isn't one line that begins with '{begin}'"
-        if self.text("stderr").rstrip(b"\n") not in run.err:
-            return f"standard error: {shown(run.err)}"
+        if self.text("stderr").rstrip(b"\n") not in err:
+            return f"standard error: {shown(err)}"
         return ""
 
 

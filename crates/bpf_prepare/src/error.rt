@@ -6,7 +6,7 @@ ghost use Rattle.bpf_prepare.specs.declared.error.RunError.TheVariants.{Refused}
 ghost use Rattle.bpf_prepare.specs.Program.{status_of};
 
 use command_line::WordError;
-use load_plan::{BtfError, ParseError, Place, PrepareError};
+use load_plan::{BtfError, PrepareError};
 use std::alloc::{AllocError, AllocFailed};
 use std::io;
 use thiserror::Error;
@@ -36,6 +36,9 @@ pub enum ProgramError {
     /// It was called with other words.
     #[error("{text}")]
     Line { text: String },
+    /// A word isn't UTF-8.
+    #[error("a word isn't UTF-8")]
+    WordNotText,
     /// A word sets nothing.
     #[error("{0}")]
     Word(WordError),
@@ -57,9 +60,15 @@ pub enum ProgramError {
     /// There is no plan, or it can't be written.
     #[error("{0}")]
     Run(RunError),
-    /// The object can't be parsed, and this is where the fault stands.
-    #[error("refused: {error}: {place}")]
-    Located { error: ParseError, place: Place },
+    /// The object gets no plan, and this is told of it.
+    #[error("refused: {text}")]
+    Refused { text: String },
+    /// The plan can't be written, for a reason that is known.
+    #[error("the plan can't be written: {error}")]
+    Unwritten { error: io::Error },
+    /// The help or the version can't be written.
+    #[error("the text can't be written: {error}")]
+    Unprinted { error: io::Error },
 }
 
 impl From<RunError> for ProgramError {
@@ -101,7 +110,7 @@ impl ProgramError {
     {
         match self {
             ProgramError::Run(RunError::Refused(_)) => 1,
-            ProgramError::Located { .. } => 1,
+            ProgramError::Refused { .. } => 1,
             _ => 2,
         }
     }

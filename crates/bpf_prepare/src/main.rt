@@ -5,42 +5,43 @@ ghost use Rattle.std.specs.Prelude.{◌≤◌, ◌^◌, length, IfOk};
 
 mod error;
 mod line_text;
+mod refusal;
 mod running;
 
 use command_line::{Arguments, LineError, arguments};
 use error::{ProgramError, RunError};
 use line_text::{fault_text, line_text};
-use load_plan::{Btf, BtfError, Endianness, Order, PrepareError, Watched, place_of};
+use load_plan::{Btf, BtfError, Endianness, Order, PrepareError, Watched};
+use object_notes::notes;
+use refusal::refusal_text;
+use refusal_texts::Kept;
 use run_settings::{RunSettings, SettingsError};
 use running::run;
 use std::alloc::Global;
 use std::fs::File;
-use std::io::{BufRead, BufReader, BufWriter, Write};
+use std::io::{BufRead, BufReader, BufWriter, IsTerminal, Write};
 use std::process::ExitCode;
 use std::{env, fs, io};
 
+/// Why the words of a line can't be had.
+fn words_error(error: io::Error) -> ProgramError {
+    match error.kind() {
+        io::ErrorKind::OutOfMemory => ProgramError::OutOfMemory,
+        _ => ProgramError::WordNotText,
+    }
+}
+
 /// The words that the program is called with, its name first.
 fn words_of(rt: &HostRuntime) -> Result<Vec<String>, ProgramError> {
-    let mut words = Vec::new(rt.alloc());
-    let Ok(given) = env::args(rt) else {
-        return Ok(words);
+    let given = match env::args(rt) {
+        Ok(given) => given,
+        Err(error) => return Err(words_error(error)),
     };
+    let mut words = Vec::new(rt.alloc());
     for word in given {
         words.push(word)?;
     }
     Ok(words)
-}
-
-/// The error of a run, with the place of the fault where the object isn't parsed and its error
-/// doesn't say it.
-fn located(alloc: Global, object: &[u8], error: RunError) -> ProgramError {
-    let RunError::Refused(PrepareError::Parse(error)) = error else {
-        return ProgramError::Run(error);
-    };
-    match place_of(alloc, object, &error) {
-        Some(place) => ProgramError::Located { error, place },
-        None => ProgramError::Run(RunError::Refused(PrepareError::Parse(error))),
-    }
 }
 
 /// The bytes of the file of a name.
@@ -97,6 +98,14 @@ fn types_of<'t>(
 /// No more tables of types are taken.
 const MAX_TABLES: usize = 0x1_0000_0000;
 
+/// Refuses a line that names more files of types than tables are taken.
+fn check_types(line: &Arguments<'_>) -> Result<(), ProgramError> {
+    if line.types.len() > MAX_TABLES {
+        return Err(ProgramError::TooManyTypes);
+    }
+    Ok(())
+}
+
 /// The kernel's tables of types that files hold.
 fn kernel_types<'t>(
     alloc: Global,
@@ -109,6 +118,7 @@ fn kernel_types<'t>(
     for (name, bytes) in line.types.iter().zip(files) {
         tables.push(types_of(alloc, name, bytes, line.types_order)?)?;
     }
+    // There are as many as files.
     if tables.len() > MAX_TABLES {
         return Err(ProgramError::TooManyTypes);
     }
@@ -165,6 +175,24 @@ fn order_of(line: &Arguments<'_>) -> Order {
     }
 }
 
+/// What becomes of a refusal: an error with what a user is told of it, or, without memory for that,
+/// with the refusal itself.
+fn refused(alloc: Global, given: &Given<'_, '_>, error: PrepareError) -> ProgramError {
+    let settings = given.settings;
+    match refusal_text(alloc, given.object, &settings.settings, given.line, &error) {
+        Ok(text) => ProgramError::Refused { text },
+        Err(_) => ProgramError::Run(RunError::Refused(error)),
+    }
+}
+
+/// Says that a plan can't be written, and why where it is known.
+fn unwritten(error: Option<io::Error>) -> ProgramError {
+    match error {
+        Some(error) => ProgramError::Unwritten { error },
+        None => ProgramError::Run(RunError::Output),
+    }
+}
+
 /// Prints the plan of an object.
 fn print_plan<R: BufRead>(
     rt: &HostRuntime,
@@ -172,7 +200,7 @@ fn print_plan<R: BufRead>(
     symbols: &mut Watched<R>,
 ) -> Result<(), ProgramError> {
     let types = kernel_types(rt.alloc(), given.line, given.types)?;
-    let Ok(writer) = BufWriter::new(rt.alloc(), io::writer(rt)) else {
+    let Ok(writer) = BufWriter::new(rt.alloc(), Kept::new(io::writer(rt))) else {
         return Err(ProgramError::OutOfMemory);
     };
     let mut out = Watched::new(writer);
@@ -185,12 +213,24 @@ fn print_plan<R: BufRead>(
         order_of(given.line),
         &mut out,
     );
-    if let Err(error) = written {
-        return Err(located(rt.alloc(), given.object, error));
+    let mut writer = out.into_inner();
+    match written {
+        Ok(()) => match writer.flush() {
+            Ok(()) => Ok(()),
+            Err(error) => Err(unwritten(Some(error))),
+        },
+        Err(RunError::Output) => Err(unwritten(writer.get_ref().error())),
+        Err(RunError::Refused(error)) => Err(refused(rt.alloc(), given, error)),
     }
-    match out.into_inner().flush() {
-        Ok(()) => Ok(()),
-        Err(_) => Err(ProgramError::Run(RunError::Output)),
+}
+
+/// Prints the notes on an object, as far as memory and standard error allow.
+fn print_notes(rt: &HostRuntime, object: &[u8], settings: &RunSettings) {
+    let Ok(notes) = notes(rt.alloc(), object, &settings.settings) else {
+        return;
+    };
+    for note in &notes {
+        let _ = eprintln!(rt; "bpf_prepare: note: {note}");
     }
 }
 
@@ -198,6 +238,7 @@ fn print_plan<R: BufRead>(
 fn print_named(rt: &HostRuntime, line: &Arguments<'_>) -> Result<(), ProgramError> {
     let alloc = rt.alloc();
     // Faults of the line come first.
+    check_types(line)?;
     settings_of(alloc, line, None)?;
     let object = read(rt, line.object)?;
     let file = match line.settings {
@@ -210,6 +251,9 @@ fn print_named(rt: &HostRuntime, line: &Arguments<'_>) -> Result<(), ProgramErro
         None => None,
     };
     let settings = settings_of(alloc, line, file.as_deref())?;
+    if line.notes || rt.stderr().is_terminal() {
+        print_notes(rt, &object, &settings);
+    }
     let given = Given {
         line,
         object: &object,
@@ -233,7 +277,7 @@ fn print_asked(rt: &HostRuntime) -> Result<(), ProgramError> {
         }),
         Err(LineError::Line(text)) => match print!(rt; "{text}") {
             Ok(()) => Ok(()),
-            Err(_) => Err(ProgramError::Run(RunError::Output)),
+            Err(error) => Err(ProgramError::Unprinted { error }),
         },
     }
 }

@@ -21,6 +21,8 @@ pub struct Arguments<'w> {
     pub settings: Option<&'w str>,
     /// Whether types are rewritten before type relocations are looked up in them.
     pub rewrite_first: bool,
+    /// Whether notes on the object are wanted.
+    pub notes: bool,
     pub(crate) has_older_helpers: bool,
     pub(crate) maps: Vec<&'w str>,
     pub(crate) globals: Vec<&'w str>,

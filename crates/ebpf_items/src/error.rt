@@ -69,7 +69,7 @@ pub enum ParseError {
         address: u64,
     },
     /// A function's symbol has no size. `index` counts the symbol table's entries.
-    #[error("invalid symbol {index}, name {name:?}")]
+    #[error("invalid symbol {index} {:?}: it has no size", name.as_deref().unwrap_or(""))]
     InvalidSymbol {
         index: usize,
         name: Option<String>,

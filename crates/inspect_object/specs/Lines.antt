@@ -1,13 +1,15 @@
 -- The lines of items.
-use Rattle.std.specs.Prelude.{ℕ, List, [], ◌∷◌, ◌++◌, codes}
+use Rattle.std.specs.Prelude.{ℕ, List, [], ◌∷◌, ◌++◌, codes, Some}
 use Rattle.std.specs.Fmt.{decimal}
 use Rattle.elf64.specs.Relocations.{Relocation}
 use Rattle.elf64.specs.Sections.{Section}
 use Rattle.ebpf_items.specs.declared.maps.PinningType.{PinningType}
 use Rattle.ebpf_items.specs.declared.maps.PinningType.TheVariants as pinning
 use Rattle.object_file.specs.Kinds.{kind_of}
+use Rattle.program_kinds.specs.Bindings.{prog_type_number}
 use Rattle.program_kinds.specs.declared.section_kind.EbpfSectionKind.{EbpfSectionKind}
 use Rattle.program_kinds.specs.declared.section_kind.EbpfSectionKind.TheVariants as kind
+use Rattle.program_types.specs.declared.attributes.LoadAttributes.{LoadAttributes}
 use Rattle.inspect_object.specs.Words.{number_word, text_word}
 
 -- words with a space between them, and then more
@@ -46,3 +48,8 @@ section_line s =
 abbrev pub relocation_line : ℕ → Relocation → List ℕ
 relocation_line section r =
     line (codes "relocation" ∷ decimal section ∷ codes "offset" ∷ decimal r.offset ∷ codes "symbol" ∷ number_word r.symbol ∷ codes "width" ∷ decimal r.width ∷ [])
+
+-- what a loader passes for the program of a name
+abbrev pub load_line : List ℕ → LoadAttributes → List ℕ
+load_line name a =
+    line (codes "load" ∷ text_word (Some name) ∷ codes "type" ∷ decimal (prog_type_number a.prog_type) ∷ codes "attach-type" ∷ number_word a.expected_attach_type ∷ codes "flags" ∷ decimal a.flags ∷ [])

@@ -1,7 +1,13 @@
 //! Programs and functions.
 
-use crate::words::{Hex, Text};
-use ebpf_object::{Function, Object, Program, Slots};
+ghost use Rattle.std.specs.Prelude.{OnOk};
+ghost use Rattle.std.specs.Io.KnownBytes.{Appends};
+ghost use Rattle.inspect_object.specs.Lines.{load_line};
+ghost use Rattle.program_types.specs.Attributes.{attributes_of};
+
+use crate::words::{Hex, Id, Text};
+use ebpf_object::{Function, Object, Program, ProgramSection, Slots};
+use program_types::load_attributes;
 use std::io;
 use std::io::Write;
 
@@ -16,10 +22,26 @@ fn write_program<W: Write>(name: &str, program: &Program<'_>, out: &mut W) -> io
     )
 }
 
-/// Writes the programs, by name.
+/// Writes what a loader passes to the kernel for a program's kind.
+fn write_load<W: Write>(name: &str, kind: &ProgramSection, out: &mut W) -> io::Result<()>
+    ensures { OnOk result (Appends (W.contents out.old) (W.contents out.new) (load_line name.now (attributes_of kind.now))) }
+{
+    let attributes = load_attributes(kind);
+    writeln!(
+        out,
+        "load {} type {} attach-type {} flags {}",
+        Text::of(name),
+        attributes.prog_type.number(),
+        Id(attributes.expected_attach_type),
+        attributes.flags
+    )
+}
+
+/// Writes the programs, by name, each with what a loader passes for it.
 pub fn write_programs<W: Write>(object: &Object<'_>, out: &mut W) -> io::Result<()> {
     for (name, program) in object.programs().iter() {
         write_program(name, program, out)?;
+        write_load(name, &program.section, out)?;
     }
     Ok(())
 }

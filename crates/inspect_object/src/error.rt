@@ -36,12 +36,21 @@ pub enum ProgramError {
     /// The object's file can't be read.
     #[error("can't read {name:?}: {error}")]
     Read { name: String, error: io::Error },
+    /// A word isn't UTF-8.
+    #[error("a word isn't UTF-8")]
+    WordNotText,
     /// There is no memory to begin with.
     #[error("out of memory")]
     OutOfMemory,
     /// The object is refused, or can't be written.
     #[error("{0}")]
     Inspect(InspectError),
+    /// The object is refused, and this is told of it.
+    #[error("refused: {text}")]
+    Refused { text: String },
+    /// The text can't be written, for a reason that is known.
+    #[error("the text can't be written: {error}")]
+    Unwritten { error: io::Error },
 }
 
 impl From<InspectError> for ProgramError {
@@ -57,6 +66,7 @@ impl ProgramError {
     {
         match self {
             ProgramError::Inspect(InspectError::Refused(_)) => 1,
+            ProgramError::Refused { .. } => 1,
             _ => 2,
         }
     }

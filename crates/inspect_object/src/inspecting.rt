@@ -1,7 +1,8 @@
 //! From an object's bytes to the text of what it holds.
 
 ghost use Rattle.std.specs.Prelude.{◌≡◌, ◌≢◌, IfErr, OnOk};
-ghost use Rattle.ebpf_object.specs.Faults.{IsFaultless};
+ghost use Rattle.ebpf_items.specs.declared.error.ParseError.TheVariants.{OutOfMemory};
+ghost use Rattle.ebpf_object.specs.Faults.{HasFault, IsFaultless};
 ghost use Rattle.inspect_object.specs.Inspection.{IsInspectRefusal};
 ghost use Rattle.inspect_object.specs.declared.error.InspectError.TheVariants.{Output};
 
@@ -10,10 +11,12 @@ use crate::error::InspectError;
 use crate::externs::write_externs;
 use crate::file::{write_relocations, write_sections};
 use crate::maps::write_maps;
+use crate::notes::write_notes;
 use crate::type_relocations::write_type_relocations;
 use crate::words::Text;
 use btf_records::Endianness;
-use ebpf_object::Object;
+use ebpf_object::{Object, ParseError};
+use object_notes::{Note, file_notes};
 use std::alloc::Global;
 use std::io;
 use std::io::Write;
@@ -43,8 +46,8 @@ fn write_wants<W: Write>(object: &Object<'_>, out: &mut W) -> io::Result<()> {
     writeln!(out, "has-strong-typed-ksyms {has_strong}")
 }
 
-/// Writes what an object holds, one line an item.
-fn write_object<W: Write>(object: &Object<'_>, out: &mut W) -> io::Result<()> {
+/// Writes what an object holds, one line an item, and then the notes on it.
+fn write_object<W: Write>(object: &Object<'_>, notes: &[Note<'_>], out: &mut W) -> io::Result<()> {
     write_head(object, out)?;
     write_sections(object.file(), out)?;
     write_relocations(object.file(), out)?;
@@ -53,7 +56,18 @@ fn write_object<W: Write>(object: &Object<'_>, out: &mut W) -> io::Result<()> {
     write_maps(object, out)?;
     write_externs(object, out)?;
     write_type_relocations(object, out)?;
-    write_wants(object, out)
+    write_wants(object, out)?;
+    write_notes(notes, out)
+}
+
+/// The notes on a file; want of memory alone is refused.
+fn notes_of<'a>(alloc: Global, bytes: &'a [u8]) -> Result<Vec<Note<'a>>, ParseError>
+    ensures { IfErr result (λ e. e ≢ OutOfMemory → HasFault bytes.now e) }
+{
+    match file_notes(alloc, bytes) {
+        Ok(notes) => Ok(notes),
+        Err(_error) => Err(ParseError::OutOfMemory),
+    }
 }
 
 /// Writes what the object of a file holds, or nothing where it is refused. docs/FORMATS.md has the
@@ -68,8 +82,9 @@ pub fn inspect<W: Write>(alloc: Global, bytes: &[u8], out: &mut W) -> Result<(),
     ensures refused { IfErr result (IsInspectRefusal bytes.now) }
     ensures unwritten { IfErr result (λ e. e ≢ Output → out.new ≡ out.old) }
 {
+    let notes = notes_of(alloc, bytes)?;
     let object = Object::parse(alloc, bytes)?;
-    match write_object(&object, out) {
+    match write_object(&object, &notes, out) {
         Ok(()) => Ok(()),
         Err(_error) => Err(InspectError::Output),
     }

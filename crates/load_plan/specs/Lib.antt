@@ -3,10 +3,10 @@ pub mod Granted
 pub mod Inputs
 pub mod Made
 pub mod Passes
-pub mod Places
 pub mod Planned
 pub mod Known
 pub mod Programs
 pub use Rattle.plan_text.specs.Content
 pub use Rattle.plan_text.specs.PlanGrammar
+pub use Rattle.plan_text.specs.Reading
 pub use Rattle.watched.specs.Watched

@@ -4,7 +4,6 @@
 mod error;
 mod making;
 mod order;
-mod places;
 mod planning;
 
 pub use btf_records::{BtfError, BtfFeature, Endianness};
@@ -15,8 +14,9 @@ pub use ebpf_object::{
 };
 pub use error::PrepareError;
 pub use order::Order;
-pub use places::{Place, place_of};
-pub use plan_text::{Answers, MapWords, Plan, PlanMap, PlanProgram, PlanReadError};
+pub use plan_text::{
+    Answers, MapWords, Plan, PlanMap, PlanProgram, PlanReadError, texts_are_read_back,
+};
 pub use planning::prepare;
 pub use relocation_errors::{EbpfRelocationError, RelocationError};
 pub use settings::Settings;

@@ -19,7 +19,7 @@ pub enum RelocationError {
     },
     /// No map is given for the symbol or its section. `section_index` counts the section headers,
     /// `symbol_index` the symbol table's entries.
-    #[error("no map for section {section_index} of symbol {symbol_index}, name {symbol_name:?}")]
+    #[error("no map for section {section_index} of symbol {symbol_index} {:?}", symbol_name.as_deref().unwrap_or(""))]
     SectionNotFound {
         section_index: usize,
         symbol_index: usize,

@@ -1,7 +1,7 @@
 //! Where a fault stands whose error doesn't say it.
 
 ghost use Rattle.std.specs.Prelude.{IfSome, IfOk};
-ghost use Rattle.load_plan.specs.Places.{IsPlace};
+ghost use Rattle.refusal_texts.specs.Places.{IsPlace};
 
 use btf_records::BtfError;
 use ebpf_items::ParseError;

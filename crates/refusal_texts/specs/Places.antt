@@ -6,8 +6,8 @@ use Rattle.ebpf_items.specs.declared.error.ParseError.{ParseError}
 use Rattle.ebpf_items.specs.declared.error.ParseError.TheVariants as error
 use Rattle.ebpf_object.specs.Places.{name_at, place_without_code}
 use Rattle.object_file.specs.Symbols.{unnamed_symbol}
-use Rattle.load_plan.specs.declared.places.Place.{Place}
-use Rattle.load_plan.specs.declared.places.Place.TheVariants.{Function, Symbol}
+use Rattle.refusal_texts.specs.declared.places.Place.{Place}
+use Rattle.refusal_texts.specs.declared.places.Place.TheVariants.{Function, Symbol}
 
 abbrev pub IsPlace : List ℕ → ParseError → Place → Type 0
 IsPlace file error.InvalidProgramCode (Function index section name) =

@@ -1,0 +1,13 @@
+//! Notes.
+
+use object_notes::Note;
+use std::io;
+use std::io::Write;
+
+/// Writes what is noted of the object.
+pub fn write_notes<W: Write>(notes: &[Note<'_>], out: &mut W) -> io::Result<()> {
+    for note in notes {
+        writeln!(out, "note {note}")?;
+    }
+    Ok(())
+}

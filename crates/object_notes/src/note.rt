@@ -1,0 +1,63 @@
+//! A note on an object.
+
+use std::fmt;
+
+/// What a person may not expect of an object or of its plan. None of it is a fault.
+#[derive(Debug, Drop)]
+pub enum Note<'a> {
+    /// The file isn't one of eBPF, whose `e_machine` is 247.
+    OtherMachine {
+        machine: u16,
+    },
+    /// The file's numbers are most byte first.
+    MostByteFirst,
+    /// No section is called `license`.
+    NoLicense,
+    /// Relocations stand in a section that defines maps.
+    FirstValues {
+        section: &'a str,
+    },
+    /// Relocations stand in a section of variables.
+    Pointers {
+        section: &'a str,
+    },
+    /// Two maps have one number.
+    SharedNumber {
+        number: u32,
+        first: &'a str,
+        second: &'a str,
+    },
+}
+
+impl<'a> fmt::Display for Note<'a> {
+    fn fmt<W: fmt::Write>(&self, f: &mut fmt::Formatter<W>) -> fmt::Result {
+        match self {
+            Note::OtherMachine { machine } => {
+                write!(f, "the file is for machine {machine}, eBPF is 247")
+            }
+            Note::MostByteFirst => write!(
+                f,
+                "the file is most byte first, but slots and words that define maps are taken as least byte first: no kernel takes them so"
+            ),
+            Note::NoLicense => write!(f, "no section is called license: the license counts as GPL"),
+            Note::FirstValues { section } => {
+                write!(
+                    f,
+                    "the first values of maps of section {section:?} aren't in a plan"
+                )
+            }
+            Note::Pointers { section } => write!(
+                f,
+                "the pointers in section {section:?} aren't in a plan: their bytes stay as the file has them"
+            ),
+            Note::SharedNumber {
+                number,
+                first,
+                second,
+            } => write!(
+                f,
+                "the maps {first:?} and {second:?} have one number: {number}"
+            ),
+        }
+    }
+}

@@ -1,0 +1,107 @@
+//! Maps that types don't define well.
+
+use crate::members::faulty_member;
+use crate::tables::table_of;
+use btf_encoding::TypeRef;
+use btf_records::{BtfError, BtfKind};
+use btf_tables::Btf;
+use map_definitions::{map_variable, read_definition};
+use std::alloc::{AllocError, Global};
+
+/// How the names of sections of maps begin that types define.
+const MAPS: &str = ".maps";
+
+/// Whether a type is a section of maps.
+fn is_of_maps(table: &Btf<'_>, t: &TypeRef<'_>) -> bool {
+    if t.kind() != BtfKind::DataSec {
+        return false;
+    }
+    match table.string_at(t.name_offset()) {
+        Ok(name) => name.starts_with(MAPS),
+        Err(_) => false,
+    }
+}
+
+/// Why a variable defines no map.
+fn error_of(alloc: Global, table: &Btf<'_>, type_id: u32) -> Option<BtfError> {
+    match map_variable(table, type_id) {
+        Ok(variable) => read_definition(alloc, table, variable.name, variable.struct_id).err(),
+        Err(error) => Some(error),
+    }
+}
+
+/// The first variable of a section that defines no map, by its id, and why.
+fn first_in(alloc: Global, table: &Btf<'_>, section: &TypeRef<'_>) -> Option<(u32, BtfError)> {
+    for index in 0..section.count() {
+        let entry = section.entry(index)?;
+        if let Some(error) = error_of(alloc, table, entry.btf_type) {
+            return Some((entry.btf_type, error));
+        }
+    }
+    None
+}
+
+/// The first variable of sections of maps that defines no map, by its id, and why.
+fn first_fault(alloc: Global, table: &Btf<'_>) -> Option<(u32, BtfError)> {
+    for t in table.types() {
+        if !is_of_maps(table, &t) {
+            continue;
+        }
+        let found = first_in(alloc, table, &t);
+        if found.is_some() {
+            return found;
+        }
+    }
+    None
+}
+
+/// Whether two errors say the same.
+fn say_the_same(alloc: Global, one: &BtfError, other: &BtfError) -> Result<bool, AllocError> {
+    let text = format!(in alloc; "{one}")?;
+    Ok(text == format!(in alloc; "{other}")?)
+}
+
+/// The name of the variable of an id, empty where it can't be read.
+fn variable_name<'t>(table: &'t Btf<'_>, type_id: u32) -> &'t str {
+    let Ok(t) = table.type_by_id(type_id) else {
+        return "";
+    };
+    let Some(variable) = t.var() else {
+        return "";
+    };
+    table.string_at(variable.name_offset).unwrap_or("")
+}
+
+/// The map of a variable, and its member that is at fault where it is known.
+fn fault_text(alloc: Global, table: &Btf<'_>, type_id: u32) -> Result<String, AllocError> {
+    let name = variable_name(table, type_id);
+    let Ok(variable) = map_variable(table, type_id) else {
+        return format!(in alloc; "map {name:?}");
+    };
+    match faulty_member(table, variable.struct_id) {
+        Some(member) => {
+            format!(in alloc;
+                "map {name:?}: its member {:?} {}",
+                member.name, member.fault
+            )
+        }
+        None => format!(in alloc; "map {name:?}"),
+    }
+}
+
+/// The first map that types don't define well, if an error is for it.
+pub(crate) fn definition_hint(
+    alloc: Global,
+    object: &[u8],
+    error: &BtfError,
+) -> Result<Option<String>, AllocError> {
+    let Some(table) = table_of(alloc, object) else {
+        return Ok(None);
+    };
+    match first_fault(alloc, &table) {
+        Some((type_id, found)) if say_the_same(alloc, &found, error)? => {
+            Ok(Some(fault_text(alloc, &table, type_id)?))
+        }
+        _ => Ok(None),
+    }
+}

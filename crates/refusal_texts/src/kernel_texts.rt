@@ -1,0 +1,130 @@
+//! What is told of what a kernel lacks.
+
+use crate::kernel_files::{KernelFiles, NO_TYPES};
+use crate::quoted::Quoted;
+use crate::tables::table_of;
+use ebpf_object::{BtfRelocationCause, BtfRelocationError, KsymsError};
+use object_externs::{Externs, read_externs};
+use object_file::ObjectFile;
+use std::alloc::{AllocError, Global};
+
+/// The externs of an object, where they can be read.
+fn externs_of<'o>(alloc: Global, object: &'o [u8]) -> Option<Externs<'o>> {
+    let file = ObjectFile::parse(alloc, object).ok()?;
+    let mut table = table_of(alloc, object)?;
+    read_externs(alloc, file.symbols(), &mut table).ok()
+}
+
+/// Whether the extern of a name has no type, and is looked for among the kernel's symbols.
+fn has_no_type(alloc: Global, object: &[u8], name: &str) -> bool {
+    match externs_of(alloc, object) {
+        Some(externs) => match externs.get(name) {
+            Some(found) => found.type_id.is_none(),
+            None => false,
+        },
+        None => false,
+    }
+}
+
+/// The names of the externs that have a type and must be found.
+fn typed_names<'a>(alloc: Global, externs: &Externs<'a>) -> Result<Vec<&'a str>, AllocError> {
+    let mut names = Vec::new(alloc);
+    for (name, found) in externs.iter() {
+        if found.type_id.is_some() && !found.is_weak {
+            names.push(*name)?;
+        }
+    }
+    Ok(names)
+}
+
+/// That externs with a type need kernel types, and which these are.
+fn typed_text(alloc: Global, object: &[u8], error: &KsymsError) -> Result<String, AllocError> {
+    let Some(externs) = externs_of(alloc, object) else {
+        return format!(in alloc; "{error}: {NO_TYPES}");
+    };
+    let names = typed_names(alloc, &externs)?;
+    let names = Quoted {
+        names: names.as_slice(),
+    };
+    format!(in alloc; "{error}, as here {names}: {NO_TYPES}")
+}
+
+/// Where the kernel's variable of a name was looked for.
+fn variable_hint(
+    alloc: Global,
+    object: &[u8],
+    name: &str,
+    files: &KernelFiles<'_>,
+) -> Result<String, AllocError> {
+    if has_no_type(alloc, object, name) {
+        files.symbols(alloc)
+    } else {
+        files.first_types(alloc)
+    }
+}
+
+/// The file that an error of the kernel's symbols is about.
+fn symbols_hint(alloc: Global, files: &KernelFiles<'_>) -> Result<Option<String>, AllocError> {
+    match files.symbols {
+        Some(name) => Ok(Some(format!(in alloc; "in {name:?}")?)),
+        None => Ok(None),
+    }
+}
+
+/// Where an error of externs comes from.
+fn hint(
+    alloc: Global,
+    object: &[u8],
+    error: &KsymsError,
+    files: &KernelFiles<'_>,
+) -> Result<Option<String>, AllocError> {
+    match error {
+        KsymsError::VariableNotFound { name } => {
+            Ok(Some(variable_hint(alloc, object, name, files)?))
+        }
+        KsymsError::FunctionNotFound { .. }
+        | KsymsError::IncompatibleFunctionSignature { .. }
+        | KsymsError::IncompatibleVariableType { .. } => Ok(Some(files.first_types(alloc)?)),
+        KsymsError::AmbiguousResolution { .. }
+        | KsymsError::KallsymsAccessError(_)
+        | KsymsError::KallsymsParseError(_) => symbols_hint(alloc, files),
+        _ => Ok(None),
+    }
+}
+
+/// What is told of an extern that can't be resolved: where it was looked for.
+pub fn ksyms_text(
+    alloc: Global,
+    object: &[u8],
+    error: &KsymsError,
+    files: &KernelFiles<'_>,
+) -> Result<String, AllocError> {
+    if let KsymsError::TypedKsymRequiresKernelBtf = error {
+        return typed_text(alloc, object, error);
+    }
+    match hint(alloc, object, error, files)? {
+        Some(hint) => format!(in alloc; "{error}: {hint}"),
+        None => format!(in alloc; "{error}"),
+    }
+}
+
+/// What is told where an object has type relocations and no kernel types are given.
+pub fn required_types_text(alloc: Global) -> Result<String, AllocError> {
+    format!(in alloc; "type relocations need kernel types: {NO_TYPES}")
+}
+
+/// What is told of a type relocation that can't be made: which files its types were looked for in.
+pub fn type_relocation_text(
+    alloc: Global,
+    error: &BtfRelocationError,
+    files: &KernelFiles<'_>,
+) -> Result<String, AllocError> {
+    match error.error() {
+        BtfRelocationCause::MissingTargetDefinition { .. }
+        | BtfRelocationCause::ConflictingCandidates { .. } => {
+            let places = files.all_types(alloc)?;
+            format!(in alloc; "{error}: {places}")
+        }
+        _ => format!(in alloc; "{error}"),
+    }
+}

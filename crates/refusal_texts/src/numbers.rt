@@ -1,0 +1,52 @@
+//! Maps without a number.
+
+use crate::quoted::Quoted;
+use crate::tables::table_of;
+use object_file::ObjectFile;
+use object_maps::{Maps, read_maps};
+use settings::Settings;
+use std::alloc::{AllocError, Global};
+
+/// How maps get numbers.
+const HOW: &str = "--map NAME=NUMBER gives one, or [maps] in the file of --settings";
+
+/// The names of the maps that have no number.
+fn without_number<'a>(
+    alloc: Global,
+    maps: &Maps<'a>,
+    settings: &Settings,
+) -> Result<Vec<&'a str>, AllocError> {
+    let mut names = Vec::new(alloc);
+    for (name, _map) in maps.iter() {
+        if settings.map_number(name).is_none() {
+            names.push(*name)?;
+        }
+    }
+    Ok(names)
+}
+
+/// The names of the maps of an object that have no number, where it can be read.
+fn names_of<'o>(alloc: Global, object: &'o [u8], settings: &Settings) -> Option<Vec<&'o str>> {
+    let file = ObjectFile::parse(alloc, object).ok()?;
+    let table = table_of(alloc, object);
+    let maps = read_maps(alloc, &file, table.as_ref()).ok()?;
+    without_number(alloc, &maps, settings).ok()
+}
+
+/// What is told where the map of a name has no number: which others have none, and how maps get them.
+pub fn missing_numbers_text(
+    alloc: Global,
+    object: &[u8],
+    name: &str,
+    settings: &Settings,
+) -> Result<String, AllocError> {
+    match names_of(alloc, object, settings) {
+        Some(names) if names.len() > 1 => {
+            let names = Quoted {
+                names: names.as_slice(),
+            };
+            format!(in alloc; "maps {names} have no number: {HOW}")
+        }
+        _ => format!(in alloc; "map {name:?} has no number: {HOW}"),
+    }
+}

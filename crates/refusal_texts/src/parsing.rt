@@ -1,0 +1,94 @@
+//! What is told of an object that can't be parsed.
+
+use crate::contents::contents_hint;
+use crate::definitions::definition_hint;
+use crate::functions::two_at;
+use crate::names::SectionName;
+use crate::places::place_of;
+use crate::section_kinds::section_hint;
+use crate::unsupported::unsupported_hint;
+use btf_records::BtfError;
+use ebpf_items::ParseError;
+use std::alloc::{AllocError, Global};
+
+/// That two functions stand at an address.
+fn conflict_text(
+    alloc: Global,
+    object: &[u8],
+    section_index: usize,
+    address: u64,
+) -> Result<String, AllocError> {
+    let section = SectionName::of(object, section_index);
+    match two_at(object, section_index, address) {
+        Some((one, other)) => {
+            format!(in alloc;
+                "two functions of {section} at address {address:#x}: {one:?} and {other:?}"
+            )
+        }
+        None => format!(in alloc; "two functions of {section} at address {address:#x}"),
+    }
+}
+
+/// Where a fault stands.
+fn place_hint(
+    alloc: Global,
+    object: &[u8],
+    error: &ParseError,
+) -> Result<Option<String>, AllocError> {
+    match place_of(alloc, object, error) {
+        Some(place) => Ok(Some(format!(in alloc; "{place}")?)),
+        None => Ok(None),
+    }
+}
+
+/// A text of its own.
+fn owned(alloc: Global, text: Option<&str>) -> Result<Option<String>, AllocError> {
+    match text {
+        Some(text) => Ok(Some(String::from_str(alloc, text)?)),
+        None => Ok(None),
+    }
+}
+
+/// What an error doesn't say by itself.
+fn hint(alloc: Global, object: &[u8], error: &ParseError) -> Result<Option<String>, AllocError> {
+    match error {
+        ParseError::ElfError(error) => owned(alloc, contents_hint(object, *error)),
+        ParseError::InvalidProgramSection { section } => Ok(Some(section_hint(alloc, section)?)),
+        ParseError::UnsupportedRelocationTarget => unsupported_hint(alloc, object),
+        ParseError::BtfError(BtfError::InvalidSymbolName) | ParseError::InvalidProgramCode => {
+            place_hint(alloc, object, error)
+        }
+        ParseError::BtfError(error) => definition_hint(alloc, object, error),
+        _ => Ok(None),
+    }
+}
+
+/// An error's text, and what it doesn't say by itself.
+fn text_with_hint(alloc: Global, object: &[u8], error: &ParseError) -> Result<String, AllocError> {
+    match hint(alloc, object, error)? {
+        Some(hint) => format!(in alloc; "{error}: {hint}"),
+        None => format!(in alloc; "{error}"),
+    }
+}
+
+/// What is told of an object that can't be parsed.
+pub fn parse_text(alloc: Global, object: &[u8], error: &ParseError) -> Result<String, AllocError> {
+    match error {
+        ParseError::SectionError { index, error } => {
+            let section = SectionName::of(object, *index);
+            format!(in alloc; "error parsing {section}: {error}")
+        }
+        ParseError::SymbolTableConflict {
+            section_index,
+            address,
+        } => conflict_text(alloc, object, *section_index, *address),
+        ParseError::UnknownSymbol {
+            section_index,
+            address,
+        } => {
+            let section = SectionName::of(object, *section_index);
+            format!(in alloc; "no function of {section} at address {address:#x}")
+        }
+        error => text_with_hint(alloc, object, error),
+    }
+}

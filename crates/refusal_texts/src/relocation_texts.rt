@@ -1,0 +1,85 @@
+//! What is told of a relocation, or a call, that can't be resolved.
+
+use crate::instructions::{Instruction, instruction_of};
+use crate::names::{SectionName, SymbolName};
+use ebpf_object::{EbpfRelocationError, RelocationError};
+use object_parts::SLOT_SIZE;
+use std::alloc::{AllocError, Global};
+
+/// An error's text, with the names of sections and symbols beside their indexes.
+fn named_text(
+    alloc: Global,
+    object: &[u8],
+    error: &EbpfRelocationError,
+) -> Result<String, AllocError> {
+    let function = error.function();
+    match error.error() {
+        RelocationError::SectionNotFound {
+            section_index,
+            symbol_index,
+            ..
+        } => {
+            let section = SectionName::of(object, *section_index);
+            let symbol = SymbolName::of(object, *symbol_index);
+            format!(in alloc;
+                "error relocating function {function:?}: no map for {section} of {symbol}"
+            )
+        }
+        RelocationError::UnknownProgram {
+            section_index,
+            address,
+        } => {
+            let section = SectionName::of(object, *section_index);
+            format!(in alloc;
+                "error relocating function {function:?}: no function of {section} at address {address:#x}"
+            )
+        }
+        _ => format!(in alloc; "{error}"),
+    }
+}
+
+/// Where an instruction stands.
+fn place_text(alloc: Global, object: &[u8], place: &Instruction<'_>) -> Result<String, AllocError> {
+    let section = SectionName::of(object, place.section_index);
+    let slot = place.distance / SLOT_SIZE;
+    let inside = if place.distance % SLOT_SIZE == 0 {
+        ""
+    } else {
+        "inside "
+    };
+    format!(in alloc;
+        "{section}, function {:?}, {inside}instruction {slot} at offset {:#x}",
+        place.function, place.offset
+    )
+}
+
+/// A text, where the instruction stands that it is for, and the symbol of its relocation.
+fn with_place(
+    alloc: Global,
+    object: &[u8],
+    text: &str,
+    place: &Instruction<'_>,
+) -> Result<String, AllocError> {
+    let at = place_text(alloc, object, place)?;
+    match place.symbol {
+        Some(index) => {
+            let symbol = SymbolName::of(object, index);
+            format!(in alloc; "{text}: {at}, {symbol}")
+        }
+        None => format!(in alloc; "{text}: {at}"),
+    }
+}
+
+/// What is told of a relocation, or a call, that can't be resolved: the names of its section and
+/// symbol, and the instruction.
+pub fn relocation_text(
+    alloc: Global,
+    object: &[u8],
+    error: &EbpfRelocationError,
+) -> Result<String, AllocError> {
+    let text = named_text(alloc, object, error)?;
+    match instruction_of(alloc, object, error) {
+        Some(place) => with_place(alloc, object, &text, &place),
+        None => Ok(text),
+    }
+}

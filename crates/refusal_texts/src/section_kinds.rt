@@ -1,0 +1,44 @@
+//! What the names of programs' sections may be.
+
+use std::alloc::{AllocError, Global};
+
+/// The first pieces of names, up to the first `/`.
+const FIRST_PIECES: &str =
+    "kprobe, kretprobe, uprobe, uretprobe, tracepoint, tp, tp_btf, raw_tracepoint, raw_tp, fentry, fexit, freplace, iter, lsm, lsm_cgroup, perf_event, xdp, classifier, socket, sockops, sk_lookup, sk_msg, sk_reuseport, sk_skb, cgroup, cgroup_skb, flow_dissector, lirc_mode2";
+
+/// What stands behind some of them.
+const ENDINGS: &str =
+    "with .multi or .s behind uprobe and uretprobe, .s behind fentry, fexit, iter and lsm, .frags behind xdp";
+
+/// What stands behind a first piece that doesn't decide alone.
+fn second_pieces(first: &str) -> Option<&'static str> {
+    match first {
+        "xdp" | "xdp.frags" => Some("nothing, /cpumap or /devmap"),
+        "sk_skb" => Some("/stream_parser or /stream_verdict"),
+        "sk_reuseport" => Some("nothing or /migrate"),
+        "cgroup_skb" => Some("/ingress or /egress"),
+        "cgroup" => Some(
+            "/skb, /sysctl, /dev, /getsockopt, /setsockopt, /sock, /sock_create, /sock_release, /post_bind4, /post_bind6, /bind4, /bind6, /connect4, /connect6, /getpeername4, /getpeername6, /getsockname4, /getsockname6, /sendmsg4, /sendmsg6, /recvmsg4 or /recvmsg6",
+        ),
+        _ => None,
+    }
+}
+
+/// The name up to its first `/`.
+fn first_piece(section: &str) -> &str {
+    match section.split_once('/') {
+        Some((first, _)) => first,
+        None => section,
+    }
+}
+
+/// What the name of a section that names no kind of program could be.
+pub(crate) fn section_hint(alloc: Global, section: &str) -> Result<String, AllocError> {
+    let first = first_piece(section);
+    match second_pieces(first) {
+        Some(second) => format!(in alloc; "behind {first} stands {second}"),
+        None => format!(in alloc;
+            "up to its first / the name of a program's section is one of {FIRST_PIECES}, {ENDINGS}"
+        ),
+    }
+}
