@@ -1,0 +1,227 @@
+-- The passes on types in both orders.
+use Rattle.std.proofs.Common.{◌≡◌, ◌==◌, ℕ, Bool, true, false, List, length, None, Some, Option, refl, sym, ap, subst, ◌∙◌}
+use Rattle.std.specs.Prelude.{All, IfSome, is_some, unwrap_or}
+use Rattle.std.specs.Option.{MatchOption}
+use Rattle.access_paths.specs.Laws.{AreAlike}
+use Rattle.btf_extension.specs.Extensions.{Extension}
+use Rattle.btf_records.specs.declared.types.BtfType.{BtfType}
+use Rattle.btf_sanitizing.specs.Answers.{Answers}
+use Rattle.btf_tables.specs.GrownTables.{TextsStay}
+use Rattle.btf_tables.specs.Holdings.{held_names}
+use Rattle.btf_tables.specs.Tables.{Table, type_by_id}
+use Rattle.ebpf_object.specs.Rewriting.{IsRewritten, IsRewrittenIf}
+use Rattle.ebpf_object.specs.TypeRelocations.{groups_beside, type_groups, types_of}
+use Rattle.extern_resolution.specs.Resolution.{AreResolved}
+use Rattle.load_plan.specs.Inputs.{Inputs, State, Symbols, Under}
+use Rattle.load_plan.specs.Passes.{Externs, FunctionRecords, GlobalValues, KernelTypes, Makes, MapNumbers, RelocatesTypes, RewritesTypes, first_table}
+use Rattle.load_plan.specs.declared.order.Order.TheVariants.{RelocateFirst, RewriteFirst}
+use Rattle.object_externs.specs.Externs.{ExternsContent}
+use Rattle.object_parts.specs.Content.{FunctionContent}
+use Rattle.plan_text.specs.Content.{PlanContent}
+use Rattle.string_table.specs.Texts.{text_at}
+use Rattle.type_relocation.specs.Faults.{CanBeRelocated, HasTypesFault}
+use Rattle.type_relocation.specs.Laws.{AgreeOnReach, RelocationsRest}
+use Rattle.type_relocation.specs.Relocations.{Groups, types_given}
+use Rattle.type_relocation.specs.Writes.{AreRelocated}
+use Rattle.type_relocation.specs.declared.error.BtfRelocationCause.{BtfRelocationCause}
+use Rattle.plan_laws.specs.Orders.{IsMadePlan, IsOrderFree, IsReach, IsReadable, OrdersAgree, StaysReached, in_order}
+
+-- ---- tables that agree
+
+all-map : {A : Type 0} (P Q : A → Type 0) (xs : List A) → ((x : A) → P x → Q x) → All P xs → All Q xs
+all-map P Q xs f h = λ k d lt. f _ (h k d lt)
+
+texts-stay : (answers : Answers) (file : List ℕ) (ksyms : Option (ℕ × Option ℕ)) (table new : Table) (t : Bool) → IsRewrittenIf t answers file ksyms table new → TextsStay table new
+texts-stay answers file ksyms table new true left =
+    let same : new ≡ table = ap (λ (o : Option Table). unwrap_or o table) left.same in
+    record { stay = λ offset text e. ap (λ (x : Table). text_at x.strings offset) same ∙ e }
+texts-stay answers file ksyms table new false rewritten = rewritten.texts
+
+text-same : (table new : Table) → TextsStay table new → (offset : ℕ) → is_some (text_at table.strings offset) ≡ true → text_at new.strings offset ≡ text_at table.strings offset
+text-same table new stays offset there = by (text_at table.strings offset) refl there where
+  by : (o : Option (List ℕ)) → text_at table.strings offset ≡ o → is_some o ≡ true → text_at new.strings offset ≡ o
+  by None e h = cc
+  by (Some text) e h = stays.stay offset text e
+
+alike : (reached : ℕ → Bool) (table new : Table) (groups : Groups) → IsReach reached table groups → IsReadable reached table groups → StaysReached reached table new → TextsStay table new → AreAlike reached table new
+alike reached table new groups reach readable stays texts = record {
+  records = record { same = stays.same; closed = reach.closed };
+  texts = record { same = λ id here. by id here (type_by_id table id) refl };
+} where
+  by : (id : ℕ) → reached id ≡ true → (o : Option BtfType) → type_by_id table id ≡ o → IfSome o (λ t. All (λ offset. text_at new.strings offset ≡ text_at table.strings offset) (held_names t))
+  by id here None e = tt
+  by id here (Some t) e = all-map _ _ (held_names t) (text-same table new texts) (readable.names id t here e)
+
+agree : (reached : ℕ → Bool) (table new : Table) (groups : Groups) → IsReach reached table groups → IsReadable reached table groups → StaysReached reached table new → TextsStay table new → AgreeOnReach reached table new groups
+agree reached table new groups reach readable stays texts = record {
+  alike = alike reached table new groups reach readable stays texts;
+  types = reach.types;
+  accesses = all-map _ _ groups (λ x. all-map _ _ x.records (λ r. text-same table new texts r.access_str_off)) readable.accesses;
+  sections = all-map _ _ groups (λ x. text-same table new texts x.name_offset) readable.sections;
+}
+
+-- ---- type relocations before a rewriting and after it
+
+-- the tables of an object, before and after, agree on what its type relocations reach
+abbrev Agree : (ℕ → Bool) → Answers → State → Type 0
+Agree reached answers s =
+    (table new : Table) → s.types ≡ Some table → IsRewritten answers s.file s.externs.ksyms (Some table) (Some new) → AgreeOnReach reached table new (type_groups s)
+
+-- an object with other types
+abbrev retyped : State → Option Table → State
+retyped s types = record s { types = types }
+
+relocated-by : (law : RelocationsRest) (reached : ℕ → Bool) (file : List ℕ) (functions : List ((ℕ × ℕ) × FunctionContent)) (table new : Table) (targets : List Table) (o : Option Extension)
+    → AgreeOnReach reached table new (groups_beside (Some table) o) → (to : List ((ℕ × ℕ) × FunctionContent))
+    → (AreRelocated (types_given file functions table targets) (groups_beside (Some table) o) to → AreRelocated (types_given file functions new targets) (groups_beside (Some new) o) to)
+    × (AreRelocated (types_given file functions new targets) (groups_beside (Some new) o) to → AreRelocated (types_given file functions table targets) (groups_beside (Some table) o) to)
+relocated-by law reached file functions table new targets None a to = law.relocated reached (types_given file functions table targets) new _ a to
+relocated-by law reached file functions table new targets (Some x) a to = law.relocated reached (types_given file functions table targets) new x.relocations a to
+
+refused-by : (law : RelocationsRest) (reached : ℕ → Bool) (file : List ℕ) (functions : List ((ℕ × ℕ) × FunctionContent)) (table new : Table) (targets : List Table) (o : Option Extension)
+    → AgreeOnReach reached table new (groups_beside (Some table) o) → (c : BtfRelocationCause)
+    → (HasTypesFault (types_given file functions table targets) (groups_beside (Some table) o) c → HasTypesFault (types_given file functions new targets) (groups_beside (Some new) o) c)
+    × (HasTypesFault (types_given file functions new targets) (groups_beside (Some new) o) c → HasTypesFault (types_given file functions table targets) (groups_beside (Some table) o) c)
+refused-by law reached file functions table new targets None a c = law.refused reached (types_given file functions table targets) new _ a c
+refused-by law reached file functions table new targets (Some x) a c = law.refused reached (types_given file functions table targets) new x.relocations a c
+
+-- what type relocations need of an object's types
+record Moves (k : List Table) (s : State) (types : Option Table) : Type 0 where
+  relocated : (to : List ((ℕ × ℕ) × FunctionContent)) → AreRelocated (types_of s k) (type_groups s) to → AreRelocated (types_of (retyped s types) k) (type_groups (retyped s types)) to
+  back : (to : List ((ℕ × ℕ) × FunctionContent)) → AreRelocated (types_of (retyped s types) k) (type_groups (retyped s types)) to → AreRelocated (types_of s k) (type_groups s) to
+  refused : (c : BtfRelocationCause) → HasTypesFault (types_of s k) (type_groups s) c → HasTypesFault (types_of (retyped s types) k) (type_groups (retyped s types)) c
+  refused-back : (c : BtfRelocationCause) → HasTypesFault (types_of (retyped s types) k) (type_groups (retyped s types)) c → HasTypesFault (types_of s k) (type_groups s) c
+
+moves : (law : RelocationsRest) (reached : ℕ → Bool) (answers : Answers) (k : List Table) (s : State) (types : Option Table) → Agree reached answers s → IsRewritten answers s.file s.externs.ksyms s.types types → Moves k s types
+moves law reached answers k s types agree rewritten = by s.types types refl rewritten where
+  by : (o types : Option Table) → s.types ≡ o → IsRewritten answers s.file s.externs.ksyms o types → Moves k (retyped s o) types
+  by None None e h = record { relocated = λ to r. r; back = λ to r. r; refused = λ c r. r; refused-back = λ c r. r }
+  by (Some table) (Some new) e h =
+      let a : AgreeOnReach reached table new (groups_beside (Some table) s.extension) = subst (λ (o : Option Table). AgreeOnReach reached table new (groups_beside o s.extension)) e (agree table new e h) in
+      record {
+        relocated = λ to. (relocated-by law reached s.file s.functions table new k s.extension a to).0;
+        back = λ to. (relocated-by law reached s.file s.functions table new k s.extension a to).1;
+        refused = λ c. (refused-by law reached s.file s.functions table new k s.extension a c).0;
+        refused-back = λ c. (refused-by law reached s.file s.functions table new k s.extension a c).1;
+      }
+  by None (Some new) e h = elim h [ ]
+  by (Some table) None e h = elim h [ ]
+
+-- ---- the two passes
+
+exchange : (law : RelocationsRest) (reached : ℕ → Bool) (answers : Answers) (k : List Table) (s m t : State) → Agree reached answers s → RelocatesTypes k s m → RewritesTypes answers m t
+    → (n : State) × RewritesTypes answers s n × RelocatesTypes k n t
+exchange law reached answers k s m t agree first second =
+    let rewritten : IsRewritten answers s.file s.externs.ksyms s.types t.types =
+    subst (λ (x : State). IsRewritten answers x.file x.externs.ksyms x.types t.types) first.others second.types in
+    let moved = moves law reached answers k s t.types agree rewritten in
+    let functions : t.functions ≡ m.functions = ap (λ (x : State). x.functions) second.others in (
+      retyped s t.types,
+      record { types = rewritten; others = refl },
+      record {
+        functions = subst (AreRelocated (types_of (retyped s t.types) k) (type_groups (retyped s t.types))) (sym functions) (moved.relocated m.functions first.functions);
+        sound = record { none = λ c h. first.sound.none c (moved.refused-back c h) };
+        others =
+            second.others ∙ ap (λ (x : State). record x { types = t.types }) first.others
+            ∙ ap (λ (f : List ((ℕ × ℕ) × FunctionContent)). record (retyped s t.types) { functions = f }) (sym functions);
+      },
+    )
+
+exchange-back : (law : RelocationsRest) (reached : ℕ → Bool) (answers : Answers) (k : List Table) (s n t : State) → Agree reached answers s → RewritesTypes answers s n → RelocatesTypes k n t
+    → (m : State) × RelocatesTypes k s m × RewritesTypes answers m t
+exchange-back law reached answers k s n t agree first second =
+    let moved = moves law reached answers k s n.types agree first.types in
+    let types : t.types ≡ n.types = ap (λ (x : State). x.types) second.others in
+    let relocated = subst (λ (x : State). AreRelocated (types_of x k) (type_groups x) t.functions) first.others second.functions in
+    let sound : CanBeRelocated (types_of (retyped s n.types) k) (type_groups (retyped s n.types)) = subst (λ (x : State). CanBeRelocated (types_of x k) (type_groups x)) first.others second.sound in (
+      record s { functions = t.functions },
+      record {
+        functions = moved.back t.functions relocated;
+        sound = record { none = λ c h. sound.none c (moved.refused c h) };
+        others = refl;
+      },
+      record {
+        types = subst (IsRewritten answers s.file s.externs.ksyms s.types) (sym types) first.types;
+        others =
+            second.others ∙ ap (λ (x : State). record x { functions = t.functions }) first.others
+            ∙ ap (λ (o : Option Table). record s { functions = t.functions; types = o }) (sym types);
+      },
+    )
+
+-- ---- the passes before them
+
+-- what an object has after passes that leave its file, its types and what stands beside them
+record Left (object s : State) : Type 0 where
+  file : s.file ≡ object.file
+  types : s.types ≡ object.types
+  ksyms : s.externs.ksyms ≡ object.externs.ksyms
+  extension : s.extension ≡ object.extension
+
+ksyms-stay : (kernel : Option Table) (symbols : Symbols) (old new : ExternsContent) (o : Option Table)
+    → MatchOption o (new ≡ old) (λ table. AreResolved table kernel symbols.bytes symbols.failed old new) → new.ksyms ≡ old.ksyms
+ksyms-stay kernel symbols old new None same = ap (λ (x : ExternsContent). x.ksyms) same
+ksyms-stay kernel symbols old new (Some table) resolved = resolved.section
+
+-- the passes that come first leave all that type relocations rest on
+left-by : (i : Inputs) (u : Under) (object a b c d s : State) → Makes FunctionRecords i u object a → Makes MapNumbers i u a b → Makes GlobalValues i u b c → Makes KernelTypes i u c d → Makes Externs i u d s → Left object s
+left-by i u object a b c d s records numbers values types externs = record {
+  file = ap (λ (x : State). x.file) externs.others ∙ ap (λ (x : State). x.file) types.1 ∙ ap (λ (x : State). x.file) values.maps ∙ ap (λ (x : State). x.file) numbers.1 ∙ ap (λ (x : State). x.file) records.1;
+  types = ap (λ (x : State). x.types) externs.others ∙ ap (λ (x : State). x.types) types.1 ∙ ap (λ (x : State). x.types) values.maps ∙ ap (λ (x : State). x.types) numbers.1 ∙ ap (λ (x : State). x.types) records.1;
+  ksyms = ksyms-stay (first_table i) i.symbols d.externs s.externs d.types externs.externs ∙ ap (λ (x : State). x.externs.ksyms) types.1 ∙ ap (λ (x : State). x.externs.ksyms) values.maps ∙ ap (λ (x : State). x.externs.ksyms) numbers.1 ∙ ap (λ (x : State). x.externs.ksyms) records.1;
+  extension = ap (λ (x : State). x.extension) externs.others ∙ ap (λ (x : State). x.extension) types.1 ∙ ap (λ (x : State). x.extension) values.maps ∙ ap (λ (x : State). x.extension) numbers.1 ∙ ap (λ (x : State). x.extension) records.1;
+}
+
+agree-after : (reached : ℕ → Bool) (answers : Answers) (object s : State) → IsOrderFree reached answers object → Left object s → Agree reached answers s
+agree-after reached answers object s free left table new e rewritten =
+    let known : object.types ≡ Some table = sym left.types ∙ e in
+    let in-file = subst (λ file. IsRewritten answers file s.externs.ksyms (Some table) (Some new)) left.file rewritten in
+    let there = subst (λ ksyms. IsRewritten answers object.file ksyms (Some table) (Some new)) left.ksyms in-file in
+    let groups : type_groups s ≡ type_groups object = ap (λ (o : Option Table). groups_beside o s.extension) left.types ∙ ap (groups_beside object.types) left.extension in
+    subst (AgreeOnReach reached table new) (sym groups)
+    (agree reached table new (type_groups object) (free.reach table known) (free.readable table known) (free.stays table new known there)
+    (texts-stay answers object.file object.externs.ksyms table new (length table.types == 0) there))
+
+to-rewrite-first : (law : RelocationsRest) (i : Inputs) (u : Under) (object : State) (reached : ℕ → Bool) → IsOrderFree reached u.answers object → (plan : PlanContent)
+    → IsMadePlan (in_order RelocateFirst i) u object plan → IsMadePlan (in_order RewriteFirst i) u object plan
+to-rewrite-first law i u object reached free plan p =
+    let one = p.patching in
+    let two = one.2 in
+    let three = two.2 in
+    let four = three.2 in
+    let five = four.2 in
+    let six = five.2 in
+    let seven = six.2 in
+    let left = left-by i u object one.0 two.0 three.0 four.0 five.0 one.1 two.1 three.1 four.1 five.1 in
+    let other = exchange law reached u.answers i.kernel_types five.0 six.0 seven.0 (agree-after reached u.answers object five.0 free left) six.1 seven.1 in
+    record {
+      patched = p.patched;
+      patching = (one.0, one.1, (two.0, two.1, (three.0, three.1, (four.0, four.1, (five.0, five.1, (other.0, other.1, (seven.0, other.2, seven.2)))))));
+      final = p.final;
+      linking = p.linking;
+      is = p.is;
+    }
+
+to-relocate-first : (law : RelocationsRest) (i : Inputs) (u : Under) (object : State) (reached : ℕ → Bool) → IsOrderFree reached u.answers object → (plan : PlanContent)
+    → IsMadePlan (in_order RewriteFirst i) u object plan → IsMadePlan (in_order RelocateFirst i) u object plan
+to-relocate-first law i u object reached free plan p =
+    let one = p.patching in
+    let two = one.2 in
+    let three = two.2 in
+    let four = three.2 in
+    let five = four.2 in
+    let six = five.2 in
+    let seven = six.2 in
+    let left = left-by i u object one.0 two.0 three.0 four.0 five.0 one.1 two.1 three.1 four.1 five.1 in
+    let other = exchange-back law reached u.answers i.kernel_types five.0 six.0 seven.0 (agree-after reached u.answers object five.0 free left) six.1 seven.1 in
+    record {
+      patched = p.patched;
+      patching = (one.0, one.1, (two.0, two.1, (three.0, three.1, (four.0, four.1, (five.0, five.1, (other.0, other.1, (seven.0, other.2, seven.2)))))));
+      final = p.final;
+      linking = p.linking;
+      is = p.is;
+    }
+
+pub orders_agree : RelocationsRest → OrdersAgree
+orders_agree law = record {
+  each = λ i u object reached free plan. (to-rewrite-first law i u object reached free plan, to-relocate-first law i u object reached free plan);
+}

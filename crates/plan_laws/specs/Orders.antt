@@ -1,0 +1,57 @@
+-- That the order of the passes on types changes no plan.
+use Rattle.std.specs.Prelude.{◌≡◌, ℕ, Bool, true, map, All, IfSome, Some, is_some}
+use Rattle.btf_records.specs.declared.types.BtfType.{BtfType}
+use Rattle.btf_sanitizing.specs.Answers.{Answers}
+use Rattle.btf_tables.specs.Holdings.{held_ids, held_names}
+use Rattle.btf_tables.specs.Tables.{Table, type_by_id}
+use Rattle.ebpf_object.specs.Rewriting.{IsRewritten}
+use Rattle.ebpf_object.specs.TypeRelocations.{type_groups}
+use Rattle.load_plan.specs.Inputs.{Inputs, State, Under}
+use Rattle.load_plan.specs.Passes.{Made, linking, patching}
+use Rattle.load_plan.specs.declared.order.Order.{Order}
+use Rattle.load_plan.specs.declared.order.Order.TheVariants.{RelocateFirst, RewriteFirst}
+use Rattle.object_plan.specs.Plans.{plan_of}
+use Rattle.plan_maps.specs.PlanMaps.{plan_map}
+use Rattle.plan_text.specs.Content.{PlanContent}
+use Rattle.string_table.specs.Texts.{text_at}
+use Rattle.type_relocation.specs.Relocations.{Groups}
+
+-- the same inputs, with the passes on types in an order
+abbrev pub in_order : Order → Inputs → Inputs
+in_order order i = record i { order = order }
+
+-- the plan is what all passes make of an object, under answers
+pub record IsMadePlan (i : Inputs) (u : Under) (object : State) (plan : PlanContent) : Type 0 where
+  pub patched : State
+  pub patching : Made (patching i.order) i u object patched
+  pub final : State
+  pub linking : Made linking i u patched final
+  pub is : plan ≡ plan_of u.answers (map (plan_map i.settings) final.maps) final
+
+-- what type relocations reach: their own types, and with a type all that its record holds
+pub record IsReach (reached : ℕ → Bool) (table : Table) (groups : Groups) : Type 0 where
+  pub types : All (λ x. All (λ r. reached r.type_id ≡ true) x.records) groups
+  pub closed : (id : ℕ) → reached id ≡ true → IfSome (type_by_id table id) (λ t. All (λ next. reached next ≡ true) (held_ids t))
+
+-- the names that the records hold, the access strings and the names of the groups' sections can be read
+pub record IsReadable (reached : ℕ → Bool) (table : Table) (groups : Groups) : Type 0 where
+  pub names : (id : ℕ) (t : BtfType) → reached id ≡ true → type_by_id table id ≡ Some t → All (λ offset. is_some (text_at table.strings offset) ≡ true) (held_names t)
+  pub accesses : All (λ x. All (λ r. is_some (text_at table.strings r.access_str_off) ≡ true) x.records) groups
+  pub sections : All (λ x. is_some (text_at table.strings x.name_offset) ≡ true) groups
+
+-- the records are the same in another table
+pub record StaysReached (reached : ℕ → Bool) (table new : Table) : Type 0 where
+  pub same : (id : ℕ) → reached id ≡ true → type_by_id new id ≡ type_by_id table id
+
+-- what an object's type relocations reach can be read, and stays where its types are rewritten
+pub record IsOrderFree (reached : ℕ → Bool) (answers : Answers) (object : State) : Type 0 where
+  pub reach : (table : Table) → object.types ≡ Some table → IsReach reached table (type_groups object)
+  pub readable : (table : Table) → object.types ≡ Some table → IsReadable reached table (type_groups object)
+  pub stays : (table new : Table) → object.types ≡ Some table
+      → IsRewritten answers object.file object.externs.ksyms (Some table) (Some new) → StaysReached reached table new
+
+-- then both orders come to the same plans, the kernel tables that relocations matched among all else that a plan says
+pub record OrdersAgree : Type 0 where
+  pub each : (i : Inputs) (u : Under) (object : State) (reached : ℕ → Bool) → IsOrderFree reached u.answers object → (plan : PlanContent)
+      → (IsMadePlan (in_order RelocateFirst i) u object plan → IsMadePlan (in_order RewriteFirst i) u object plan)
+      × (IsMadePlan (in_order RewriteFirst i) u object plan → IsMadePlan (in_order RelocateFirst i) u object plan)
