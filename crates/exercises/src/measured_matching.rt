@@ -1,10 +1,11 @@
-//! How long it takes to find what type relocations come to in a file of a kernel's types. The object's own types are these types
-//! too, with the access strings added, so that each relocation is for a member that is there.
+//! How long it takes to find what type relocations come to in tables of a kernel's types. The object's own types are these types
+//! too, with the access strings added, so that each relocation is for a type or a member that is there.
 
 use crate::error::ExerciseError;
 use crate::times::{micros, print_times};
 use btf::{Btf, BtfError, BtfKind, Endianness};
 use ebpf_items::RelocationKind;
+use std::alloc::AllocError;
 use std::env::Args;
 use std::fs;
 use std::time::Instant;
@@ -16,39 +17,79 @@ const ROUNDS: u32 = 11;
 /// How many relocations there are.
 const COUNTS: [usize; 5] = [0, 1, 100, 1000, 10_000];
 
+/// How many tables of the kernel's there are.
+const TABLES: [usize; 2] = [1, 40];
+
 /// So many members of a struct at most are asked for.
 const MEMBERS: usize = 4;
 
-/// Adds the access strings of the first members of a struct, and says where they stand.
-fn add_access_strings(local: &mut Btf<'_>) -> Result<[u32; MEMBERS], BtfError> {
-    Ok([
-        local.add_string("0:0")?,
-        local.add_string("0:1")?,
-        local.add_string("0:2")?,
-        local.add_string("0:3")?,
-    ])
+/// What is asked of each member, and of each type.
+const MEMBER_KINDS: [RelocationKind; 3] = [
+    RelocationKind::FieldByteOffset,
+    RelocationKind::FieldByteSize,
+    RelocationKind::FieldExists,
+];
+
+const TYPE_KINDS: [RelocationKind; 3] = [
+    RelocationKind::TypeExists,
+    RelocationKind::TypeSize,
+    RelocationKind::TypeIdTarget,
+];
+
+/// Where the access strings of a type and of the first members of a struct stand.
+#[derive(Clone, Copy, Drop)]
+struct AccessStrings {
+    whole: u32,
+    members: [u32; MEMBERS],
 }
 
-/// The relocations for the byte offsets of the first members of a struct.
-fn push_members(
-    local: &Btf<'_>,
-    name: &str,
-    access_strings: &[u32; MEMBERS],
+/// Adds the access strings.
+fn add_access_strings(local: &mut Btf<'_>) -> Result<AccessStrings, BtfError> {
+    Ok(AccessStrings {
+        whole: local.add_string("0")?,
+        members: [
+            local.add_string("0:0")?,
+            local.add_string("0:1")?,
+            local.add_string("0:2")?,
+            local.add_string("0:3")?,
+        ],
+    })
+}
+
+/// The relocations of some kinds for one access.
+fn push_kinds(
+    kinds: &[RelocationKind],
+    type_id: u32,
+    access_str_off: u32,
     relocations: &mut Vec<TypeRelocation>,
-) -> Result<(), ExerciseError> {
-    let type_id = local.id_by_type_name_kind(name, BtfKind::Struct)?;
-    let members = local.type_by_id(type_id)?.count();
-    for access_str_off in access_strings.iter().take(members) {
+) -> Result<(), AllocError> {
+    for kind in kinds {
         relocations.push(TypeRelocation {
-            kind: RelocationKind::FieldByteOffset,
+            kind: *kind,
             type_id,
-            access_str_off: *access_str_off,
+            access_str_off,
         })?;
     }
     Ok(())
 }
 
-/// The relocations for the first members of the structs that the words name.
+/// The relocations for a struct and its first members.
+fn push_struct(
+    local: &Btf<'_>,
+    name: &str,
+    access_strings: AccessStrings,
+    relocations: &mut Vec<TypeRelocation>,
+) -> Result<(), ExerciseError> {
+    let type_id = local.id_by_type_name_kind(name, BtfKind::Struct)?;
+    let members = local.type_by_id(type_id)?.count();
+    for access_str_off in access_strings.members.iter().take(members) {
+        push_kinds(&MEMBER_KINDS, type_id, *access_str_off, relocations)?;
+    }
+    push_kinds(&TYPE_KINDS, type_id, access_strings.whole, relocations)?;
+    Ok(())
+}
+
+/// The relocations for the structs that the words name.
 fn relocations_for(
     rt: &HostRuntime,
     local: &mut Btf<'_>,
@@ -57,7 +98,7 @@ fn relocations_for(
     let access_strings = add_access_strings(local)?;
     let mut relocations = Vec::new(rt.alloc());
     for name in words {
-        push_members(local, name.as_str(), &access_strings, &mut relocations)?;
+        push_struct(local, name.as_str(), access_strings, &mut relocations)?;
     }
     Ok(relocations)
 }
@@ -112,19 +153,47 @@ fn measure_count(
     print_times(rt, "matched", times)
 }
 
+/// So many tables of these types.
+fn tables_of<'s>(
+    rt: &HostRuntime,
+    section: &'s [u8],
+    count: usize,
+) -> Result<Vec<Btf<'s>>, ExerciseError> {
+    let mut tables = Vec::with_capacity(rt.alloc(), count)?;
+    for _ in 0..count {
+        tables.push(Btf::parse(rt.alloc(), section, Endianness::Little)?)?;
+    }
+    Ok(tables)
+}
+
+/// Measures relocations, so many of these, over so many tables.
+fn measure_tables(
+    rt: &HostRuntime,
+    local: &Btf<'_>,
+    section: &[u8],
+    relocations: &[TypeRelocation],
+    tables: usize,
+) -> Result<(), ExerciseError> {
+    println!(rt; "{tables} tables")?;
+    let kernel = tables_of(rt, section, tables)?;
+    for count in COUNTS {
+        let asked = repeated(rt, relocations, count)?;
+        measure_count(rt, local, kernel.as_slice(), asked.as_slice())?;
+    }
+    Ok(())
+}
+
 /// Measures relocations in the file of the first word, for the structs that the other words name.
 pub(crate) fn run(rt: &HostRuntime, words: &mut Args) -> Result<(), ExerciseError> {
     let Some(file) = words.next() else {
         return Err(ExerciseError::Usage);
     };
     let section = fs::read(rt, file.as_str())?;
-    let mut local = Btf::parse(rt.alloc(), section.as_slice(), Endianness::Little)?;
+    let section = section.as_slice();
+    let mut local = Btf::parse(rt.alloc(), section, Endianness::Little)?;
     let relocations = relocations_for(rt, &mut local, words)?;
-    let mut kernel = Vec::new(rt.alloc());
-    kernel.push(Btf::parse(rt.alloc(), section.as_slice(), Endianness::Little)?)?;
-    for count in COUNTS {
-        let asked = repeated(rt, relocations.as_slice(), count)?;
-        measure_count(rt, &local, kernel.as_slice(), asked.as_slice())?;
+    for tables in TABLES {
+        measure_tables(rt, &local, section, relocations.as_slice(), tables)?;
     }
     Ok(())
 }

@@ -1,0 +1,130 @@
+//! Plans of an object that is cut off or changed in one byte, and of an object for kernel types that are: how many runs of
+//! `prepare` end with a plan, whose text is read as a plan that is written alike, or with a refusal.
+//!
+//! `changed_plans [--plans] MAP[,MAP].. OBJECT little|big [TYPES..]`: maps that get a number, the object's file, the byte order of the
+//! kernel's types and their files. With `--plans` it also prints how many plans there are.
+//!
+//! `changed_plans --text PLAN`: the text of a plan that is cut off or changed in one byte, read.
+#![tactic(auto)]
+
+mod changes;
+mod counts;
+mod error;
+mod planning;
+mod texts;
+
+use counts::Counts;
+use error::ChangesError;
+use load_plan::Endianness;
+use planning::{changed_object_counts, changed_types_counts};
+use std::env::Args;
+use std::process::ExitCode;
+use std::{env, fs};
+use texts::{changed_text_counts, count_refused_texts};
+
+fn next_word(words: &mut Args) -> Result<String, ChangesError> {
+    words.next().ok_or(ChangesError::Usage)
+}
+
+/// Prints what runs came to, and how many came to a plan where that is asked for.
+fn print_counts(
+    rt: &HostRuntime,
+    what: &str,
+    counts: Counts,
+    shows_plans: bool,
+) -> Result<(), ChangesError> {
+    println!(rt;
+        "{} of {} runs on {what} end with a plan or a refusal",
+        counts.answered(),
+        counts.all()
+    )?;
+    if counts.left_out > 0 {
+        println!(rt;
+            "{} runs are left out, for zeros of more than 16 MiB",
+            counts.left_out
+        )?;
+    }
+    if shows_plans {
+        println!(rt; "{} plans, {} refusals", counts.plans, counts.refusals)?;
+    }
+    Ok(())
+}
+
+/// The byte order of a word.
+fn order_of(word: &str) -> Result<Endianness, ChangesError> {
+    match word {
+        "little" => Ok(Endianness::Little),
+        "big" => Ok(Endianness::Big),
+        _ => Err(ChangesError::Usage),
+    }
+}
+
+/// The bytes of the files that the words name.
+fn read_files(rt: &HostRuntime, words: &mut Args) -> Result<Vec<Vec<u8>>, ChangesError> {
+    let mut files = Vec::new(rt.alloc());
+    for name in words {
+        files.push(fs::read(rt, name.as_str())?)?;
+    }
+    Ok(files)
+}
+
+/// Counts over the object that the words name behind the names of maps, the first word, and over each
+/// file of kernel types that they name behind the byte order of these.
+fn count_all(
+    rt: &HostRuntime,
+    maps: &str,
+    words: &mut Args,
+    shows_plans: bool,
+) -> Result<(), ChangesError> {
+    let mut object = fs::read(rt, next_word(words)?.as_str())?;
+    let order = order_of(next_word(words)?.as_str())?;
+    let mut types = read_files(rt, words)?;
+    let counts = changed_object_counts(rt.alloc(), maps, &mut object, &types, order)?;
+    print_counts(rt, "changed objects", counts, shows_plans)?;
+    for bytes in types.iter_mut() {
+        let counts = changed_types_counts(rt.alloc(), maps, &object, bytes, order)?;
+        print_counts(rt, "changed kernel types", counts, shows_plans)?;
+    }
+    Ok(())
+}
+
+/// Counts over the plan's text that a word names.
+fn count_texts(rt: &HostRuntime, words: &mut Args) -> Result<(), ChangesError> {
+    let mut text = fs::read(rt, next_word(words)?.as_str())?;
+    let fronts = count_refused_texts(rt.alloc(), text.as_slice());
+    println!(rt;
+        "{fronts} of {} fronts are refused at the line behind their last whole one",
+        text.len()
+    )?;
+    let counts = changed_text_counts(rt.alloc(), text.as_mut_slice());
+    println!(rt;
+        "{} of {} texts with another byte are read and written alike, or refused at the line of the byte or behind it",
+        counts.read.saturating_add(counts.refused),
+        counts.all
+    )?;
+    Ok(())
+}
+
+fn run(rt: &HostRuntime) -> Result<(), ChangesError> {
+    let mut words = env::args(rt)?;
+    let _program = next_word(&mut words)?;
+    let first = next_word(&mut words)?;
+    match first.as_str() {
+        "--text" => count_texts(rt, &mut words),
+        "--plans" => {
+            let maps = next_word(&mut words)?;
+            count_all(rt, maps.as_str(), &mut words, true)
+        }
+        maps => count_all(rt, maps, &mut words, false),
+    }
+}
+
+fn main(rt: HostRuntime) -> ExitCode {
+    match run(&rt) {
+        Ok(()) => ExitCode::SUCCESS,
+        Err(error) => {
+            let _ = eprintln!(rt; "changed_plans: {error}");
+            ExitCode::from(error.status())
+        }
+    }
+}
