@@ -23,7 +23,7 @@ pub struct LoadAttributes {
     pub flags: u32,
 }
 
-/// The attributes of a program of a kind, after the kernel's `libbpf/program_types.rst`:
+/// The attributes of a program of a kind, by the kernel's `bpf.h` and libbpf's `section_defs`:
 /// `specs/Attributes.antt` has the table.
 pub fn load_attributes(kind: &ProgramSection) -> LoadAttributes
     ensures { result ≡ attributes_of kind.now }
