@@ -13,7 +13,7 @@ use Rattle.btf_tables.specs.EssentialNames.{essential_name}
 use Rattle.btf_tables.specs.Tables.{Table, type_by_id}
 use Rattle.string_table.specs.Texts.{text_at}
 use Rattle.type_candidates.specs.Candidates.{Wanted, all_types, asked_of, is_candidate, is_named, is_of_kind, is_unreadable, is_unreadable_at}
-use Rattle.type_candidates.specs.NamedTypes.{AreSeen, HoldCandidates, is_known, is_known_kind, is_under, is_unreadable_of, number_of_name, of_name, of_type, sighted}
+use Rattle.type_candidates.specs.NamedTypes.{AreApart, AreSeen, HoldCandidates, is_known, is_known_kind, is_of_kind_at, is_under, is_unreadable_of, number_of_name, of_name, of_number, of_type, sighted}
 use Rattle.type_candidates.specs.declared.kernel_type.KernelType.{KernelType}
 use Rattle.type_candidates.specs.declared.sighting.Sighting.{Sighting}
 use Rattle.type_candidates.specs.declared.sighting.Sighting.TheVariants.{Other, Unreadable}
@@ -33,6 +33,10 @@ negated false e = refl
 
 itself : (n : ℕ) → nat_eq n n ≡ true
 itself n = grind (arith, nat_tests)
+
+text_itself : (text : List ℕ) → pointwise nat_eq text text ≡ true
+text_itself [] = refl
+text_itself (b ∷ bs) = rw (itself b) (text_itself bs)
 
 kind_known : (kinds unreadable : List Bool) (kind : ℕ) → is_known_kind kinds unreadable kind ≡ true → (slice_index_or kinds kind false ≡ true) × (slice_index_or unreadable kind true ≡ false)
 kind_known kinds unreadable kind e = let parts = both (slice_index_or kinds kind false) (not (slice_index_or unreadable kind true)) e in (parts.0, negated (slice_index_or unreadable kind true) parts.1)
@@ -111,32 +115,65 @@ none_of : (u va vb : KernelType → Bool) (more : Bool) → ((x : KernelType) �
 none_of u va vb more h [] na nb = refl
 none_of u va vb more h (x ∷ xs) na nb = none_next u va vb more h x xs na nb (none_of u va vb more h xs (tail_by (va x) x (find va xs) na).1 (λ e. (tail_by (vb x) x (find vb xs) (nb e)).1)) (true_or_false (u x))
 
-kept_next : (p q : KernelType → Bool) → ((x : KernelType) → p x ≡ true → q x ≡ true) → (x : KernelType) (xs : List KernelType) → filter p (filter q xs) ≡ filter p xs → (q x ≡ true) ⊎ (q x ≡ false) → (p x ≡ true) ⊎ (p x ≡ false) → filter p (filter q (x ∷ xs)) ≡ filter p (x ∷ xs)
-kept_next p q h x xs rest (inl isq) (inl isp) = rw (isq, isp) (ap (λ (ys : List KernelType). x ∷ ys) rest)
-kept_next p q h x xs rest (inl isq) (inr isnt) = rw (isq, isnt) rest
-kept_next p q h x xs rest (inr isnt) (inl isp) = differ (q x) (h x isp) isnt
-kept_next p q h x xs rest (inr isntq) (inr isntp) = rw (isntq, isntp) rest
+kept_next : (c k u : KernelType → Bool) (x : KernelType) (xs : List KernelType) → (c x ≡ true → (k x ≡ true) × (u x ≡ true)) → (k x ≡ true → u x ≡ true → c x ≡ true) → filter k (filter u xs) ≡ filter c xs → (c x ≡ true) ⊎ (c x ≡ false) → (u x ≡ true) ⊎ (u x ≡ false) → (k x ≡ true) ⊎ (k x ≡ false) → filter k (filter u (x ∷ xs)) ≡ filter c (x ∷ xs)
+kept_next c k u x xs down up rest (inl isc) _ _ = rw (isc, (down isc).1, (down isc).0) (ap (λ (ys : List KernelType). x ∷ ys) rest)
+kept_next c k u x xs down up rest (inr isntc) (inr isntu) _ = rw (isntc, isntu) rest
+kept_next c k u x xs down up rest (inr isntc) (inl isu) (inr isntk) = rw (isntc, isu, isntk) rest
+kept_next c k u x xs down up rest (inr isntc) (inl isu) (inl isk) = differ (c x) (up isk isu) isntc
 
-kept_all : (p q : KernelType → Bool) → ((x : KernelType) → p x ≡ true → q x ≡ true) → (xs : List KernelType) → filter p (filter q xs) ≡ filter p xs
-kept_all p q h [] = refl
-kept_all p q h (x ∷ xs) = kept_next p q h x xs (kept_all p q h xs) (true_or_false (q x)) (true_or_false (p x))
+-- what passes both of two tests is what passes a third
+kept_both : (c k u : KernelType → Bool) → ((x : KernelType) → c x ≡ true → (k x ≡ true) × (u x ≡ true)) → ((x : KernelType) → k x ≡ true → u x ≡ true → c x ≡ true) → (xs : List KernelType) → filter k (filter u xs) ≡ filter c xs
+kept_both c k u down up [] = refl
+kept_both c k u down up (x ∷ xs) = kept_next c k u x xs (down x) (up x) (kept_both c k u down up xs) (true_or_false (c x)) (true_or_false (u x)) (true_or_false (k x))
+
+-- a candidate is of the kind
+kind_of_named : (w : Wanted) (strings : List ℕ) (t : Option BtfType) → option_map_or (is_named w strings) t false ≡ true → option_map_or (is_of_kind w) t false ≡ true
+kind_of_named w strings None e = absurd cc
+kind_of_named w strings (Some t) e = (both (is_of_kind w t) (option_map_or (λ x. pointwise nat_eq (essential_name x) w.name) (text_at strings (name_offset_of t)) false) e).0
+
+kind_of_candidate : (w : Wanted) (id : ℕ) (target : Option Table) → asked_of (is_named w) target id ≡ true → asked_of (λ _ t. is_of_kind w t) target id ≡ true
+kind_of_candidate w id None e = absurd cc
+kind_of_candidate w id (Some table) e = kind_of_named w table.strings (type_by_id table id) e
+
+-- what is under the number of the name and of the kind is a candidate
+name_under : (numbers : List (List ℕ × ℕ)) (name text : List ℕ) (number : ℕ) (found : Option ℕ) → AreApart numbers → number_of_name numbers name ≡ Some number → number_of_name numbers (essential_name text) ≡ found → is_under number (of_number found) ≡ true → pointwise nat_eq (essential_name text) name ≡ true
+name_under numbers name text number None apart here is e = absurd cc
+name_under numbers name text number (Some other) apart here is e =
+    let same : essential_name text ≡ name = apart.one (essential_name text) name number (is ∙ ap (λ (n : ℕ). Some n) (equal other number e)) here in
+    rw same (text_itself name)
+
+text_under : (numbers : List (List ℕ × ℕ)) (name : List ℕ) (kind number : ℕ) (text : Option (List ℕ)) → AreApart numbers → number_of_name numbers name ≡ Some number → is_under number (of_name numbers kind text) ≡ true → option_map_or (λ x. pointwise nat_eq (essential_name x) name) text false ≡ true
+text_under numbers name kind number None apart here e = absurd cc
+text_under numbers name kind number (Some text) apart here e = name_under numbers name text number (number_of_name numbers (essential_name text)) apart here refl e
+
+wanted_under : (numbers : List (List ℕ × ℕ)) (w : Wanted) (number : ℕ) (strings : List ℕ) (t : BtfType) (is_wanted : Bool) → AreApart numbers → number_of_name numbers w.name ≡ Some number → is_under number (cond is_wanted (of_name numbers (number_of (kind_of_type t)) (text_at strings (name_offset_of t))) Other) ≡ true → option_map_or (λ x. pointwise nat_eq (essential_name x) w.name) (text_at strings (name_offset_of t)) false ≡ true
+wanted_under numbers w number strings t false apart here e = absurd cc
+wanted_under numbers w number strings t true apart here e = text_under numbers w.name (number_of (kind_of_type t)) number (text_at strings (name_offset_of t)) apart here e
+
+type_under : (kinds : List Bool) (numbers : List (List ℕ × ℕ)) (w : Wanted) (number : ℕ) (strings : List ℕ) (t : Option BtfType) → AreApart numbers → number_of_name numbers w.name ≡ Some number → option_map_or (is_of_kind w) t false ≡ true → is_under number (option_map_or (of_type kinds numbers strings) t Other) ≡ true → option_map_or (is_named w strings) t false ≡ true
+type_under kinds numbers w number strings None apart here k e = absurd cc
+type_under kinds numbers w number strings (Some t) apart here k e = rw k (wanted_under numbers w number strings t (slice_index_or kinds (number_of (kind_of_type t)) false) apart here e)
+
+target_under : (kinds : List Bool) (numbers : List (List ℕ × ℕ)) (w : Wanted) (number id : ℕ) (target : Option Table) → AreApart numbers → number_of_name numbers w.name ≡ Some number → asked_of (λ _ t. is_of_kind w t) target id ≡ true → is_under number (option_map_or (λ (table : Table). option_map_or (of_type kinds numbers table.strings) (type_by_id table id) Other) target Other) ≡ true → asked_of (is_named w) target id ≡ true
+target_under kinds numbers w number id None apart here k e = absurd cc
+target_under kinds numbers w number id (Some table) apart here k e = type_under kinds numbers w number table.strings (type_by_id table id) apart here k e
 
 -- the types with the name hold all candidates
-pub holds : (targets : List Table) (kinds unreadable : List Bool) (numbers : List (List ℕ × ℕ)) (named : List (List KernelType)) (w : Wanted) (number : ℕ) (places : List KernelType) → AreSeen (sighted kinds numbers targets) (all_types targets) named unreadable → is_known kinds unreadable w ≡ true → number_of_name numbers w.name ≡ Some number → slice_get named number ≡ Some places
+pub holds : (targets : List Table) (kinds unreadable : List Bool) (numbers : List (List ℕ × ℕ)) (named : List (List KernelType)) (w : Wanted) (number : ℕ) (places : List KernelType) → AreApart numbers → AreSeen (sighted kinds numbers targets) (all_types targets) named unreadable → is_known kinds unreadable w ≡ true → number_of_name numbers w.name ≡ Some number → slice_get named number ≡ Some places
     → HoldCandidates targets w places
-holds targets kinds unreadable numbers named w number places seen known here is =
+holds targets kinds unreadable numbers named w number places apart seen known here is =
     let first = kind_known kinds unreadable (number_of w.kind) (both (is_known_kind kinds unreadable (number_of w.kind)) (not w.or_enum64 || is_known_kind kinds unreadable (number_of Enum64)) known).0 in
     let second : w.or_enum64 ≡ true → is_known_kind kinds unreadable (number_of Enum64) ≡ true = λ e. known_case (is_known_kind kinds unreadable) (number_of w.kind) (number_of Enum64) (number_of Enum64) w.or_enum64 (both (is_known_kind kinds unreadable (number_of w.kind)) (not w.or_enum64 || is_known_kind kinds unreadable (number_of Enum64)) known).0 (both (is_known_kind kinds unreadable (number_of w.kind)) (not w.or_enum64 || is_known_kind kinds unreadable (number_of Enum64)) known).1 (inr (rw e refl)) in
     record {
       readable = none_of (is_unreadable_at w targets) (λ place. is_unreadable_of (number_of w.kind) (sighted kinds numbers targets place)) (λ place. is_unreadable_of (number_of Enum64) (sighted kinds numbers targets place)) w.or_enum64 (λ place e. unread_target kinds unreadable numbers w place.type_id (slice_get targets place.table) known e) (all_types targets) (seen.readable (number_of w.kind) first.1) (λ e. seen.readable (number_of Enum64) (kind_known kinds unreadable (number_of Enum64) (second e)).1);
-      all = ap (filter (is_candidate w targets)) (rw is at (seen.each number)) ∙ kept_all (is_candidate w targets) (λ place. is_under number (sighted kinds numbers targets place)) (λ place e. under_target kinds unreadable numbers w number place.type_id (slice_get targets place.table) known here e) (all_types targets);
+      all = ap (filter (is_of_kind_at w targets)) (rw is at (seen.each number)) ∙ kept_both (is_candidate w targets) (is_of_kind_at w targets) (λ place. is_under number (sighted kinds numbers targets place)) (λ place e. (kind_of_candidate w place.type_id (slice_get targets place.table) e, under_target kinds unreadable numbers w number place.type_id (slice_get targets place.table) known here e)) (λ place k e. target_under kinds numbers w number place.type_id (slice_get targets place.table) apart here k e) (all_types targets);
     }
 
-by_number : (targets : List Table) (kinds unreadable : List Bool) (numbers : List (List ℕ × ℕ)) (named : List (List KernelType)) (w : Wanted) (places : List KernelType) (number : Option ℕ) → AreSeen (sighted kinds numbers targets) (all_types targets) named unreadable → is_known kinds unreadable w ≡ true → number_of_name numbers w.name ≡ number → IsSomeAnd number (λ n. slice_get named n ≡ Some places) → HoldCandidates targets w places
-by_number targets kinds unreadable numbers named w places None seen known same here = absurd here
-by_number targets kinds unreadable numbers named w places (Some number) seen known same here = holds targets kinds unreadable numbers named w number places seen known same here
+by_number : (targets : List Table) (kinds unreadable : List Bool) (numbers : List (List ℕ × ℕ)) (named : List (List KernelType)) (w : Wanted) (places : List KernelType) (number : Option ℕ) → AreApart numbers → AreSeen (sighted kinds numbers targets) (all_types targets) named unreadable → is_known kinds unreadable w ≡ true → number_of_name numbers w.name ≡ number → IsSomeAnd number (λ n. slice_get named n ≡ Some places) → HoldCandidates targets w places
+by_number targets kinds unreadable numbers named w places None apart seen known same here = absurd here
+by_number targets kinds unreadable numbers named w places (Some number) apart seen known same here = holds targets kinds unreadable numbers named w number places apart seen known same here
 
-pub holds_if : (targets : List Table) (kinds unreadable : List Bool) (numbers : List (List ℕ × ℕ)) (named : List (List KernelType)) (w : Wanted) (name : List ℕ) (found : Option (Bor (List KernelType))) → AreSeen (sighted kinds numbers targets) (all_types targets) named unreadable → is_known kinds unreadable w ≡ true → name ≡ w.name → IfSome found (λ places. IsSomeAnd (number_of_name numbers name) (λ n. slice_get named n ≡ Some places.now))
+pub holds_if : (targets : List Table) (kinds unreadable : List Bool) (numbers : List (List ℕ × ℕ)) (named : List (List KernelType)) (w : Wanted) (name : List ℕ) (found : Option (Bor (List KernelType))) → AreApart numbers → AreSeen (sighted kinds numbers targets) (all_types targets) named unreadable → is_known kinds unreadable w ≡ true → name ≡ w.name → IfSome found (λ places. IsSomeAnd (number_of_name numbers name) (λ n. slice_get named n ≡ Some places.now))
     → IfSome found (λ places. HoldCandidates targets w places.now)
-holds_if targets kinds unreadable numbers named w name None seen known same here = tt
-holds_if targets kinds unreadable numbers named w name (Some places) seen known same here = by_number targets kinds unreadable numbers named w places.now (number_of_name numbers name) seen known (ap (number_of_name numbers) (sym same)) here
+holds_if targets kinds unreadable numbers named w name None apart seen known same here = tt
+holds_if targets kinds unreadable numbers named w name (Some places) apart seen known same here = by_number targets kinds unreadable numbers named w places.now (number_of_name numbers name) apart seen known (ap (number_of_name numbers) (sym same)) here

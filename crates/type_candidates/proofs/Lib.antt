@@ -1,5 +1,6 @@
 pub mod ByBytes
 pub mod FoundCandidates
 pub mod Held
+pub mod Numbers
 pub mod PickedTypes
 pub mod SeenTypes

@@ -1,9 +1,9 @@
 -- The types of a kernel that have wanted names, found in one walk over each table.
-use Rattle.std.specs.Prelude.{◌≡◌, ℕ, ◌==◌, ◌&&◌, ◌||◌, not, Bool, true, false, List, [], ◌∷◌, ◌++◌, filter, find, map, slice_get, slice_index_or, IfSome, Option, None, Some, if◌then◌else◌}
+use Rattle.std.specs.Prelude.{◌≡◌, ℕ, ◌<◌, ◌==◌, ◌&&◌, ◌||◌, not, All, Bool, true, false, List, [], ◌∷◌, ◌++◌, filter, find, map, slice_get, slice_index_or, IfSome, Option, None, Some, if◌then◌else◌}
 use Rattle.std.specs.BTreeMap.{is_at}
 use Rattle.std.specs.Borrow.{Bor}
 use Rattle.std.specs.Cmp.Lexicographic.{slice_cmp}
-use Rattle.std.specs.List.{flat_map, range_with_len}
+use Rattle.std.specs.List.{IsAmong, flat_map, range_with_len}
 use Rattle.std.specs.Map.{lookup}
 use Rattle.std.specs.Option.{IsSomeAnd, option_map_or}
 use Rattle.std.specs.Ordering.{nat_cmp}
@@ -14,8 +14,9 @@ use Rattle.btf_records.specs.declared.types.BtfType.{BtfType}
 use Rattle.btf_tables.specs.EssentialNames.{essential_name}
 use Rattle.btf_tables.specs.Tables.{Table, type_by_id}
 use Rattle.string_table.specs.Texts.{text_at}
-use Rattle.type_candidates.specs.Candidates.{Wanted, all_types, first_types, is_candidate, is_unreadable_at, types_at}
+use Rattle.type_candidates.specs.Candidates.{Wanted, all_types, asked_of, first_types, is_candidate, is_of_kind, is_unreadable_at, types_at}
 use Rattle.type_candidates.specs.declared.kernel_type.KernelType.{KernelType}
+use Rattle.type_candidates.specs.declared.long_names.LongName.{LongName}
 use Rattle.type_candidates.specs.declared.sighting.Sighting.{Sighting}
 use Rattle.type_candidates.specs.declared.sighting.Sighting.TheVariants.{Named, Other, Unreadable}
 
@@ -25,6 +26,29 @@ by_bytes entries = map (λ e. (e.0.now, e.1)) entries
 
 abbrev pub number_of_name : List (List ℕ × ℕ) → List ℕ → Option ℕ
 number_of_name numbers name = lookup (is_at (slice_cmp nat_cmp name)) numbers
+
+-- no two names have the same number
+pub record AreApart (numbers : List (List ℕ × ℕ)) : Type 0 where
+  pub one : (name other : List ℕ) (number : ℕ) → number_of_name numbers name ≡ Some number → number_of_name numbers other ≡ Some number → name ≡ other
+
+-- so many numbers are given
+pub record AreNumbered (numbers : List (List ℕ × ℕ)) (count : ℕ) : Type 0 where
+  pub below : (name : List ℕ) → IfSome (number_of_name numbers name) (λ number. number < count)
+  pub apart : AreApart numbers
+
+-- what was found for the name at an offset
+abbrev pub IsNumberAt : List (List ℕ × ℕ) → List ℕ → LongName → Type 0
+IsNumberAt numbers strings found = IsSomeAnd (text_at strings found.offset) (λ text. number_of_name numbers (essential_name text) ≡ found.number)
+
+pub record AreNumbersOf (numbers : List (List ℕ × ℕ)) (strings : List ℕ) (found : List LongName) : Type 0 where
+  pub each : All (IsNumberAt numbers strings) found
+
+-- among the strings of a table
+abbrev pub AreNumbersAt : List (List ℕ × ℕ) → List Table → ℕ → List LongName → Type 0
+AreNumbersAt numbers targets table found = IfSome (slice_get targets table) (λ target. AreNumbersOf numbers target.strings found)
+
+abbrev pub IsFoundAt : List LongName → ℕ → LongName → Type 0
+IsFoundAt found offset name = IsAmong found name × (name.offset ≡ offset)
 
 -- what a type is, of these kinds and these names
 abbrev pub of_number : Option ℕ → Sighting
@@ -72,7 +96,10 @@ is_known_kind kinds unreadable kind = slice_index_or kinds kind false && not (sl
 abbrev pub is_known : List Bool → List Bool → Wanted → Bool
 is_known kinds unreadable wanted = is_known_kind kinds unreadable (number_of wanted.kind) && (not wanted.or_enum64 || is_known_kind kinds unreadable (number_of Enum64))
 
--- these types hold all candidates, and no name of the kind is unreadable
+abbrev pub is_of_kind_at : Wanted → List Table → KernelType → Bool
+is_of_kind_at wanted targets place = asked_of (λ _ t. is_of_kind wanted t) (slice_get targets place.table) place.type_id
+
+-- the candidates are those of these types that are of the kind, and no name of the kind is unreadable
 pub record HoldCandidates (targets : List Table) (wanted : Wanted) (places : List KernelType) : Type 0 where
   pub readable : find (is_unreadable_at wanted targets) (all_types targets) ≡ None
-  pub all : filter (is_candidate wanted targets) places ≡ filter (is_candidate wanted targets) (all_types targets)
+  pub all : filter (is_of_kind_at wanted targets) places ≡ filter (is_candidate wanted targets) (all_types targets)

@@ -2,14 +2,14 @@
 
 ghost use Rattle.std.specs.Prelude.{◌≡◌, ◌≢◌, [], true, All, IfOk, IfErr, IfSome, Ok, Err, Some, filter, slice_get};
 ghost use Rattle.std.specs.Option.{IsSomeAnd};
-ghost use Rattle.type_candidates.specs.Candidates.{candidates, is_candidate};
-ghost use Rattle.type_candidates.specs.NamedTypes.{HoldCandidates, is_known, is_known_kind, number_of_name};
+ghost use Rattle.type_candidates.specs.Candidates.{candidates};
+ghost use Rattle.type_candidates.specs.NamedTypes.{AreApart, HoldCandidates, is_known, is_known_kind, is_of_kind_at, number_of_name};
 ghost use Rattle.type_candidates.specs.declared.error.CandidateError.TheVariants.{OutOfMemory};
 
 use crate::error::CandidateError;
 use crate::kernel_type::KernelType;
 use crate::places::Places;
-use crate::search::{candidates, is_candidate};
+use crate::search::candidates;
 use crate::walk::note_all;
 use crate::wanted::WantedType;
 use crate::wanted_names::WantedNames;
@@ -102,7 +102,8 @@ fn places_of<'p>(
     named: &'p [Places],
     name: &str,
 ) -> Option<&'p [KernelType]>
-    ensures { IfSome result (λ places. IsSomeAnd (number_of_name names.now name.now) (λ number. slice_get named.now number ≡ Some places.now)) }
+    ensures places { IfSome result (λ places. IsSomeAnd (number_of_name names.now name.now) (λ number. slice_get named.now number ≡ Some places.now)) }
+    ensures apart { AreApart names.now }
 {
     let number = names.number(name)?;
     match named.get(number) {
@@ -111,17 +112,20 @@ fn places_of<'p>(
     }
 }
 
-/// Whether a type is a candidate.
-fn is_listed(wanted: &WantedType<'_>, targets: &[Btf<'_>], place: KernelType) -> bool
-    ensures { result ≡ is_candidate wanted.now targets.now place }
+/// Whether the type at a place is of the wanted kind.
+fn is_of_kind(wanted: &WantedType<'_>, targets: &[Btf<'_>], place: KernelType) -> bool
+    ensures { result ≡ is_of_kind_at wanted.now targets.now place }
 {
-    match is_candidate(wanted, targets, place) {
-        Ok(is) => is,
+    let Some(target) = targets.get(place.table) else {
+        return false;
+    };
+    match target.type_by_id(place.type_id) {
+        Ok(t) => wanted.is_of_kind(&t),
         Err(_error) => false,
     }
 }
 
-/// Those of some types that are candidates.
+/// Those of some types that are of the wanted kind.
 #[tactic(auto, using(crate::proofs::PickedTypes::picked_on, crate::proofs::PickedTypes::picked_past, crate::proofs::PickedTypes::picked_end))]
 fn picked(
     alloc: Global,
@@ -129,11 +133,11 @@ fn picked(
     targets: &[Btf<'_>],
     places: &[KernelType],
 ) -> Result<Vec<KernelType>, AllocError>
-    ensures { IfOk result (λ found. found.items ≡ filter (is_candidate wanted.now targets.now) places.now) }
+    ensures { IfOk result (λ found. found.items ≡ filter (is_of_kind_at wanted.now targets.now) places.now) }
 {
     let mut found = Vec::new(alloc);
     for place in places {
-        if is_listed(wanted, targets, *place) {
+        if is_of_kind(wanted, targets, *place) {
             found.push(*place)?;
         }
     }
@@ -157,6 +161,7 @@ impl<'c> Candidates<'c> {
         let mut named = no_places(alloc, names.len())?;
         let mut unreadable = [false; 20];
         note_all(
+            alloc,
             &kinds,
             &names,
             targets,
@@ -172,7 +177,7 @@ impl<'c> Candidates<'c> {
         })
     }
 
-    /// Types among which all candidates are, where these were found.
+    /// Types of which those of the wanted kind are the candidates, where these were found.
     #[tactic(auto, using(crate::proofs::Held::holds))]
     fn places(&self, wanted: &WantedType<'_>) -> Option<&[KernelType]>
         ensures { IfSome result (λ places. HoldCandidates self.now wanted.now places.now) }

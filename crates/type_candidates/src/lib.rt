@@ -5,6 +5,7 @@
 mod collected;
 mod error;
 mod kernel_type;
+mod long_names;
 mod places;
 mod search;
 mod sighting;

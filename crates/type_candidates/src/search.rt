@@ -14,7 +14,7 @@ use std::alloc::Global;
 /// Whether a type is a candidate.
 ///
 /// `UnreadableName` where it is of the kind and its name can't be read.
-pub(crate) fn is_candidate(
+fn is_candidate(
     wanted: &WantedType<'_>,
     targets: &[Btf<'_>],
     place: KernelType,

@@ -1,18 +1,19 @@
 //! One walk over each table of a kernel, for all types that are wanted.
 
-ghost use Rattle.std.specs.Prelude.{◌≡◌, ◌+◌, false, slice_index_or, OnOk, []};
+ghost use Rattle.std.specs.Prelude.{◌≡◌, ◌+◌, false, slice_index_or, IfOk, OnOk, []};
 ghost use Rattle.std.specs.List.{flat_map, range_with_len};
 ghost use Rattle.type_candidates.specs.Candidates.{all_types, types_at};
-ghost use Rattle.type_candidates.specs.NamedTypes.{AreSeen, IsNamedNext, IsUnreadableNext, of_type, sighted, types_before};
+ghost use Rattle.type_candidates.specs.NamedTypes.{AreNumbersAt, AreNumbersOf, AreSeen, IsNamedNext, IsUnreadableNext, of_type, sighted, types_before};
 
 use crate::kernel_type::KernelType;
+use crate::long_names::LongNames;
 use crate::places::Places;
 use crate::search::type_count;
 use crate::sighting::Sighting;
 use crate::wanted_names::WantedNames;
 use btf_encoding::TypeRef;
 use btf_tables::Btf;
-use std::alloc::AllocError;
+use std::alloc::{AllocError, Global};
 
 /// Whether a kind, by its number, is wanted.
 fn is_wanted(kinds: &[bool], kind: usize) -> bool
@@ -25,19 +26,22 @@ fn is_wanted(kinds: &[bool], kind: usize) -> bool
 }
 
 /// What a type of a table is.
-fn of_type(kinds: &[bool], names: &WantedNames<'_>, target: &Btf<'_>, t: &TypeRef<'_>) -> Sighting
-    ensures { result ≡ of_type kinds.now names.now target.now.strings t.now }
+fn of_type(
+    kinds: &[bool],
+    names: &WantedNames<'_>,
+    target: &Btf<'_>,
+    t: &TypeRef<'_>,
+    long_names: &mut LongNames,
+) -> Result<Sighting, AllocError>
+    requires { AreNumbersOf names.now target.now.strings long_names.old }
+    ensures value { IfOk result (λ sighting. sighting ≡ of_type kinds.now names.now target.now.strings t.now) }
+    ensures numbers { AreNumbersOf names.now target.now.strings long_names.new }
 {
     let kind = t.kind() as usize;
-    if !is_wanted(kinds, kind) {
-        return Sighting::Other;
-    }
-    match target.string_at(t.name_offset()) {
-        Ok(name) => match names.essential_number(name) {
-            Some(number) => Sighting::Named(number),
-            None => Sighting::Other,
-        },
-        Err(_error) => Sighting::Unreadable(kind),
+    if is_wanted(kinds, kind) {
+        long_names.sighted(names, target, kind, t.name_offset())
+    } else {
+        Ok(Sighting::Other)
     }
 }
 
@@ -47,15 +51,18 @@ fn sighted(
     names: &WantedNames<'_>,
     targets: &[Btf<'_>],
     place: KernelType,
-) -> Sighting
-    ensures { result ≡ sighted kinds.now names.now targets.now place }
+    long_names: &mut LongNames,
+) -> Result<Sighting, AllocError>
+    requires { AreNumbersAt names.now targets.now place.table long_names.old }
+    ensures value { IfOk result (λ sighting. sighting ≡ sighted kinds.now names.now targets.now place) }
+    ensures numbers { AreNumbersAt names.now targets.now place.table long_names.new }
 {
     let Some(target) = targets.get(place.table) else {
-        return Sighting::Other;
+        return Ok(Sighting::Other);
     };
     match target.type_by_id(place.type_id) {
-        Ok(t) => of_type(kinds, names, target, &t),
-        Err(_error) => Sighting::Other,
+        Ok(t) => of_type(kinds, names, target, &t, long_names),
+        Err(_error) => Ok(Sighting::Other),
     }
 }
 
@@ -90,19 +97,23 @@ fn note(
     names: &WantedNames<'_>,
     targets: &[Btf<'_>],
     place: KernelType,
+    long_names: &mut LongNames,
     named: &mut [Places],
     unreadable: &mut [bool],
 ) -> Result<(), AllocError>
-    requires { AreSeen (sighted kinds.now names.now targets.now) (types_before targets.now place.table place.type_id) named.old unreadable.old }
-    ensures { OnOk result (AreSeen (sighted kinds.now names.now targets.now) (types_before targets.now place.table (place.type_id + 1)) named.new unreadable.new) }
+    requires seen { AreSeen (sighted kinds.now names.now targets.now) (types_before targets.now place.table place.type_id) named.old unreadable.old }
+    requires numbers { AreNumbersAt names.now targets.now place.table long_names.old }
+    ensures numbers { AreNumbersAt names.now targets.now place.table long_names.new }
+    ensures seen { OnOk result (AreSeen (sighted kinds.now names.now targets.now) (types_before targets.now place.table (place.type_id + 1)) named.new unreadable.new) }
 {
-    let sighting = sighted(kinds, names, targets, place);
+    let sighting = sighted(kinds, names, targets, place, long_names)?;
     note_unreadable(sighting, unreadable);
     note_named(sighting, place, named)
 }
 
 /// Enters the types of a table, behind those of the tables before it.
 fn note_table(
+    alloc: Global,
     kinds: &[bool],
     names: &WantedNames<'_>,
     targets: &[Btf<'_>],
@@ -113,6 +124,7 @@ fn note_table(
     requires { AreSeen (sighted kinds.now names.now targets.now) (flat_map (types_at targets.now) (range_with_len 0 table)) named.old unreadable.old }
     ensures { OnOk result (AreSeen (sighted kinds.now names.now targets.now) (flat_map (types_at targets.now) (range_with_len 0 (table + 1))) named.new unreadable.new) }
 {
+    let mut long_names = LongNames::new(alloc);
     let count = type_count(targets, table);
     for id in 0..count {
         let type_id = id as u32;
@@ -121,6 +133,7 @@ fn note_table(
             names,
             targets,
             KernelType { table, type_id },
+            &mut long_names,
             named,
             unreadable,
         )?;
@@ -130,6 +143,7 @@ fn note_table(
 
 /// Enters the types of all tables.
 pub(crate) fn note_all(
+    alloc: Global,
     kinds: &[bool],
     names: &WantedNames<'_>,
     targets: &[Btf<'_>],
@@ -140,7 +154,7 @@ pub(crate) fn note_all(
     ensures { OnOk result (AreSeen (sighted kinds.now names.now targets.now) (all_types targets.now) named.new unreadable.new) }
 {
     for table in 0..targets.len() {
-        note_table(kinds, names, targets, table, named, unreadable)?;
+        note_table(alloc, kinds, names, targets, table, named, unreadable)?;
     }
     Ok(())
 }
