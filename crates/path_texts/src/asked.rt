@@ -1,7 +1,12 @@
 //! What a type relocation asks for, as text.
 
+ghost use Rattle.std.specs.Prelude.{◌≡◌, ◌↔◌, IsTrue};
+ghost use Rattle.access_paths.specs.declared.error.AccessError.TheVariants.{BtfError as TypeError};
+ghost use Rattle.btf_records.specs.declared.error.BtfError.TheVariants.{OutOfMemory};
+
 use crate::path::{push_path, push_type};
-use access_paths::local_path;
+use access_paths::{AccessError, local_path};
+use btf_records::BtfError;
 use btf_tables::Btf;
 use ebpf_items::RelocationKind;
 use std::alloc::{AllocError, Global};
@@ -22,6 +27,13 @@ fn kind_text(kind: RelocationKind) -> &'static str {
         RelocationKind::EnumVariantExists => "existence of ",
         RelocationKind::EnumVariantValue => "value of ",
     }
+}
+
+/// Whether memory ran out, which says nothing of the access.
+fn is_want_of_memory(error: &AccessError) -> bool
+    ensures { IsTrue result ↔ (error.now ≡ TypeError OutOfMemory) }
+{
+    matches!(error, AccessError::BtfError(BtfError::OutOfMemory))
 }
 
 /// Appends a type and the access string, of an access that leads to nothing.
@@ -52,7 +64,12 @@ pub fn relocation_text(
     let mut text = String::from_str(alloc, kind_text(kind))?;
     match local_path(table, kind, type_id, access_str_off) {
         Ok(path) => push_path(alloc, &mut text, table, &path)?,
-        Err(_) => push_unread(alloc, &mut text, table, type_id, access_str_off)?,
+        Err(error) => {
+            if is_want_of_memory(&error) {
+                return Err(AllocError);
+            }
+            push_unread(alloc, &mut text, table, type_id, access_str_off)?;
+        }
     }
     Ok(text)
 }
