@@ -16,6 +16,7 @@ use crate::known::{AccessKey, KnownOutcome, access_key, is_same};
 use crate::matches::{Match, matches_of, searched_tables};
 use crate::paths::{FoundPath, KnownPaths, ask_for_one, is_part, matches_from, paths_of};
 use crate::relocation::{RelocationOutcome, TypeRelocation, local_value, settled};
+use crate::searched::{Tables, searched};
 use access_paths::{AccessError, AccessPath, local_path, subject_of};
 use btf_tables::Btf;
 use ebpf_items::RelocationKind;
@@ -31,7 +32,7 @@ pub struct TypeMatcher<'m> {
     targets: &'m [Btf<'m>],
     /// Those in all tables, where they were collected.
     in_all: Option<Candidates<'m>>,
-    /// Those of ids of a kernel's types, in the first table.
+    /// Those of ids of a kernel's types, in the first of several tables.
     in_first: Option<Candidates<'m>>,
     /// What relocations came to.
     known: BTreeMap<AccessKey, KnownOutcome>,
@@ -54,21 +55,16 @@ impl<'m> Model for TypeMatcher<'m> {
     ghost invariant = { λ m. (IfSome m.in_all (λ c. c ≡ m.targets.now)) × (IfSome m.in_first (λ c. c ≡ take 1 m.targets.now)) × AreOutcomes m.local.now m.targets.now (values_of m.known.entries) × AreKnown m.local.now m.targets.now (values_of m.paths.entries) };
 }
 
-/// The local types of relocations that are looked for in all tables, or else of those that are in
-/// the first alone.
+/// The local types of relocations that are looked for in these of the tables.
 fn wanted_types(
     local: &Btf<'_>,
     relocations: &[TypeRelocation],
-    is_in_all: bool,
+    targets: &[Btf<'_>],
+    tables: Tables,
 ) -> Result<Vec<u32>, AllocError> {
     let mut type_ids = Vec::new(local.allocator());
     for relocation in relocations {
-        let is_wanted = match relocation.kind {
-            RelocationKind::TypeIdLocal => false,
-            RelocationKind::TypeIdTarget => !is_in_all,
-            _ => is_in_all,
-        };
-        if is_wanted {
+        if searched(relocation.kind, targets) == tables {
             type_ids.push(relocation.type_id)?;
         }
     }
@@ -107,7 +103,7 @@ impl<'m> TypeMatcher<'m> {
     }
 
     /// The types of an object and of a kernel, of which each table is gone over once for all of
-    /// these relocations, the first once more where ids of a kernel's types are asked for.
+    /// these relocations, the first of several once more where ids of a kernel's types are asked for.
     #[tactic(auto, using(crate::proofs::KnownOutcomes::none_known, crate::proofs::FoundPaths::no_paths_known))]
     pub fn collect(
         local: &'m Btf<'m>,
@@ -116,8 +112,8 @@ impl<'m> TypeMatcher<'m> {
     ) -> Result<TypeMatcher<'m>, AllocError>
         ensures { IfOk result (λ matcher. matcher ≡ record { local = local.now; targets = targets.now }) }
     {
-        let in_all = wanted_types(local, relocations, true)?;
-        let in_first = wanted_types(local, relocations, false)?;
+        let in_all = wanted_types(local, relocations, targets, Tables::All)?;
+        let in_first = wanted_types(local, relocations, targets, Tables::First)?;
         let first = searched_tables(RelocationKind::TypeIdTarget, targets);
         let in_all = collected(local, in_all.as_slice(), targets)?;
         let in_first = collected(local, in_first.as_slice(), first)?;
@@ -135,10 +131,10 @@ impl<'m> TypeMatcher<'m> {
     fn collected(&self, kind: RelocationKind) -> Option<&Candidates<'m>>
         ensures { IfSome result (λ c. c.now ≡ searched_tables kind self.now.targets) }
     {
-        match kind {
-            RelocationKind::TypeIdLocal => None,
-            RelocationKind::TypeIdTarget => self.in_first.as_ref(),
-            _ => self.in_all.as_ref(),
+        match searched(kind, self.targets) {
+            Tables::Nowhere => None,
+            Tables::First => self.in_first.as_ref(),
+            Tables::All => self.in_all.as_ref(),
         }
     }
 
