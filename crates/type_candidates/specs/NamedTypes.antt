@@ -1,9 +1,9 @@
 -- The types of a kernel that have wanted names, found in one walk over each table.
-use Rattle.std.specs.Prelude.{◌≡◌, ℕ, ◌<◌, ◌==◌, ◌&&◌, ◌||◌, not, All, Bool, true, false, List, [], ◌∷◌, ◌++◌, filter, find, map, slice_get, slice_index_or, IfSome, Option, None, Some, if◌then◌else◌}
+use Rattle.std.specs.Prelude.{◌≡◌, ℕ, ◌<◌, ◌==◌, ◌&&◌, ◌||◌, nat_eq, codes, drop, length, not, All, Bool, true, false, List, [], ◌∷◌, ◌++◌, filter, find, map, slice_get, slice_index_or, IfSome, Option, None, Some, if◌then◌else◌}
 use Rattle.std.specs.BTreeMap.{is_at}
 use Rattle.std.specs.Borrow.{Bor}
 use Rattle.std.specs.Cmp.Lexicographic.{slice_cmp}
-use Rattle.std.specs.List.{IsAmong, flat_map, range_with_len}
+use Rattle.std.specs.List.{IsAmong, flat_map, list_any, range_with_len, starts_with}
 use Rattle.std.specs.Map.{lookup}
 use Rattle.std.specs.Option.{IsSomeAnd, option_map_or}
 use Rattle.std.specs.Ordering.{nat_cmp}
@@ -35,6 +35,14 @@ pub record AreApart (numbers : List (List ℕ × ℕ)) : Type 0 where
 pub record AreNumbered (numbers : List (List ℕ × ℕ)) (count : ℕ) : Type 0 where
   pub below : (name : List ℕ) → IfSome (number_of_name numbers name) (λ number. number < count)
   pub apart : AreApart numbers
+
+-- a name that has a number has one of these lengths
+pub record AreLengths (numbers : List (List ℕ × ℕ)) (lengths : List ℕ) : Type 0 where
+  pub each : (name : List ℕ) → IfSome (number_of_name numbers name) (λ _. list_any (is_at (nat_cmp (length name))) lengths ≡ true)
+
+-- a text ends behind so many bytes, or a flavour may begin there
+abbrev pub may_end : List ℕ → ℕ → Bool
+may_end text len = (length text == len) || starts_with nat_eq (drop len text) (codes "___")
 
 -- what was found for the name at an offset
 abbrev pub IsNumberAt : List (List ℕ × ℕ) → List ℕ → LongName → Type 0

@@ -92,7 +92,7 @@ impl LongNames {
         if let Some(found) = self.found(offset) {
             return Ok(of_number(found.number));
         }
-        let number = names.essential_number(name);
+        let number = names.long_number(name);
         self.names.insert(offset, LongName { offset, number })?;
         Ok(of_number(number))
     }

@@ -1,42 +1,80 @@
 //! The names of the types that are wanted.
 
-ghost use Rattle.std.specs.Prelude.{◌≡◌, [], None};
+ghost use Rattle.std.specs.Prelude.{◌≡◌, [], IfNone, IfSome, None, drop, length};
 ghost use Rattle.std.specs.BTreeMap.{btree_map_len};
+ghost use Rattle.std.specs.List.{list_any};
 ghost use Rattle.btf_tables.specs.EssentialNames.{essential_name};
-ghost use Rattle.type_candidates.specs.NamedTypes.{AreApart, AreNumbered, by_bytes, number_of_name};
+ghost use Rattle.type_candidates.specs.NamedTypes.{AreApart, AreLengths, AreNumbered, by_bytes, may_end, number_of_name};
 
 use btf_tables::essential_name;
 use std::alloc::{AllocError, Global};
-use std::collections::BTreeMap;
+use std::collections::{BTreeMap, BTreeSet};
 use std::marker::Model;
 
 /// Names without flavours, each with a number of its own.
 #[derive(Debug, Drop)]
 pub(crate) struct WantedNames<'l> {
     numbers: BTreeMap<&'l str, usize>,
+    /// How many bytes the names have.
+    lengths: BTreeSet<usize>,
 }
 
 impl<'l> Model for WantedNames<'l> {
     ghost use Rattle.std.specs.Prelude.{ℕ, List};
-    ghost use Rattle.type_candidates.specs.NamedTypes.{AreNumbered, by_bytes};
+    ghost use Rattle.type_candidates.specs.NamedTypes.{AreLengths, AreNumbered, by_bytes};
     ghost use Rattle.std.specs.BTreeMap.{btree_map_len};
 
     ghost Value = { List (List ℕ × ℕ) };
 
     ghost view = { λ n. by_bytes n.numbers.entries };
 
-    ghost invariant = { λ n. AreNumbered (by_bytes n.numbers.entries) (btree_map_len n.numbers) };
+    ghost invariant = { λ n. AreNumbered (by_bytes n.numbers.entries) (btree_map_len n.numbers) × AreLengths (by_bytes n.numbers.entries) n.lengths.keys };
 }
 
 /// Adds a name with the next number.
-fn enter<'l>(numbers: &mut BTreeMap<&'l str, usize>, name: &'l str) -> Result<(), AllocError>
+fn enter<'l>(
+    numbers: &mut BTreeMap<&'l str, usize>,
+    lengths: &mut BTreeSet<usize>,
+    name: &'l str,
+) -> Result<(), AllocError>
     requires numbered { AreNumbered (by_bytes numbers.old.entries) (btree_map_len numbers.old) }
+    requires lengths { AreLengths (by_bytes numbers.old.entries) lengths.old.keys }
     requires absent { number_of_name (by_bytes numbers.old.entries) name.now ≡ None }
-    ensures { AreNumbered (by_bytes numbers.new.entries) (btree_map_len numbers.new) }
+    ensures numbered { AreNumbered (by_bytes numbers.new.entries) (btree_map_len numbers.new) }
+    ensures lengths { AreLengths (by_bytes numbers.new.entries) lengths.new.keys }
 {
     let number = numbers.len();
+    lengths.insert(name.len())?;
     numbers.insert(name, number)?;
     Ok(())
+}
+
+/// The bytes behind so many.
+fn bytes_behind(bytes: &[u8], len: usize) -> Option<&[u8]>
+    ensures found { IfSome result (λ rest. rest.now ≡ drop len bytes.now) }
+    ensures past { IfNone result (drop len bytes.now ≡ []) }
+{
+    bytes.get(len..)
+}
+
+/// Whether a text ends behind so many bytes, or a flavour may begin there.
+fn may_end(text: &[u8], len: usize) -> bool
+    ensures { result ≡ may_end text.now len }
+{
+    if text.len() == len {
+        return true;
+    }
+    match bytes_behind(text, len) {
+        Some(rest) => rest.starts_with(b"___".as_slice()),
+        None => false,
+    }
+}
+
+/// Whether a text ends, or a flavour may begin, where a name of one of these lengths would end.
+fn may_end_at(lengths: &BTreeSet<usize>, text: &[u8]) -> bool
+    ensures { result ≡ list_any (may_end text.now) lengths.now.keys }
+{
+    lengths.iter().any(|len| may_end(text, *len))
 }
 
 impl<'l> WantedNames<'l> {
@@ -46,6 +84,7 @@ impl<'l> WantedNames<'l> {
     {
         WantedNames {
             numbers: BTreeMap::new(alloc),
+            lengths: BTreeSet::new(alloc),
         }
     }
 
@@ -67,7 +106,7 @@ impl<'l> WantedNames<'l> {
         if self.number(name).is_some() {
             return Ok(());
         }
-        enter(&mut self.numbers, name)
+        enter(&mut self.numbers, &mut self.lengths, name)
     }
 
     /// The number of a name without its flavour.
@@ -75,5 +114,18 @@ impl<'l> WantedNames<'l> {
         ensures { result ≡ number_of_name self.now (essential_name text.now) }
     {
         self.number(essential_name(text))
+    }
+
+    /// The same of a long text, at which no further than a name reaches is looked: of texts that end
+    /// alike, few have the length of one.
+    #[tactic(auto, using(crate::proofs::Lengths::no_number))]
+    pub(crate) fn long_number(&self, text: &str) -> Option<usize>
+        ensures { result ≡ number_of_name self.now (essential_name text.now) }
+    {
+        if may_end_at(&self.lengths, text.as_bytes()) {
+            self.essential_number(text)
+        } else {
+            None
+        }
     }
 }
