@@ -1,5 +1,5 @@
 -- Places of groups by a hash of their names.
-use Rattle.std.specs.Prelude.{◌≡◌, ℕ, ◌+◌, ◌*◌, ◌%◌, ◌^◌, ◌==◌, ◌≢◌, Bool, List, Option, Some, find, fold, length, drop, reverse, take}
+use Rattle.std.specs.Prelude.{◌≡◌, ℕ, ◌+◌, ◌-◌, ◌*◌, ◌%◌, ◌^◌, ◌==◌, ◌≢◌, Bool, List, Option, Some, find, fold, length, drop, reverse, take}
 use Rattle.std.specs.BTreeMap.{is_at}
 use Rattle.std.specs.Map.{lookup}
 use Rattle.std.specs.Option.{option_map_or}
@@ -11,9 +11,9 @@ use Rattle.btf_extension.specs.declared.group_list.GroupList.{GroupList}
 abbrev pub next_hash : ℕ → ℕ → ℕ
 next_hash hash byte = (hash * 31 % 2 ^ 32 + byte) % 2 ^ 32
 
--- the hash of a name, by its length and its beginning
+-- the hash of a name, by its length, its beginning and its end
 unfoldable pub name_hash : List ℕ → ℕ
-name_hash name = fold next_hash (length name % 2 ^ 32) (take 64 name)
+name_hash name = fold next_hash (fold next_hash (length name % 2 ^ 32) (take 64 name)) (drop (length name - 64) name)
 
 -- the hash of the name of the group at a place
 abbrev pub place_hash : List ℕ → GroupList → ℕ → ℕ

@@ -1,6 +1,6 @@
 //! Groups by name.
 
-ghost use Rattle.std.specs.Prelude.{◌≡◌, ◌<◌, ◌+◌, find, length, drop, reverse, IfOk, IfSome, OnOk};
+ghost use Rattle.std.specs.Prelude.{◌≡◌, ◌<◌, ◌+◌, ◌-◌, find, fold, length, drop, reverse, take, IfOk, IfSome, OnOk};
 ghost use Rattle.std.specs.Option.{option_copied};
 ghost use Rattle.btf_extension.specs.Groups.{IsGroup};
 ghost use Rattle.btf_extension.specs.Layout.{AreWhole, is_named};
@@ -11,7 +11,8 @@ use btf_tables::Strings;
 use std::alloc::{AllocError, Global};
 use std::collections::BTreeMap;
 
-/// So many bytes of a name are hashed: the names of many groups may share their ends.
+/// So many bytes of a name are hashed at its beginning, and at its end: many groups may have one
+/// long name, or names that are ends of one long text.
 const HASHED: usize = 64;
 
 /// Where the last group of each hash of a name begins.
@@ -27,16 +28,34 @@ fn next_hash(hash: u32, byte: u8) -> u32
     hash.wrapping_mul(31).wrapping_add(u32::from(byte))
 }
 
-/// The hash of a name, by its length and its beginning.
+/// The hash with the first bytes.
+fn hash_beginning(hash: u32, bytes: &[u8]) -> u32
+    ensures { result ≡ fold next_hash hash (take 64 bytes.now) }
+{
+    bytes
+        .iter()
+        .take(HASHED)
+        .fold(hash, |hash, byte| next_hash(hash, *byte))
+}
+
+/// The hash with the last bytes.
+fn hash_end(hash: u32, bytes: &[u8]) -> u32
+    ensures { result ≡ fold next_hash hash (drop (length bytes.now - 64) bytes.now) }
+{
+    bytes
+        .iter()
+        .skip(bytes.len().saturating_sub(HASHED))
+        .fold(hash, |hash, byte| next_hash(hash, *byte))
+}
+
+/// The hash of a name, by its length, its beginning and its end.
 #[tactic(auto, unfolding(crate::specs::NameHashes::name_hash))]
 fn name_hash(name: &str) -> u32
     ensures { result ≡ name_hash name.now }
 {
-    let len = (name.len() % 0x1_0000_0000) as u32;
-    name.as_bytes()
-        .iter()
-        .take(HASHED)
-        .fold(len, |hash, byte| next_hash(hash, *byte))
+    let bytes = name.as_bytes();
+    let len = (bytes.len() % 0x1_0000_0000) as u32;
+    hash_end(hash_beginning(len, bytes), bytes)
 }
 
 /// The hash of the name of the group at a place.

@@ -5,3 +5,4 @@ pub mod Passes
 pub mod Questions
 pub mod Kept
 pub mod Stays
+pub mod Stretches

@@ -1,5 +1,6 @@
 pub mod Additions
 pub mod Answers
+pub mod ByteIndex
 pub mod Facts
 pub mod Faults
 pub mod Kept

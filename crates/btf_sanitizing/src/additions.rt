@@ -1,11 +1,13 @@
 //! What a rewriting appends to a table.
 
-ghost use Rattle.std.specs.Prelude.{◌≡◌, ◌≢◌, ◌+◌, ◌<◌, ◌^◌, IfErr, IfOk, OnOk, length};
+ghost use Rattle.std.specs.Prelude.{◌≡◌, ◌≢◌, ◌+◌, ◌<◌, ◌^◌, IfErr, IfOk, OnOk, Some, length};
 ghost use Rattle.btf_records.specs.declared.error.BtfError.TheVariants.{InvalidTypeInfo, OutOfMemory};
 ghost use Rattle.btf_sanitizing.specs.Additions.{next_id, next_offset, nothing_added, placeholder_id, filler_id, renamed_offset, small_int, static_var, with_filler, with_filler_int, with_filler_var, with_placeholder, with_renamed, with_text, with_type};
 ghost use Rattle.btf_sanitizing.specs.Faults.{IsTooMuch};
+ghost use Rattle.string_table.specs.Texts.{text_at};
 
-use crate::names::{has_byte, replaced};
+use crate::byte_index::ByteIndex;
+use crate::names::replaced;
 use btf_parts::MOST;
 use btf_records::{BtfError, BtfType, Int, IntEncoding, Var, VarLinkage};
 use std::alloc::Global;
@@ -94,24 +96,24 @@ impl Additions {
         Ok(id as u32)
     }
 
-    /// Appends a name with one byte in the place of another, and answers its offset; the name's own
-    /// where it doesn't have that byte.
+    /// Appends a name with a byte in the place of the one that is sought, and answers its offset; the
+    /// name's own where it doesn't have that byte.
     pub(crate) fn rename(
         &mut self,
+        names: &ByteIndex<'_>,
         name: &str,
         name_offset: u32,
-        from: u8,
         to: u8,
     ) -> Result<u32, BtfError>
-        ensures offset { IfOk result (λ offset. offset ≡ renamed_offset from name.now name_offset self.old) }
-        ensures added { OnOk result (self.new ≡ with_renamed from to name.now self.old) }
-        ensures refused { IfErr result (λ e. e ≢ OutOfMemory → IsTooMuch (with_renamed from to name.now self.old) e) }
+        requires { text_at names.now.strings name_offset ≡ Some name.now }
+        ensures offset { IfOk result (λ offset. offset ≡ renamed_offset names.now.byte name.now name_offset self.old) }
+        ensures added { OnOk result (self.new ≡ with_renamed names.now.byte to name.now self.old) }
+        ensures refused { IfErr result (λ e. e ≢ OutOfMemory → IsTooMuch (with_renamed names.now.byte to name.now self.old) e) }
     {
-        let name = name.as_bytes();
-        if !has_byte(name, from) {
+        if !names.is_in(name, name_offset) {
             return Ok(name_offset);
         }
-        let text = replaced(self.alloc(), name, from, to)?;
+        let text = replaced(self.alloc(), name.as_bytes(), names.byte(), to)?;
         self.add_text(text.as_slice())
     }
 

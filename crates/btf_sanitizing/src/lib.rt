@@ -4,6 +4,7 @@
 
 mod additions;
 mod answers;
+mod byte_index;
 mod items;
 mod known;
 mod names;

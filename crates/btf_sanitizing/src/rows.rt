@@ -4,12 +4,14 @@ ghost use Rattle.std.specs.Prelude.{◌≡◌, ◌≢◌, ◌⊎◌, IfErr, IfOk
 ghost use Rattle.btf_records.specs.Info.{flagged};
 ghost use Rattle.btf_records.specs.declared.error.BtfError.TheVariants.{OutOfMemory};
 ghost use Rattle.btf_records.specs.declared.types.BtfType.TheVariants as types;
+ghost use Rattle.btf_sanitizing.specs.ByteIndex.{section_names};
 ghost use Rattle.btf_sanitizing.specs.Faults.{IsTooMuch, KindFault};
 ghost use Rattle.btf_sanitizing.specs.Knowledge.{facts_of};
 ghost use Rattle.btf_sanitizing.specs.Rewritten.{after, after_enum64, after_signature, is_alone, member_of_variant, rewritten, rewritten_enum64, rewritten_func, rewritten_signature, variant_of_param};
 ghost use Rattle.btf_parts.specs.Faultless.{IsFaultless};
 
 use crate::additions::{Additions, small_int};
+use crate::byte_index::ByteIndex;
 use crate::items::{members_of_variants, variants_of_params};
 use crate::known::Known;
 use crate::names::is_memory_function;
@@ -149,16 +151,18 @@ fn rewritten_alone(known: &Known<'_, '_, '_>, additions: &Additions, t: BtfType)
 pub fn rewritten(
     alloc: Global,
     known: &Known<'_, '_, '_>,
+    names: &ByteIndex<'_>,
     additions: &mut Additions,
     t: BtfType,
 ) -> Result<BtfType, BtfError>
+    requires { names.now ≡ section_names (facts_of known.now) }
     ensures value { IfOk result (λ r. r ≡ rewritten (facts_of known.now) additions.old t) }
     ensures added { OnOk result (additions.new ≡ after (facts_of known.now) additions.old t) }
     ensures refused { IfErr result (λ e. e ≢ OutOfMemory → KindFault (facts_of known.now) t e ⊎ IsTooMuch (after (facts_of known.now) additions.old t) e) }
     ensures accepted { OnOk result (IsFaultless (KindFault (facts_of known.now) t)) }
 {
     match t {
-        BtfType::DataSec(t) => rewritten_section(alloc, known, additions, t),
+        BtfType::DataSec(t) => rewritten_section(alloc, known, names, additions, t),
         BtfType::Func(t) => rewritten_func(known, t),
         BtfType::FuncProto(t) => rewritten_signature(alloc, known, additions, t),
         BtfType::Enum64(t) => rewritten_enum64(alloc, known, additions, t),

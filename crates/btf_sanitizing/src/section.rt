@@ -4,12 +4,14 @@ ghost use Rattle.std.specs.Prelude.{◌≡◌, ◌≢◌, ◌⊎◌, ◌∷◌, 
 ghost use Rattle.btf_records.specs.declared.error.BtfError.TheVariants.{OutOfMemory};
 ghost use Rattle.btf_sanitizing.specs.Faults.{IsTooMuch, MemberFault, PlaceFault, SectionFault, SizeFault, UnsizedFault};
 ghost use Rattle.btf_sanitizing.specs.Additions.{with_renamed};
+ghost use Rattle.btf_sanitizing.specs.ByteIndex.{section_names};
 ghost use Rattle.string_table.specs.Texts.{text_at};
 ghost use Rattle.btf_sanitizing.specs.Knowledge.{facts_of};
 ghost use Rattle.btf_sanitizing.specs.Rewritten.{after_granted, after_section, filler_entry, granted_section, member_of_entry, placed, rewritten_section, section_size, section_struct, sized};
 ghost use Rattle.btf_parts.specs.Faultless.{IsFaultless};
 
 use crate::additions::Additions;
+use crate::byte_index::ByteIndex;
 use crate::known::Known;
 use btf_records::{
     BtfError, BtfFeature, BtfMember, BtfType, DataSec, DataSecEntry, Items, Struct, VarLinkage,
@@ -130,18 +132,20 @@ pub(crate) fn section_size(
 fn struct_of_section(
     alloc: Global,
     known: &Known<'_, '_, '_>,
+    names: &ByteIndex<'_>,
     additions: &mut Additions,
     name: &str,
     t: &DataSec,
 ) -> Result<Struct, BtfError>
-    requires { text_at (facts_of known.now).strings t.now.name_offset ≡ Some name.now }
+    requires name { text_at (facts_of known.now).strings t.now.name_offset ≡ Some name.now }
+    requires names { names.now ≡ record { strings = (facts_of known.now).strings; byte = 46 } }
     ensures value { IfOk result (λ r. r ≡ section_struct (facts_of known.now) additions.old t.now) }
     ensures added { OnOk result (additions.new ≡ with_renamed 46 95 name.now additions.old) }
     ensures refused { IfErr result (λ e. e ≢ OutOfMemory → Any (λ entry. MemberFault (facts_of known.now) entry e) t.now.entries ⊎ IsTooMuch (with_renamed 46 95 name.now additions.old) e) }
     ensures accepted { OnOk result (IsFaultless (λ e. Any (λ entry. MemberFault (facts_of known.now) entry e) t.now.entries)) }
 {
     let members = members_of_entries(alloc, known, t.entries.as_slice())?;
-    let name_offset = additions.rename(name, t.name_offset, b'.', b'_')?;
+    let name_offset = additions.rename(names, name, t.name_offset, b'_')?;
     Ok(Struct::new(name_offset, members, t.entries.len() as u32))
 }
 
@@ -186,18 +190,20 @@ fn filler_entries(alloc: Global, filler: u32) -> Result<Items<DataSecEntry>, All
 fn granted_section(
     alloc: Global,
     known: &Known<'_, '_, '_>,
+    names: &ByteIndex<'_>,
     additions: &mut Additions,
     name: &str,
     t: DataSec,
 ) -> Result<DataSec, BtfError>
-    requires { text_at (facts_of known.now).strings t.name_offset ≡ Some name.now }
+    requires name { text_at (facts_of known.now).strings t.name_offset ≡ Some name.now }
+    requires names { names.now ≡ record { strings = (facts_of known.now).strings; byte = 47 } }
     ensures value { IfOk result (λ r. r ≡ granted_section (facts_of known.now) additions.old t) }
     ensures added { OnOk result (additions.new ≡ after_granted (facts_of known.now) additions.old t) }
     ensures refused { IfErr result (λ e. e ≢ OutOfMemory → ((t.size ≡ 0) × UnsizedFault (facts_of known.now) t e) ⊎ IsTooMuch (after_granted (facts_of known.now) additions.old t) e) }
     ensures accepted { OnOk result (IsFaultless (λ e. (t.size ≡ 0) × UnsizedFault (facts_of known.now) t e)) }
 {
     let is_filled = t.size == 0 && t.entries.is_empty() && !known.grants(BtfFeature::DataSecZero);
-    let name_offset = additions.rename(name, t.name_offset, b'/', b'.')?;
+    let name_offset = additions.rename(names, name, t.name_offset, b'.')?;
     let section = sized(alloc, known, name, t)?;
     if !is_filled {
         return Ok(DataSec {
@@ -218,9 +224,11 @@ fn granted_section(
 pub(crate) fn rewritten_section(
     alloc: Global,
     known: &Known<'_, '_, '_>,
+    names: &ByteIndex<'_>,
     additions: &mut Additions,
     t: DataSec,
 ) -> Result<BtfType, BtfError>
+    requires { names.now ≡ section_names (facts_of known.now) }
     ensures value { IfOk result (λ r. r ≡ rewritten_section (facts_of known.now) additions.old t) }
     ensures added { OnOk result (additions.new ≡ after_section (facts_of known.now) additions.old t) }
     ensures refused { IfErr result (λ e. e ≢ OutOfMemory → SectionFault (facts_of known.now) t e ⊎ IsTooMuch (after_section (facts_of known.now) additions.old t) e) }
@@ -228,9 +236,9 @@ pub(crate) fn rewritten_section(
 {
     let name = known.name_at(t.name_offset)?;
     if known.grants(BtfFeature::DataSec) {
-        let section = granted_section(alloc, known, additions, name, t)?;
+        let section = granted_section(alloc, known, names, additions, name, t)?;
         return Ok(BtfType::DataSec(section));
     }
-    let section = struct_of_section(alloc, known, additions, name, &t)?;
+    let section = struct_of_section(alloc, known, names, additions, name, &t)?;
     Ok(BtfType::Struct(section))
 }

@@ -2,6 +2,7 @@
 
 ghost use Rattle.std.specs.Prelude.{◌≡◌, ◌≢◌, ◌<◌, ◌++◌, ◌^◌, ◌∷◌, [], Any, IfErr, IfOk, OnOk, length, true};
 ghost use Rattle.btf_records.specs.declared.error.BtfError.TheVariants.{InvalidTypeInfo, OutOfMemory};
+ghost use Rattle.btf_sanitizing.specs.ByteIndex.{section_names, sought};
 ghost use Rattle.btf_sanitizing.specs.Faults.{KindFault};
 ghost use Rattle.btf_sanitizing.specs.Kept.{Keeps};
 ghost use Rattle.btf_sanitizing.specs.Knowledge.{facts_of};
@@ -12,13 +13,57 @@ ghost use Rattle.btf_parts.specs.Faultless.{IsFaultless};
 ghost use Rattle.btf_parts.specs.Growth.{AreFew, AreTooMany};
 
 use crate::additions::Additions;
+use crate::byte_index::{ByteIndex, SHORT};
 use crate::known::Known;
 use crate::rows::rewritten;
 use crate::staying::stays;
 use btf_encoding::TypeRef;
 use btf_parts::TypeRecords;
-use btf_records::{BtfError, BtfType};
-use std::alloc::Global;
+use btf_records::{BtfError, BtfFeature, BtfKind, BtfType};
+use std::alloc::{AllocError, Global};
+
+/// Whether a section has a long name.
+fn has_long_name(known: &Known<'_, '_, '_>) -> bool {
+    for index in 0..known.types.len() {
+        let Some(t) = known.types.get(index) else {
+            return false;
+        };
+        if t.kind() != BtfKind::DataSec {
+            continue;
+        }
+        if let Some(name) = known.text_at(t.name_offset()) {
+            if name.len() > SHORT {
+                return true;
+            }
+        }
+    }
+    false
+}
+
+/// The byte that isn't left in names of sections.
+fn sought(known: &Known<'_, '_, '_>) -> u8
+    ensures { result ≡ sought (facts_of known.now) }
+{
+    if known.grants(BtfFeature::DataSec) {
+        b'/'
+    } else {
+        b'.'
+    }
+}
+
+/// Where that byte stands, if there are long names.
+fn section_names<'s>(
+    alloc: Global,
+    known: &'s Known<'_, '_, '_>,
+) -> Result<ByteIndex<'s>, AllocError>
+    ensures { IfOk result (λ names. names ≡ section_names (facts_of known.now)) }
+{
+    let strings = known.strings.as_slice();
+    if has_long_name(known) {
+        return ByteIndex::new(alloc, strings, sought(known));
+    }
+    Ok(ByteIndex::empty(alloc, strings, sought(known)))
+}
 
 /// Copies a record that stays behind what becomes of those before it.
 #[tactic(auto, using(crate::proofs::Stays::stays_alone))]
@@ -44,10 +89,12 @@ fn keep(
 fn rewrite_next(
     alloc: Global,
     known: &Known<'_, '_, '_>,
+    names: &ByteIndex<'_>,
     additions: &mut Additions,
     records: &mut TypeRecords<'_>,
     t: &TypeRef<'_>,
 ) -> Result<(), BtfError>
+    requires { names.now ≡ section_names (facts_of known.now) }
     ensures types { OnOk result (records.new.types ≡ records.old.types ++ rewritten (facts_of known.now) additions.old t.now ∷ []) }
     ensures order { OnOk result (records.new.order ≡ records.old.order) }
     ensures added { OnOk result (additions.new ≡ after (facts_of known.now) additions.old t.now) }
@@ -59,7 +106,7 @@ fn rewrite_next(
         return keep(known, additions, records, t);
     }
     let t = t.to_type(alloc)?;
-    let t = rewritten(alloc, known, additions, t)?;
+    let t = rewritten(alloc, known, names, additions, t)?;
     records.push(t)
 }
 
@@ -68,10 +115,12 @@ fn rewrite_next(
 fn rewrite_all(
     alloc: Global,
     known: &Known<'_, '_, '_>,
+    names: &ByteIndex<'_>,
     additions: &mut Additions,
     records: &mut TypeRecords<'_>,
 ) -> Result<(), BtfError>
-    requires { records.old.types ≡ [] }
+    requires none { records.old.types ≡ [] }
+    requires names { names.now ≡ section_names (facts_of known.now) }
     ensures types { OnOk result (records.new.types ≡ all_rewritten (facts_of known.now) additions.old (facts_of known.now).types) }
     ensures order { OnOk result (records.new.order ≡ records.old.order) }
     ensures added { OnOk result (additions.new ≡ after_all (facts_of known.now) additions.old (facts_of known.now).types) }
@@ -81,7 +130,7 @@ fn rewrite_all(
 {
     let mut index = 0;
     while let Some(t) = known.types.get(index) {
-        rewrite_next(alloc, known, additions, records, &t)?;
+        rewrite_next(alloc, known, names, additions, records, &t)?;
         index += 1;
     }
     Ok(())
@@ -123,7 +172,8 @@ fn rewritten_table<'a>(
 {
     let mut additions = Additions::new(alloc, known.strings.len(), known.types.len());
     let mut records = TypeRecords::new(alloc, known.types.order());
-    rewrite_all(alloc, known, &mut additions, &mut records)?;
+    let names = section_names(alloc, known)?;
+    rewrite_all(alloc, known, &names, &mut additions, &mut records)?;
     let (texts, types) = additions.into_parts();
     push_all(&mut records, types)?;
     Ok(SanitizedTable { records, texts })

@@ -1,4 +1,5 @@
 pub mod Definitions
+pub mod KnownDefinitions
 pub mod LegacyWords
 pub mod Lookups
 pub mod Members

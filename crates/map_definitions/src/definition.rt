@@ -3,12 +3,12 @@
 ghost use Rattle.std.specs.Prelude.{◌≡◌, ◌≢◌, List, [], Contains, MatchResult, IfOk, IfErr, OnOk, Ok, Err};
 ghost use Rattle.ebpf_items.specs.Maps.{btf_words};
 ghost use Rattle.btf_records.specs.declared.error.BtfError.TheVariants.{OutOfMemory};
-ghost use Rattle.map_definitions.specs.Definitions.{HasDefinitionFault, IsFaultAmong, defined, definition_of, inner_refusals, inner_words, map_variable, member_refusals, refusals, with_member};
+ghost use Rattle.map_definitions.specs.Definitions.{IsFaultAmong, inner_refusals, inner_words, map_variable};
 
 use crate::lookup::{Refusal, name_at, struct_behind, variable_at};
-use crate::member::{Said, enter_said, member_said, member_said_inside};
+use crate::member::{enter_said, member_said_inside};
 use crate::members::Members;
-use btf_records::{BtfError, BtfMember};
+use btf_records::BtfError;
 use btf_tables::Btf;
 use ebpf_items::BtfMapDef;
 use std::alloc::Global;
@@ -45,7 +45,7 @@ pub fn map_variable<'t>(table: &'t Btf<'_>, type_id: u32) -> Result<MapVariable<
 }
 
 /// The words of the maps that a map holds, which the struct of this id defines.
-fn inner_def(table: &Btf<'_>, struct_id: u32) -> Result<BtfMapDef, Refusal>
+pub(crate) fn inner_def(table: &Btf<'_>, struct_id: u32) -> Result<BtfMapDef, Refusal>
     ensures value { IfOk result (λ def. btf_words def ≡ inner_words table.now struct_id) }
     ensures accepted { OnOk result (inner_refusals table.now struct_id ≡ []) }
     ensures refused { IfErr result (Contains (inner_refusals table.now struct_id)) }
@@ -58,43 +58,8 @@ fn inner_def(table: &Btf<'_>, struct_id: u32) -> Result<BtfMapDef, Refusal>
     Ok(def)
 }
 
-/// Enters what a member says of a map.
-fn enter_member(
-    table: &Btf<'_>,
-    defined: &mut BtfDefinition,
-    member: BtfMember,
-) -> Result<(), Refusal>
-    ensures value { OnOk result (definition_of defined.new ≡ with_member table.now (definition_of defined.old) member) }
-    ensures accepted { OnOk result (member_refusals table.now member ≡ []) }
-    ensures refused { IfErr result (Contains (member_refusals table.now member)) }
-{
-    let said = member_said(table, member)?;
-    if let Said::Inner(id) = said {
-        let inner = inner_def(table, id)?;
-        defined.inner = Some(inner);
-    }
-    enter_said(&mut defined.def, said);
-    Ok(())
-}
-
-/// What the struct of this id defines.
-fn definition(table: &Btf<'_>, struct_id: u32) -> Result<BtfDefinition, Refusal>
-    ensures value { IfOk result (λ d. definition_of d ≡ defined table.now struct_id) }
-    ensures accepted { OnOk result (refusals table.now struct_id ≡ []) }
-    ensures refused { IfErr result (Contains (refusals table.now struct_id)) }
-{
-    let mut defined = BtfDefinition {
-        def: BtfMapDef::default(),
-        inner: None,
-    };
-    for member in Members::new(table, struct_id) {
-        enter_member(table, &mut defined, member)?;
-    }
-    Ok(defined)
-}
-
 /// The error of a refusal, of the map of this name.
-fn named_error(alloc: Global, name: &str, refusal: Refusal) -> BtfError
+pub(crate) fn named_error(alloc: Global, name: &str, refusal: Refusal) -> BtfError
     ensures { (all : List Refusal) → Contains all refusal → result ≢ OutOfMemory → IsFaultAmong all name.now result }
 {
     let name = match String::from_str(alloc, name) {
@@ -106,30 +71,5 @@ fn named_error(alloc: Global, name: &str, refusal: Refusal) -> BtfError
         Refusal::PinnedInnerMap => BtfError::InnerMapCannotBePinned { name },
         Refusal::MapsInInnerMap => BtfError::MultiLevelMapInMapNotSupported { name },
         Refusal::ValuesWithCount => BtfError::InvalidValuesSpec { name },
-    }
-}
-
-/// What the struct of an id defines, of the map of this name.
-///
-/// # Errors
-///
-/// `InvalidStringOffset` where a member's name can't be read, `UnexpectedBtfType` where a member
-/// isn't of the shape that its name asks for, `UnknownBtfType`, `MaximumTypeDepthReached` and
-/// `InvalidTypeInfo` where a type or its size can't be found, `InvalidValuesSpec` where the array
-/// of inner maps has elements, `InnerMapCannotBePinned` and `MultiLevelMapInMapNotSupported` where
-/// an inner map is pinned or holds maps, `OutOfMemory`.
-pub fn read_definition(
-    alloc: Global,
-    table: &Btf<'_>,
-    name: &str,
-    struct_id: u32,
-) -> Result<BtfDefinition, BtfError>
-    ensures value { IfOk result (λ d. definition_of d ≡ defined table.now struct_id) }
-    ensures accepted { OnOk result (refusals table.now struct_id ≡ []) }
-    ensures refused { IfErr result (λ e. e ≢ OutOfMemory → HasDefinitionFault table.now name.now struct_id e) }
-{
-    match definition(table, struct_id) {
-        Ok(defined) => Ok(defined),
-        Err(refusal) => Err(named_error(alloc, name, refusal)),
     }
 }

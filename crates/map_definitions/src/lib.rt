@@ -2,10 +2,12 @@
 #![tactic(auto)]
 
 mod definition;
+mod known;
 mod legacy;
 mod lookup;
 mod member;
 mod members;
 
-pub use definition::{BtfDefinition, MapVariable, map_variable, read_definition};
+pub use definition::{BtfDefinition, MapVariable, map_variable};
+pub use known::MapDefinitions;
 pub use legacy::legacy_map_def;

@@ -16,9 +16,7 @@ use crate::maps::Maps;
 use crate::named_symbols::NamedSymbols;
 use btf_encoding::TypeRef;
 use btf_records::DataSecEntry;
-use btf_tables::Btf;
 use ebpf_items::{BtfMap, Map, ParseError};
-use map_definitions::{map_variable, read_definition};
 use object_file::{ObjectFile, ReadSection};
 use std::alloc::Global;
 
@@ -28,22 +26,22 @@ impl<'a> Maps<'a> {
     fn read_entry(
         &mut self,
         alloc: Global,
-        table: &Btf<'_>,
+        types: &DataSections<'_, '_>,
         section: &ReadSection<'a>,
         symbols: &NamedSymbols<'_, 'a>,
         entry: DataSecEntry,
     ) -> Result<(), ParseError>
-        ensures value { OnOk result (self.new ≡ entered self.old (entry_map table.now section.now symbols.now entry)) }
-        ensures accepted { OnOk result (entry_faults table.now symbols.now entry ≡ []) }
-        ensures refused { IfErr result (λ e. e ≢ OutOfMemory → Says (entry_faults table.now symbols.now entry) e) }
+        ensures value { OnOk result (self.new ≡ entered self.old (entry_map types.now section.now symbols.now entry)) }
+        ensures accepted { OnOk result (entry_faults types.now symbols.now entry ≡ []) }
+        ensures refused { IfErr result (λ e. e ≢ OutOfMemory → Says (entry_faults types.now symbols.now entry) e) }
     {
-        let variable = map_variable(table, entry.btf_type)?;
+        let variable = types.variable(entry.btf_type)?;
         let Some(symbol) = symbols.named(variable.name) else {
             return Err(ParseError::SymbolNotFound {
                 name: String::from_str(alloc, variable.name)?,
             });
         };
-        let defined = read_definition(alloc, table, variable.name, variable.struct_id)?;
+        let defined = types.definition(alloc, variable.name, variable.struct_id)?;
         let index = symbol.view().index();
         let map = BtfMap::new(alloc, defined.def, defined.inner, section.index(), index);
         self.insert(symbol.name(), Map::Btf(map))?;
@@ -55,17 +53,17 @@ impl<'a> Maps<'a> {
     fn read_entries(
         &mut self,
         alloc: Global,
-        table: &Btf<'_>,
+        types: &DataSections<'_, '_>,
         section: &ReadSection<'a>,
         symbols: &NamedSymbols<'_, 'a>,
         variables: &TypeRef<'_>,
     ) -> Result<(), ParseError>
-        ensures value { OnOk result (self.new ≡ entered self.old (entries_maps table.now section.now symbols.now variables.now)) }
-        ensures accepted { OnOk result (entries_faults table.now symbols.now variables.now ≡ []) }
-        ensures refused { IfErr result (λ e. e ≢ OutOfMemory → Says (entries_faults table.now symbols.now variables.now) e) }
+        ensures value { OnOk result (self.new ≡ entered self.old (entries_maps types.now section.now symbols.now variables.now)) }
+        ensures accepted { OnOk result (entries_faults types.now symbols.now variables.now ≡ []) }
+        ensures refused { IfErr result (λ e. e ≢ OutOfMemory → Says (entries_faults types.now symbols.now variables.now) e) }
     {
         for entry in Entries::new(variables) {
-            self.read_entry(alloc, table, section, symbols, entry)?;
+            self.read_entry(alloc, types, section, symbols, entry)?;
         }
         Ok(())
     }
@@ -75,17 +73,17 @@ impl<'a> Maps<'a> {
     fn read_variables(
         &mut self,
         alloc: Global,
-        table: &Btf<'_>,
+        types: &DataSections<'_, '_>,
         section: &ReadSection<'a>,
         symbols: &NamedSymbols<'_, 'a>,
         sections: &[TypeRef<'_>],
     ) -> Result<(), ParseError>
-        ensures value { OnOk result (self.new ≡ entered self.old (flat_map (entries_maps table.now section.now symbols.now) sections.now)) }
-        ensures accepted { OnOk result (flat_map (entries_faults table.now symbols.now) sections.now ≡ []) }
-        ensures refused { IfErr result (λ e. e ≢ OutOfMemory → Says (flat_map (entries_faults table.now symbols.now) sections.now) e) }
+        ensures value { OnOk result (self.new ≡ entered self.old (flat_map (entries_maps types.now section.now symbols.now) sections.now)) }
+        ensures accepted { OnOk result (flat_map (entries_faults types.now symbols.now) sections.now ≡ []) }
+        ensures refused { IfErr result (λ e. e ≢ OutOfMemory → Says (flat_map (entries_faults types.now symbols.now) sections.now) e) }
     {
         for variables in sections {
-            self.read_entries(alloc, table, section, symbols, variables)?;
+            self.read_entries(alloc, types, section, symbols, variables)?;
         }
         Ok(())
     }
@@ -116,7 +114,7 @@ impl<'a> Maps<'a> {
         let named = NamedSymbols::new(alloc, symbols)?;
         match types.named(section.name()) {
             Some(sections) => {
-                self.read_variables(alloc, types.table(), section, &named, sections.as_slice())
+                self.read_variables(alloc, types, section, &named, sections.as_slice())
             }
             None => Ok(()),
         }

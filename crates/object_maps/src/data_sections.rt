@@ -1,17 +1,24 @@
 //! The sections of variables of a type table by name.
 
-ghost use Rattle.std.specs.Prelude.{◌≡◌, [], Some, IfOk, IfErr, OnOk};
+ghost use Rattle.std.specs.Prelude.{◌≡◌, ◌≢◌, [], Some, IfOk, IfErr, OnOk, MatchResult, Ok, Err};
 ghost use Rattle.std.specs.Option.{option_map_or, option_or};
+ghost use Rattle.btf_records.specs.declared.error.BtfError.TheVariants.{OutOfMemory};
+ghost use Rattle.map_definitions.specs.Definitions.{HasDefinitionFault, defined, definition_of, map_variable, refusals};
 ghost use Rattle.object_maps.specs.DataSections.{is_data_section, name_faults, sections_named};
 ghost use Rattle.object_maps.specs.Faults.{Says};
 
+use crate::entries::Entries;
 use btf_encoding::TypeRef;
-use btf_records::{BtfError, BtfKind};
+use btf_records::{BtfError, BtfKind, DataSecEntry};
 use btf_tables::Btf;
 use ebpf_items::ParseError;
+use map_definitions::{BtfDefinition, MapDefinitions, MapVariable, map_variable};
 use std::alloc::{AllocError, Global};
 use std::collections::BTreeMap;
 use std::marker::Model;
+
+/// The name of sections whose variables are maps.
+const MAPS: &str = ".maps";
 
 /// Sections of variables by name, and where a name stands that can't be read.
 #[derive(Debug, Drop)]
@@ -58,14 +65,58 @@ impl<'t> SectionIndex<'t> {
     }
 }
 
-/// A type table, and its sections of variables by name.
+/// Reads what the struct of an entry's variable defines.
+fn read_entry(
+    alloc: Global,
+    definitions: &mut MapDefinitions<'_, '_>,
+    entry: DataSecEntry,
+) -> Result<(), BtfError>
+    ensures { definitions.new ≡ definitions.old }
+{
+    let variable = map_variable(definitions.table(), entry.btf_type)?;
+    let _definition = definitions.read(alloc, variable.name, variable.struct_id)?;
+    Ok(())
+}
+
+/// Reads what the structs of a section's variables define, up to the first that is refused.
+fn read_entries(
+    alloc: Global,
+    definitions: &mut MapDefinitions<'_, '_>,
+    section: &TypeRef<'_>,
+) -> Result<(), BtfError>
+    ensures { definitions.new ≡ definitions.old }
+{
+    for entry in Entries::new(section) {
+        read_entry(alloc, definitions, entry)?;
+    }
+    Ok(())
+}
+
+/// Reads what the structs of the variables of these sections define, up to the first that is
+/// refused.
+fn read_sections(
+    alloc: Global,
+    definitions: &mut MapDefinitions<'_, '_>,
+    sections: &[TypeRef<'_>],
+) -> Result<(), BtfError>
+    ensures { definitions.new ≡ definitions.old }
+{
+    for section in sections {
+        read_entries(alloc, definitions, section)?;
+    }
+    Ok(())
+}
+
+/// A type table, its sections of variables by name, and what the structs of its maps define.
 #[derive(Debug, Drop)]
 pub(crate) struct DataSections<'t, 'b> {
     table: &'t Btf<'b>,
     index: SectionIndex<'t>,
+    definitions: MapDefinitions<'t, 'b>,
 }
 
 impl<'t, 'b> Model for DataSections<'t, 'b> {
+    ghost use Rattle.std.specs.Prelude.{◌≡◌};
     ghost use Rattle.btf_tables.specs.Tables.{Table};
     ghost use Rattle.object_maps.specs.SectionIndexes.{IsIndexOf};
 
@@ -73,7 +124,7 @@ impl<'t, 'b> Model for DataSections<'t, 'b> {
 
     ghost view = { λ d. d.table.now };
 
-    ghost invariant = { λ d. IsIndexOf d.index d.table.now };
+    ghost invariant = { λ d. IsIndexOf d.index d.table.now × (d.definitions ≡ d.table.now) };
 }
 
 fn is_data_section(t: &TypeRef<'_>) -> bool
@@ -87,13 +138,40 @@ impl<'t, 'b> DataSections<'t, 'b> {
         ensures { IfOk result (λ d. d ≡ table.now) }
     {
         let index = SectionIndex::of_table(alloc, table)?;
-        Ok(DataSections { table, index })
+        let mut definitions = MapDefinitions::new(alloc, table);
+        if let Some(sections) = index.by_name.get(MAPS) {
+            // What is refused here is refused again where the maps are read, if they are.
+            let _read = read_sections(alloc, &mut definitions, sections.as_slice());
+        }
+        Ok(DataSections {
+            table,
+            index,
+            definitions,
+        })
     }
 
-    pub(crate) fn table(&self) -> &'t Btf<'b>
-        ensures { result.now ≡ self.now }
+    /// The variable of an entry, by the entry's type.
+    pub(crate) fn variable(&self, type_id: u32) -> Result<MapVariable<'t>, BtfError>
+        ensures { MatchResult result (λ v. map_variable self.now type_id ≡ Ok (v.name.now, v.struct_id)) (λ e. map_variable self.now type_id ≡ Err e) }
     {
-        self.table
+        map_variable(self.table, type_id)
+    }
+
+    /// What the struct of an id defines, of the map of this name.
+    pub(crate) fn definition(
+        &self,
+        alloc: Global,
+        name: &str,
+        struct_id: u32,
+    ) -> Result<BtfDefinition, BtfError>
+        ensures value { IfOk result (λ d. definition_of d ≡ defined self.now struct_id) }
+        ensures accepted { OnOk result (refusals self.now struct_id ≡ []) }
+        ensures refused { IfErr result (λ e. e ≢ OutOfMemory → HasDefinitionFault self.now name.now struct_id e) }
+    {
+        match self.definitions.known(struct_id) {
+            Some(definition) => Ok(definition),
+            None => MapDefinitions::new(alloc, self.table).read(alloc, name, struct_id),
+        }
     }
 
     /// Refuses a table in which the name of a section of variables can't be read.

@@ -5,6 +5,6 @@ use Rattle.object_maps.proofs.maps.Maps.read_entries.Given as goal
 
 abbrev pub invariant-loop-entry : goal.invariant-loop-entry
 invariant-loop-entry l = record {
-  value : entered l.self (flat_map (entry_map l.table l.section l.symbols) l.entry-iterator) ≡ entered l.fn.self (entries_maps l.table l.section l.symbols l.variables);
-  faults : flat_map (entry_faults l.table l.symbols) l.entry-iterator ≡ entries_faults l.table l.symbols l.variables;
+  value : entered l.self (flat_map (entry_map l.types l.section l.symbols) l.entry-iterator) ≡ entered l.fn.self (entries_maps l.types l.section l.symbols l.variables);
+  faults : flat_map (entry_faults l.types l.symbols) l.entry-iterator ≡ entries_faults l.types l.symbols l.variables;
 }

@@ -7,4 +7,4 @@ pub returns-in_err-defined-clause-refused : goal.returns-in_err-defined-clause-r
 returns-in_err-defined-clause-refused c =
     let p = err_from_is_err_and c.from_residual-in_err-defined.result c.from_residual-in_err-defined.ensures.1 in
     rw (p.1, p.2, c.in_ok-variable.ensures)
-    (definition_said (refusals c.args.table.now c.in_ok-variable.variable.struct_id) c.in_ok-variable.variable.name.now _ _ c.in_err-defined.ensures.refused)
+    (definition_said (refusals c.args.types.now c.in_ok-variable.variable.struct_id) c.in_ok-variable.variable.name.now _ _ c.in_err-defined.ensures.refused)

@@ -5,6 +5,6 @@ use Rattle.object_maps.proofs.maps.Maps.read_variables.Given as goal
 
 abbrev pub invariant-loop-variables : goal.invariant-loop-variables
 invariant-loop-variables l = record {
-  value : l.self ≡ entered l.fn.self (flat_map (entries_maps l.table l.section l.symbols) (take l.variables-index l.sections));
-  accepted : flat_map (entries_faults l.table l.symbols) (take l.variables-index l.sections) ≡ [];
+  value : l.self ≡ entered l.fn.self (flat_map (entries_maps l.types l.section l.symbols) (take l.variables-index l.sections));
+  accepted : flat_map (entries_faults l.types l.symbols) (take l.variables-index l.sections) ≡ [];
 }
