@@ -1,6 +1,6 @@
 //! Externs.
 
-use crate::words::{Id, Number, Text};
+use line_words::{Id, Number, Text};
 use ebpf_object::{ExternDesc, Object};
 use std::io;
 use std::io::Write;

@@ -1,6 +1,7 @@
 //! Maps.
 
-use crate::words::{Hex, Number, Text, kind_name, pinning_name};
+use crate::names::{kind_name, pinning_name};
+use line_words::{Hex, Number, Text};
 use ebpf_object::{Map, Object};
 use std::io;
 use std::io::Write;

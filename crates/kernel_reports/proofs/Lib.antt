@@ -1,0 +1,4 @@
+pub mod Growing
+pub mod Known
+pub mod Taken
+pub mod Told

@@ -1,0 +1,5 @@
+pub mod Answers
+pub mod Plans
+pub mod Presences
+pub mod Relocations
+pub mod Reports

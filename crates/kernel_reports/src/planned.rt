@@ -1,0 +1,45 @@
+//! Whether an object gets a plan for a kernel.
+
+ghost use Rattle.std.specs.Prelude.{◌≤◌, ◌^◌, length, IfOk};
+ghost use Rattle.kernel_reports.specs.Plans.{IsPlanAnswer};
+
+use load_plan::{Btf, Order, PrepareError, Settings, Watched, prepare};
+use std::alloc::{AllocError, Global};
+
+/// Whether an object gets a plan.
+#[derive(Debug, Drop)]
+pub enum PlanAnswer {
+    Planned,
+    /// It is refused, and not for want of memory.
+    Refused(PrepareError),
+}
+
+/// Whether an object gets a plan for a kernel of these types and symbols that takes all features of
+/// types and has the newer helpers that read memory.
+pub fn plan_answer(
+    alloc: Global,
+    object: &[u8],
+    kernel_types: &[Btf<'_>],
+    symbols: &[u8],
+    settings: &Settings,
+) -> Result<PlanAnswer, AllocError>
+    requires { length kernel_types.now ≤ 2 ^ 32 }
+    ensures { IfOk result (IsPlanAnswer object.now kernel_types.now symbols.now settings.now) }
+{
+    let mut symbols = Watched::new(symbols);
+    let answer = prepare(
+        alloc,
+        object,
+        kernel_types,
+        &mut symbols,
+        settings,
+        Order::RelocateFirst,
+        |_feature| true,
+        || true,
+    );
+    match answer {
+        Ok(_plan) => Ok(PlanAnswer::Planned),
+        Err(PrepareError::OutOfMemory) => Err(AllocError),
+        Err(error) => Ok(PlanAnswer::Refused(error)),
+    }
+}
