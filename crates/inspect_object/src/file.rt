@@ -5,9 +5,9 @@ ghost use Rattle.std.specs.Io.KnownBytes.{Appends};
 ghost use Rattle.inspect_object.specs.Lines.{relocation_line, section_line};
 
 use crate::names::kind_name;
-use line_words::{Number, Text};
 use ebpf_object::{ObjectFile, ReadSection};
 use elf64::RelocView;
+use line_words::{Number, Text};
 use std::io;
 use std::io::Write;
 

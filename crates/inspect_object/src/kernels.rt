@@ -6,13 +6,15 @@ use crate::refused;
 use btf_records::BtfError;
 use btf_tables::Btf;
 use ebpf_object::Object;
+use extern_reports::assumed_symbols;
 use inspect_line::InspectArguments;
 use kernel_reports::{
-    Column, KernelReport, PlanAnswer, Reported, Rows, assumed_symbols, every_map_numbered,
-    refusal_text, relocations_of, report_lines, report_on, rows_of, summary_text,
+    KernelReport, PlanAnswer, Reported, every_map_numbered, refusal_text, report_on,
 };
 use refusal_texts::KernelFiles;
-use std::alloc::Global;
+use relocation_reports::{RelocationAt, relocations_of};
+use report_texts::{Column, Rows, report_lines, rows_of, summary_text};
+use std::alloc::{AllocError, Global};
 use std::io::IsTerminal;
 
 /// The types of a kernel that a file holds.
@@ -36,25 +38,43 @@ fn types_of<'t>(
 fn refusal_of(
     alloc: Global,
     line: &InspectArguments<'_>,
-    reported: &Reported<'_, '_>,
+    object: &[u8],
     name: &str,
-    report: &KernelReport,
-) -> Result<Option<String>, ProgramError> {
+    plan: &PlanAnswer,
+) -> Result<Option<String>, AllocError> {
+    let types = [name];
     let files = KernelFiles {
-        types: &[name],
+        types: &types,
         symbols: line.symbols,
     };
-    match &report.plan {
+    match plan {
         PlanAnswer::Planned => Ok(None),
         PlanAnswer::Refused(error) => {
-            let text = refusal_text(alloc, reported.file, &files, error)?;
+            let text = refusal_text(alloc, object, &files, error)?;
             Ok(Some(text))
         }
     }
 }
 
-/// The report on the kernel of a file.
+/// A report on the kernel of a file, for its text.
 fn column_of<'w>(
+    alloc: Global,
+    line: &InspectArguments<'w>,
+    object: &[u8],
+    name: &'w str,
+    report: KernelReport,
+) -> Result<Column<'w>, AllocError> {
+    let refusal = refusal_of(alloc, line, object, name, &report.plan)?;
+    Ok(Column {
+        file: name,
+        relocations: report.relocations,
+        externs: report.externs,
+        refusal,
+    })
+}
+
+/// The report on the kernel of a file.
+fn report_of<'w>(
     rt: &HostRuntime,
     line: &InspectArguments<'w>,
     reported: &Reported<'_, '_>,
@@ -64,12 +84,8 @@ fn column_of<'w>(
     let bytes = read(rt, name)?;
     let tables = [types_of(alloc, line, name, &bytes)?];
     let report = report_on(alloc, reported, &tables)?;
-    let refusal = refusal_of(alloc, line, reported, name, &report)?;
-    Ok(Column {
-        file: name,
-        report,
-        refusal,
-    })
+    let column = column_of(alloc, line, reported.file, name, report)?;
+    Ok(column)
 }
 
 /// Says which kernel is looked at, where a person may wait for it.
@@ -82,7 +98,7 @@ fn say_progress(rt: &HostRuntime, line: &InspectArguments<'_>, number: usize, na
 }
 
 /// The reports on all kernels.
-fn columns_of<'w>(
+fn reports_of<'w>(
     rt: &HostRuntime,
     line: &InspectArguments<'w>,
     reported: &Reported<'_, '_>,
@@ -90,49 +106,67 @@ fn columns_of<'w>(
     let mut columns = Vec::new(rt.alloc());
     for (number, name) in line.types.iter().enumerate() {
         say_progress(rt, line, number, name);
-        columns.push(column_of(rt, line, reported, name)?)?;
+        columns.push(report_of(rt, line, reported, name)?)?;
     }
     Ok(columns)
 }
 
-/// The lines of all reports.
+/// Reports as lines.
 fn lines_of(
     alloc: Global,
     rows: &Rows<'_>,
     columns: &[Column<'_>],
-) -> Result<String, ProgramError> {
+) -> Result<String, AllocError> {
     let mut text = String::new(alloc);
     for column in columns {
-        report_lines(
-            &mut text,
-            column.file,
-            rows,
-            &column.report,
-            column.refusal.as_deref(),
-        )?;
+        report_lines(&mut text, rows, column)?;
     }
     Ok(text)
 }
 
-/// The text of all reports.
+/// Reports as a table, or as lines.
 fn text_of(
-    rt: &HostRuntime,
+    alloc: Global,
     line: &InspectArguments<'_>,
-    reported: &Reported<'_, '_>,
-) -> Result<String, ProgramError> {
-    let alloc = rt.alloc();
-    let rows = rows_of(alloc, reported.object, reported.relocations)?;
-    let columns = columns_of(rt, line, reported)?;
+    rows: &Rows<'_>,
+    columns: &[Column<'_>],
+) -> Result<String, AllocError> {
     if line.summary {
-        let text = summary_text(alloc, &rows, &columns)?;
-        return Ok(text);
+        summary_text(alloc, rows, columns)
+    } else {
+        lines_of(alloc, rows, columns)
     }
-    lines_of(alloc, &rows, &columns)
+}
+
+/// The names of what is reported on.
+fn names_of<'r>(
+    alloc: Global,
+    object: &'r Object<'_>,
+    relocations: &[RelocationAt],
+) -> Result<Rows<'r>, AllocError> {
+    rows_of(
+        alloc,
+        object.functions(),
+        object.externs(),
+        object.btf(),
+        relocations,
+    )
+}
+
+/// The type relocations of an object.
+fn relocations_in(alloc: Global, object: &Object<'_>) -> Result<Vec<RelocationAt>, AllocError> {
+    let Some(local) = object.btf() else {
+        return Ok(Vec::new(alloc));
+    };
+    let Some(extension) = object.btf_ext() else {
+        return Ok(Vec::new(alloc));
+    };
+    relocations_of(alloc, object.file(), object.functions(), local, extension)
 }
 
 /// The text of all reports on an object, of which the symbols are those of a file, or taken for
 /// granted where there is none.
-fn reports_on(
+fn text_on(
     rt: &HostRuntime,
     line: &InspectArguments<'_>,
     file: &[u8],
@@ -140,7 +174,8 @@ fn reports_on(
     symbols: Option<&[u8]>,
 ) -> Result<String, ProgramError> {
     let alloc = rt.alloc();
-    let relocations = relocations_of(alloc, object)?;
+    let relocations = relocations_in(alloc, object)?;
+    let rows = names_of(alloc, object, &relocations)?;
     let settings = every_map_numbered(alloc, object.maps())?;
     let assumed = assumed_symbols(alloc, object.externs())?;
     let reported = Reported {
@@ -151,18 +186,20 @@ fn reports_on(
         symbols: symbols.unwrap_or(assumed.as_bytes()),
         has_symbols: symbols.is_some(),
     };
-    text_of(rt, line, &reported)
+    let columns = reports_of(rt, line, &reported)?;
+    let text = text_of(alloc, line, &rows, &columns)?;
+    Ok(text)
 }
 
 /// The text of all reports on the object of a file.
-fn reports_of(
+fn text_on_file(
     rt: &HostRuntime,
     line: &InspectArguments<'_>,
     file: &[u8],
     symbols: Option<&[u8]>,
 ) -> Result<String, ProgramError> {
     match Object::parse(rt.alloc(), file) {
-        Ok(object) => reports_on(rt, line, file, &object, symbols),
+        Ok(object) => text_on(rt, line, file, &object, symbols),
         Err(error) => Err(refused(rt.alloc(), file, error)),
     }
 }
@@ -177,7 +214,7 @@ pub(crate) fn print_reports(
         Some(name) => Some(read(rt, name)?),
         None => None,
     };
-    let text = reports_of(rt, line, &file, symbols.as_deref())?;
+    let text = text_on_file(rt, line, &file, symbols.as_deref())?;
     match print!(rt; "{text}") {
         Ok(()) => Ok(()),
         Err(error) => Err(ProgramError::Unwritten { error }),

@@ -1,8 +1,8 @@
 //! Maps.
 
 use crate::names::{kind_name, pinning_name};
-use line_words::{Hex, Number, Text};
 use ebpf_object::{Map, Object};
+use line_words::{Hex, Number, Text};
 use std::io;
 use std::io::Write;
 

@@ -1,4 +1,1 @@
-pub mod Growing
 pub mod Known
-pub mod Taken
-pub mod Told

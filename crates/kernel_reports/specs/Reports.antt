@@ -3,10 +3,10 @@ use Rattle.std.specs.Prelude.{◌≡◌, ℕ, List, Bool, IfSome, slice_get}
 use Rattle.btf_tables.specs.Tables.{Table}
 use Rattle.ebpf_object.specs.ParsedObject.{ObjectContent}
 use Rattle.load_plan.specs.Inputs.{SettingsContent}
-use Rattle.kernel_reports.specs.Answers.{answers_to}
+use Rattle.relocation_reports.specs.Answers.{answers_to}
 use Rattle.kernel_reports.specs.Plans.{IsPlanAnswer}
-use Rattle.kernel_reports.specs.Presences.{SaysOfExterns}
-use Rattle.kernel_reports.specs.declared.relocations.RelocationAt.{RelocationAt}
+use Rattle.extern_reports.specs.Presences.{SaysOfExterns}
+use Rattle.relocation_reports.specs.declared.relocations.RelocationAt.{RelocationAt}
 use Rattle.kernel_reports.specs.declared.report.KernelReport.{KernelReport}
 
 -- whether the object of a file gets a plan, what each of some relocations of it comes to, and whether the kernel has its externs

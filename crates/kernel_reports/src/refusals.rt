@@ -1,9 +1,7 @@
 //! What is told of an object that gets no plan for a kernel.
 
 use load_plan::PrepareError;
-use refusal_texts::{
-    KernelFiles, ksyms_text, parse_text, relocation_text, type_relocation_text,
-};
+use refusal_texts::{KernelFiles, ksyms_text, parse_text, relocation_text, type_relocation_text};
 use std::alloc::{AllocError, Global};
 
 /// What is told of an object that gets no plan for the kernel of these files.

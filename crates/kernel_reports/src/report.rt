@@ -3,12 +3,11 @@
 ghost use Rattle.std.specs.Prelude.{◌≤◌, ◌^◌, length, IfOk};
 ghost use Rattle.kernel_reports.specs.Reports.{IsReport};
 
-use crate::answers::{RelocationAnswer, relocation_answers};
 use crate::planned::{PlanAnswer, plan_answer};
-use crate::presences::{Presence, presences_of};
-use crate::relocations::RelocationAt;
 use ebpf_object::Object;
+use extern_reports::{Presence, presences_of};
 use load_plan::{Btf, Settings};
+use relocation_reports::{RelocationAnswer, RelocationAt, relocation_answers};
 use std::alloc::{AllocError, Global};
 
 /// An object of which it is reported.
@@ -56,8 +55,7 @@ pub fn report_on(
         reported.symbols,
         reported.settings,
     )?;
-    let relocations =
-        relocation_answers(alloc, object.btf(), kernel_types, reported.relocations)?;
+    let relocations = relocation_answers(alloc, object.btf(), kernel_types, reported.relocations)?;
     let externs = presences_of(
         alloc,
         object.externs(),

@@ -1,0 +1,59 @@
+-- What resolved weak externs tell of those that were declared.
+use Rattle.std.proofs.Common.{◌≡◌, ℕ, List, [], ◌∷◌, map, refl, sym, subst, inl, inr, Bool, true, false, Option, None, Some}
+use Rattle.std.specs.List.{AllZip}
+use Rattle.std.specs.Option.{MatchOption}
+use Rattle.btf_tables.specs.Tables.{Table}
+use Rattle.extern_resolution.specs.Outcomes.{EntryBecomes, IsFoundIn, left_weak, sought_address, with_address, with_kernel_id}
+use Rattle.extern_resolution.specs.Resolution.{AreResolved, CannotResolve}
+use Rattle.extern_resolution.specs.declared.error.KsymsError.{KsymsError}
+use Rattle.kernel_symbols.specs.Texts.{address_of}
+use Rattle.object_externs.specs.Externs.{ExternContent, ExternsContent}
+use Rattle.extern_reports.proofs.Growing.{weak_entry}
+use Rattle.extern_reports.specs.Presences.{SaysOfExtern, SaysOfExterns, all_weak, as_weak, presence_of}
+use Rattle.extern_reports.specs.declared.presences.Presence.{Presence}
+use Rattle.extern_reports.specs.declared.presences.Presence.TheVariants.{Unknown}
+
+-- what was found for a weak extern was found for the declared one
+found_for : (table : Table) (kernel : Option Table) (name : List ℕ) (e : ExternContent) (type_id : ℕ) (found : Option ℕ) → IsFoundIn table kernel name (as_weak e) type_id found → IsFoundIn table kernel name e type_id found
+found_for table None name e type_id found h = h
+found_for table (Some kernel) name e type_id found h = record { kind = h.kind; declared_as = h.declared_as; is_found = h.is_found }
+
+-- one with a type
+typed : (table : Table) (kernel : Option Table) (text : List ℕ) (has_symbols : Bool) (name : List ℕ) (e : ExternContent) (type_id : ℕ) (is : e.type_id ≡ Some type_id) (found : Option ℕ) → IsFoundIn table kernel name e type_id found → SaysOfExtern table kernel text has_symbols (name, e) (presence_of has_symbols (left_weak (with_kernel_id found (as_weak e))))
+typed table kernel text has_symbols name e type_id is (Some id) h = rw is (id, h)
+typed table kernel text has_symbols name e type_id is None h = rw is h
+
+-- one without a type, of which no symbols are given, and of which they are
+untold : (table : Table) (kernel : Option Table) (text : List ℕ) (name : List ℕ) (e : ExternContent) (is : e.type_id ≡ None) (found : Option ℕ) → SaysOfExtern table kernel text false (name, e) (presence_of false (left_weak (with_address found (as_weak e))))
+untold table kernel text name e is (Some address) = rw is (is, refl)
+untold table kernel text name e is None = rw is (is, refl)
+
+named : (table : Table) (kernel : Option Table) (text : List ℕ) (name : List ℕ) (e : ExternContent) (is : e.type_id ≡ None) (found : Option ℕ) → address_of name text ≡ found → SaysOfExtern table kernel text true (name, e) (presence_of true (left_weak (with_address found (as_weak e))))
+named table kernel text name e is (Some address) h = rw is (address, h)
+named table kernel text name e is None h = rw is h
+
+by_type : (table : Table) (kernel : Option Table) (text : List ℕ) (has_symbols : Bool) (name : List ℕ) (e new : ExternContent) (type : Option ℕ) → e.type_id ≡ type
+    → MatchOption type (new ≡ left_weak (with_address (sought_address text name (as_weak e)) (as_weak e))) (λ type_id. (found : Option ℕ) × IsFoundIn table kernel name (as_weak e) type_id found × (new ≡ left_weak (with_kernel_id found (as_weak e))))
+    → SaysOfExtern table kernel text has_symbols (name, e) (presence_of has_symbols new)
+by_type table kernel text false name e new None is h =
+    subst (λ (n : ExternContent). SaysOfExtern table kernel text false (name, e) (presence_of false n)) (sym h) (untold table kernel text name e is (sought_address text name (as_weak e)))
+by_type table kernel text true name e new None is h =
+    let found : address_of name text ≡ sought_address text name (as_weak e) = rw is refl in
+    subst (λ (n : ExternContent). SaysOfExtern table kernel text true (name, e) (presence_of true n)) (sym h) (named table kernel text name e is (sought_address text name (as_weak e)) found)
+by_type table kernel text has_symbols name e new (Some type_id) is h =
+    subst (λ (n : ExternContent). SaysOfExtern table kernel text has_symbols (name, e) (presence_of has_symbols n)) (sym h.2) (typed table kernel text has_symbols name e type_id is h.0 (found_for table kernel name e type_id h.0 h.1))
+
+told : (table : Table) (kernel : Option Table) (text : List ℕ) (has_symbols : Bool) (xs ys : List (List ℕ × ExternContent)) → AllZip (EntryBecomes table kernel text) (map weak_entry xs) ys → AllZip (SaysOfExtern table kernel text has_symbols) xs (map (λ e. presence_of has_symbols e.1) ys)
+told table kernel text has_symbols [] [] h = tt
+told table kernel text has_symbols [] (y ∷ ys) h = absurd h
+told table kernel text has_symbols (x ∷ xs) [] h = absurd h
+told table kernel text has_symbols (x ∷ xs) (y ∷ ys) h = (by_type table kernel text has_symbols x.0 x.1 y.1 x.1.type_id refl h.0.1, told table kernel text has_symbols xs ys h.1)
+
+-- what externs tell that were resolved by a text of these bytes
+pub resolved_told : (table : Table) (kernel : Option Table) (bytes : List ℕ) (failed has_symbols : Bool) (externs new : ExternsContent) (said : List Presence) → AreResolved table kernel (Some bytes) failed (all_weak externs) new → said ≡ map (λ e. presence_of has_symbols e.1) new.by_name → SaysOfExterns table kernel bytes has_symbols externs said
+resolved_told table kernel bytes failed has_symbols externs new said resolved is =
+    inl (rw (is, resolved.given) (told table kernel resolved.text has_symbols externs.by_name new.by_name resolved.each))
+
+-- and where they weren't
+pub nothing_told : (table : Table) (kernel : Option Table) (bytes : List ℕ) (failed has_symbols : Bool) (externs : ExternsContent) (fault : KsymsError) (said : List Presence) → CannotResolve table kernel (Some bytes) failed (all_weak externs) fault → said ≡ map (λ e. Unknown) externs.by_name → SaysOfExterns table kernel bytes has_symbols externs said
+nothing_told table kernel bytes failed has_symbols externs fault said stands is = inr (record { failed = failed; fault = fault; stands = stands; nothing = is })
