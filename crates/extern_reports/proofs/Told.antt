@@ -1,7 +1,8 @@
 -- What resolved weak externs tell of those that were declared.
 use Rattle.std.proofs.Common.{◌≡◌, ℕ, List, [], ◌∷◌, map, refl, sym, subst, inl, inr, Bool, true, false, Option, None, Some}
+use Rattle.std.specs.Prelude.{IfSome}
 use Rattle.std.specs.List.{AllZip}
-use Rattle.std.specs.Option.{MatchOption}
+use Rattle.std.specs.Option.{IsSomeAnd, MatchOption}
 use Rattle.btf_tables.specs.Tables.{Table}
 use Rattle.extern_resolution.specs.Outcomes.{EntryBecomes, IsFoundIn, left_weak, sought_address, with_address, with_kernel_id}
 use Rattle.extern_resolution.specs.Resolution.{AreResolved, CannotResolve}
@@ -50,10 +51,17 @@ told table kernel text has_symbols (x ∷ xs) [] h = absurd h
 told table kernel text has_symbols (x ∷ xs) (y ∷ ys) h = (by_type table kernel text has_symbols x.0 x.1 y.1 x.1.type_id refl h.0.1, told table kernel text has_symbols xs ys h.1)
 
 -- what externs tell that were resolved by a text of these bytes
-pub resolved_told : (table : Table) (kernel : Option Table) (bytes : List ℕ) (failed has_symbols : Bool) (externs new : ExternsContent) (said : List Presence) → AreResolved table kernel (Some bytes) failed (all_weak externs) new → said ≡ map (λ e. presence_of has_symbols e.1) new.by_name → SaysOfExterns table kernel bytes has_symbols externs said
-resolved_told table kernel bytes failed has_symbols externs new said resolved is =
-    inl (rw (is, resolved.given) (told table kernel resolved.text has_symbols externs.by_name new.by_name resolved.each))
+resolved_told : (table : Table) (kernel : Option Table) (bytes : List ℕ) (failed has_symbols : Bool) (externs weak new : ExternsContent) (said : List Presence) → weak ≡ all_weak externs → AreResolved table kernel (Some bytes) failed weak new → said ≡ map (λ e. presence_of has_symbols e.1) new.by_name → SaysOfExterns table kernel bytes has_symbols externs said
+resolved_told table kernel bytes failed has_symbols externs weak new said all resolved is =
+    let each : AllZip (EntryBecomes table kernel resolved.text) (map weak_entry externs.by_name) new.by_name = subst (λ (w : ExternsContent). AllZip (EntryBecomes table kernel resolved.text) w.by_name new.by_name) all resolved.each in
+    inl (rw (is, resolved.given) (told table kernel resolved.text has_symbols externs.by_name new.by_name each))
+
+pub told_of : (table : Option Table) (kernel : Option Table) (bytes : List ℕ) (failed has_symbols : Bool) (externs weak new : ExternsContent) (said : List Presence) → weak ≡ all_weak externs → IfSome table (λ t. AreResolved t kernel (Some bytes) failed weak new) → said ≡ map (λ e. presence_of has_symbols e.1) new.by_name → IfSome table (λ t. SaysOfExterns t kernel bytes has_symbols externs said)
+told_of None kernel bytes failed has_symbols externs weak new said all resolved is = tt
+told_of (Some t) kernel bytes failed has_symbols externs weak new said all resolved is = resolved_told t kernel bytes failed has_symbols externs weak new said all resolved is
 
 -- and where they weren't
-pub nothing_told : (table : Table) (kernel : Option Table) (bytes : List ℕ) (failed has_symbols : Bool) (externs : ExternsContent) (fault : KsymsError) (said : List Presence) → CannotResolve table kernel (Some bytes) failed (all_weak externs) fault → said ≡ map (λ e. Unknown) externs.by_name → SaysOfExterns table kernel bytes has_symbols externs said
-nothing_told table kernel bytes failed has_symbols externs fault said stands is = inr (record { failed = failed; fault = fault; stands = stands; nothing = is })
+pub nothing_of : (table : Option Table) (kernel : Option Table) (bytes : List ℕ) (failed has_symbols : Bool) (externs weak : ExternsContent) (fault : KsymsError) (said : List Presence) → weak ≡ all_weak externs → IsSomeAnd table (λ t. CannotResolve t kernel (Some bytes) failed weak fault) → said ≡ map (λ e. Unknown) externs.by_name → IfSome table (λ t. SaysOfExterns t kernel bytes has_symbols externs said)
+nothing_of None kernel bytes failed has_symbols externs weak fault said all stands is = tt
+nothing_of (Some t) kernel bytes failed has_symbols externs weak fault said all stands is =
+    inr (record { failed = failed; fault = fault; stands = subst (λ (w : ExternsContent). CannotResolve t kernel (Some bytes) failed w fault) all stands; nothing = is })

@@ -100,8 +100,14 @@ pub fn presences_of(
     let mut weak = all_weak(alloc, externs)?;
     let mut symbols = Watched::new(symbols);
     match resolve_externs(alloc, &mut weak, table, kernel_types, &mut symbols) {
-        Ok(()) => all_told(alloc, &weak, has_symbols),
+        Ok(()) => {
+            let said = all_told(alloc, &weak, has_symbols)?;
+            Ok(said)
+        }
         Err(KsymsError::OutOfMemory) => Err(AllocError),
-        Err(_fault) => all_unknown(alloc, externs),
+        Err(_fault) => {
+            let said = all_unknown(alloc, externs)?;
+            Ok(said)
+        }
     }
 }
