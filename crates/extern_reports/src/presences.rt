@@ -1,6 +1,7 @@
 //! Whether a kernel has the externs of an object.
 
-ghost use Rattle.std.specs.Prelude.{◌≡◌, map, option_copied, slice_get, IfOk, IfSome};
+ghost use Rattle.std.specs.Prelude.{◌≡◌, ◌≢◌, map, option_copied, slice_get, IfOk, IfSome};
+ghost use Rattle.extern_resolution.specs.declared.error.KsymsError.TheVariants.{OutOfMemory};
 ghost use Rattle.extern_reports.specs.Presences.{SaysOfExterns, all_weak, as_weak, presence_of};
 ghost use Rattle.extern_reports.specs.declared.presences.Presence.TheVariants.{Unknown};
 
@@ -85,6 +86,16 @@ fn all_unknown(alloc: Global, externs: &Externs<'_>) -> Result<Vec<Presence>, Al
     Ok(told)
 }
 
+/// An error that isn't want of memory.
+fn fault_of(error: KsymsError) -> Result<KsymsError, AllocError>
+    ensures { IfOk result (λ fault. (fault ≡ error) × (error ≢ OutOfMemory)) }
+{
+    match error {
+        KsymsError::OutOfMemory => Err(AllocError),
+        error => Ok(error),
+    }
+}
+
 /// Whether a kernel has each of an object's externs, by name: those with a type by its types,
 /// the others by a text of its symbols, where these are given.
 pub fn presences_of(
@@ -104,8 +115,8 @@ pub fn presences_of(
             let said = all_told(alloc, &weak, has_symbols)?;
             Ok(said)
         }
-        Err(KsymsError::OutOfMemory) => Err(AllocError),
-        Err(_fault) => {
+        Err(error) => {
+            let _fault = fault_of(error)?;
             let said = all_unknown(alloc, externs)?;
             Ok(said)
         }

@@ -1,6 +1,7 @@
 //! Whether an object gets a plan for a kernel.
 
-ghost use Rattle.std.specs.Prelude.{◌≤◌, ◌^◌, length, IfOk};
+ghost use Rattle.std.specs.Prelude.{◌≡◌, ◌≢◌, ◌≤◌, ◌^◌, length, IfOk};
+ghost use Rattle.load_plan.specs.declared.error.PrepareError.TheVariants.{OutOfMemory};
 ghost use Rattle.kernel_reports.specs.Plans.{IsPlanAnswer};
 
 use load_plan::{Btf, Order, PrepareError, Settings, Watched, prepare};
@@ -12,6 +13,16 @@ pub enum PlanAnswer {
     Planned,
     /// It is refused, and not for want of memory.
     Refused(PrepareError),
+}
+
+/// An error that isn't want of memory.
+fn fault_of(error: PrepareError) -> Result<PrepareError, AllocError>
+    ensures { IfOk result (λ fault. (fault ≡ error) × (error ≢ OutOfMemory)) }
+{
+    match error {
+        PrepareError::OutOfMemory => Err(AllocError),
+        error => Ok(error),
+    }
 }
 
 /// Whether an object gets a plan for a kernel of these types and symbols that takes all features of
@@ -27,7 +38,7 @@ pub fn plan_answer(
     ensures { IfOk result (IsPlanAnswer object.now kernel_types.now symbols.now settings.now) }
 {
     let mut symbols = Watched::new(symbols);
-    let answer = prepare(
+    match prepare(
         alloc,
         object,
         kernel_types,
@@ -36,10 +47,11 @@ pub fn plan_answer(
         Order::RelocateFirst,
         |_feature| true,
         || true,
-    );
-    match answer {
+    ) {
         Ok(_plan) => Ok(PlanAnswer::Planned),
-        Err(PrepareError::OutOfMemory) => Err(AllocError),
-        Err(error) => Ok(PlanAnswer::Refused(error)),
+        Err(error) => {
+            let refusal = fault_of(error)?;
+            Ok(PlanAnswer::Refused(refusal))
+        }
     }
 }
