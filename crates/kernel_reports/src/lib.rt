@@ -2,12 +2,12 @@
 //! and which of its externs are there.
 #![tactic(auto)]
 
+mod map_numbers;
 mod planned;
 mod refusals;
 mod report;
-mod settings;
 
+pub use map_numbers::every_map_numbered;
 pub use planned::{PlanAnswer, plan_answer};
 pub use refusals::refusal_text;
 pub use report::{KernelReport, Reported, report_on};
-pub use settings::every_map_numbered;
