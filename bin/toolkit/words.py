@@ -16,7 +16,7 @@ import stat
 import tempfile
 
 # The programs whose words are options too; each word of another program may name a file.
-WITH_OPTIONS = ("bpf_prepare",)
+WITH_OPTIONS = ("bpf_prepare", "inspect_object")
 # The options before a file, and those before another word.
 FILE_OPTIONS = (b"--types", b"--symbols", b"--settings")
 VALUE_OPTIONS = (b"--types-order", b"--deny", b"--map", b"--global")

@@ -1,4 +1,3 @@
 pub mod Inspection
 pub mod Lines
 pub mod Program
-pub mod Words

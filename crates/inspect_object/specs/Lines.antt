@@ -10,7 +10,7 @@ use Rattle.program_kinds.specs.Bindings.{prog_type_number}
 use Rattle.program_kinds.specs.declared.section_kind.EbpfSectionKind.{EbpfSectionKind}
 use Rattle.program_kinds.specs.declared.section_kind.EbpfSectionKind.TheVariants as kind
 use Rattle.program_types.specs.declared.attributes.LoadAttributes.{LoadAttributes}
-use Rattle.inspect_object.specs.Words.{number_word, text_word}
+use Rattle.line_words.specs.Words.{number_word, text_word}
 
 -- words with a space between them, and then more
 abbrev pub words_onto : List (List ℕ) → List ℕ → List ℕ

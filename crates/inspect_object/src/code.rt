@@ -5,8 +5,8 @@ ghost use Rattle.std.specs.Io.KnownBytes.{Appends};
 ghost use Rattle.inspect_object.specs.Lines.{load_line};
 ghost use Rattle.program_types.specs.Attributes.{attributes_of};
 
-use crate::words::{Hex, Id, Text};
 use ebpf_object::{Function, Object, Program, ProgramSection, Slots};
+use line_words::{Hex, Id, Text};
 use program_types::load_attributes;
 use std::io;
 use std::io::Write;

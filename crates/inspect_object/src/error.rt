@@ -3,8 +3,11 @@
 ghost use Rattle.std.specs.Prelude.{◌≡◌};
 ghost use Rattle.inspect_object.specs.declared.error.InspectError.TheVariants.{Refused};
 ghost use Rattle.inspect_object.specs.Program.{status_of};
+ghost use Rattle.inspect_object.specs.declared.error.ProgramError.TheVariants.{OutOfMemory};
 
+use btf_records::BtfError;
 use ebpf_object::ParseError;
+use std::alloc::{AllocError, AllocFailed};
 use std::io;
 use thiserror::Error;
 
@@ -30,16 +33,22 @@ impl From<ParseError> for InspectError {
 /// Why the program ends without having printed an object.
 #[derive(Debug, Drop, Error)]
 pub enum ProgramError {
-    /// It wasn't called with one word.
-    #[error("usage: inspect_object OBJECT")]
-    Usage,
-    /// The object's file can't be read.
+    /// It was called with other words.
+    #[error("{text}; usage: inspect_object OBJECT [--types FILE].. (--help says more)")]
+    Usage { text: String },
+    /// Words that ask for nothing without kernel types.
+    #[error("--symbols and --summary go with --types")]
+    NoTypes,
+    /// A file can't be read.
     #[error("can't read {name:?}: {error}")]
     Read { name: String, error: io::Error },
     /// A word isn't UTF-8.
     #[error("a word isn't UTF-8")]
     WordNotText,
-    /// There is no memory to begin with.
+    /// The kernel types of a file can't be parsed.
+    #[error("kernel types in {name:?}: {error}")]
+    Types { name: String, error: BtfError },
+    /// There is no memory for the words, the reports, or for writing.
     #[error("out of memory")]
     OutOfMemory,
     /// The object is refused, or can't be written.
@@ -56,6 +65,22 @@ pub enum ProgramError {
 impl From<InspectError> for ProgramError {
     fn from(error: InspectError) -> ProgramError {
         ProgramError::Inspect(error)
+    }
+}
+
+impl From<AllocError> for ProgramError {
+    ghost from_gives = { λ _ e. e ≡ OutOfMemory };
+
+    fn from(_error: AllocError) -> ProgramError {
+        ProgramError::OutOfMemory
+    }
+}
+
+impl<T: Drop> From<AllocFailed<T>> for ProgramError {
+    ghost from_gives = { λ _ e. e ≡ OutOfMemory };
+
+    fn from(_error: AllocFailed<T>) -> ProgramError {
+        ProgramError::OutOfMemory
     }
 }
 

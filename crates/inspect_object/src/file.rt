@@ -4,9 +4,10 @@ ghost use Rattle.std.specs.Prelude.{OnOk};
 ghost use Rattle.std.specs.Io.KnownBytes.{Appends};
 ghost use Rattle.inspect_object.specs.Lines.{relocation_line, section_line};
 
-use crate::words::{Number, Text, kind_name};
+use crate::names::kind_name;
 use ebpf_object::{ObjectFile, ReadSection};
 use elf64::RelocView;
+use line_words::{Number, Text};
 use std::io;
 use std::io::Write;
 

@@ -1,24 +1,29 @@
-//! Prints what an eBPF object holds, as it is parsed.
+//! Prints what an eBPF object holds, as it is parsed, or what becomes of it on kernels.
 #![tactic(auto)]
 
 mod code;
 mod error;
 mod externs;
 mod file;
+mod files;
 mod inspecting;
+mod kernels;
 mod maps;
+mod names;
 mod notes;
 mod type_relocations;
-mod words;
 
 use ebpf_object::ParseError;
 use error::{InspectError, ProgramError};
+use files::read;
+use inspect_line::{InspectArguments, LineError, inspect_arguments, told};
 use inspecting::inspect;
+use kernels::print_reports;
 use refusal_texts::{Kept, parse_text};
 use std::alloc::Global;
 use std::io::{BufWriter, Write};
 use std::process::ExitCode;
-use std::{env, fs, io};
+use std::{env, io};
 
 /// Why the words of a line can't be had.
 fn words_error(error: io::Error) -> ProgramError {
@@ -28,22 +33,22 @@ fn words_error(error: io::Error) -> ProgramError {
     }
 }
 
-/// The one word that the program is called with: the object's file name.
-fn object_name(rt: &HostRuntime) -> Result<String, ProgramError> {
-    let mut words = match env::args(rt) {
-        Ok(words) => words,
+/// The words that the program is called with, its name first.
+fn words_of(rt: &HostRuntime) -> Result<Vec<String>, ProgramError> {
+    let given = match env::args(rt) {
+        Ok(given) => given,
         Err(error) => return Err(words_error(error)),
     };
-    let _program = words.next();
-    match (words.next(), words.next()) {
-        (Some(name), None) => Ok(name),
-        _ => Err(ProgramError::Usage),
+    let mut words = Vec::new(rt.alloc());
+    for word in given {
+        words.push(word)?;
     }
+    Ok(words)
 }
 
 /// What becomes of a refusal: an error with what a user is told of it, or, without memory for that,
 /// with the refusal itself.
-fn refused(alloc: Global, object: &[u8], error: ParseError) -> ProgramError {
+pub(crate) fn refused(alloc: Global, object: &[u8], error: ParseError) -> ProgramError {
     match parse_text(alloc, object, &error) {
         Ok(text) => ProgramError::Refused { text },
         Err(_) => ProgramError::Inspect(InspectError::Refused(error)),
@@ -73,17 +78,44 @@ fn print_bytes(rt: &HostRuntime, object: &[u8]) -> Result<(), ProgramError> {
     }
 }
 
-/// Prints the object that the command line names.
-fn print_object(rt: &HostRuntime) -> Result<(), ProgramError> {
-    let name = object_name(rt)?;
-    match fs::read(rt, name.as_str()) {
-        Ok(object) => print_bytes(rt, &object),
-        Err(error) => Err(ProgramError::Read { name, error }),
+/// Prints what becomes of an object on the kernels that a line names, or what it holds where the line
+/// names none.
+fn print_named(rt: &HostRuntime, line: &InspectArguments<'_>) -> Result<(), ProgramError> {
+    if !line.types.is_empty() {
+        return print_reports(rt, line);
+    }
+    if line.summary || line.symbols.is_some() {
+        return Err(ProgramError::NoTypes);
+    }
+    let object = read(rt, line.object)?;
+    print_bytes(rt, &object)
+}
+
+/// Prints the help or the version, where an error holds that.
+fn print_help(rt: &HostRuntime, error: clap::Error) -> Result<(), ProgramError> {
+    if error.use_stderr() {
+        return Err(ProgramError::Usage {
+            text: told(rt.alloc(), &error)?,
+        });
+    }
+    match print!(rt; "{error}") {
+        Ok(()) => Ok(()),
+        Err(error) => Err(ProgramError::Unwritten { error }),
+    }
+}
+
+/// Prints what a line asks for: an object, reports on it, the program's help or its version.
+fn print_asked(rt: &HostRuntime) -> Result<(), ProgramError> {
+    let words = words_of(rt)?;
+    match inspect_arguments(rt.alloc(), &words) {
+        Ok(line) => print_named(rt, &line),
+        Err(LineError::OutOfMemory) => Err(ProgramError::OutOfMemory),
+        Err(LineError::Line(error)) => print_help(rt, error),
     }
 }
 
 fn main(rt: HostRuntime) -> ExitCode {
-    match print_object(&rt) {
+    match print_asked(&rt) {
         Ok(()) => ExitCode::SUCCESS,
         Err(error) => {
             let _ = eprintln!(rt; "inspect_object: {error}");

@@ -1,7 +1,8 @@
 //! Maps.
 
-use crate::words::{Hex, Number, Text, kind_name, pinning_name};
+use crate::names::{kind_name, pinning_name};
 use ebpf_object::{Map, Object};
+use line_words::{Hex, Number, Text};
 use std::io;
 use std::io::Write;
 

@@ -4,10 +4,10 @@ ghost use Rattle.std.specs.Prelude.{◌≡◌};
 ghost use Rattle.std.specs.Option.{option_copied};
 ghost use Rattle.string_table.specs.Texts.{text_at};
 
-use crate::words::Text;
 use btf_extension::{SecInfo, bpf_core_relo};
 use btf_tables::Btf;
 use ebpf_object::Object;
+use line_words::Text;
 use std::io;
 use std::io::Write;
 

@@ -1,0 +1,90 @@
+-- What resolved weak externs tell of those that were declared.
+use Rattle.std.proofs.Common.{◌≡◌, ℕ, List, [], ◌∷◌, map, refl, sym, subst, inl, inr, Bool, true, false, Option, None, Some}
+use Rattle.std.specs.Prelude.{◌&&◌, not, if◌then◌else◌, is_none, IfSome}
+use Rattle.std.specs.List.{AllZip}
+use Rattle.std.specs.Option.{IsSomeAnd, MatchOption}
+use Rattle.btf_tables.specs.Tables.{Table}
+use Rattle.extern_resolution.specs.Outcomes.{EntryBecomes, IsFoundIn, left_weak, sought_address, with_address, with_kernel_id}
+use Rattle.extern_resolution.specs.Resolution.{AreResolved, CannotResolve}
+use Rattle.extern_resolution.specs.declared.error.KsymsError.{KsymsError}
+use Rattle.kernel_symbols.specs.Texts.{address_of}
+use Rattle.object_externs.specs.Externs.{ExternContent, ExternsContent}
+use Rattle.extern_reports.proofs.Growing.{weak_entry}
+use Rattle.extern_reports.specs.Presences.{SaysOfExtern, SaysOfExterns, all_weak, as_weak, presence_of}
+use Rattle.extern_reports.specs.declared.presences.Presence.{Presence}
+use Rattle.extern_reports.specs.declared.presences.Presence.TheVariants.{Found, Missing, Unknown}
+
+-- what was found for a weak extern was found for the declared one
+found_for : (table : Table) (kernel : Option Table) (name : List ℕ) (e : ExternContent) (type_id : ℕ) (found : Option ℕ) → IsFoundIn table kernel name (as_weak e) type_id found → IsFoundIn table kernel name e type_id found
+found_for table None name e type_id found h = h
+found_for table (Some kernel) name e type_id found h = record { kind = h.kind; declared_as = h.declared_as; is_found = h.is_found }
+
+-- what is said by the type that an extern has, and what is told then
+abbrev pub says_by : Table → Option Table → List ℕ → Bool → List ℕ → ExternContent → Option ℕ → Presence → Type 0
+says_by table kernel text has_symbols name e type Found = MatchOption type ((address : ℕ) × (address_of name text ≡ Some address)) (λ type_id. (id : ℕ) × IsFoundIn table kernel name e type_id (Some id))
+says_by table kernel text has_symbols name e type Missing = MatchOption type (address_of name text ≡ None) (λ type_id. IsFoundIn table kernel name e type_id None)
+says_by table kernel text has_symbols name e type Unknown = (type ≡ None) × (has_symbols ≡ false)
+
+abbrev pub presence_by : Bool → Option ℕ → Bool → Presence
+presence_by has_symbols type is_resolved = if is_none type && not has_symbols then Unknown else if is_resolved then Found else Missing
+
+says : (table : Table) (kernel : Option Table) (text : List ℕ) (has_symbols : Bool) (name : List ℕ) (e : ExternContent) (p : Presence) → says_by table kernel text has_symbols name e e.type_id p → SaysOfExtern table kernel text has_symbols (name, e) p
+says table kernel text has_symbols name e Found h = h
+says table kernel text has_symbols name e Missing h = h
+says table kernel text has_symbols name e Unknown h = h
+
+-- the same by the type
+shown : (table : Table) (kernel : Option Table) (text : List ℕ) (has_symbols : Bool) (name : List ℕ) (e : ExternContent) (is_resolved : Bool) (type : Option ℕ) → e.type_id ≡ type → says_by table kernel text has_symbols name e type (presence_by has_symbols type is_resolved) → SaysOfExtern table kernel text has_symbols (name, e) (presence_by has_symbols e.type_id is_resolved)
+shown table kernel text has_symbols name e is_resolved type is h =
+    says table kernel text has_symbols name e (presence_by has_symbols e.type_id is_resolved)
+    (subst (λ (o : Option ℕ). says_by table kernel text has_symbols name e o (presence_by has_symbols o is_resolved)) (sym is) h)
+
+-- one with a type
+typed : (table : Table) (kernel : Option Table) (text : List ℕ) (has_symbols : Bool) (name : List ℕ) (e : ExternContent) (type_id : ℕ) (is : e.type_id ≡ Some type_id) (found : Option ℕ) → IsFoundIn table kernel name e type_id found → SaysOfExtern table kernel text has_symbols (name, e) (presence_of has_symbols (left_weak (with_kernel_id found (as_weak e))))
+typed table kernel text has_symbols name e type_id is (Some id) h = shown table kernel text has_symbols name e true (Some type_id) is (id, h)
+typed table kernel text has_symbols name e type_id is None h = shown table kernel text has_symbols name e false (Some type_id) is h
+
+-- one without a type, of which no symbols are given, and of which they are
+untold : (table : Table) (kernel : Option Table) (text : List ℕ) (name : List ℕ) (e : ExternContent) (is : e.type_id ≡ None) (found : Option ℕ) → SaysOfExtern table kernel text false (name, e) (presence_of false (left_weak (with_address found (as_weak e))))
+untold table kernel text name e is (Some address) = shown table kernel text false name e true None is (refl, refl)
+untold table kernel text name e is None = shown table kernel text false name e false None is (refl, refl)
+
+named : (table : Table) (kernel : Option Table) (text : List ℕ) (name : List ℕ) (e : ExternContent) (is : e.type_id ≡ None) (found : Option ℕ) → address_of name text ≡ found → SaysOfExtern table kernel text true (name, e) (presence_of true (left_weak (with_address found (as_weak e))))
+named table kernel text name e is (Some address) h = shown table kernel text true name e true None is (address, h)
+named table kernel text name e is None h = shown table kernel text true name e false None is h
+
+by_type : (table : Table) (kernel : Option Table) (text : List ℕ) (has_symbols : Bool) (name : List ℕ) (e new : ExternContent) (type : Option ℕ) → e.type_id ≡ type
+    → MatchOption type (new ≡ left_weak (with_address (sought_address text name (as_weak e)) (as_weak e))) (λ type_id. (found : Option ℕ) × IsFoundIn table kernel name (as_weak e) type_id found × (new ≡ left_weak (with_kernel_id found (as_weak e))))
+    → SaysOfExtern table kernel text has_symbols (name, e) (presence_of has_symbols new)
+by_type table kernel text false name e new None is h =
+    subst (λ (n : ExternContent). SaysOfExtern table kernel text false (name, e) (presence_of false n)) (sym h) (untold table kernel text name e is (sought_address text name (as_weak e)))
+by_type table kernel text true name e new None is h =
+    let found : address_of name text ≡ sought_address text name (as_weak e) =
+    subst (λ (o : Option ℕ). address_of name text ≡ (if is_none o && not false then address_of name text else None)) (sym is) refl in
+    subst (λ (n : ExternContent). SaysOfExtern table kernel text true (name, e) (presence_of true n)) (sym h) (named table kernel text name e is (sought_address text name (as_weak e)) found)
+by_type table kernel text has_symbols name e new (Some type_id) is h =
+    subst (λ (n : ExternContent). SaysOfExtern table kernel text has_symbols (name, e) (presence_of has_symbols n)) (sym h.2) (typed table kernel text has_symbols name e type_id is h.0 (found_for table kernel name e type_id h.0 h.1))
+
+told : (table : Table) (kernel : Option Table) (text : List ℕ) (has_symbols : Bool) (xs ys : List (List ℕ × ExternContent)) → AllZip (EntryBecomes table kernel text) (map weak_entry xs) ys → AllZip (SaysOfExtern table kernel text has_symbols) xs (map (λ e. presence_of has_symbols e.1) ys)
+told table kernel text has_symbols [] [] h = tt
+told table kernel text has_symbols [] (y ∷ ys) h = absurd h
+told table kernel text has_symbols (x ∷ xs) [] h = absurd h
+told table kernel text has_symbols (x ∷ xs) (y ∷ ys) h = (by_type table kernel text has_symbols x.0 x.1 y.1 x.1.type_id refl h.0.1, told table kernel text has_symbols xs ys h.1)
+
+-- what externs tell that were resolved by a text of these bytes
+resolved_told : (table : Table) (kernel : Option Table) (bytes : List ℕ) (failed has_symbols : Bool) (externs weak new : ExternsContent) (said : List Presence) → weak ≡ all_weak externs → AreResolved table kernel (Some bytes) failed weak new → said ≡ map (λ e. presence_of has_symbols e.1) new.by_name → SaysOfExterns table kernel bytes has_symbols externs said
+resolved_told table kernel bytes failed has_symbols externs weak new said all resolved is =
+    let each : AllZip (EntryBecomes table kernel resolved.text) (map weak_entry externs.by_name) new.by_name = subst (λ (w : ExternsContent). AllZip (EntryBecomes table kernel resolved.text) w.by_name new.by_name) all resolved.each in
+    inl (rw (is, resolved.given) (told table kernel resolved.text has_symbols externs.by_name new.by_name each))
+
+pub told_of : (table : Option Table) (kernel : Option Table) (known : Option (List ℕ)) (bytes : List ℕ) (failed has_symbols : Bool) (externs weak new : ExternsContent) (said : List Presence) → known ≡ Some bytes → weak ≡ all_weak externs → IfSome table (λ t. AreResolved t kernel known failed weak new) → said ≡ map (λ e. presence_of has_symbols e.1) new.by_name → IfSome table (λ t. SaysOfExterns t kernel bytes has_symbols externs said)
+told_of None kernel known bytes failed has_symbols externs weak new said whole all resolved is = tt
+told_of (Some t) kernel known bytes failed has_symbols externs weak new said whole all resolved is =
+    resolved_told t kernel bytes failed has_symbols externs weak new said all (subst (λ (k : Option (List ℕ)). AreResolved t kernel k failed weak new) whole resolved) is
+
+-- and where they weren't
+pub nothing_of : (table : Option Table) (kernel : Option Table) (known : Option (List ℕ)) (bytes : List ℕ) (failed has_symbols : Bool) (externs weak : ExternsContent) (fault : KsymsError) (said : List Presence) → known ≡ Some bytes → weak ≡ all_weak externs → IsSomeAnd table (λ t. CannotResolve t kernel known failed weak fault) → said ≡ map (λ e. Unknown) externs.by_name → IfSome table (λ t. SaysOfExterns t kernel bytes has_symbols externs said)
+nothing_of None kernel known bytes failed has_symbols externs weak fault said whole all stands is = tt
+nothing_of (Some t) kernel known bytes failed has_symbols externs weak fault said whole all stands is =
+    let here : CannotResolve t kernel (Some bytes) failed weak fault = subst (λ (k : Option (List ℕ)). CannotResolve t kernel k failed weak fault) whole stands in
+    inr (record { failed = failed; fault = fault; stands = subst (λ (w : ExternsContent). CannotResolve t kernel (Some bytes) failed w fault) all here; nothing = is })

@@ -1,0 +1,10 @@
+use Rattle.inspect_line.proofs.reading.matches_of.Goals as goal
+
+pub returns : goal.returns
+returns c = record {
+  command = c.in_ok-command.command;
+  program = c.in_ok-command.ensures.program;
+  takes = c.in_ok-command.ensures.object;
+  parsed = c.in_ok-matches.ensures.parsed;
+  found = c.in_ok-matches.ensures.matches;
+}

@@ -1,0 +1,5 @@
+use Rattle.std.proofs.Common.{◌<◌, ◌^◌}
+use Rattle.kernel_reports.proofs.map_numbers.every_map_numbered.Given as goal
+
+abbrev pub invariant-loop-name : goal.invariant-loop-name
+invariant-loop-name l = l.number < 2 ^ 31

@@ -1,0 +1,26 @@
+-- Whether an object gets a plan for a kernel that takes all features of types and has the newer helpers.
+use Rattle.std.specs.Prelude.{◌≢◌, ℕ, List, Bool, true, Some}
+use Rattle.btf_records.specs.declared.feature.BtfFeature.{BtfFeature}
+use Rattle.load_plan.specs.Content.{PlanContent}
+use Rattle.load_plan.specs.Inputs.{Inputs, SettingsContent, Table, inputs, symbols_given}
+use Rattle.load_plan.specs.Known.{IsPlanFor, IsRefusalFor}
+use Rattle.load_plan.specs.declared.error.PrepareError.TheVariants.{OutOfMemory}
+use Rattle.load_plan.specs.declared.order.Order.TheVariants.{RelocateFirst}
+use Rattle.kernel_reports.specs.declared.planned.PlanAnswer.{PlanAnswer}
+use Rattle.kernel_reports.specs.declared.planned.PlanAnswer.TheVariants.{Planned, Refused}
+
+abbrev pub takes_all : BtfFeature → Bool
+takes_all feature = true
+
+-- the inputs with this text of symbols, and whether reading it failed
+abbrev pub inputs_of : List ℕ → List Table → List ℕ → Bool → SettingsContent → Inputs
+inputs_of file kernel text failed settings = inputs file kernel (symbols_given (Some text) failed) settings RelocateFirst
+
+-- a plan is there, or a stated fault stands
+abbrev pub SaysOfPlan : Inputs → PlanAnswer → Type 0
+SaysOfPlan i Planned = (plan : PlanContent) × IsPlanFor takes_all true i plan
+SaysOfPlan i (Refused e) = (e ≢ OutOfMemory) × IsRefusalFor takes_all i e
+
+pub record IsPlanAnswer (file : List ℕ) (kernel : List Table) (text : List ℕ) (settings : SettingsContent) (answer : PlanAnswer) : Type 0 where
+  pub failed : Bool
+  pub says : SaysOfPlan (inputs_of file kernel text failed settings) answer

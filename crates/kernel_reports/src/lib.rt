@@ -1,0 +1,13 @@
+//! What becomes of an object on a kernel: whether it gets a plan, what its type relocations come to,
+//! and which of its externs are there.
+#![tactic(auto)]
+
+mod map_numbers;
+mod planned;
+mod refusals;
+mod report;
+
+pub use map_numbers::every_map_numbered;
+pub use planned::{PlanAnswer, plan_answer};
+pub use refusals::refusal_text;
+pub use report::{KernelReport, Reported, report_on};

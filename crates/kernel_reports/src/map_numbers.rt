@@ -1,0 +1,18 @@
+//! Settings under which each map has a number.
+
+use ebpf_object::Maps;
+use load_plan::Settings;
+use std::alloc::{AllocError, Global};
+
+/// Settings in which each map of an object has a number, as it would have where a loader has made it.
+pub fn every_map_numbered(alloc: Global, maps: &Maps<'_>) -> Result<Settings, AllocError> {
+    let mut settings = Settings::new(alloc);
+    let mut number = 0;
+    for (name, _map) in maps.iter() {
+        settings.set_map(name, number)?;
+        if number < i32::MAX as u32 {
+            number += 1;
+        }
+    }
+    Ok(settings)
+}

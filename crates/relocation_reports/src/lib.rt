@@ -1,0 +1,11 @@
+//! What the type relocations of an object come to in a kernel's types, each by itself.
+#![tactic(auto)]
+
+mod answers;
+mod relocations;
+
+pub use answers::{RelocationAnswer, relocation_answers};
+pub use relocations::{Place, RelocationAt, relocations_of};
+pub use slot_relocation::Outcome;
+pub use type_match::TypeRelocationError;
+pub use type_patches::{Patch, WriteFault};

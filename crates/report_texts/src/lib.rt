@@ -1,0 +1,11 @@
+//! What becomes of an object on kernels, as lines that tools read and as a table for a person.
+#![tactic(auto)]
+
+mod lines;
+mod rows;
+mod summary;
+mod texts;
+
+pub use lines::report_lines;
+pub use rows::{ExternKind, ExternRow, RelocationRow, Rows, rows_of};
+pub use summary::{Column, summary_text};

@@ -1,0 +1,211 @@
+//! Reports on several kernels as a table.
+
+use crate::rows::Rows;
+use crate::texts::{AnswerCell, presence_word};
+use extern_reports::Presence;
+use line_words::{QuotedText, Text};
+use relocation_reports::RelocationAnswer;
+use std::alloc::{AllocError, Global};
+
+/// What is reported of the kernel of a file: a column of the table.
+#[derive(Debug, Drop)]
+pub struct Column<'f> {
+    pub file: &'f str,
+    /// What the object's type relocations come to, one by one.
+    pub relocations: Vec<RelocationAnswer>,
+    /// Whether its externs are there, by name.
+    pub externs: Vec<Presence>,
+    /// What is told where the object gets no plan.
+    pub refusal: Option<String>,
+}
+
+/// What a table says: the beginnings of its lines, and its cells, column by column.
+#[derive(Drop)]
+struct Table {
+    labels: Vec<String>,
+    columns: Vec<Vec<String>>,
+}
+
+fn labels_of(alloc: Global, rows: &Rows<'_>) -> Result<Vec<String>, AllocError> {
+    let mut labels = Vec::new(alloc);
+    labels.push(String::from_str(alloc, "plan")?)?;
+    for row in &rows.relocations {
+        let section = Text::of(row.section.unwrap_or("-"));
+        let function = Text::of(row.function.unwrap_or("-"));
+        let instruction = row.instruction;
+        let asked = Text::of(&row.asked);
+        labels.push(format!(in alloc; "{section} {function} {instruction} {asked}")?)?;
+    }
+    for row in &rows.externs {
+        let name = Text::of(row.name);
+        labels.push(format!(in alloc; "extern {name}")?)?;
+    }
+    Ok(labels)
+}
+
+fn plan_cell(column: &Column<'_>) -> &'static str {
+    match column.refusal {
+        None => "yes",
+        Some(_) => "no",
+    }
+}
+
+fn cells_of(alloc: Global, column: &Column<'_>) -> Result<Vec<String>, AllocError> {
+    let mut cells = Vec::new(alloc);
+    cells.push(String::from_str(alloc, plan_cell(column))?)?;
+    for answer in &column.relocations {
+        let cell = AnswerCell(answer);
+        cells.push(format!(in alloc; "{cell}")?)?;
+    }
+    for presence in &column.externs {
+        cells.push(String::from_str(alloc, presence_word(*presence))?)?;
+    }
+    Ok(cells)
+}
+
+fn table_of(alloc: Global, rows: &Rows<'_>, columns: &[Column<'_>]) -> Result<Table, AllocError> {
+    let mut table = Table {
+        labels: labels_of(alloc, rows)?,
+        columns: Vec::new(alloc),
+    };
+    for column in columns {
+        table.columns.push(cells_of(alloc, column)?)?;
+    }
+    Ok(table)
+}
+
+/// The bytes of the longest text, or so many where all are shorter.
+fn width_of(texts: &[String], least: usize) -> usize {
+    let mut width = least;
+    for text in texts {
+        width = width.max(text.len());
+    }
+    width
+}
+
+/// The widths of columns.
+fn widths_of(alloc: Global, columns: &[Vec<String>]) -> Result<Vec<usize>, AllocError> {
+    let mut widths = Vec::new(alloc);
+    for (number, cells) in columns.iter().enumerate() {
+        let head = format!(in alloc; "{}", number.saturating_add(1))?;
+        widths.push(width_of(cells, head.len()))?;
+    }
+    Ok(widths)
+}
+
+/// Appends a text, and spaces up to a width.
+fn push_padded(text: &mut String, cell: &str, width: usize) -> Result<(), AllocError> {
+    text.push_str(cell)?;
+    for _ in cell.len()..width {
+        text.push(' ')?;
+    }
+    Ok(())
+}
+
+/// The cell of a line, empty where there is none.
+fn cell_at(cells: &[String], line: usize) -> &str {
+    match cells.get(line) {
+        Some(cell) => cell.as_str(),
+        None => "",
+    }
+}
+
+/// Whether the cells of a line differ.
+fn differs(columns: &[Vec<String>], line: usize) -> bool {
+    let Some(first) = columns.first() else {
+        return false;
+    };
+    let wanted = cell_at(first, line);
+    for cells in columns {
+        if cell_at(cells, line) != wanted {
+            return true;
+        }
+    }
+    false
+}
+
+/// Ends a line that may end with spaces.
+fn end_line(text: &mut String, line: &str) -> Result<(), AllocError> {
+    text.push_str(line.trim_end())?;
+    text.push('\n')
+}
+
+/// Appends the line of the columns' numbers.
+fn push_head(
+    alloc: Global,
+    text: &mut String,
+    label_width: usize,
+    widths: &[usize],
+) -> Result<(), AllocError> {
+    let mut line = String::from_str(alloc, "  ")?;
+    push_padded(&mut line, "", label_width)?;
+    for (number, width) in widths.iter().enumerate() {
+        line.push_str("  ")?;
+        let head = format!(in alloc; "{}", number.saturating_add(1))?;
+        push_padded(&mut line, &head, *width)?;
+    }
+    end_line(text, &line)
+}
+
+/// Appends a line of the table; a star stands before it where its cells differ.
+fn push_line(
+    alloc: Global,
+    text: &mut String,
+    table: &Table,
+    label_width: usize,
+    widths: &[usize],
+    number: usize,
+) -> Result<(), AllocError> {
+    let mark = if differs(&table.columns, number) {
+        "* "
+    } else {
+        "  "
+    };
+    let mut line = String::from_str(alloc, mark)?;
+    push_padded(&mut line, cell_at(&table.labels, number), label_width)?;
+    for (cells, width) in table.columns.iter().zip(widths) {
+        line.push_str("  ")?;
+        push_padded(&mut line, cell_at(cells, number), *width)?;
+    }
+    end_line(text, &line)
+}
+
+/// Appends which kernels the columns are of.
+fn push_legend(text: &mut String, columns: &[Column<'_>]) -> Result<(), AllocError> {
+    for (number, column) in columns.iter().enumerate() {
+        let number = number.saturating_add(1);
+        writeln!(text, "kernel {number}: {}", QuotedText(column.file))?;
+    }
+    Ok(())
+}
+
+/// Appends why the object gets no plan.
+fn push_refusals(text: &mut String, columns: &[Column<'_>]) -> Result<(), AllocError> {
+    for (number, column) in columns.iter().enumerate() {
+        if let Some(refusal) = &column.refusal {
+            let number = number.saturating_add(1);
+            writeln!(text, "kernel {number}: no plan: {refusal}")?;
+        }
+    }
+    Ok(())
+}
+
+/// The reports on several kernels as a table for a person, with a column for each kernel, and why the
+/// object gets no plan.
+pub fn summary_text(
+    alloc: Global,
+    rows: &Rows<'_>,
+    columns: &[Column<'_>],
+) -> Result<String, AllocError> {
+    let table = table_of(alloc, rows, columns)?;
+    let widths = widths_of(alloc, &table.columns)?;
+    let label_width = width_of(&table.labels, 0);
+    let mut text = String::new(alloc);
+    push_legend(&mut text, columns)?;
+    push_head(alloc, &mut text, label_width, &widths)?;
+    for number in 0..table.labels.len() {
+        push_line(alloc, &mut text, &table, label_width, &widths, number)?;
+    }
+    push_refusals(&mut text, columns)?;
+    Ok(text)
+}

@@ -1,0 +1,153 @@
+//! What is said of a relocation and of an extern, in words.
+
+use crate::rows::ExternKind;
+use ebpf_items::bpf_insn;
+use extern_reports::Presence;
+use relocation_reports::{Outcome, Patch, RelocationAnswer, TypeRelocationError, WriteFault};
+use std::fmt;
+
+/// How an instruction holds a value.
+#[derive(Clone, Copy, Debug)]
+pub(crate) enum Manner {
+    /// As the immediate of arithmetic.
+    Immediate,
+    /// As the immediate of a load of 64 bits.
+    Immediate64,
+    /// As the offset of a load or a store of so many bytes.
+    Offset { width: u8 },
+}
+
+/// How an instruction that got a value holds it, by its class (instruction-set.rst, "Instruction
+/// encoding").
+fn manner_of(slot: bpf_insn) -> Manner {
+    match (slot.code % 8, slot.code / 8 % 4) {
+        (0, _) => Manner::Immediate64,
+        (1..=3, 0) => Manner::Offset { width: 4 },
+        (1..=3, 1) => Manner::Offset { width: 2 },
+        (1..=3, 2) => Manner::Offset { width: 1 },
+        (1..=3, _) => Manner::Offset { width: 8 },
+        _ => Manner::Immediate,
+    }
+}
+
+/// What a relocation comes to, as far as words go.
+#[derive(Clone, Copy, Debug)]
+pub(crate) enum Said<'a> {
+    Value { value: u64, manner: Manner },
+    Poison,
+    Unplaced,
+    Unwritten { patch: Patch, fault: WriteFault },
+    Fault(&'a TypeRelocationError),
+}
+
+pub(crate) fn said_of(answer: &RelocationAnswer) -> Said<'_> {
+    match answer {
+        RelocationAnswer::Unplaced => Said::Unplaced,
+        RelocationAnswer::Fault(error) => Said::Fault(error),
+        RelocationAnswer::Given { patch, written } => match (*patch, *written) {
+            (patch, Outcome::Refused(fault)) => Said::Unwritten { patch, fault },
+            (Patch::Value { value, .. }, Outcome::Written(write)) => Said::Value {
+                value,
+                manner: manner_of(write.first),
+            },
+            _ => Said::Poison,
+        },
+    }
+}
+
+/// Why an instruction can't get what a relocation gives.
+fn unwritten_reason(fault: WriteFault) -> &'static str {
+    match fault {
+        WriteFault::SourceRegister => "the instruction's source is a register",
+        WriteFault::LargeOffset => "the offset doesn't fit 16 bits",
+        WriteFault::OtherWidth => { "the field has another size, which the instruction can't get" }
+        WriteFault::OtherClass => "instructions of the class hold no such value",
+        WriteFault::NoNextSlot | WriteFault::NoNextPoison => {
+            "the load of 64 bits has no second slot"
+        }
+    }
+}
+
+/// Why a relocation comes to nothing.
+#[derive(Clone, Copy, Debug)]
+pub(crate) struct FaultText<'a>(pub(crate) &'a TypeRelocationError);
+
+impl<'a> fmt::Display for FaultText<'a> {
+    fn fmt<W: fmt::Write>(&self, f: &mut fmt::Formatter<W>) -> fmt::Result {
+        match self.0 {
+            TypeRelocationError::Local(error) => write!(f, "the object's types: {error}"),
+            TypeRelocationError::UnreadableName { place, .. } => {
+                write!(f, "the name of type {} can't be read", place.type_id)
+            }
+            TypeRelocationError::Kernel { place, error } => {
+                write!(f, "type {}: {error}", place.type_id)
+            }
+            TypeRelocationError::ConflictingCandidates => {
+                write!(f, "types of the kernel disagree")
+            }
+            TypeRelocationError::MissingTargetDefinition => {
+                write!(f, "the kernel has no such type")
+            }
+            TypeRelocationError::OutOfMemory => write!(f, "out of memory"),
+        }
+    }
+}
+
+/// The end of a line on a relocation.
+#[derive(Clone, Copy, Debug)]
+pub(crate) struct AnswerWords<'a>(pub(crate) &'a RelocationAnswer);
+
+impl<'a> fmt::Display for AnswerWords<'a> {
+    fn fmt<W: fmt::Write>(&self, f: &mut fmt::Formatter<W>) -> fmt::Result {
+        match said_of(self.0) {
+            Said::Value { value, manner } => match manner {
+                Manner::Immediate => write!(f, "value {value} as immediate"),
+                Manner::Immediate64 => write!(f, "value {value} as immediate64"),
+                Manner::Offset { width } => { write!(f, "value {value} as offset width {width}") }
+            },
+            Said::Poison => write!(f, "poison"),
+            Said::Unplaced => write!(f, "refused no function holds the instruction"),
+            Said::Unwritten {
+                patch: Patch::Value { value, .. },
+                fault,
+            } => write!(f, "refused value {value}: {}", unwritten_reason(fault)),
+            Said::Unwritten { fault, .. } => {
+                write!(f, "refused poison: {}", unwritten_reason(fault))
+            }
+            Said::Fault(error) => write!(f, "refused {}", FaultText(error)),
+        }
+    }
+}
+
+/// The cell of a table for a relocation.
+#[derive(Clone, Copy, Debug)]
+pub(crate) struct AnswerCell<'a>(pub(crate) &'a RelocationAnswer);
+
+impl<'a> fmt::Display for AnswerCell<'a> {
+    fn fmt<W: fmt::Write>(&self, f: &mut fmt::Formatter<W>) -> fmt::Result {
+        match said_of(self.0) {
+            Said::Value { value, manner } => match manner {
+                Manner::Immediate | Manner::Immediate64 => write!(f, "{value}"),
+                Manner::Offset { width } => write!(f, "{value}, {width} bytes"),
+            },
+            Said::Poison => write!(f, "poison"),
+            Said::Unplaced | Said::Unwritten { .. } | Said::Fault(_) => write!(f, "refused"),
+        }
+    }
+}
+
+pub(crate) fn presence_word(presence: Presence) -> &'static str {
+    match presence {
+        Presence::Found => "found",
+        Presence::Missing => "missing",
+        Presence::Unknown => "unknown",
+    }
+}
+
+pub(crate) fn extern_kind_word(kind: ExternKind) -> &'static str {
+    match kind {
+        ExternKind::Function => "function",
+        ExternKind::Variable => "variable",
+        ExternKind::Symbol => "symbol",
+    }
+}
