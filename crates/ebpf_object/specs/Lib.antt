@@ -1,5 +1,6 @@
 pub mod Calls
 pub mod Faults
+pub mod Hashed
 pub mod Helpers
 pub mod ParsedObject
 pub mod Places

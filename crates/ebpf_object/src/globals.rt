@@ -15,7 +15,7 @@ impl<'a> Object<'a> {
     /// # Errors
     ///
     /// Those of [`patch_map_data`]; the object is as before then.
-    pub fn patch_map_data(&mut self, settings: &Settings) -> Result<(), ParseError>
+    pub fn put_values(&mut self, settings: &Settings) -> Result<(), ParseError>
         ensures patched { OnOk result (self.new.maps ≡ patched self.old.file self.old.maps settings.now.globals) }
         ensures sound { OnOk result (first_fault self.old.file self.old.maps settings.now.globals ≡ None) }
         ensures lengths { extents self.new.maps ≡ extents self.old.maps }

@@ -4,6 +4,7 @@
 mod calls;
 mod externs;
 mod globals;
+mod hashed;
 mod object;
 mod places;
 mod rewriting;

@@ -309,7 +309,7 @@ impl<'a> Object<'a> {
     ///
     /// Those of [`relocate_calls`], with the program's name; the object is as before then.
     #[tactic(auto, using(crate::proofs::Linked::functions_stay))]
-    pub fn relocate_calls(
+    pub fn link_programs(
         &mut self,
         text_sections: &BTreeSet<usize>,
     ) -> Result<(), EbpfRelocationError>

@@ -24,7 +24,7 @@ impl<'a> Object<'a> {
     ///
     /// Those of [`relocate_maps`], with the function's name; the object is as before then.
     #[tactic(auto, using(crate::proofs::Linked::functions_stay_relocated))]
-    pub fn relocate_maps(
+    pub fn write_map_numbers(
         &mut self,
         maps: &[NumberedMap<'_>],
         text_sections: &BTreeSet<usize>,

@@ -141,6 +141,7 @@ fn with_address<'a>(found: Option<u64>, desc: &ExternDesc<'a>) -> ExternDesc<'a>
         kernel_btf_id: desc.kernel_btf_id,
         ksym_addr: found.or(desc.ksym_addr),
         type_id: desc.type_id,
+        essential_name: desc.essential_name,
     }
 }
 

@@ -134,6 +134,7 @@ fn with_kernel_id<'a>(found: Option<u32>, desc: &ExternDesc<'a>) -> ExternDesc<'
         kernel_btf_id: found.or(desc.kernel_btf_id),
         ksym_addr: desc.ksym_addr,
         type_id: desc.type_id,
+        essential_name: desc.essential_name,
     }
 }
 

@@ -59,7 +59,7 @@ fn put_values(settings: &Settings, object: &mut Object<'_>) -> Result<(), Prepar
     ensures made { OnOk result (PutsValues settings.now object.old object.new) }
     ensures refused { IfErr result (λ e. e ≢ OutOfMemory → OfParse (CannotPutValues settings.now object.old) e) }
 {
-    object.patch_map_data(settings)?;
+    object.put_values(settings)?;
     Ok(())
 }
 
@@ -123,7 +123,7 @@ fn write_numbers_of(
     ensures refused { IfErr result (λ e. e ≢ OutOfMemory → OfRelocation (CannotWriteNumbers settings.now (record object.old { maps = maps.now })) e) }
 {
     let numbered = numbered_maps(alloc, maps, settings)?;
-    object.relocate_maps(&numbered, text_sections)?;
+    object.write_map_numbers(&numbered, text_sections)?;
     Ok(())
 }
 
@@ -159,7 +159,7 @@ fn link(object: &mut Object<'_>, text_sections: &BTreeSet<usize>) -> Result<(), 
     ensures made { OnOk result (LinksPrograms object.old object.new) }
     ensures refused { IfErr result (λ e. e ≢ OutOfMemory → OfRelocation (CannotLink object.old) e) }
 {
-    object.relocate_calls(text_sections)?;
+    object.link_programs(text_sections)?;
     Ok(())
 }
 

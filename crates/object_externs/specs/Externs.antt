@@ -12,6 +12,7 @@ use Rattle.btf_records.specs.declared.item.DataSecEntry.{DataSecEntry}
 use Rattle.btf_records.specs.declared.kind.BtfKind.{BtfKind}
 use Rattle.btf_records.specs.declared.kind.BtfKind.TheVariants as kinds
 use Rattle.btf_records.specs.declared.types.BtfType.{BtfType}
+use Rattle.btf_tables.specs.EssentialNames.{essential_name}
 use Rattle.btf_tables.specs.ResolvedTypes.{resolved_type}
 use Rattle.btf_tables.specs.Tables.{Table, type_by_id}
 use Rattle.elf64.specs.Symbols.{Symbol}
@@ -20,8 +21,8 @@ use Rattle.object_externs.specs.Section.{ksyms_entries, ksyms_section}
 use Rattle.object_externs.specs.Symbols.{symbol_named}
 use Rattle.string_table.specs.Texts.{text_at}
 
--- an extern: its name, the id of the function or variable that declares it, whether it may be missing, the type that the
--- kernel's must be compatible with, and what is known of the kernel's
+-- an extern: its name, also without flavour, the id of the function or variable that declares it, whether it may be missing, the
+-- type that the kernel's must be compatible with, and what is known of the kernel's
 pub record ExternContent : Type 0 where
   pub name : List ℕ
   pub btf_id : ℕ
@@ -30,6 +31,7 @@ pub record ExternContent : Type 0 where
   pub kernel_btf_id : Option ℕ
   pub ksym_addr : Option ℕ
   pub type_id : Option ℕ
+  pub essential_name : List ℕ
 
 -- externs by name, and the ids that a rewriting of the section is handed: its own, and that of the placeholder
 pub record ExternsContent : Type 0 where
@@ -80,6 +82,7 @@ declared symbols table id t name = record {
   kernel_btf_id = None;
   ksym_addr = None;
   type_id = declared_type table t;
+  essential_name = essential_name name;
 }
 
 -- the externs with that of one more entry: it takes the place of an earlier one of its name

@@ -14,7 +14,7 @@ use crate::extern_desc::ExternDesc;
 use crate::symbols::SymbolNames;
 use btf_encoding::TypeRef;
 use btf_records::{BtfError, BtfKind, DataSecEntry};
-use btf_tables::Btf;
+use btf_tables::{Btf, essential_name};
 use object_file::ReadSymbol;
 use std::alloc::Global;
 use std::collections::BTreeMap;
@@ -75,6 +75,7 @@ fn read_record<'a>(
         kernel_btf_id: None,
         ksym_addr: None,
         type_id: declared_type(table, t)?,
+        essential_name: essential_name(symbol.name()),
     })
 }
 

@@ -1,9 +1,5 @@
 //! An extern.
 
-ghost use Rattle.std.specs.Prelude.{◌≡◌};
-ghost use Rattle.btf_tables.specs.EssentialNames.{essential_name};
-
-use btf_tables::essential_name;
 use std::marker::Model;
 
 /// What a program expects of the kernel: a function or a variable, declared in the table of types.
@@ -23,6 +19,8 @@ pub struct ExternDesc<'a> {
     pub ksym_addr: Option<u64>,
     /// The id of its type behind modifiers; a variable of void has none.
     pub type_id: Option<u32>,
+    /// Its name without its flavour, as the kernel has it.
+    pub essential_name: &'a str,
 }
 
 impl<'a> Model for ExternDesc<'a> {
@@ -30,14 +28,5 @@ impl<'a> Model for ExternDesc<'a> {
 
     ghost Value = { ExternContent };
 
-    ghost view = { λ e. record { name = e.name.now; btf_id = e.btf_id; is_weak = e.is_weak; is_resolved = e.is_resolved; kernel_btf_id = e.kernel_btf_id; ksym_addr = e.ksym_addr; type_id = e.type_id } };
-}
-
-impl<'a> ExternDesc<'a> {
-    /// Its name without its flavour, as the kernel has it.
-    pub fn essential_name(&self) -> &'a str
-        ensures { result.now ≡ essential_name self.now.name }
-    {
-        essential_name(self.name)
-    }
+    ghost view = { λ e. record { name = e.name.now; btf_id = e.btf_id; is_weak = e.is_weak; is_resolved = e.is_resolved; kernel_btf_id = e.kernel_btf_id; ksym_addr = e.ksym_addr; type_id = e.type_id; essential_name = e.essential_name.now } };
 }

@@ -1,13 +1,14 @@
 -- Maps whose keys are names, and their entries by the names' bytes.
-use Rattle.std.proofs.Common.{◌≡◌, ℕ, List, [], ◌∷◌, map, refl, ap, ◌∙◌}
+use Rattle.std.proofs.Common.{◌≡◌, ℕ, List, [], ◌∷◌, Some, cond, map, refl, ap, ◌∙◌}
 use Rattle.std.specs.Borrow.{Bor}
 use Rattle.std.specs.declared.cmp.Ordering.{Ordering}
 use Rattle.std.specs.declared.cmp.Ordering.TheVariants.{Less, Equal, Greater}
 use Rattle.std.specs.Ordering.{nat_cmp, match_ordering}
 use Rattle.std.specs.Cmp.Lexicographic.{slice_cmp}
-use Rattle.std.specs.BTreeMap.{insert_entry}
+use Rattle.std.specs.BTreeMap.{insert_entry, is_at}
 use Rattle.std.specs.List.{AllByRecursion}
 use Rattle.std.specs.List.Sorted.{IsStrictlySortedBy}
+use Rattle.std.specs.Map.{lookup}
 use Rattle.object_parts.specs.Names.{by_bytes}
 
 by_bytes-match : {V : Type 0} (o : Ordering) (a b c : List (Bor (List ℕ) × V)) → by_bytes (match_ordering o a b c) ≡ match_ordering o (by_bytes a) (by_bytes b) (by_bytes c)
@@ -30,3 +31,7 @@ pub rising-bytes : {V : Type 0} (entries : List (Bor (List ℕ) × V)) → IsStr
 unfolding IsStrictlySortedBy
 rising-bytes [] rising = rising
 rising-bytes (e ∷ es) rising = (below-bytes e.0.now es rising.0, rising-bytes es rising.1)
+
+pub by_bytes-lookup : {V : Type 0} (name : List ℕ) (entries : List (Bor (List ℕ) × V)) → lookup (is_at (λ key. slice_cmp nat_cmp name key.now)) entries ≡ lookup (is_at (slice_cmp nat_cmp name)) (by_bytes entries)
+by_bytes-lookup name [] = refl
+by_bytes-lookup name (e ∷ es) = ap (cond (is_at (slice_cmp nat_cmp name) e.0.now) (Some e.1)) (by_bytes-lookup name es)

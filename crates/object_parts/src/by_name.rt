@@ -1,9 +1,10 @@
 //! Programs by name.
 
-ghost use Rattle.std.specs.Prelude.{◌≡◌, ◌↔◌, [], length, map, IfOk, IsTrue, OnOk, OnErr};
-ghost use Rattle.std.specs.BTreeMap.{insert_entry};
+ghost use Rattle.std.specs.Prelude.{◌≡◌, ◌↔◌, [], length, map, option_copied, IfOk, IsTrue, OnOk, OnErr};
+ghost use Rattle.std.specs.BTreeMap.{insert_entry, is_at};
 ghost use Rattle.std.specs.Cmp.Lexicographic.{slice_cmp};
 ghost use Rattle.std.specs.List.Sorted.{IsStrictlySortedBy};
+ghost use Rattle.std.specs.Map.{lookup};
 ghost use Rattle.std.specs.Ordering.{nat_cmp};
 ghost use Rattle.object_parts.specs.Names.{by_bytes};
 
@@ -51,6 +52,13 @@ impl<'a> Programs<'a> {
         ensures { IsTrue result ↔ (self.now ≡ []) }
     {
         self.entries.is_empty()
+    }
+
+    /// The program of a name.
+    pub fn get(&self, name: &str) -> Option<&Program<'a>>
+        ensures { option_copied result ≡ lookup (is_at (slice_cmp nat_cmp name.now)) self.now }
+    {
+        self.entries.get(name)
     }
 
     /// The programs with their names, which strictly rise by bytes.

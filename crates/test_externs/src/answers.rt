@@ -1,7 +1,7 @@
 //! Externs by hand, and what is known of them once they were to be resolved.
 
 use btf_records::BtfError;
-use btf_tables::Btf;
+use btf_tables::{Btf, essential_name};
 use extern_resolution::{KsymsError, resolve_externs};
 use object_externs::{ExternDesc, Externs};
 use std::alloc::{AllocError, Global};
@@ -95,6 +95,7 @@ fn by_name(
             kernel_btf_id: None,
             ksym_addr: address,
             type_id,
+            essential_name: essential_name(name),
         };
         by_name.insert(name, desc)?;
     }

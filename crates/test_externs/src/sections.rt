@@ -123,6 +123,7 @@ fn externs(
                 kernel_btf_id,
                 ksym_addr,
                 type_id: None,
+                essential_name: name,
             };
             by_name.insert(name, desc)?;
         }

@@ -27,7 +27,7 @@ struct Extern {
 impl Extern {
     fn is(&self, desc: &ExternDesc<'_>) -> bool {
         desc.name == self.name
-            && desc.essential_name() == self.essential_name
+            && desc.essential_name == self.essential_name
             && desc.btf_id == self.btf_id
             && desc.is_weak == self.is_weak
             && desc.type_id == self.type_id

@@ -346,6 +346,7 @@ fn externs(alloc: Global, has_externs: bool) -> Option<Externs<'static>> {
             kernel_btf_id,
             ksym_addr,
             type_id: None,
+            essential_name: name,
         };
         by_name.insert(name, desc).ok()?;
     }

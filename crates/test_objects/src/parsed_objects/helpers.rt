@@ -57,7 +57,7 @@ fn sanitize(object: &mut Object<'_>) -> u32 {
 /// Links an object's programs.
 fn link(object: &mut Object<'_>) -> Option<()> {
     let text_sections = object.text_sections().ok()?;
-    object.relocate_calls(&text_sections).ok()
+    object.link_programs(&text_sections).ok()
 }
 
 /// How often the probe was asked, and the code of the function of section 2.

@@ -6,7 +6,7 @@ use Rattle.ebpf_object.specs.ParsedObject.{ObjectContent}
 use Rattle.relocation_errors.specs.declared.error.RelocationError.TheVariants.{OutOfMemory}
 use Rattle.slot_relocation.specs.Maps.{given, map_rule}
 use Rattle.slot_relocation.specs.Writes.{CanBeRelocated, HasErrorIn}
-use Rattle.ebpf_object.proofs.object.Object.relocate_maps.Goals as goal
+use Rattle.ebpf_object.proofs.object.Object.write_map_numbers.Goals as goal
 
 pub returns-clause-sound : goal.returns-clause-sound
 returns-clause-sound c =
