@@ -53,3 +53,6 @@ short laws u own g l =
     let sum = slots ∙ laws.each (table_of u) own l.keys in
     let first = ap length (slots_read u own l.function l.before) in
     omega (arith, sum, first, table_slots u l.keys, within u.functions l.keys l.reached.once)
+
+pub copies : (u : Unlinked) (keys : List Key) → AreDistinct keys → slots_of (table_of u) keys ≤ slot_total u.functions
+copies u keys once = omega (arith, table_slots u keys, within u.functions keys once)

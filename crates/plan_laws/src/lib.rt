@@ -1,6 +1,8 @@
 //! Laws of plans, over what the contract of `prepare` names. The functions here compute nothing: their contracts are the theorems.
 #![tactic(auto)]
 
+mod lengths;
 mod orders;
 
+pub use lengths::plan_programs_are_short;
 pub use orders::orders_agree;

@@ -1,0 +1,26 @@
+-- How long the programs of a plan are.
+use Rattle.std.specs.Prelude.{◌≡◌, ℕ, ◌+◌, ◌≤◌, List, length}
+use Rattle.ebpf_items.specs.declared.instruction.bpf_insn.{bpf_insn}
+use Rattle.function_layout.specs.Layout.{Key, Table}
+use Rattle.function_layout.specs.Reached.{AreDistinct}
+use Rattle.function_layout.specs.Theorems.{slots_of}
+use Rattle.linker.specs.Lengths.{slot_total}
+use Rattle.load_plan.specs.Inputs.{Inputs, State, Under}
+use Rattle.load_plan.specs.Passes.{Made, patching}
+use Rattle.load_plan.specs.Programs.{IsPlanProgram, own_key, source}
+use Rattle.object_parts.specs.Content.{FunctionContent, ProgramContent}
+use Rattle.plan_text.specs.Content.{PlanContent}
+use Rattle.plan_text.specs.Content as plan
+
+-- the slots of a program are those of its own function and of the others in its layout, each of these once, and no more than those of
+-- its own function and of all functions together
+pub record IsShort (functions : Table) (all : List (Key × FunctionContent)) (own : Key) (keys : List Key) (slots : List bpf_insn) : Type 0 where
+  pub once : AreDistinct keys
+  pub sum : length slots ≡ length (functions.slots own) + slots_of functions keys
+  pub most : length slots ≤ length (functions.slots own) + slot_total all
+
+-- so is each program of a plan
+pub record PlanProgramsAreShort : Type 0 where
+  pub each : (i : Inputs) (u : Under) (object patched : State) (made : Made (patching i.order) i u object patched) (whole : PlanContent)
+      → (e : List ℕ × ProgramContent) (p : plan.ProgramContent) (is : IsPlanProgram i u object patched made whole e p)
+      → IsShort (source u patched) patched.functions (own_key e.1) is.keys p.slots
