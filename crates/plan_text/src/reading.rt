@@ -25,14 +25,17 @@ use plan_lines::{
 };
 use std::alloc::{AllocError, Global};
 use std::marker::Model;
+use thiserror::Error;
 
 /// Why bytes can't be read as a plan.
-#[derive(Debug, Drop)]
+#[derive(Debug, Drop, Error)]
 pub enum PlanReadError {
     /// The first line, counted from 1, with which no plan's text begins. Where the text only stops
     /// early, the line after the last whole one.
+    #[error("no plan's text goes on with line {0}")]
     Line(usize),
     /// Memory ran out.
+    #[error("out of memory")]
     OutOfMemory,
 }
 
