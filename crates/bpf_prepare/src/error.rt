@@ -1,12 +1,13 @@
 //! Why the program prints no plan.
 
 ghost use Rattle.std.specs.Prelude.{◌≡◌};
-ghost use Rattle.bpf_prepare.specs.declared.error.ProgramError.TheVariants.{OutOfMemory, Run, Word};
+ghost use Rattle.bpf_prepare.specs.declared.error.ProgramError.TheVariants.{Input, OutOfMemory, Run, Word};
 ghost use Rattle.bpf_prepare.specs.declared.error.RunError.TheVariants.{Refused};
 ghost use Rattle.bpf_prepare.specs.Program.{status_of};
 
 use command_line::WordError;
-use load_plan::{BtfError, PrepareError};
+use load_plan::PrepareError;
+use program_inputs::InputError;
 use std::alloc::{AllocError, AllocFailed};
 use std::io;
 use thiserror::Error;
@@ -36,25 +37,19 @@ pub enum ProgramError {
     /// It was called with other words.
     #[error("{text}")]
     Line { text: String },
-    /// A word isn't UTF-8.
-    #[error("a word isn't UTF-8")]
-    WordNotText,
+    /// A word or a file can't be had.
+    #[error("{0}")]
+    Input(InputError),
     /// A word sets nothing.
     #[error("{0}")]
     Word(WordError),
     /// More files with kernel types are named than tables are taken.
     #[error("more than 4294967296 files of kernel types")]
     TooManyTypes,
-    /// A file can't be read.
-    #[error("can't read {name:?}: {error}")]
-    Read { name: String, error: io::Error },
     /// A file's text holds no settings.
     #[error("settings in {name:?}: {fault}")]
     Settings { name: String, fault: String },
-    /// The kernel types of a file can't be parsed.
-    #[error("kernel types in {name:?}: {error}")]
-    Types { name: String, error: BtfError },
-    /// There is no memory for the words, the settings, or for writing.
+    /// There is no memory for the settings, or for writing.
     #[error("out of memory")]
     OutOfMemory,
     /// There is no plan, or it can't be written.
@@ -76,6 +71,14 @@ impl From<RunError> for ProgramError {
 
     fn from(error: RunError) -> ProgramError {
         ProgramError::Run(error)
+    }
+}
+
+impl From<InputError> for ProgramError {
+    ghost from_gives = { λ error e. e ≡ Input error };
+
+    fn from(error: InputError) -> ProgramError {
+        ProgramError::Input(error)
     }
 }
 

@@ -11,49 +11,17 @@ mod running;
 use command_line::{Arguments, LineError, arguments};
 use error::{ProgramError, RunError};
 use line_text::{fault_text, line_text};
-use load_plan::{Btf, BtfError, Endianness, Order, PrepareError, Watched};
+use load_plan::{Btf, Order, PrepareError, Watched};
 use object_notes::notes;
+use program_inputs::{kernel_table, open, read, words_of};
 use refusal::refusal_text;
 use refusal_texts::Kept;
 use run_settings::{RunSettings, SettingsError};
 use running::run;
 use std::alloc::Global;
-use std::fs::File;
-use std::io::{BufRead, BufReader, BufWriter, IsTerminal, Write};
+use std::io;
+use std::io::{BufRead, BufWriter, IsTerminal, Write};
 use std::process::ExitCode;
-use std::{env, fs, io};
-
-/// Why the words of a line can't be had.
-fn words_error(error: io::Error) -> ProgramError {
-    match error.kind() {
-        io::ErrorKind::OutOfMemory => ProgramError::OutOfMemory,
-        _ => ProgramError::WordNotText,
-    }
-}
-
-/// The words that the program is called with, its name first.
-fn words_of(rt: &HostRuntime) -> Result<Vec<String>, ProgramError> {
-    let given = match env::args(rt) {
-        Ok(given) => given,
-        Err(error) => return Err(words_error(error)),
-    };
-    let mut words = Vec::new(rt.alloc());
-    for word in given {
-        words.push(word)?;
-    }
-    Ok(words)
-}
-
-/// The bytes of the file of a name.
-fn read(rt: &HostRuntime, name: &str) -> Result<Vec<u8>, ProgramError> {
-    match fs::read(rt, name) {
-        Ok(bytes) => Ok(bytes),
-        Err(error) => Err(ProgramError::Read {
-            name: String::from_str(rt.alloc(), name)?,
-            error,
-        }),
-    }
-}
 
 /// The bytes of the files of some names.
 fn read_all(rt: &HostRuntime, names: &[&str]) -> Result<Vec<Vec<u8>>, ProgramError> {
@@ -62,37 +30,6 @@ fn read_all(rt: &HostRuntime, names: &[&str]) -> Result<Vec<Vec<u8>>, ProgramErr
         files.push(read(rt, name)?)?;
     }
     Ok(files)
-}
-
-/// The reader of the file of a name.
-fn open(rt: &HostRuntime, name: &str) -> Result<BufReader<File>, ProgramError> {
-    match fs::open(rt, name) {
-        Ok(file) => match BufReader::new(rt.alloc(), file) {
-            Ok(reader) => Ok(reader),
-            Err(_) => Err(ProgramError::OutOfMemory),
-        },
-        Err(error) => Err(ProgramError::Read {
-            name: String::from_str(rt.alloc(), name)?,
-            error,
-        }),
-    }
-}
-
-/// The types of a kernel that a file holds.
-fn types_of<'t>(
-    alloc: Global,
-    name: &str,
-    bytes: &'t [u8],
-    order: Endianness,
-) -> Result<Btf<'t>, ProgramError> {
-    match Btf::parse(alloc, bytes, order) {
-        Ok(table) => Ok(table),
-        Err(BtfError::OutOfMemory) => Err(ProgramError::OutOfMemory),
-        Err(error) => Err(ProgramError::Types {
-            name: String::from_str(alloc, name)?,
-            error,
-        }),
-    }
 }
 
 /// No more tables of types are taken.
@@ -116,7 +53,7 @@ fn kernel_types<'t>(
 {
     let mut tables = Vec::new(alloc);
     for (name, bytes) in line.types.iter().zip(files) {
-        tables.push(types_of(alloc, name, bytes, line.types_order)?)?;
+        tables.push(kernel_table(alloc, name, bytes, line.types_order)?)?;
     }
     // There are as many as files.
     if tables.len() > MAX_TABLES {

@@ -3,10 +3,10 @@
 ghost use Rattle.std.specs.Prelude.{◌≡◌};
 ghost use Rattle.inspect_object.specs.declared.error.InspectError.TheVariants.{Refused};
 ghost use Rattle.inspect_object.specs.Program.{status_of};
-ghost use Rattle.inspect_object.specs.declared.error.ProgramError.TheVariants.{OutOfMemory};
+ghost use Rattle.inspect_object.specs.declared.error.ProgramError.TheVariants.{Input, OutOfMemory};
 
-use btf_records::BtfError;
 use ebpf_object::ParseError;
+use program_inputs::InputError;
 use std::alloc::{AllocError, AllocFailed};
 use std::io;
 use thiserror::Error;
@@ -39,16 +39,10 @@ pub enum ProgramError {
     /// Words that ask for nothing without kernel types.
     #[error("--symbols and --summary go with --types")]
     NoTypes,
-    /// A file can't be read.
-    #[error("can't read {name:?}: {error}")]
-    Read { name: String, error: io::Error },
-    /// A word isn't UTF-8.
-    #[error("a word isn't UTF-8")]
-    WordNotText,
-    /// The kernel types of a file can't be parsed.
-    #[error("kernel types in {name:?}: {error}")]
-    Types { name: String, error: BtfError },
-    /// There is no memory for the words, the reports, or for writing.
+    /// A word or a file can't be had.
+    #[error("{0}")]
+    Input(InputError),
+    /// There is no memory for the reports, or for writing.
     #[error("out of memory")]
     OutOfMemory,
     /// The object is refused, or can't be written.
@@ -65,6 +59,14 @@ pub enum ProgramError {
 impl From<InspectError> for ProgramError {
     fn from(error: InspectError) -> ProgramError {
         ProgramError::Inspect(error)
+    }
+}
+
+impl From<InputError> for ProgramError {
+    ghost from_gives = { λ error e. e ≡ Input error };
+
+    fn from(error: InputError) -> ProgramError {
+        ProgramError::Input(error)
     }
 }
 

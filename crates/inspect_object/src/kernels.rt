@@ -1,38 +1,19 @@
 //! What becomes of an object on kernels.
 
 use crate::error::ProgramError;
-use crate::files::read;
 use crate::refused;
-use btf_records::BtfError;
-use btf_tables::Btf;
 use ebpf_object::Object;
 use extern_reports::assumed_symbols;
 use inspect_line::InspectArguments;
 use kernel_reports::{
     KernelReport, PlanAnswer, Reported, every_map_numbered, refusal_text, report_on,
 };
+use program_inputs::{kernel_table, read};
 use refusal_texts::KernelFiles;
 use relocation_reports::{RelocationAt, relocations_of};
 use report_texts::{Column, Rows, report_lines, rows_of, summary_text};
 use std::alloc::{AllocError, Global};
 use std::io::IsTerminal;
-
-/// The types of a kernel that a file holds.
-fn types_of<'t>(
-    alloc: Global,
-    line: &InspectArguments<'_>,
-    name: &str,
-    bytes: &'t [u8],
-) -> Result<Btf<'t>, ProgramError> {
-    match Btf::parse(alloc, bytes, line.types_order) {
-        Ok(table) => Ok(table),
-        Err(BtfError::OutOfMemory) => Err(ProgramError::OutOfMemory),
-        Err(error) => Err(ProgramError::Types {
-            name: String::from_str(alloc, name)?,
-            error,
-        }),
-    }
-}
 
 /// What is told where the object gets no plan for the kernel of a file.
 fn refusal_of(
@@ -82,7 +63,7 @@ fn report_of<'w>(
 ) -> Result<Column<'w>, ProgramError> {
     let alloc = rt.alloc();
     let bytes = read(rt, name)?;
-    let tables = [types_of(alloc, line, name, &bytes)?];
+    let tables = [kernel_table(alloc, name, &bytes, line.types_order)?];
     let report = report_on(alloc, reported, &tables)?;
     let column = column_of(alloc, line, reported.file, name, report)?;
     Ok(column)
@@ -112,11 +93,7 @@ fn reports_of<'w>(
 }
 
 /// Reports as lines.
-fn lines_of(
-    alloc: Global,
-    rows: &Rows<'_>,
-    columns: &[Column<'_>],
-) -> Result<String, AllocError> {
+fn lines_of(alloc: Global, rows: &Rows<'_>, columns: &[Column<'_>]) -> Result<String, AllocError> {
     let mut text = String::new(alloc);
     for column in columns {
         report_lines(&mut text, rows, column)?;

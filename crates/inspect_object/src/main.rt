@@ -5,7 +5,6 @@ mod code;
 mod error;
 mod externs;
 mod file;
-mod files;
 mod inspecting;
 mod kernels;
 mod maps;
@@ -15,36 +14,15 @@ mod type_relocations;
 
 use ebpf_object::ParseError;
 use error::{InspectError, ProgramError};
-use files::read;
 use inspect_line::{InspectArguments, LineError, inspect_arguments, told};
 use inspecting::inspect;
 use kernels::print_reports;
+use program_inputs::{read, words_of};
 use refusal_texts::{Kept, parse_text};
 use std::alloc::Global;
+use std::io;
 use std::io::{BufWriter, Write};
 use std::process::ExitCode;
-use std::{env, io};
-
-/// Why the words of a line can't be had.
-fn words_error(error: io::Error) -> ProgramError {
-    match error.kind() {
-        io::ErrorKind::OutOfMemory => ProgramError::OutOfMemory,
-        _ => ProgramError::WordNotText,
-    }
-}
-
-/// The words that the program is called with, its name first.
-fn words_of(rt: &HostRuntime) -> Result<Vec<String>, ProgramError> {
-    let given = match env::args(rt) {
-        Ok(given) => given,
-        Err(error) => return Err(words_error(error)),
-    };
-    let mut words = Vec::new(rt.alloc());
-    for word in given {
-        words.push(word)?;
-    }
-    Ok(words)
-}
 
 /// What becomes of a refusal: an error with what a user is told of it, or, without memory for that,
 /// with the refusal itself.

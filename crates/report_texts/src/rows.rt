@@ -102,6 +102,14 @@ fn relocation_rows<'r>(
     Ok(rows)
 }
 
+/// What a record of a kind declares.
+fn declared_kind(kind: BtfKind) -> ExternKind {
+    match kind {
+        BtfKind::Func => ExternKind::Function,
+        _ => ExternKind::Variable,
+    }
+}
+
 /// What an extern is, by the object's table, which declares it.
 fn extern_kind(table: Option<&Btf<'_>>, desc: &ExternDesc<'_>) -> ExternKind {
     if desc.type_id.is_none() {
@@ -111,8 +119,8 @@ fn extern_kind(table: Option<&Btf<'_>>, desc: &ExternDesc<'_>) -> ExternKind {
         return ExternKind::Variable;
     };
     match table.type_by_id(desc.btf_id) {
-        Ok(t) if t.kind() == BtfKind::Func => ExternKind::Function,
-        _ => ExternKind::Variable,
+        Ok(t) => declared_kind(t.kind()),
+        Err(_error) => ExternKind::Variable,
     }
 }
 

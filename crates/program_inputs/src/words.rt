@@ -1,0 +1,29 @@
+//! The words of a line.
+
+use crate::error::InputError;
+use std::{env, io};
+
+/// Why the words of a line can't be had.
+fn words_error(error: io::Error) -> InputError {
+    match error.kind() {
+        io::ErrorKind::OutOfMemory => InputError::OutOfMemory,
+        _ => InputError::WordNotText,
+    }
+}
+
+/// The words that the program is called with, its name first.
+///
+/// # Errors
+///
+/// `WordNotText` where a word isn't UTF-8, and `OutOfMemory`.
+pub fn words_of(rt: &HostRuntime) -> Result<Vec<String>, InputError> {
+    let given = match env::args(rt) {
+        Ok(given) => given,
+        Err(error) => return Err(words_error(error)),
+    };
+    let mut words = Vec::new(rt.alloc());
+    for word in given {
+        words.push(word)?;
+    }
+    Ok(words)
+}
