@@ -5,18 +5,22 @@
 //! kernel's types and their files. With `--plans` it also prints how many plans there are.
 //!
 //! `changed_plans --text PLAN`: the text of a plan that is cut off or changed in one byte, read.
+//!
+//! `changed_plans --lines PLAN`: for each byte of a plan's text the lines at which it is refused with each other value of it.
 #![tactic(auto)]
 
 mod changes;
 mod counts;
 mod error;
 mod planning;
+mod refused_lines;
 mod texts;
 
 use counts::Counts;
 use error::ChangesError;
 use load_plan::Endianness;
 use planning::{changed_object_counts, changed_types_counts};
+use refused_lines::print_refused_lines;
 use std::env::Args;
 use std::process::ExitCode;
 use std::{env, fs};
@@ -111,6 +115,10 @@ fn run(rt: &HostRuntime) -> Result<(), ChangesError> {
     let first = next_word(&mut words)?;
     match first.as_str() {
         "--text" => count_texts(rt, &mut words),
+        "--lines" => {
+            let mut text = fs::read(rt, next_word(&mut words)?.as_str())?;
+            print_refused_lines(rt, text.as_mut_slice())
+        }
         "--plans" => {
             let maps = next_word(&mut words)?;
             count_all(rt, maps.as_str(), &mut words, true)

@@ -63,7 +63,7 @@ fn compared(alloc: Global, bytes: &[u8]) -> Option<Counts> {
     let mut object = Object::parse(alloc, bytes).ok()?;
     let text_sections = object.text_sections().ok()?;
     let programs = plain_programs(alloc, &object, &text_sections)?;
-    object.relocate_calls(&text_sections).ok()?;
+    object.link_programs(&text_sections).ok()?;
     count_alike(&object, &programs)
 }
 

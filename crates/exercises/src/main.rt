@@ -4,8 +4,8 @@
 //! - `changed-bytes OBJECT`: each front of an object, and the object with each byte changed;
 //! - `linkers OBJECT..`: linked programs beside those of the plain linker;
 //! - `matchings COUNT [counts]`: type relocations over random tables of types, beside the plain definitions;
-//! - `refused-objects COUNT TYPES SYMBOLS OBJECT..`, `refused-structs COUNT`, `refused-tables COUNT`: steps while a
-//!   request for memory is refused, so many requests before them;
+//! - `refused-objects TYPES SYMBOLS OBJECT..`, `refused-structs`, `refused-tables`: steps, one of whose requests for memory
+//!   may be refused;
 //! - `measure-types FILE [STRUCT..]`, `measure-matching FILE STRUCT..`, `measure-symbols FILE [NAME..]`,
 //!   `measure-object OBJECT [COUNT]`: how long calls take.
 #![tactic(auto)]
@@ -22,7 +22,6 @@ mod measured_types;
 mod memory_calls;
 mod object_steps;
 mod relocated_objects;
-mod requests;
 mod rewritten_tables;
 mod thousand_structs;
 mod times;
@@ -51,8 +50,8 @@ fn run(rt: &HostRuntime, exercise: &str, words: &mut Args) -> ExitCode {
         "linkers" => status_of(rt, linked_objects::run(rt, words)),
         "matchings" => status_of(rt, matchings::run(rt, words)),
         "refused-objects" => status_of(rt, relocated_objects::run(rt, words)),
-        "refused-structs" => thousand_structs::run(rt, words),
-        "refused-tables" => rewritten_tables::run(rt, words),
+        "refused-structs" => thousand_structs::run(rt),
+        "refused-tables" => rewritten_tables::run(rt),
         "measure-types" => status_of(rt, measured_types::run(rt, words)),
         "measure-matching" => status_of(rt, measured_matching::run(rt, words)),
         "measure-symbols" => status_of(rt, measured_symbols::run(rt, words)),

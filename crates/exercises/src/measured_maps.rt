@@ -25,7 +25,7 @@ fn write_numbers(rt: &HostRuntime, object: &mut Object<'_>) -> Result<u128, Exer
     let numbered = numbered(rt.alloc(), &maps)?;
     let sections = object.text_sections()?;
     let start = Instant::now(rt)?;
-    object.relocate_maps(&numbered, &sections)?;
+    object.write_map_numbers(&numbered, &sections)?;
     Ok(micros(rt, start)?)
 }
 
@@ -89,7 +89,7 @@ fn put_values(
     settings: &Settings,
 ) -> Result<u128, ExerciseError> {
     let start = Instant::now(rt)?;
-    object.patch_map_data(settings)?;
+    object.put_values(settings)?;
     Ok(micros(rt, start)?)
 }
 

@@ -57,7 +57,7 @@ fn measure_linking(rt: &HostRuntime, bytes: &[u8]) -> Result<(), ExerciseError> 
         let mut object = Object::parse(rt.alloc(), bytes)?;
         let start = Instant::now(rt)?;
         let sections = object.text_sections()?;
-        object.relocate_calls(&sections)?;
+        object.link_programs(&sections)?;
         times.push(micros(rt, start)?)?;
         slots = slot_count(&object);
         drop(object);

@@ -87,7 +87,7 @@ pub(crate) fn put_value(
     let mut settings = Settings::new(alloc);
     settings.set_global("limit", &[10, 0, 0, 0], false)?;
     let before = bytes_of(alloc, object)?;
-    let answer = match object.patch_map_data(&settings) {
+    let answer = match object.put_values(&settings) {
         Ok(()) => Answer::Made,
         Err(ParseError::OutOfMemory) => Answer::OutOfMemory,
         Err(error) => return Err(ExerciseError::Parse(error)),
@@ -117,7 +117,7 @@ pub(crate) fn write_numbers(
     let numbered = numbered(alloc, &maps)?;
     let text_sections = object.text_sections()?;
     let before = bytes_of(alloc, object)?;
-    let answer = match object.relocate_maps(&numbered, &text_sections) {
+    let answer = match object.write_map_numbers(&numbered, &text_sections) {
         Ok(()) => Answer::Made,
         Err(error) => match error.error() {
             RelocationError::OutOfMemory => Answer::OutOfMemory,

@@ -1,14 +1,13 @@
-//! Steps on objects while memory is refused. It makes as many requests for memory as the first word says, reads a kernel's
-//! types and symbols from the files that the next two name, parses the objects of the files that the others name, prints how
-//! much each holds, puts a value and numbers into it, resolves its externs, writes what its type relocations come to and what
-//! is known of its externs, prints what became of it by each step, and makes two more requests. Where memory is refused to one
-//! of these steps, the object must be as it was, and the step is made again; where it is refused elsewhere, status 3 says so.
+//! Steps on objects while memory is refused. It reads a kernel's types and symbols from the files that the first two words
+//! name, parses the objects of the files that the others name, prints how much each holds, puts a value and numbers into it,
+//! resolves its externs, writes what its type relocations come to and what is known of its externs, and prints what became of it
+//! by each step. Where memory is refused to one of these steps, the object must be as it was, and the step is made again; where
+//! it is refused elsewhere, status 3 says so.
 
 use crate::error::ExerciseError;
 use crate::object_steps::{
     AS_BEFORE, Kernel, put_value, relocate_types, resolve_externs, write_externs, write_numbers,
 };
-use crate::requests::requests;
 use btf::{Btf, Endianness};
 use ebpf_object::Object;
 use std::alloc::Global;
@@ -117,16 +116,7 @@ fn read_next(rt: &HostRuntime, words: &mut Args) -> Result<Vec<u8>, ExerciseErro
 
 /// Parses the objects that the words name, and makes the steps on them.
 pub(crate) fn run(rt: &HostRuntime, words: &mut Args) -> Result<(), ExerciseError> {
-    let Some(count) = words.next() else {
-        return Err(ExerciseError::Usage);
-    };
-    let Ok(count) = count.parse::<u16>() else {
-        return Err(ExerciseError::Usage);
-    };
-    let _made = requests(rt.alloc(), count)?;
     let types = read_next(rt, words)?;
     let symbols = read_next(rt, words)?;
-    relocate_files(rt, words, types.as_slice(), symbols.as_slice())?;
-    let _last = requests(rt.alloc(), 1)?;
-    Ok(())
+    relocate_files(rt, words, types.as_slice(), symbols.as_slice())
 }

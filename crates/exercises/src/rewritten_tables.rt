@@ -1,12 +1,8 @@
-//! A table, rewritten by both calls that do: what becomes of it, where memory is refused that it is as it was. Before that
-//! as many requests for memory are made as the first word says, and behind it two more: status 2 where one of these is
-//! refused.
+//! A table, rewritten by both calls that do: what becomes of it, where memory is refused that it is as it was.
 
-use crate::requests::{asked_requests, requests};
 use btf::{Btf, BtfError, Endianness};
 use std::alloc::Global;
 use std::collections::BTreeMap;
-use std::env::Args;
 use std::process::ExitCode;
 
 /// An integer of 8 bytes, the extern variable `v` of it, and the section `.ksyms` with that variable.
@@ -81,15 +77,9 @@ fn print(rt: &HostRuntime, what: &str, outcome: Result<&'static str, BtfError>) 
     }
 }
 
-/// Prints what becomes of the table, between the requests.
-pub(crate) fn run(rt: &HostRuntime, words: &mut Args) -> ExitCode {
-    let Some(_made) = asked_requests(rt.alloc(), words) else {
-        return ExitCode::from(2);
-    };
+/// Prints what becomes of the table.
+pub(crate) fn run(rt: &HostRuntime) -> ExitCode {
     print(rt, "step", step(rt.alloc()));
     print(rt, "rewriting", rewriting(rt.alloc()));
-    match requests(rt.alloc(), 1) {
-        Ok(_) => ExitCode::SUCCESS,
-        Err(_) => ExitCode::from(2),
-    }
+    ExitCode::SUCCESS
 }

@@ -1,9 +1,6 @@
-//! A table of 1,000 structs, parsed and with one more type: how many types it has and how many bytes. Before that as many
-//! requests for memory are made as the first word says, and behind it two more: status 2 where one of these is refused.
+//! A table of 1,000 structs, parsed and with one more type: how many types it has and how many bytes.
 
-use crate::requests::{asked_requests, requests};
 use btf::{Btf, BtfError, BtfType, Endianness, Int, IntEncoding};
-use std::env::Args;
 use std::process::ExitCode;
 
 const HEADER: [u8; 24] = [
@@ -45,18 +42,14 @@ fn print(rt: &HostRuntime, section: &[u8]) -> Result<(), BtfError> {
     Ok(())
 }
 
-/// Prints the counts, between the requests.
-pub(crate) fn run(rt: &HostRuntime, words: &mut Args) -> ExitCode {
-    let Some(_made) = asked_requests(rt.alloc(), words) else {
-        return ExitCode::from(2);
-    };
+/// Prints the counts.
+pub(crate) fn run(rt: &HostRuntime) -> ExitCode {
     let mut section = [0; LEN];
     for at in 0..LEN {
         section[at] = section_byte(at);
     }
     match print(rt, &section) {
-        Ok(()) if requests(rt.alloc(), 1).is_ok() => ExitCode::SUCCESS,
-        Ok(()) => ExitCode::from(2),
+        Ok(()) => ExitCode::SUCCESS,
         Err(error) => {
             let _ = println!(rt; "{error}");
             ExitCode::FAILURE
