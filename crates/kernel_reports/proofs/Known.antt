@@ -53,9 +53,11 @@ module _ {F : Type 0} (predicate : Predicate F) (grants : BtfFeature → Bool) (
 pub planned_says : {F : Type 0} (predicate : Predicate F) (Keeps : F → Type 0) → ((s t : F) (f : BtfFeature) (b : Bool) → Keeps s → Called predicate s (f, tt) b t → (b ≡ takes_all f) × Keeps t) → (before : F) → Keeps before → (Says : Bool → Type 0) → ((answer : Bool) → Says answer → answer ≡ true) → (file : List ℕ) (kernel : List Table) (known : Option (List ℕ)) (bytes : List ℕ) (failed : Bool) (settings : SettingsContent) (plan : PlanContent) → known ≡ Some bytes → IsPlanned predicate before Says (inputs file kernel (symbols_given known failed) settings RelocateFirst) plan → IsPlanAnswer file kernel bytes settings Planned
 planned_says predicate Keeps tells before keeps Says says file kernel known bytes failed settings plan whole p = record {
   failed = failed;
-  says =
-      (plan, subst (λ (k : Option (List ℕ)). IsPlanFor takes_all true (inputs file kernel (symbols_given k failed) settings RelocateFirst) plan) whole
-      (planned predicate takes_all Keeps tells before keeps Says true says (inputs file kernel (symbols_given known failed) settings RelocateFirst) plan p));
+  says = (
+    plan,
+    subst (λ (k : Option (List ℕ)). IsPlanFor takes_all true (inputs file kernel (symbols_given k failed) settings RelocateFirst) plan) whole
+        (planned predicate takes_all Keeps tells before keeps Says true says (inputs file kernel (symbols_given known failed) settings RelocateFirst) plan p),
+  );
 }
 
 -- and a refusal
@@ -63,7 +65,9 @@ pub refused_says : {F : Type 0} (predicate : Predicate F) (Keeps : F → Type 0)
 refused_says predicate Keeps tells before keeps file kernel known bytes failed settings e r whole same other h = record {
   failed = failed;
   says =
-      subst (λ (x : PrepareError). (x ≢ OutOfMemory) × IsRefusalFor takes_all (inputs file kernel (symbols_given (Some bytes) failed) settings RelocateFirst) x) (sym same)
-      (other, subst (λ (k : Option (List ℕ)). IsRefusalFor takes_all (inputs file kernel (symbols_given k failed) settings RelocateFirst) e) whole
-      (refused predicate takes_all Keeps tells before keeps (inputs file kernel (symbols_given known failed) settings RelocateFirst) e (h other)));
+      subst (λ (x : PrepareError). (x ≢ OutOfMemory) × IsRefusalFor takes_all (inputs file kernel (symbols_given (Some bytes) failed) settings RelocateFirst) x) (sym same) (
+        other,
+        subst (λ (k : Option (List ℕ)). IsRefusalFor takes_all (inputs file kernel (symbols_given k failed) settings RelocateFirst) e) whole
+            (refused predicate takes_all Keeps tells before keeps (inputs file kernel (symbols_given known failed) settings RelocateFirst) e (h other)),
+      );
 }
