@@ -6,6 +6,7 @@ ghost use Rattle.relocation_reports.specs.Answers.{answer_of, answer_to, answers
 
 use crate::relocations::{Place, RelocationAt};
 use access_paths::AccessError;
+use btf_extension::bpf_core_relo;
 use btf_tables::Btf;
 use ebpf_items::RelocationKind;
 use slot_relocation::Outcome;
@@ -27,14 +28,21 @@ pub enum RelocationAnswer {
     },
 }
 
+/// What a relocation asks for, of which the kind was told.
+fn asked_for(kind: RelocationKind, asked: bpf_core_relo) -> TypeRelocation
+    ensures { result ≡ record { kind = kind; type_id = asked.type_id; access_str_off = asked.access_str_off } }
+{
+    TypeRelocation {
+        kind,
+        type_id: asked.type_id,
+        access_str_off: asked.access_str_off,
+    }
+}
+
 /// What a relocation asks for; a number that stands for no kind asks for nothing.
 fn type_relocation(at: &RelocationAt) -> Option<TypeRelocation> {
     let kind = RelocationKind::try_from(at.asked.kind).ok()?;
-    Some(TypeRelocation {
-        kind,
-        type_id: at.asked.type_id,
-        access_str_off: at.asked.access_str_off,
-    })
+    Some(asked_for(kind, at.asked))
 }
 
 /// What all relocations ask for, for which a kernel's tables are gone over once.
@@ -89,12 +97,7 @@ fn answer_of(
             ))));
         }
     };
-    let asked = TypeRelocation {
-        kind,
-        type_id: at.asked.type_id,
-        access_str_off: at.asked.access_str_off,
-    };
-    match matcher.relocation_outcome(asked) {
+    match matcher.relocation_outcome(asked_for(kind, at.asked)) {
         Ok(outcome) => Ok(given(local, targets, place, outcome)),
         Err(TypeRelocationError::OutOfMemory) => Err(AllocError),
         Err(error) => Ok(RelocationAnswer::Fault(error)),
