@@ -55,7 +55,7 @@ impl<'m> Model for TypeMatcher<'m> {
     ghost invariant = { λ m. (IfSome m.in_all (λ c. c ≡ m.targets.now)) × (IfSome m.in_first (λ c. c ≡ take 1 m.targets.now)) × AreOutcomes m.local.now m.targets.now (values_of m.known.entries) × AreKnown m.local.now m.targets.now (values_of m.paths.entries) };
 }
 
-/// The local types of relocations that are looked for in these of the tables.
+/// The local types of relocations that are looked for in these of the tables, each once.
 fn wanted_types(
     local: &Btf<'_>,
     relocations: &[TypeRelocation],
@@ -68,6 +68,8 @@ fn wanted_types(
             type_ids.push(relocation.type_id)?;
         }
     }
+    type_ids.sort_unstable();
+    type_ids.dedup();
     Ok(type_ids)
 }
 
