@@ -53,7 +53,7 @@ class Row:
         return self.error_difference(program, run.err[len(notes) :])
 
     def error_difference(self, program, err):
-        """Why what stands behind the notes on standard error isn't as the row wants it; nothing where it is."""
+        """Why what stands after the notes on standard error isn't as the row wants it; nothing where it is."""
         if self.status == 0:
             return "something on standard error" if err else ""
         begin = f"{program}: refused: " if self.status == 1 else f"{program}: "
@@ -69,12 +69,12 @@ def rows_of(folder):
     return [Row(path.rstrip("/")) for path in sorted(glob.glob(os.path.join(folder, "*/")))]
 
 
-# An object of tests/objects, the words behind its name, and the text that a program prints of it.
+# An object of tests/objects, the words after its name, and the text that a program prints of it.
 Printed = collections.namedtuple("Printed", "path words text")
 
 
 def words_beside(path):
-    """The words that the program is called with behind an object's name: those for both byte orders, and those for its own.
+    """The words that the program is called with after an object's name: those for both byte orders, and those for its own.
 
     A file beside the object is named by its path.
     """
