@@ -4,13 +4,12 @@
 ghost use Rattle.std.specs.Prelude.{◌≤◌, ◌^◌, length, IfOk};
 
 mod error;
-mod line_text;
 mod refusal;
 mod running;
+mod settings_text;
 
-use command_line::{Arguments, LineError, arguments};
+use command_line::{LineError, PrepareArguments, fault_of_line, prepare_arguments};
 use error::{ProgramError, RunError};
-use line_text::{fault_text, line_text};
 use load_plan::{Btf, Order, PrepareError, Watched};
 use object_notes::notes;
 use program_inputs::{kernel_table, open, read, words_of};
@@ -18,6 +17,7 @@ use refusal::refusal_text;
 use refusal_texts::Kept;
 use run_settings::{RunSettings, SettingsError};
 use running::run;
+use settings_text::fault_text;
 use std::alloc::Global;
 use std::io;
 use std::io::{BufRead, BufWriter, IsTerminal, Write};
@@ -36,7 +36,7 @@ fn read_all(rt: &HostRuntime, names: &[&str]) -> Result<Vec<Vec<u8>>, ProgramErr
 const MAX_TABLES: usize = 0x1_0000_0000;
 
 /// Refuses a line that names more files of types than tables are taken.
-fn check_types(line: &Arguments<'_>) -> Result<(), ProgramError> {
+fn check_types(line: &PrepareArguments<'_>) -> Result<(), ProgramError> {
     if line.types.len() > MAX_TABLES {
         return Err(ProgramError::TooManyTypes);
     }
@@ -46,7 +46,7 @@ fn check_types(line: &Arguments<'_>) -> Result<(), ProgramError> {
 /// The kernel's tables of types that files hold.
 fn kernel_types<'t>(
     alloc: Global,
-    line: &Arguments<'_>,
+    line: &PrepareArguments<'_>,
     files: &'t [Vec<u8>],
 ) -> Result<Vec<Btf<'t>>, ProgramError>
     ensures { IfOk result (λ tables. length tables.items ≤ 2 ^ 32) }
@@ -65,7 +65,7 @@ fn kernel_types<'t>(
 /// The settings of a file's text, of nothing where there is no file, and over them those of the line.
 fn settings_of(
     alloc: Global,
-    line: &Arguments<'_>,
+    line: &PrepareArguments<'_>,
     file: Option<&[u8]>,
 ) -> Result<RunSettings, ProgramError> {
     let mut settings = match (line.settings, file) {
@@ -97,14 +97,14 @@ fn file_settings(alloc: Global, name: &str, bytes: &[u8]) -> Result<RunSettings,
 /// What a run is made of, beside its symbols and its output.
 #[derive(Drop)]
 struct Given<'g, 'w> {
-    line: &'g Arguments<'w>,
+    line: &'g PrepareArguments<'w>,
     object: &'g [u8],
     settings: &'g RunSettings,
     types: &'g [Vec<u8>],
 }
 
 /// The order of the passes over types.
-fn order_of(line: &Arguments<'_>) -> Order {
+fn order_of(line: &PrepareArguments<'_>) -> Order {
     if line.rewrite_first {
         Order::RewriteFirst
     } else {
@@ -172,7 +172,7 @@ fn print_notes(rt: &HostRuntime, object: &[u8], settings: &RunSettings) {
 }
 
 /// Reads the files that a line names, and prints the plan of its object.
-fn print_named(rt: &HostRuntime, line: &Arguments<'_>) -> Result<(), ProgramError> {
+fn print_named(rt: &HostRuntime, line: &PrepareArguments<'_>) -> Result<(), ProgramError> {
     let alloc = rt.alloc();
     // Faults of the line come first.
     check_types(line)?;
@@ -206,11 +206,11 @@ fn print_named(rt: &HostRuntime, line: &Arguments<'_>) -> Result<(), ProgramErro
 /// Prints what a line asks for: a plan, the program's help or its version.
 fn print_asked(rt: &HostRuntime) -> Result<(), ProgramError> {
     let words = words_of(rt)?;
-    match arguments(rt.alloc(), &words) {
+    match prepare_arguments(rt.alloc(), &words) {
         Ok(line) => print_named(rt, &line),
         Err(LineError::OutOfMemory) => Err(ProgramError::OutOfMemory),
         Err(LineError::Line(error)) if error.use_stderr() => Err(ProgramError::Line {
-            text: line_text(rt.alloc(), &error)?,
+            text: fault_of_line(rt.alloc(), &error)?,
         }),
         Err(LineError::Line(text)) => match print!(rt; "{text}") {
             Ok(()) => Ok(()),

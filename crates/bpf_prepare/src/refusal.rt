@@ -1,6 +1,6 @@
 //! What a user is told of a refusal.
 
-use command_line::Arguments;
+use command_line::PrepareArguments;
 use load_plan::{ParseError, PrepareError};
 use refusal_texts::{
     KernelFiles, ksyms_text, missing_numbers_text, parse_text, relocation_text,
@@ -14,7 +14,7 @@ pub(crate) fn refusal_text(
     alloc: Global,
     object: &[u8],
     settings: &Settings,
-    line: &Arguments<'_>,
+    line: &PrepareArguments<'_>,
     error: &PrepareError,
 ) -> Result<String, AllocError> {
     let files = KernelFiles {

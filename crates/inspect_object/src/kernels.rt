@@ -2,9 +2,9 @@
 
 use crate::error::ProgramError;
 use crate::refused;
+use command_line::InspectArguments;
 use ebpf_object::Object;
 use extern_reports::assumed_symbols;
-use inspect_line::InspectArguments;
 use kernel_reports::{
     KernelReport, PlanAnswer, Reported, every_map_numbered, refusal_text, report_on,
 };

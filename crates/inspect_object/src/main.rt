@@ -12,9 +12,9 @@ mod names;
 mod notes;
 mod type_relocations;
 
+use command_line::{InspectArguments, LineError, fault_of_line, inspect_arguments};
 use ebpf_object::ParseError;
 use error::{InspectError, ProgramError};
-use inspect_line::{InspectArguments, LineError, inspect_arguments, told};
 use inspecting::inspect;
 use kernels::print_reports;
 use program_inputs::{read, words_of};
@@ -73,7 +73,7 @@ fn print_named(rt: &HostRuntime, line: &InspectArguments<'_>) -> Result<(), Prog
 fn print_help(rt: &HostRuntime, error: clap::Error) -> Result<(), ProgramError> {
     if error.use_stderr() {
         return Err(ProgramError::Usage {
-            text: told(rt.alloc(), &error)?,
+            text: fault_of_line(rt.alloc(), &error)?,
         });
     }
     match print!(rt; "{error}") {

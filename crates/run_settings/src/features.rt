@@ -92,8 +92,19 @@ impl GrantedFeatures {
     }
 }
 
-/// The feature of a name: `Func`, `FuncGlobal`, `DataSec`, `DataSecZero`, `Float`, `DeclTag`, `TypeTag`
-/// or `Enum64`.
+/// The names of the features.
+pub static FEATURE_NAMES: [&str; 8] = [
+    "Func",
+    "FuncGlobal",
+    "DataSec",
+    "DataSecZero",
+    "Float",
+    "DeclTag",
+    "TypeTag",
+    "Enum64",
+];
+
+/// The feature of a name, one of [`FEATURE_NAMES`].
 pub fn feature_named(name: &str) -> Option<BtfFeature>
     ensures { result ≡ feature_named name.now }
 {
