@@ -1,20 +1,16 @@
 //! Prints the load plan of an eBPF object.
 #![tactic(auto)]
 
-ghost use Rattle.std.specs.Prelude.{◌≤◌, ◌^◌, length, IfOk};
-
 mod error;
-mod refusal;
 mod running;
 mod settings_text;
 
 use command_line::{LineError, PrepareArguments, fault_of_line, prepare_arguments};
 use error::{ProgramError, RunError};
-use load_plan::{Btf, Order, PrepareError, Watched};
+use load_plan::{Order, PrepareError, Watched};
 use object_notes::notes;
-use program_inputs::{kernel_table, open, read, words_of};
-use refusal::refusal_text;
-use refusal_texts::Kept;
+use program_inputs::{kernel_tables, open, read, read_all, words_of};
+use refusal_texts::{Kept, KernelFiles, Refusal, Unwritten, prepare_text};
 use run_settings::{RunSettings, SettingsError};
 use running::run;
 use settings_text::fault_text;
@@ -22,45 +18,6 @@ use std::alloc::Global;
 use std::io;
 use std::io::{BufRead, BufWriter, IsTerminal, Write};
 use std::process::ExitCode;
-
-/// The bytes of the files of some names.
-fn read_all(rt: &HostRuntime, names: &[&str]) -> Result<Vec<Vec<u8>>, ProgramError> {
-    let mut files = Vec::new(rt.alloc());
-    for name in names {
-        files.push(read(rt, name)?)?;
-    }
-    Ok(files)
-}
-
-/// No more tables of types are taken.
-const MAX_TABLES: usize = 0x1_0000_0000;
-
-/// Refuses a line that names more files of types than tables are taken.
-fn check_types(line: &PrepareArguments<'_>) -> Result<(), ProgramError> {
-    if line.types.len() > MAX_TABLES {
-        return Err(ProgramError::TooManyTypes);
-    }
-    Ok(())
-}
-
-/// The kernel's tables of types that files hold.
-fn kernel_types<'t>(
-    alloc: Global,
-    line: &PrepareArguments<'_>,
-    files: &'t [Vec<u8>],
-) -> Result<Vec<Btf<'t>>, ProgramError>
-    ensures { IfOk result (λ tables. length tables.items ≤ 2 ^ 32) }
-{
-    let mut tables = Vec::new(alloc);
-    for (name, bytes) in line.types.iter().zip(files) {
-        tables.push(kernel_table(alloc, name, bytes, line.types_order)?)?;
-    }
-    // There are as many as files.
-    if tables.len() > MAX_TABLES {
-        return Err(ProgramError::TooManyTypes);
-    }
-    Ok(tables)
-}
 
 /// The settings of a file's text, of nothing where there is no file, and over them those of the line.
 fn settings_of(
@@ -112,22 +69,15 @@ fn order_of(line: &PrepareArguments<'_>) -> Order {
     }
 }
 
-/// What becomes of a refusal: an error with what a user is told of it, or, without memory for that,
-/// with the refusal itself.
+/// What becomes of a refusal.
 fn refused(alloc: Global, given: &Given<'_, '_>, error: PrepareError) -> ProgramError {
-    let settings = given.settings;
-    match refusal_text(alloc, given.object, &settings.settings, given.line, &error) {
-        Ok(text) => ProgramError::Refused { text },
-        Err(_) => ProgramError::Run(RunError::Refused(error)),
-    }
-}
-
-/// Says that a plan can't be written, and why where it is known.
-fn unwritten(error: Option<io::Error>) -> ProgramError {
-    match error {
-        Some(error) => ProgramError::Unwritten { error },
-        None => ProgramError::Run(RunError::Output),
-    }
+    let settings = &given.settings.settings;
+    let files = KernelFiles {
+        types: given.line.types.as_slice(),
+        symbols: given.line.symbols,
+    };
+    let text = prepare_text(alloc, given.object, settings, &files, &error);
+    ProgramError::Refused(Refusal::new(text, error))
 }
 
 /// Prints the plan of an object.
@@ -136,7 +86,8 @@ fn print_plan<R: BufRead>(
     given: &Given<'_, '_>,
     symbols: &mut Watched<R>,
 ) -> Result<(), ProgramError> {
-    let types = kernel_types(rt.alloc(), given.line, given.types)?;
+    let line = given.line;
+    let types = kernel_tables(rt.alloc(), &line.types, given.types, line.types_order)?;
     let Ok(writer) = BufWriter::new(rt.alloc(), Kept::new(io::writer(rt))) else {
         return Err(ProgramError::OutOfMemory);
     };
@@ -147,16 +98,16 @@ fn print_plan<R: BufRead>(
         &types,
         symbols,
         given.settings,
-        order_of(given.line),
+        order_of(line),
         &mut out,
     );
     let mut writer = out.into_inner();
     match written {
         Ok(()) => match writer.flush() {
             Ok(()) => Ok(()),
-            Err(error) => Err(unwritten(Some(error))),
+            Err(error) => Err(ProgramError::PlanUnwritten(Unwritten::because(error))),
         },
-        Err(RunError::Output) => Err(unwritten(writer.get_ref().error())),
+        Err(RunError::Output) => Err(ProgramError::PlanUnwritten(writer.get_ref().unwritten())),
         Err(RunError::Refused(error)) => Err(refused(rt.alloc(), given, error)),
     }
 }
@@ -175,7 +126,6 @@ fn print_notes(rt: &HostRuntime, object: &[u8], settings: &RunSettings) {
 fn print_named(rt: &HostRuntime, line: &PrepareArguments<'_>) -> Result<(), ProgramError> {
     let alloc = rt.alloc();
     // Faults of the line come first.
-    check_types(line)?;
     settings_of(alloc, line, None)?;
     let object = read(rt, line.object)?;
     let file = match line.settings {
@@ -214,7 +164,7 @@ fn print_asked(rt: &HostRuntime) -> Result<(), ProgramError> {
         }),
         Err(LineError::Line(text)) => match print!(rt; "{text}") {
             Ok(()) => Ok(()),
-            Err(error) => Err(ProgramError::Unprinted { error }),
+            Err(error) => Err(ProgramError::TextUnwritten(Unwritten::because(error))),
         },
     }
 }

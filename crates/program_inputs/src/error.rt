@@ -20,6 +20,9 @@ pub enum InputError {
     /// The kernel types of a file can't be parsed.
     #[error("kernel types in {name:?}: {error}")]
     Types { name: String, error: BtfError },
+    /// More files with kernel types are named than tables are taken.
+    #[error("more than 4294967296 files of kernel types")]
+    TooManyTypes,
     /// Memory ran out.
     #[error("out of memory")]
     OutOfMemory,

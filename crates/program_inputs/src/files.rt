@@ -1,5 +1,7 @@
 //! Files, by their names.
 
+ghost use Rattle.std.specs.Prelude.{◌≤◌, ◌^◌, length, IfOk};
+
 use crate::error::InputError;
 use btf_records::{BtfError, Endianness};
 use btf_tables::Btf;
@@ -28,6 +30,19 @@ pub fn read(rt: &HostRuntime, name: &str) -> Result<Vec<u8>, InputError> {
     }
 }
 
+/// The bytes of the files of some names.
+///
+/// # Errors
+///
+/// `Read` at the first that can't be read, with the cause, and `OutOfMemory`.
+pub fn read_all(rt: &HostRuntime, names: &[&str]) -> Result<Vec<Vec<u8>>, InputError> {
+    let mut files = Vec::new(rt.alloc());
+    for name in names {
+        files.push(read(rt, name)?)?;
+    }
+    Ok(files)
+}
+
 /// The types of a kernel that the file of a name holds, in its bytes.
 ///
 /// # Errors
@@ -47,6 +62,33 @@ pub fn kernel_table<'t>(
             error,
         }),
     }
+}
+
+/// No more tables of types are taken.
+const MAX_TABLES: usize = 0x1_0000_0000;
+
+/// The types of a kernel that files of these names hold, in their bytes.
+///
+/// # Errors
+///
+/// `Types` at the first that can't be parsed, `TooManyTypes` where there are more than 2^32 files, and
+/// `OutOfMemory`.
+pub fn kernel_tables<'t>(
+    alloc: Global,
+    names: &[&str],
+    files: &'t [Vec<u8>],
+    order: Endianness,
+) -> Result<Vec<Btf<'t>>, InputError>
+    ensures { IfOk result (λ tables. length tables.items ≤ 2 ^ 32) }
+{
+    let mut tables = Vec::new(alloc);
+    for (name, bytes) in names.iter().zip(files) {
+        tables.push(kernel_table(alloc, name, bytes, order)?)?;
+    }
+    if tables.len() > MAX_TABLES {
+        return Err(InputError::TooManyTypes);
+    }
+    Ok(tables)
 }
 
 /// The reader of the file of a name.

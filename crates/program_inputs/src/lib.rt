@@ -6,5 +6,5 @@ mod files;
 mod words;
 
 pub use error::InputError;
-pub use files::{kernel_table, open, read};
+pub use files::{kernel_table, kernel_tables, open, read, read_all};
 pub use words::words_of;

@@ -1,7 +1,29 @@
 //! A writer that keeps why it failed.
 
-use std::io;
 use std::io::Write;
+use std::{fmt, io};
+
+/// That something can't be written, and why where it is known.
+#[derive(Clone, Copy, Debug)]
+pub struct Unwritten {
+    error: Option<io::Error>,
+}
+
+impl Unwritten {
+    /// That something can't be written for this reason.
+    pub fn because(error: io::Error) -> Unwritten {
+        Unwritten { error: Some(error) }
+    }
+}
+
+impl fmt::Display for Unwritten {
+    fn fmt<W: fmt::Write>(&self, f: &mut fmt::Formatter<W>) -> fmt::Result {
+        match self.error {
+            Some(error) => write!(f, "can't be written: {error}"),
+            None => write!(f, "can't be written"),
+        }
+    }
+}
 
 /// A writer that keeps its last error.
 #[derive(Debug, Drop)]
@@ -15,9 +37,9 @@ impl<W: Write> Kept<W> {
         Kept { inner, error: None }
     }
 
-    /// Why a call failed, of several the last one.
-    pub fn error(&self) -> Option<io::Error> {
-        self.error
+    /// That something can't be written, for the reason why a call failed, of several the last one.
+    pub fn unwritten(&self) -> Unwritten {
+        Unwritten { error: self.error }
     }
 }
 

@@ -1,26 +1,24 @@
-//! What a user is told of a refusal.
+//! What is told of an object that gets no plan.
 
-use command_line::PrepareArguments;
-use load_plan::{ParseError, PrepareError};
-use refusal_texts::{
-    KernelFiles, ksyms_text, missing_numbers_text, parse_text, relocation_text,
-    required_types_text, type_relocation_text, unmapped_text,
-};
+use crate::kernel_files::KernelFiles;
+use crate::kernel_texts::{ksyms_text, required_types_text, type_relocation_text};
+use crate::numbers::missing_numbers_text;
+use crate::parsing::parse_text;
+use crate::relocation_texts::relocation_text;
+use crate::unmapped::unmapped_text;
+use ebpf_items::ParseError;
+use load_plan::PrepareError;
 use settings::Settings;
 use std::alloc::{AllocError, Global};
 
-/// What a user is told of an object's refusal.
-pub(crate) fn refusal_text(
+/// What is told of an object that gets no plan under these settings, for the kernel of these files.
+pub fn prepare_text(
     alloc: Global,
     object: &[u8],
     settings: &Settings,
-    line: &PrepareArguments<'_>,
+    files: &KernelFiles<'_>,
     error: &PrepareError,
 ) -> Result<String, AllocError> {
-    let files = KernelFiles {
-        types: line.types.as_slice(),
-        symbols: line.symbols,
-    };
     match error {
         PrepareError::Parse(ParseError::MapNotFound { index }) => {
             unmapped_text(alloc, object, *index, settings)
@@ -30,8 +28,8 @@ pub(crate) fn refusal_text(
             missing_numbers_text(alloc, object, name, settings)
         }
         PrepareError::KernelTypesRequired => required_types_text(alloc),
-        PrepareError::Ksyms(error) => ksyms_text(alloc, object, error, &files),
-        PrepareError::BtfRelocation(error) => type_relocation_text(alloc, error, &files),
+        PrepareError::Ksyms(error) => ksyms_text(alloc, object, error, files),
+        PrepareError::BtfRelocation(error) => type_relocation_text(alloc, error, files),
         PrepareError::Relocation(error) => relocation_text(alloc, object, error),
         error => format!(in alloc; "{error}"),
     }
