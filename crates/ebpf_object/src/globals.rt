@@ -7,7 +7,7 @@ ghost use Rattle.global_data.specs.GlobalData.{Says, extents, first_fault, patch
 use crate::object::Object;
 use ebpf_items::ParseError;
 use global_data::patch_map_data;
-use settings::Settings;
+use global_values::GlobalValues;
 
 impl<'a> Object<'a> {
     /// Puts the values of global variables into the maps: [`patch_map_data`].
@@ -15,14 +15,14 @@ impl<'a> Object<'a> {
     /// # Errors
     ///
     /// Those of [`patch_map_data`]; the object is as before then.
-    pub fn put_values(&mut self, settings: &Settings) -> Result<(), ParseError>
-        ensures patched { OnOk result (self.new.maps ≡ patched self.old.file self.old.maps settings.now.globals) }
-        ensures sound { OnOk result (first_fault self.old.file self.old.maps settings.now.globals ≡ None) }
+    pub fn put_values(&mut self, values: &GlobalValues) -> Result<(), ParseError>
+        ensures patched { OnOk result (self.new.maps ≡ patched self.old.file self.old.maps values.now) }
+        ensures sound { OnOk result (first_fault self.old.file self.old.maps values.now ≡ None) }
         ensures lengths { extents self.new.maps ≡ extents self.old.maps }
         ensures others { self.new ≡ record self.old { maps = self.new.maps } }
-        ensures fault { IfErr result (λ e. e ≢ OutOfMemory → Says (first_fault self.old.file self.old.maps settings.now.globals) e) }
+        ensures fault { IfErr result (λ e. e ≢ OutOfMemory → Says (first_fault self.old.file self.old.maps values.now) e) }
         ensures unchanged { OnErr result (self.new ≡ self.old) }
     {
-        patch_map_data(self.alloc, &self.file, &mut self.maps, settings)
+        patch_map_data(self.alloc, &self.file, &mut self.maps, values)
     }
 }

@@ -1,6 +1,6 @@
 //! Passes over std's hashed collections, whose order is left open: what they hold is put in order first.
 
-ghost use Rattle.std.specs.Prelude.{◌≡◌, ◌≢◌, [], None, map, IfErr, IfOk, OnErr, OnOk};
+ghost use Rattle.std.specs.Prelude.{◌≡◌, ◌≢◌, None, map, IfErr, IfOk, OnErr, OnOk};
 ghost use Rattle.std.specs.Iterator.{IsFinite};
 ghost use Rattle.std.specs.Option.{option_map};
 ghost use Rattle.std.specs.String.{string_bytes};
@@ -14,8 +14,8 @@ ghost use Rattle.slot_relocation.specs.Writes.{AreRelocated, CanBeRelocated, Has
 
 use crate::object::Object;
 use ebpf_items::{Map, ParseError};
+use global_values::GlobalValues;
 use relocation_errors::EbpfRelocationError;
-use settings::Settings;
 use slot_relocation::NumberedMap;
 use std::alloc::{AllocError, Global};
 use std::collections::{BTreeSet, HashMap, HashSet};
@@ -31,15 +31,15 @@ fn in_order(alloc: Global, numbers: &HashSet<usize>) -> Result<BTreeSet<usize>, 
     Ok(ordered)
 }
 
-/// Settings of these values of global variables, and of nothing else.
-fn by_name(alloc: Global, values: &HashMap<&str, (&[u8], bool)>) -> Result<Settings, AllocError>
-    ensures { IfOk result (λ settings. settings ≡ record { maps = []; globals = by_name values.now.entries }) }
+/// These values of global variables, by name.
+fn by_name(alloc: Global, values: &HashMap<&str, (&[u8], bool)>) -> Result<GlobalValues, AllocError>
+    ensures { IfOk result (λ ordered. ordered ≡ by_name values.now.entries) }
 {
-    let mut settings = Settings::new(alloc);
+    let mut ordered = GlobalValues::new(alloc);
     for (name, value) in values.iter() {
-        settings.set_global(name, value.0, value.1)?;
+        ordered.set(name, value.0, value.1)?;
     }
-    Ok(settings)
+    Ok(ordered)
 }
 
 /// Maps under their numbers.
@@ -74,8 +74,8 @@ impl<'a> Object<'a> {
         ensures fault { IfErr result (λ e. e ≢ ParseError.OutOfMemory → Says (first_fault self.old.file self.old.maps (by_name globals.entry.entries)) e) }
         ensures unchanged { OnErr result (self.new ≡ self.old) }
     {
-        let settings = by_name(self.alloc, &globals)?;
-        self.put_values(&settings)
+        let values = by_name(self.alloc, &globals)?;
+        self.put_values(&values)
     }
 
     /// Writes the numbers of maps into the slots at which relocations by maps and variables stand:

@@ -21,6 +21,7 @@ pub use ebpf_items::{
     parse_map_info,
 };
 pub use extern_resolution::KsymsError;
+pub use global_values::{GlobalValue, GlobalValues};
 pub use object::Object;
 pub use object_externs::{ExternDesc, Externs};
 pub use object_file::{ObjectFile, ReadSection, ReadSymbol, unnamed_symbol};
@@ -28,6 +29,5 @@ pub use object_maps::Maps;
 pub use object_parts::{Function, Functions, Program, Programs};
 pub use places::{function_without_code, name_at};
 pub use relocation_errors::{EbpfRelocationError, RelocationError};
-pub use settings::Settings;
 pub use slot_relocation::NumberedMap;
 pub use type_relocation::{BtfRelocationCause, BtfRelocationError, RelocationPlace};

@@ -3,8 +3,9 @@
 use crate::error::ExerciseError;
 use crate::measured_objects::ROUNDS;
 use crate::times::{micros, print_times};
-use ebpf_object::{EbpfSectionKind, Maps, NumberedMap, Object, ObjectFile, ParseError, ReadSymbol};
-use settings::Settings;
+use ebpf_object::{
+    EbpfSectionKind, GlobalValues, Maps, NumberedMap, Object, ObjectFile, ParseError, ReadSymbol,
+};
 use std::alloc::{AllocError, Global};
 use std::time::Instant;
 
@@ -51,7 +52,7 @@ fn holds_variables(kind: EbpfSectionKind) -> bool {
 /// Sets at most so many variables to the bytes with which the file begins, and answers how many more
 /// may be set.
 fn set_variables<'a>(
-    settings: &mut Settings,
+    values: &mut GlobalValues,
     symbols: &[ReadSymbol<'a>],
     bytes: &'a [u8],
     most: usize,
@@ -62,34 +63,34 @@ fn set_variables<'a>(
         if rest == 0 || size == 0 || size > bytes.len() as u64 {
             continue;
         }
-        settings.set_global(symbol.name(), &bytes[..size as usize], true)?;
+        values.set(symbol.name(), &bytes[..size as usize], true)?;
         rest -= 1;
     }
     Ok(rest)
 }
 
 /// Values of at most so many variables of an object.
-fn settings_for(alloc: Global, bytes: &[u8], most: usize) -> Result<Settings, ParseError> {
+fn values_for(alloc: Global, bytes: &[u8], most: usize) -> Result<GlobalValues, ParseError> {
     let file = ObjectFile::parse(alloc, bytes)?;
-    let mut settings = Settings::new(alloc);
+    let mut values = GlobalValues::new(alloc);
     let mut rest = most;
     for section in file.sections() {
         if holds_variables(section.kind()) {
             let symbols = file.symbols_in(section.index());
-            rest = set_variables(&mut settings, symbols, bytes, rest)?;
+            rest = set_variables(&mut values, symbols, bytes, rest)?;
         }
     }
-    Ok(settings)
+    Ok(values)
 }
 
 /// How many microseconds it takes to put values into an object's maps.
 fn put_values(
     rt: &HostRuntime,
     object: &mut Object<'_>,
-    settings: &Settings,
+    values: &GlobalValues,
 ) -> Result<u128, ExerciseError> {
     let start = Instant::now(rt)?;
-    object.put_values(settings)?;
+    object.put_values(values)?;
     Ok(micros(rt, start)?)
 }
 
@@ -99,12 +100,12 @@ pub(crate) fn measure_values(
     bytes: &[u8],
     most: usize,
 ) -> Result<(), ExerciseError> {
-    let settings = settings_for(rt.alloc(), bytes, most)?;
-    println!(rt; "{} variables with values", settings.globals().count())?;
+    let values = values_for(rt.alloc(), bytes, most)?;
+    println!(rt; "{} variables with values", values.iter().count())?;
     let mut times = Vec::with_capacity(rt.alloc(), ROUNDS as usize)?;
     for _ in 0..ROUNDS {
         let mut object = Object::parse(rt.alloc(), bytes)?;
-        times.push(put_values(rt, &mut object, &settings)?)?;
+        times.push(put_values(rt, &mut object, &values)?)?;
         drop(object);
     }
     print_times(rt, "values put", times)

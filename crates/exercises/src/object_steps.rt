@@ -3,10 +3,10 @@
 use crate::error::ExerciseError;
 use btf::Btf;
 use ebpf_object::{
-    BtfRelocationCause, Function, KsymsError, Maps, NumberedMap, Object, ParseError, Watched,
+    BtfRelocationCause, Function, GlobalValues, KsymsError, Maps, NumberedMap, Object, ParseError,
+    Watched,
 };
 use relocation_errors::RelocationError;
-use settings::Settings;
 use std::alloc::{AllocError, Global};
 
 /// A kernel's types and the text of its symbols.
@@ -84,10 +84,10 @@ pub(crate) fn put_value(
     alloc: Global,
     object: &mut Object<'_>,
 ) -> Result<&'static str, ExerciseError> {
-    let mut settings = Settings::new(alloc);
-    settings.set_global("limit", &[10, 0, 0, 0], false)?;
+    let mut values = GlobalValues::new(alloc);
+    values.set("limit", &[10, 0, 0, 0], false)?;
     let before = bytes_of(alloc, object)?;
-    let answer = match object.put_values(&settings) {
+    let answer = match object.put_values(&values) {
         Ok(()) => Answer::Made,
         Err(ParseError::OutOfMemory) => Answer::OutOfMemory,
         Err(error) => return Err(ExerciseError::Parse(error)),

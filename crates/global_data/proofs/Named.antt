@@ -12,7 +12,7 @@ use Rattle.std.proofs.lemmas.Map.Text.{btree_map_updates_str, is_eq-slice_cmp}
 use Rattle.std.proofs.lemmas.Slice.Eq.{bytes_eq-Decides}
 use Rattle.elf64.specs.Symbols.{Symbol}
 use Rattle.object_maps.specs.BtfMaps.{has_symbol_name, symbol_named}
-use Rattle.settings.specs.Content.{GlobalContent}
+use Rattle.global_values.specs.Content.{GlobalContent}
 use Rattle.global_data.specs.GlobalSymbols.{AreGlobalSymbols, AreSet, IsSet}
 
 last-of : (symbols : List Symbol) (i : ℕ) (s : Symbol) (name : List ℕ) → i < length symbols → s ≡ get_or symbols i s → symbol_named (take (i + 1) symbols) name ≡ cond (has_symbol_name name s) (Some s) (symbol_named (take i symbols) name)

@@ -1,12 +1,12 @@
 -- One global variable after the other.
-use Rattle.std.proofs.Common.{◌≡◌, ℕ, suc, arith, true, false, List, [], ◌∷◌, ◌++◌, length, not, Option, Some, None, refl, ap, sym, ◌∙◌, subst, fold, append_assoc}
+use Rattle.std.proofs.Common.{◌≡◌, ℕ, suc, arith, true, false, List, [], ◌∷◌, ◌++◌, length, Option, Some, None, refl, ap, sym, ◌∙◌, subst, fold, append_assoc}
 use Rattle.std.specs.Prelude.{◌==◌, option_and_then}
 use Rattle.std.specs.Option.{option_map_or}
 use Rattle.ebpf_items.specs.Maps.{MapView}
 use Rattle.ebpf_items.specs.declared.error.ParseError.{ParseError}
 use Rattle.elf64.specs.Symbols.{Symbol, symbols_of}
 use Rattle.object_maps.specs.BtfMaps.{symbol_named}
-use Rattle.settings.specs.Content.{GlobalContent}
+use Rattle.global_values.specs.Content.{GlobalContent}
 use Rattle.global_data.specs.GlobalData.{GlobalFault, Says, Write, first_fault, global_fault, or_fault, patched, symbol_fault, write_of, write_over}
 use Rattle.global_data.specs.GlobalSymbols.{AreSet, IsSet}
 use Rattle.global_data.specs.Writes.{writes_of}
@@ -69,9 +69,9 @@ fault_said symbols maps held left rest g found first e is same named says value 
 not-zero : (n : ℕ) → (suc n == 0) ≡ false
 not-zero n = grind arith
 
-pub none_set : (globals : List (List ℕ × GlobalContent)) → not (length globals == 0) ≡ false → globals ≡ []
+pub none_set : (globals : List (List ℕ × GlobalContent)) → (length globals == 0) ≡ true → globals ≡ []
 none_set [] none = refl
-none_set (g ∷ gs) none = let some : not (suc (length gs) == 0) ≡ true = ap not (not-zero (length gs)) in absurd (cc)
+none_set (g ∷ gs) none = let some : (suc (length gs) == 0) ≡ false = not-zero (length gs) in absurd (cc)
 
 pub nothing_patched : (file : List ℕ) (maps : List (List ℕ × MapView)) (globals : List (List ℕ × GlobalContent)) → globals ≡ [] → maps ≡ patched file maps globals
 unfolding patched

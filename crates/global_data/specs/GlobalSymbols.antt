@@ -8,7 +8,7 @@ use Rattle.std.specs.Option.{option_copied}
 use Rattle.std.specs.Ordering.{nat_cmp}
 use Rattle.elf64.specs.Symbols.{Symbol}
 use Rattle.object_maps.specs.BtfMaps.{symbol_named}
-use Rattle.settings.specs.Content.{GlobalContent}
+use Rattle.global_values.specs.Content.{GlobalContent}
 
 abbrev pub symbol_under : BTreeMap (Bor (List ℕ)) (Bor Symbol) → List ℕ → Option Symbol
 symbol_under by_name name = option_copied (get_by (λ key. slice_cmp nat_cmp name key.now) by_name)

@@ -7,9 +7,9 @@ ghost use Rattle.global_data.specs.Writes.{Fit};
 
 use crate::writes::{MapWrite, writes_of};
 use ebpf_items::ParseError;
+use global_values::GlobalValues;
 use object_file::ObjectFile;
 use object_maps::Maps;
-use settings::Settings;
 use std::alloc::Global;
 
 /// Writes bytes into maps, one after the other.
@@ -22,7 +22,7 @@ fn write_all(maps: &mut Maps<'_>, writes: &[MapWrite<'_, '_>])
     }
 }
 
-/// Puts the values of global variables into the maps of an object, as `settings` has them: over the
+/// Puts the values of global variables into the maps of an object, as `values` has them: over the
 /// bytes of the map of the symbol's section, of several maps of a section the first by name, from
 /// the symbol's address (`st_value`) on. The symbol is the one of the variable's name, of several the
 /// one of the greatest index. All other bytes stay, and so do all maps where a value is refused.
@@ -38,18 +38,18 @@ pub fn patch_map_data(
     alloc: Global,
     file: &ObjectFile<'_>,
     maps: &mut Maps<'_>,
-    settings: &Settings,
+    values: &GlobalValues,
 ) -> Result<(), ParseError>
-    ensures patched { OnOk result (maps.new ≡ patched file.now maps.old settings.now.globals) }
-    ensures sound { OnOk result (first_fault file.now maps.old settings.now.globals ≡ None) }
-    ensures fault { IfErr result (λ e. e ≢ OutOfMemory → Says (first_fault file.now maps.old settings.now.globals) e) }
+    ensures patched { OnOk result (maps.new ≡ patched file.now maps.old values.now) }
+    ensures sound { OnOk result (first_fault file.now maps.old values.now ≡ None) }
+    ensures fault { IfErr result (λ e. e ≢ OutOfMemory → Says (first_fault file.now maps.old values.now) e) }
     ensures unchanged { OnErr result (maps.new ≡ maps.old) }
     ensures lengths { extents maps.new ≡ extents maps.old }
 {
-    if !settings.has_globals() {
+    if values.is_empty() {
         return Ok(());
     }
-    let writes = writes_of(alloc, file, maps, settings)?;
+    let writes = writes_of(alloc, file, maps, values)?;
     write_all(maps, &writes);
     Ok(())
 }

@@ -4,8 +4,8 @@ ghost use Rattle.std.specs.Prelude.{◌≡◌, IfOk};
 ghost use Rattle.std.specs.Option.{option_copied};
 ghost use Rattle.global_data.specs.GlobalSymbols.{AreGlobalSymbols, symbol_under};
 
+use global_values::GlobalValues;
 use object_file::ReadSymbol;
-use settings::Settings;
 use std::alloc::{AllocError, Global};
 use std::collections::BTreeMap;
 
@@ -22,13 +22,13 @@ impl<'f, 'a> GlobalSymbols<'f, 'a> {
     pub(crate) fn new(
         alloc: Global,
         symbols: &'f [ReadSymbol<'a>],
-        settings: &Settings,
+        values: &GlobalValues,
     ) -> Result<GlobalSymbols<'f, 'a>, AllocError>
-        ensures { IfOk result (λ found. AreGlobalSymbols settings.now.globals symbols.now found.by_name) }
+        ensures { IfOk result (λ found. AreGlobalSymbols values.now symbols.now found.by_name) }
     {
         let mut by_name = BTreeMap::new(alloc);
         for symbol in symbols {
-            if !settings.has_global(symbol.name()) {
+            if !values.contains(symbol.name()) {
                 continue;
             }
             by_name.insert(symbol.name(), symbol)?;

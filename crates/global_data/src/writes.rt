@@ -13,9 +13,9 @@ ghost use Rattle.global_data.specs.Writes.{writes_of};
 use crate::section_maps::SectionMaps;
 use crate::symbols::GlobalSymbols;
 use ebpf_items::ParseError;
+use global_values::{GlobalValue, GlobalValues};
 use object_file::{ObjectFile, ReadSymbol};
 use object_maps::Maps;
-use settings::{GlobalValue, Settings};
 use std::alloc::Global;
 use std::marker::Model;
 
@@ -110,17 +110,17 @@ pub(crate) fn writes_of<'a, 's>(
     alloc: Global,
     file: &ObjectFile<'_>,
     maps: &Maps<'a>,
-    settings: &'s Settings,
+    values: &'s GlobalValues,
 ) -> Result<Vec<MapWrite<'a, 's>>, ParseError>
-    ensures value { IfOk result (λ writes. writes.items ≡ writes_of (symbols_of file.now) maps.now settings.now.globals) }
+    ensures value { IfOk result (λ writes. writes.items ≡ writes_of (symbols_of file.now) maps.now values.now) }
     ensures rising { OnOk result (IsStrictlySortedBy (slice_cmp nat_cmp) (map (λ e. e.0) maps.now)) }
-    ensures sound { OnOk result (first_fault file.now maps.now settings.now.globals ≡ None) }
-    ensures fault { IfErr result (λ e. e ≢ OutOfMemory → Says (first_fault file.now maps.now settings.now.globals) e) }
+    ensures sound { OnOk result (first_fault file.now maps.now values.now ≡ None) }
+    ensures fault { IfErr result (λ e. e ≢ OutOfMemory → Says (first_fault file.now maps.now values.now) e) }
 {
-    let symbols = GlobalSymbols::new(alloc, file.symbols(), settings)?;
+    let symbols = GlobalSymbols::new(alloc, file.symbols(), values)?;
     let maps = SectionMaps::new(alloc, maps)?;
     let mut writes = Vec::new(alloc);
-    for (name, value) in settings.globals() {
+    for (name, value) in values.iter() {
         let name = name.as_str();
         let Some(write) = write_of(alloc, &maps, name, value, symbols.named(name))? else {
             continue;

@@ -9,8 +9,8 @@ mod planning;
 pub use btf_records::{BtfError, BtfFeature, Endianness};
 pub use btf_tables::Btf;
 pub use ebpf_object::{
-    BtfRelocationCause, BtfRelocationError, KsymsError, ParseError, PinningType, ProgramSection,
-    RelocationPlace, Slots, Watched, bpf_insn,
+    BtfRelocationCause, BtfRelocationError, GlobalValue, GlobalValues, KsymsError, ParseError,
+    PinningType, ProgramSection, RelocationPlace, Slots, Watched, bpf_insn,
 };
 pub use error::PrepareError;
 pub use order::Order;

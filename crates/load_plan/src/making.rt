@@ -59,7 +59,7 @@ fn put_values(settings: &Settings, object: &mut Object<'_>) -> Result<(), Prepar
     ensures made { OnOk result (PutsValues settings.now object.old object.new) }
     ensures refused { IfErr result (λ e. e ≢ OutOfMemory → OfParse (CannotPutValues settings.now object.old) e) }
 {
-    object.put_values(settings)?;
+    object.put_values(settings.globals())?;
     Ok(())
 }
 

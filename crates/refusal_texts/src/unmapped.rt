@@ -32,7 +32,7 @@ fn variable_of<'s>(
     settings: &'s Settings,
 ) -> Option<&'s str> {
     let file = ObjectFile::parse(alloc, object).ok()?;
-    for (name, _value) in settings.globals() {
+    for (name, _value) in settings.globals().iter() {
         if lies_in(&file, name, index) {
             return Some(name.as_str());
         }

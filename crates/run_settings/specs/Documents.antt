@@ -5,9 +5,10 @@ use Rattle.std.specs.Cmp.Lexicographic.{slice_cmp}
 use Rattle.std.specs.Option.{option_map}
 use Rattle.std.specs.Ordering.{nat_cmp}
 use Rattle.std.specs.Str.{bytes_eq}
+use Rattle.global_values.specs.Content.{GlobalContent}
 use Rattle.hex.specs.Hex.{decode_of}
 use Rattle.hex.specs.declared.error.FromHexError.{FromHexError}
-use Rattle.settings.specs.Content.{GlobalContent, SettingsContent}
+use Rattle.settings.specs.Content.{SettingsContent}
 use Rattle.toml.specs.Data.{Data, Members, as_bool, as_integer, as_str, as_table, member, no_members}
 use Rattle.toml.specs.Parse.{parse_document}
 use Rattle.run_settings.specs.Features.{all_granted, feature_named, with_answer}

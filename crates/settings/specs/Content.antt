@@ -1,12 +1,8 @@
 -- What a loader sets: numbers of maps and values of global variables, by name, names rising by bytes.
-use Rattle.std.specs.Prelude.{ℕ, ◌<◌, ◌^◌, Bool, List, String}
+use Rattle.std.specs.Prelude.{ℕ, ◌<◌, ◌^◌, List, String}
 use Rattle.std.specs.List.{All}
 use Rattle.std.specs.Map.{values_of}
-
--- a variable's value, and whether the object must have the variable
-pub record GlobalContent : Type 0 where
-  pub bytes : List ℕ
-  pub must_exist : Bool
+use Rattle.global_values.specs.Content.{GlobalContent}
 
 pub record SettingsContent : Type 0 where
   pub maps : List (List ℕ × ℕ)

@@ -3,4 +3,4 @@
 
 mod settings;
 
-pub use settings::{GlobalValue, Settings};
+pub use settings::Settings;

@@ -1,50 +1,31 @@
 //! Settings, by name.
 
-ghost use Rattle.std.specs.Prelude.{◌≡◌, ◌<◌, ◌^◌, ◌==◌, [], length, map, not, is_some, IfSome, OnOk, OnErr};
+ghost use Rattle.std.specs.Prelude.{◌≡◌, ◌<◌, ◌^◌, [], IfSome, OnOk, OnErr};
 ghost use Rattle.std.specs.BTreeMap.{insert_entry, is_at};
 ghost use Rattle.std.specs.Cmp.Lexicographic.{slice_cmp};
-ghost use Rattle.std.specs.List.Sorted.{IsStrictlySortedBy};
 ghost use Rattle.std.specs.Map.{lookup};
 ghost use Rattle.std.specs.Ordering.{nat_cmp};
-ghost use Rattle.settings.specs.Names.{by_bytes};
 
+use global_values::GlobalValues;
 use std::alloc::{AllocError, Global};
 use std::collections::BTreeMap;
-use std::collections::btree_map::Iter;
 use std::marker::Model;
-
-/// The value of a global variable.
-#[derive(Debug, Drop)]
-pub struct GlobalValue {
-    /// The variable's bytes, as many as it has.
-    pub bytes: Vec<u8>,
-    /// Whether an object without this variable is refused.
-    pub must_exist: bool,
-}
-
-impl Model for GlobalValue {
-    ghost use Rattle.settings.specs.Content.{GlobalContent};
-
-    ghost Value = { GlobalContent };
-
-    ghost view = { λ g. record { bytes = g.bytes.items; must_exist = g.must_exist } };
-}
 
 /// Numbers of maps and values of global variables, by the names that these have in an object.
 #[derive(Debug, Drop)]
 pub struct Settings {
     alloc: Global,
     maps: BTreeMap<String, u32>,
-    globals: BTreeMap<String, GlobalValue>,
+    globals: GlobalValues,
 }
 
 impl Model for Settings {
     ghost use Rattle.settings.specs.Content.{SettingsContent, AreMapNumbers};
-    ghost use Rattle.settings.specs.Names.{by_bytes};
+    ghost use Rattle.global_values.specs.Names.{by_bytes};
 
     ghost Value = { SettingsContent };
 
-    ghost view = { λ s. record { maps = by_bytes s.maps.entries; globals = by_bytes s.globals.entries } };
+    ghost view = { λ s. record { maps = by_bytes s.maps.entries; globals = s.globals } };
 
     ghost invariant = { λ s. AreMapNumbers s.maps.entries };
 }
@@ -57,7 +38,7 @@ impl Settings {
         Settings {
             alloc,
             maps: BTreeMap::new(alloc),
-            globals: BTreeMap::new(alloc),
+            globals: GlobalValues::new(alloc),
         }
     }
 
@@ -84,11 +65,7 @@ impl Settings {
         ensures ok { OnOk result (self.new ≡ record self.old { globals = insert_entry (slice_cmp nat_cmp) self.old.globals name.now (record { bytes = bytes.now; must_exist = must_exist }) }) }
         ensures err { OnErr result (self.new ≡ self.old) }
     {
-        let name = String::from_str(self.alloc, name)?;
-        let bytes = Vec::from_slice(self.alloc, bytes)?;
-        let value = GlobalValue { bytes, must_exist };
-        self.globals.insert(name, value)?;
-        Ok(())
+        self.globals.set(name, bytes, must_exist)
     }
 
     /// The number that is set for a map, which is below 2^31.
@@ -99,25 +76,10 @@ impl Settings {
         self.maps.get(name).copied()
     }
 
-    /// The names and values of the global variables, the names strictly rising by bytes.
-    pub fn globals(&self) -> Iter<'_, String, GlobalValue>
-        ensures value { by_bytes result ≡ self.now.globals }
-        ensures rising { IsStrictlySortedBy (slice_cmp nat_cmp) (map (λ e. e.0) self.now.globals) }
+    /// The values of the global variables.
+    pub fn globals(&self) -> &GlobalValues
+        ensures { result.now ≡ self.now.globals }
     {
-        self.globals.iter()
-    }
-
-    /// Whether the value of the global variable of a name is set.
-    pub fn has_global(&self, name: &str) -> bool
-        ensures { result ≡ is_some (lookup (is_at (slice_cmp nat_cmp name.now)) self.now.globals) }
-    {
-        self.globals.contains_key(name)
-    }
-
-    /// Whether the value of a global variable is set.
-    pub fn has_globals(&self) -> bool
-        ensures { result ≡ not (length self.now.globals == 0) }
-    {
-        !self.globals.is_empty()
+        &self.globals
     }
 }

@@ -6,16 +6,16 @@ use std::test::Fail;
 #[test]
 fn the_last_of_a_name_counts(rt: HostRuntime) -> Result<(), Fail> {
     let mut settings = Settings::new(rt.alloc());
-    assert!(rt; !settings.has_globals());
+    assert!(rt; settings.globals().is_empty());
     settings.set_map("counter", 7)?;
     settings.set_map("counter", 0x7fff_ffff)?;
-    assert!(rt; !settings.has_globals());
+    assert!(rt; settings.globals().is_empty());
     assert!(rt; settings.map_number("counter") == Some(0x7fff_ffff));
     assert!(rt; settings.map_number("limit").is_none());
     settings.set_global("limit", &[1, 0, 0, 0], true)?;
-    assert!(rt; settings.has_globals());
-    assert!(rt; settings.has_global("limit"));
-    assert!(rt; !settings.has_global("counter"));
+    assert!(rt; !settings.globals().is_empty());
+    assert!(rt; settings.globals().contains("limit"));
+    assert!(rt; !settings.globals().contains("counter"));
     Ok(())
 }
 
@@ -25,7 +25,7 @@ fn values_come_by_name(rt: HostRuntime) -> Result<(), Fail> {
     for name in ["b", "a", "ab", "B"] {
         settings.set_global(name, name.as_bytes(), name.len() == 1)?;
     }
-    let mut globals = settings.globals();
+    let mut globals = settings.globals().iter();
     for expected in ["B", "a", "ab", "b"] {
         let next = globals.next().map(|(name, value)| (
             name.as_str(),

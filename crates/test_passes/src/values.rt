@@ -2,10 +2,10 @@
 
 use ebpf_items::ParseError;
 use global_data::patch_map_data;
+use global_values::GlobalValues;
 use object_file::ObjectFile;
 use object_maps::{Maps, read_maps};
 use sample_objects::{VARIABLES, with_bytes};
-use settings::Settings;
 use std::alloc::Global;
 use std::test::Fail;
 
@@ -198,11 +198,11 @@ fn holds(alloc: Global, case: &Case) -> Result<bool, Fail> {
     let file = ObjectFile::parse(alloc, &object)?;
     let mut maps = read_maps(alloc, &file, None)?;
     let before = maps.try_clone()?;
-    let mut settings = Settings::new(alloc);
+    let mut values = GlobalValues::new(alloc);
     for (name, value, must_exist) in variables.iter() {
-        settings.set_global(name, value, *must_exist)?;
+        values.set(name, value, *must_exist)?;
     }
-    match (patch_map_data(alloc, &file, &mut maps, &settings), expected) {
+    match (patch_map_data(alloc, &file, &mut maps, &values), expected) {
         (Ok(()), Ok(contents)) => match maps.get(".data") {
             Some(map) => Ok(map.data() == contents.as_slice()),
             None => Ok(false),

@@ -11,24 +11,24 @@ pub write_all-requires : goal.write_all-requires
 write_all-requires c =
     let P : List Write → Type 0 = λ ws. Fit c.args.maps.now ws in
     subst P (sym (c.deref.ensures.value ∙ c.in_ok-writes.ensures.value))
-    (found-fit c.args.file.now c.args.maps.now c.args.settings.now.globals c.in_ok-writes.ensures.rising c.in_ok-writes.ensures.sound)
+    (found-fit c.args.file.now c.args.maps.now c.args.values.now c.in_ok-writes.ensures.rising c.in_ok-writes.ensures.sound)
 
-pub returns-then-not-has_globals-clause-patched : goal.returns-then-not-has_globals-clause-patched
-returns-then-not-has_globals-clause-patched c =
-    nothing_patched c.args.file.now c.args.maps.now c.args.settings.now.globals (none_set c.args.settings.now.globals (sym c.has_globals.ensures ∙ c.if-not-has_globals.true))
+pub returns-then-is_empty-clause-patched : goal.returns-then-is_empty-clause-patched
+returns-then-is_empty-clause-patched c =
+    nothing_patched c.args.file.now c.args.maps.now c.args.values.now (none_set c.args.values.now (sym c.is_empty.ensures ∙ c.if-is_empty.true))
 
-pub returns-then-not-has_globals-clause-sound : goal.returns-then-not-has_globals-clause-sound
-returns-then-not-has_globals-clause-sound c =
-    nothing_wrong c.args.file.now c.args.maps.now c.args.settings.now.globals (none_set c.args.settings.now.globals (sym c.has_globals.ensures ∙ c.if-not-has_globals.true))
+pub returns-then-is_empty-clause-sound : goal.returns-then-is_empty-clause-sound
+returns-then-is_empty-clause-sound c =
+    nothing_wrong c.args.file.now c.args.maps.now c.args.values.now (none_set c.args.values.now (sym c.is_empty.ensures ∙ c.if-is_empty.true))
 
 pub returns-clause-patched : goal.returns-clause-patched
 returns-clause-patched c =
     c.write_all.ensures
     ∙ ap (fold written c.args.maps.now) (c.deref.ensures.value ∙ c.in_ok-writes.ensures.value)
-    ∙ patched-of c.args.file.now c.args.maps.now c.args.settings.now.globals
+    ∙ patched-of c.args.file.now c.args.maps.now c.args.values.now
 
 pub returns-clause-lengths : goal.returns-clause-lengths
 returns-clause-lengths c =
-    let writes : List Write = writes_of (symbols_of c.args.file.now) c.args.maps.now c.args.settings.now.globals in
+    let writes : List Write = writes_of (symbols_of c.args.file.now) c.args.maps.now c.args.values.now in
     ap extents (c.write_all.ensures ∙ ap (fold written c.args.maps.now) (c.deref.ensures.value ∙ c.in_ok-writes.ensures.value))
-    ∙ extents-written c.args.maps.now writes c.in_ok-writes.ensures.rising (found-fit c.args.file.now c.args.maps.now c.args.settings.now.globals c.in_ok-writes.ensures.rising c.in_ok-writes.ensures.sound)
+    ∙ extents-written c.args.maps.now writes c.in_ok-writes.ensures.rising (found-fit c.args.file.now c.args.maps.now c.args.values.now c.in_ok-writes.ensures.rising c.in_ok-writes.ensures.sound)
