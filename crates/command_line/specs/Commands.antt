@@ -11,7 +11,7 @@ use Rattle.clap.specs.declared.builder.command.Command.TheViews.{out-Command}
 use Rattle.clap.specs.declared.builder.arg.Arg.{Arg}
 use Rattle.clap.specs.declared.builder.command.Command.{Command}
 use Rattle.clap.specs.declared.builder.value_parser.ValueParser.{ValueParser}
-use Rattle.command_line.specs.Options.{repeated, valued, with_rules}
+use Rattle.command_line.specs.Options.{repeated, valued, with_rules, TakesNames}
 
 -- the object's file has to be named, and excludes nothing
 pub record TakesObject (c : Command) : Type 0 where
@@ -31,8 +31,7 @@ object_app program =
     with_rule (on_top (λ s. record s { has_version = true }) (new_app program))
     (record (new_rule (codes "OBJECT")) { required = true; action = Some Set })
 
--- With what names files of kernels; the byte order of their types is little where it isn't said. Which values it may have
--- isn't stated.
+-- with what names files of kernels; the byte order of their types is little where it isn't said
 abbrev pub kernel_file_rules : ValueParser → List Rule
 kernel_file_rules order =
     repeated (codes "types")
@@ -42,4 +41,5 @@ kernel_file_rules order =
 
 pub record HasKernelFiles (app new : App) : Type 0 where
   pub order : ValueParser
+  pub orders : TakesNames order (codes "little" ∷ codes "big" ∷ [])
   pub is : new ≡ with_rules app (kernel_file_rules order)

@@ -4,14 +4,16 @@ use Rattle.clap.specs.Simple.{App}
 use Rattle.clap.specs.Walk.{Rule}
 use Rattle.clap.specs.declared.builder.value_parser.ValueParser.{ValueParser}
 use Rattle.command_line.specs.Commands.{object_app, HasKernelFiles}
-use Rattle.command_line.specs.Options.{flag, repeated, valued, with_rules}
+use Rattle.command_line.specs.Options.{flag, repeated, valued, with_rules, TakesNames}
+use Rattle.run_settings.specs.Features.{feature_names}
 
--- With what says which parts the kernel lacks. Which values a feature may have isn't stated.
+-- with what says which parts the kernel lacks
 abbrev pub lack_rules : ValueParser → List Rule
 lack_rules feature = record (repeated (codes "deny")) { parser = Some feature } ∷ flag (codes "older-helpers") ∷ []
 
 pub record HasLacks (app new : App) : Type 0 where
   pub feature : ValueParser
+  pub features : TakesNames feature feature_names
   pub is : new ≡ with_rules app (lack_rules feature)
 
 -- with what sets something for the object

@@ -7,6 +7,7 @@ use Rattle.clap.specs.declared.parser.matches.ArgMatches.{ArgMatches}
 use Rattle.command_line.specs.Commands.{TakesObject}
 use Rattle.command_line.specs.Found.{order_named, value_found, values_found, IsFlag, IsFoundBy}
 use Rattle.command_line.specs.PrepareCommand.{IsPrepareCommand}
+use Rattle.run_settings.specs.Features.{feature_named}
 use Rattle.command_line.specs.declared.prepare_line.PrepareArguments.{PrepareArguments}
 
 -- what clap finds in the words, for the program's command line, which has to have the object's file
@@ -30,4 +31,4 @@ pub record IsPrepareLine (words : List (List ℕ)) (line : PrepareArguments) : T
   pub older_helpers : IsFlag matches (codes "older-helpers") line.has_older_helpers
   pub maps : map (λ word. word.now) line.maps.items ≡ values_found matches (codes "map")
   pub globals : map (λ word. word.now) line.globals.items ≡ values_found matches (codes "global")
-  pub denied : map (λ word. word.now) line.denied.items ≡ values_found matches (codes "deny")
+  pub denied : map Some line.denied.items ≡ map feature_named (values_found matches (codes "deny"))

@@ -9,7 +9,7 @@ ghost use Rattle.command_line.specs.PrepareCommand.{HasLacks, HasSettings, IsPre
 use crate::common_options::{KernelFileTexts, ProgramTexts, with_kernel_files, with_object};
 use crate::options::{flag, value, values, with_option};
 use clap::Command;
-use run_settings::FEATURE_NAMES;
+use run_settings::feature_names;
 use std::alloc::{AllocError, Global};
 
 const PROGRAM: ProgramTexts<'static> = ProgramTexts {
@@ -45,7 +45,7 @@ fn with_lacks<'a>(alloc: Global, command: Command<'a>) -> Result<Command<'a>, Al
         "FEATURE",
         "A feature of types that the kernel doesn't take",
     )
-    .value_parser(FEATURE_NAMES.as_slice());
+    .value_parser(feature_names());
     let older = flag(
         alloc,
         "older-helpers",

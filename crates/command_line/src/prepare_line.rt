@@ -1,17 +1,19 @@
 //! What the words of a command line of `bpf_prepare` ask for.
 
-ghost use Rattle.std.specs.Prelude.{map, IfOk};
+ghost use Rattle.std.specs.Prelude.{◌≡◌, is_some, map, true, IfOk, Some};
+ghost use Rattle.std.specs.List.{All};
 ghost use Rattle.std.specs.String.{string_bytes};
+ghost use Rattle.run_settings.specs.Features.{feature_named};
 ghost use Rattle.command_line.specs.PrepareLine.{IsPrepareLine, IsPrepareMatch};
 
 use crate::error::LineError;
 use crate::found::{matches_in, object_of, order_of, values_of};
 use crate::prepare_command::prepare_command;
-use crate::setting_words::{WordError, deny, set_global, set_map};
-use btf_records::Endianness;
+use crate::setting_words::{WordError, set_global, set_map};
+use btf_records::{BtfFeature, Endianness};
 use clap::ArgMatches;
-use run_settings::RunSettings;
-use std::alloc::Global;
+use run_settings::{RunSettings, feature_named};
+use std::alloc::{AllocError, Global};
 
 /// What the words of a command line ask for. File names are as the words have them.
 #[derive(Debug, Drop)]
@@ -33,7 +35,7 @@ pub struct PrepareArguments<'w> {
     pub(crate) has_older_helpers: bool,
     pub(crate) maps: Vec<&'w str>,
     pub(crate) globals: Vec<&'w str>,
-    pub(crate) denied: Vec<&'w str>,
+    pub(crate) denied: Vec<BtfFeature>,
 }
 
 /// What clap finds in the words, for the program's command line.
@@ -43,6 +45,18 @@ fn matches_of<'w>(alloc: Global, words: &'w [String]) -> Result<ArgMatches<'w>, 
     let command = prepare_command(alloc)?;
     let matches = matches_in(command, words)?;
     Ok(matches)
+}
+
+/// The features of these names.
+fn features_of(alloc: Global, names: &[&str]) -> Result<Vec<BtfFeature>, AllocError>
+    requires { All (λ name. is_some (feature_named name.now) ≡ true) names.now }
+    ensures { IfOk result (λ features. map Some features.items ≡ map (λ name. feature_named name.now) names.now) }
+{
+    let mut features = Vec::new(alloc);
+    for name in names {
+        features.push(feature_named(name).unwrap())?;
+    }
+    Ok(features)
 }
 
 /// What the words of a command line ask for, of which the first is the program's name.
@@ -57,6 +71,7 @@ pub fn prepare_arguments<'w>(
     ensures { IfOk result (IsPrepareLine (map string_bytes words.now)) }
 {
     let matches = matches_of(alloc, words)?;
+    let denied = values_of(alloc, &matches, "deny")?;
     Ok(PrepareArguments {
         object: object_of(&matches),
         types: values_of(alloc, &matches, "types")?,
@@ -68,7 +83,7 @@ pub fn prepare_arguments<'w>(
         has_older_helpers: matches.get_flag("older-helpers"),
         maps: values_of(alloc, &matches, "map")?,
         globals: values_of(alloc, &matches, "global")?,
-        denied: values_of(alloc, &matches, "deny")?,
+        denied: features_of(alloc, &denied)?,
     })
 }
 
@@ -86,8 +101,8 @@ impl<'w> PrepareArguments<'w> {
         for word in &self.globals {
             set_global(alloc, settings, word)?;
         }
-        for word in &self.denied {
-            deny(alloc, settings, word)?;
+        for feature in &self.denied {
+            settings.features = settings.features.with_answer(*feature, false);
         }
         if self.has_older_helpers {
             settings.probe = false;

@@ -16,6 +16,7 @@ returns-clause-shape c =
     ap rule_of c.default_value-order.ensures ∙ ap (λ (r : Rule). record r { defaults = codes "little" ∷ [] }) parsed in
     record {
       order = order.0;
+      orders = record { list = _; is = order.2; named = search rules };
       is = three_more _ _ _ _ _ _ _ _ _ _
           c.in_ok-command.ensures.shape c.in_ok-command-2.ensures.shape c.in_ok-command-3.ensures.shape
           (search rules) ordered (search rules);

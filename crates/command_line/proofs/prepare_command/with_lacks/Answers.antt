@@ -14,5 +14,6 @@ returns-clause-shape c =
     ∙ ap (λ (p : Option ValueParser). record (repeated (codes "deny")) { parser = p }) feature.1) in
     record {
       feature = feature.0;
+      features = record { list = _; is = feature.2; named = c.feature_names.ensures };
       is = two_more _ _ _ _ _ _ _ c.in_ok-command.ensures.shape c.in_ok-command-2.ensures.shape denied (search rules);
     }
