@@ -7,8 +7,8 @@ ghost use Rattle.bpf_prepare.specs.Program.{status_of};
 
 use command_line::WordError;
 use load_plan::PrepareError;
-use program_inputs::InputError;
-use refusal_texts::{Refusal, Unwritten};
+use program_io::{InputError, Unwritten};
+use refusal_texts::Refusal;
 use std::alloc::{AllocError, AllocFailed};
 use thiserror::Error;
 

@@ -5,12 +5,12 @@ mod error;
 mod running;
 mod settings_text;
 
-use command_line::{LineError, PrepareArguments, fault_of_line, prepare_arguments};
+use command_line::{LineError, PrepareArguments, prepare_arguments};
 use error::{ProgramError, RunError};
 use load_plan::{Order, PrepareError, Watched};
 use object_notes::notes;
-use program_inputs::{kernel_tables, open, read, read_all, words_of};
-use refusal_texts::{Kept, KernelFiles, Refusal, Unwritten, prepare_text};
+use program_io::{Kept, Unwritten, kernel_tables, open, print_text, read, read_all, words_of};
+use refusal_texts::{KernelFiles, Refusal, prepare_text};
 use run_settings::{RunSettings, SettingsError};
 use running::run;
 use settings_text::fault_text;
@@ -159,12 +159,10 @@ fn print_asked(rt: &HostRuntime) -> Result<(), ProgramError> {
     match prepare_arguments(rt.alloc(), &words) {
         Ok(line) => print_named(rt, &line),
         Err(LineError::OutOfMemory) => Err(ProgramError::OutOfMemory),
-        Err(LineError::Line(error)) if error.use_stderr() => Err(ProgramError::Line {
-            text: fault_of_line(rt.alloc(), &error)?,
-        }),
-        Err(LineError::Line(text)) => match print!(rt; "{text}") {
+        Err(LineError::Fault { text }) => Err(ProgramError::Line { text }),
+        Err(LineError::Asked { text }) => match print_text(rt, &text) {
             Ok(()) => Ok(()),
-            Err(error) => Err(ProgramError::TextUnwritten(Unwritten::because(error))),
+            Err(error) => Err(ProgramError::TextUnwritten(error)),
         },
     }
 }

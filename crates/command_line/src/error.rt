@@ -1,17 +1,17 @@
 //! Why a command line asks for nothing.
 
 ghost use Rattle.std.specs.Prelude.{◌≡◌};
-ghost use Rattle.command_line.specs.declared.error.LineError.TheVariants.{Line, OutOfMemory};
+ghost use Rattle.command_line.specs.declared.error.LineError.TheVariants.{OutOfMemory};
 
-use clap::Error;
 use std::alloc::AllocError;
 
 /// Why a command line asks for nothing.
 #[derive(Debug, Drop)]
 pub enum LineError {
-    /// Words that the command line may not have, or that ask for its help or version: clap's error,
-    /// with the text to show.
-    Line(Error),
+    /// The command line may not have these words: what is wrong with them, in one line.
+    Fault { text: String },
+    /// The words ask for the help or the version: its text.
+    Asked { text: String },
     OutOfMemory,
 }
 
@@ -20,13 +20,5 @@ impl From<AllocError> for LineError {
 
     fn from(_error: AllocError) -> LineError {
         LineError::OutOfMemory
-    }
-}
-
-impl From<Error> for LineError {
-    ghost from_gives = { λ error e. e ≡ Line error };
-
-    fn from(error: Error) -> LineError {
-        LineError::Line(error)
     }
 }

@@ -7,19 +7,23 @@ ghost use Rattle.clap.specs.Matches.{first_value, found_of};
 ghost use Rattle.command_line.specs.Found.{order_named, values_found, IsFoundBy};
 
 use crate::error::LineError;
+use crate::line_text::line_error;
 use btf_records::Endianness;
 use clap::{ArgMatches, Command};
 use std::alloc::{AllocError, Global};
 
 /// What clap finds in the words, for a command.
 pub(crate) fn matches_in<'w>(
+    alloc: Global,
     command: Command<'w>,
     words: &'w [String],
 ) -> Result<ArgMatches<'w>, LineError>
     ensures { IfOk result (IsFoundBy command.entry (map string_bytes words.now)) }
 {
-    let matches = command.try_get_matches_from(words)?;
-    Ok(matches)
+    match command.try_get_matches_from(words) {
+        Ok(matches) => Ok(matches),
+        Err(error) => Err(line_error(alloc, &error)?),
+    }
 }
 
 /// The values of an option that may be given several times.

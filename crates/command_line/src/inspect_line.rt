@@ -31,7 +31,7 @@ fn matches_of<'w>(alloc: Global, words: &'w [String]) -> Result<ArgMatches<'w>, 
     ensures { IfOk result (IsInspectMatch (map string_bytes words.now)) }
 {
     let command = inspect_command(alloc)?;
-    let matches = matches_in(command, words)?;
+    let matches = matches_in(alloc, command, words)?;
     Ok(matches)
 }
 
@@ -39,7 +39,8 @@ fn matches_of<'w>(alloc: Global, words: &'w [String]) -> Result<ArgMatches<'w>, 
 ///
 /// # Errors
 ///
-/// [`LineError::Line`] where the words are others, and where they ask for help or the version.
+/// [`LineError::Fault`] where the words are others, and [`LineError::Asked`] where they ask for the help or
+/// the version.
 pub fn inspect_arguments<'w>(
     alloc: Global,
     words: &'w [String],

@@ -14,6 +14,6 @@ mod setting_words;
 
 pub use error::LineError;
 pub use inspect_line::{InspectArguments, inspect_arguments};
-pub use line_text::{fault_of_line, first_paragraph};
+pub use line_text::first_paragraph;
 pub use prepare_line::{PrepareArguments, prepare_arguments};
 pub use setting_words::WordError;

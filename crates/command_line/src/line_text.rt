@@ -1,5 +1,6 @@
 //! What a user is told of a line, in one line.
 
+use crate::error::LineError;
 use clap::Error;
 use std::alloc::{AllocError, Global};
 
@@ -27,8 +28,20 @@ pub fn first_paragraph(alloc: Global, text: &str) -> Result<String, AllocError> 
 }
 
 /// What is wrong with a line: the first paragraph of the error's text.
-pub fn fault_of_line(alloc: Global, error: &Error) -> Result<String, AllocError> {
+fn fault_text(alloc: Global, error: &Error) -> Result<String, AllocError> {
     let text = format!(in alloc; "{error}")?;
     let said = text.strip_prefix("error: ").unwrap_or(&text);
     first_paragraph(alloc, said)
+}
+
+/// What becomes of words of which clap makes no matches.
+pub(crate) fn line_error(alloc: Global, error: &Error) -> Result<LineError, AllocError> {
+    if error.use_stderr() {
+        return Ok(LineError::Fault {
+            text: fault_text(alloc, error)?,
+        });
+    }
+    Ok(LineError::Asked {
+        text: format!(in alloc; "{error}")?,
+    })
 }

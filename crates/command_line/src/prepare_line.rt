@@ -43,7 +43,7 @@ fn matches_of<'w>(alloc: Global, words: &'w [String]) -> Result<ArgMatches<'w>, 
     ensures { IfOk result (IsPrepareMatch (map string_bytes words.now)) }
 {
     let command = prepare_command(alloc)?;
-    let matches = matches_in(command, words)?;
+    let matches = matches_in(alloc, command, words)?;
     Ok(matches)
 }
 
@@ -63,7 +63,8 @@ fn features_of(alloc: Global, names: &[&str]) -> Result<Vec<BtfFeature>, AllocEr
 ///
 /// # Errors
 ///
-/// [`LineError::Line`] where the words are others, and where they ask for help or the version.
+/// [`LineError::Fault`] where the words are others, and [`LineError::Asked`] where they ask for the help or
+/// the version.
 pub fn prepare_arguments<'w>(
     alloc: Global,
     words: &'w [String],

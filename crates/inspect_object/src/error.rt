@@ -3,11 +3,11 @@
 ghost use Rattle.std.specs.Prelude.{◌≡◌};
 ghost use Rattle.inspect_object.specs.declared.error.InspectError.TheVariants.{Refused};
 ghost use Rattle.inspect_object.specs.Program.{status_of};
-ghost use Rattle.inspect_object.specs.declared.error.ProgramError.TheVariants.{Input, OutOfMemory};
+ghost use Rattle.inspect_object.specs.declared.error.ProgramError.TheVariants.{Input, OutOfMemory, Unwritten};
 
 use ebpf_object::ParseError;
-use program_inputs::InputError;
-use refusal_texts::{Refusal, Unwritten};
+use program_io::{InputError, Unwritten};
+use refusal_texts::Refusal;
 use std::alloc::{AllocError, AllocFailed};
 use thiserror::Error;
 
@@ -58,6 +58,14 @@ impl From<InputError> for ProgramError {
 
     fn from(error: InputError) -> ProgramError {
         ProgramError::Input(error)
+    }
+}
+
+impl From<Unwritten> for ProgramError {
+    ghost from_gives = { λ error e. e ≡ Unwritten error };
+
+    fn from(error: Unwritten) -> ProgramError {
+        ProgramError::Unwritten(error)
     }
 }
 

@@ -6,8 +6,8 @@ use command_line::InspectArguments;
 use ebpf_object::Object;
 use extern_reports::assumed_symbols;
 use kernel_reports::{KernelReport, PlanAnswer, Reported, every_map_numbered, report_on};
-use program_inputs::{kernel_table, read};
-use refusal_texts::{KernelFiles, Unwritten, prepare_text};
+use program_io::{kernel_table, print_text, read};
+use refusal_texts::{KernelFiles, prepare_text};
 use relocation_reports::{RelocationAt, relocations_of};
 use report_texts::{Column, Rows, report_lines, rows_of, summary_text};
 use std::alloc::{AllocError, Global};
@@ -190,8 +190,5 @@ pub(crate) fn print_reports(
         None => None,
     };
     let text = text_on_file(rt, line, &file, symbols.as_deref())?;
-    match print!(rt; "{text}") {
-        Ok(()) => Ok(()),
-        Err(error) => Err(ProgramError::Unwritten(Unwritten::because(error))),
-    }
+    Ok(print_text(rt, &text)?)
 }

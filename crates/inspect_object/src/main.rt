@@ -12,13 +12,13 @@ mod names;
 mod notes;
 mod type_relocations;
 
-use command_line::{InspectArguments, LineError, fault_of_line, inspect_arguments};
+use command_line::{InspectArguments, LineError, inspect_arguments};
 use ebpf_object::ParseError;
 use error::{InspectError, ProgramError};
 use inspecting::inspect;
 use kernels::print_reports;
-use program_inputs::{read, words_of};
-use refusal_texts::{Kept, Refusal, Unwritten, parse_text};
+use program_io::{Kept, Unwritten, print_text, read, words_of};
+use refusal_texts::{Refusal, parse_text};
 use std::alloc::Global;
 use std::io;
 use std::io::{BufWriter, Write};
@@ -58,26 +58,14 @@ fn print_named(rt: &HostRuntime, line: &InspectArguments<'_>) -> Result<(), Prog
     print_bytes(rt, &object)
 }
 
-/// Prints the help or the version, where an error holds that.
-fn print_help(rt: &HostRuntime, error: clap::Error) -> Result<(), ProgramError> {
-    if error.use_stderr() {
-        return Err(ProgramError::Usage {
-            text: fault_of_line(rt.alloc(), &error)?,
-        });
-    }
-    match print!(rt; "{error}") {
-        Ok(()) => Ok(()),
-        Err(error) => Err(ProgramError::Unwritten(Unwritten::because(error))),
-    }
-}
-
 /// Prints what a line asks for: an object, reports on it, the program's help or its version.
 fn print_asked(rt: &HostRuntime) -> Result<(), ProgramError> {
     let words = words_of(rt)?;
     match inspect_arguments(rt.alloc(), &words) {
         Ok(line) => print_named(rt, &line),
         Err(LineError::OutOfMemory) => Err(ProgramError::OutOfMemory),
-        Err(LineError::Line(error)) => print_help(rt, error),
+        Err(LineError::Fault { text }) => Err(ProgramError::Usage { text }),
+        Err(LineError::Asked { text }) => Ok(print_text(rt, &text)?),
     }
 }
 

@@ -6,7 +6,6 @@ mod contents;
 mod definitions;
 mod functions;
 mod instructions;
-mod kept;
 mod kernel_files;
 mod kernel_texts;
 mod members;
@@ -23,7 +22,6 @@ mod tables;
 mod unmapped;
 mod unsupported;
 
-pub use kept::{Kept, Unwritten};
 pub use kernel_files::KernelFiles;
 pub use parsing::parse_text;
 pub use places::{Place, place_of};

@@ -1,4 +1,4 @@
-//! A writer that keeps why it failed.
+//! Output, and why it can't be written.
 
 use std::io::Write;
 use std::{fmt, io};
@@ -22,6 +22,14 @@ impl fmt::Display for Unwritten {
             Some(error) => write!(f, "can't be written: {error}"),
             None => write!(f, "can't be written"),
         }
+    }
+}
+
+/// Prints a text.
+pub fn print_text(rt: &HostRuntime, text: &str) -> Result<(), Unwritten> {
+    match print!(rt; "{text}") {
+        Ok(()) => Ok(()),
+        Err(error) => Err(Unwritten::because(error)),
     }
 }
 

@@ -1,7 +1,7 @@
 //! Why a program can't have what it is called with.
 
 ghost use Rattle.std.specs.Prelude.{◌≡◌};
-ghost use Rattle.program_inputs.specs.declared.error.InputError.TheVariants.{OutOfMemory};
+ghost use Rattle.program_io.specs.declared.error.InputError.TheVariants.{OutOfMemory};
 
 use btf_records::BtfError;
 use std::alloc::{AllocError, AllocFailed};
