@@ -1,11 +1,9 @@
 -- The status that the program ends with.
 use Rattle.std.specs.Prelude.{ℕ}
 use Rattle.bpf_prepare.specs.declared.error.ProgramError.{ProgramError}
-use Rattle.bpf_prepare.specs.declared.error.ProgramError.TheVariants.{Refused, Run}
-use Rattle.bpf_prepare.specs.declared.error.RunError.TheVariants as run
+use Rattle.bpf_prepare.specs.declared.error.ProgramError.TheVariants.{Refused}
 
 -- 1 where the object is refused, else 2
 abbrev pub status_of : ProgramError → ℕ
-status_of (Run (run.Refused e)) = 1
-status_of (Refused text) = 1
+status_of (Refused refusal) = 1
 status_of _ = 2

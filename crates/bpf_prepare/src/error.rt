@@ -1,15 +1,15 @@
 //! Why the program prints no plan.
 
 ghost use Rattle.std.specs.Prelude.{◌≡◌};
-ghost use Rattle.bpf_prepare.specs.declared.error.ProgramError.TheVariants.{Input, OutOfMemory, Run, Word};
+ghost use Rattle.bpf_prepare.specs.declared.error.ProgramError.TheVariants.{Input, OutOfMemory, Word};
 ghost use Rattle.bpf_prepare.specs.declared.error.RunError.TheVariants.{Refused};
 ghost use Rattle.bpf_prepare.specs.Program.{status_of};
 
 use command_line::WordError;
 use load_plan::PrepareError;
-use program_inputs::InputError;
+use program_io::{InputError, Unwritten};
+use refusal_texts::Refusal;
 use std::alloc::{AllocError, AllocFailed};
-use std::io;
 use thiserror::Error;
 
 /// Why [`run`](crate::running::run) writes no plan.
@@ -43,35 +43,21 @@ pub enum ProgramError {
     /// A word sets nothing.
     #[error("{0}")]
     Word(WordError),
-    /// More files with kernel types are named than tables are taken.
-    #[error("more than 4294967296 files of kernel types")]
-    TooManyTypes,
     /// A file's text holds no settings.
     #[error("settings in {name:?}: {fault}")]
     Settings { name: String, fault: String },
     /// There is no memory for the settings, or for writing.
     #[error("out of memory")]
     OutOfMemory,
-    /// There is no plan, or it can't be written.
-    #[error("{0}")]
-    Run(RunError),
-    /// The object gets no plan, and this is told of it.
-    #[error("refused: {text}")]
-    Refused { text: String },
-    /// The plan can't be written, for a reason that is known.
-    #[error("the plan can't be written: {error}")]
-    Unwritten { error: io::Error },
+    /// The object gets no plan.
+    #[error("refused: {0}")]
+    Refused(Refusal<PrepareError>),
+    /// The plan can't be written.
+    #[error("the plan {0}")]
+    PlanUnwritten(Unwritten),
     /// The help or the version can't be written.
-    #[error("the text can't be written: {error}")]
-    Unprinted { error: io::Error },
-}
-
-impl From<RunError> for ProgramError {
-    ghost from_gives = { λ error e. e ≡ Run error };
-
-    fn from(error: RunError) -> ProgramError {
-        ProgramError::Run(error)
-    }
+    #[error("the text {0}")]
+    TextUnwritten(Unwritten),
 }
 
 impl From<InputError> for ProgramError {
@@ -112,8 +98,7 @@ impl ProgramError {
         ensures { result ≡ status_of self.now }
     {
         match self {
-            ProgramError::Run(RunError::Refused(_)) => 1,
-            ProgramError::Refused { .. } => 1,
+            ProgramError::Refused(_) => 1,
             _ => 2,
         }
     }

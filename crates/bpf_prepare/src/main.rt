@@ -1,71 +1,28 @@
 //! Prints the load plan of an eBPF object.
 #![tactic(auto)]
 
-ghost use Rattle.std.specs.Prelude.{◌≤◌, ◌^◌, length, IfOk};
-
 mod error;
-mod line_text;
-mod refusal;
 mod running;
+mod settings_text;
 
-use command_line::{Arguments, LineError, arguments};
+use command_line::{LineError, PrepareArguments, prepare_arguments};
 use error::{ProgramError, RunError};
-use line_text::{fault_text, line_text};
-use load_plan::{Btf, Order, PrepareError, Watched};
+use load_plan::{Order, PrepareError, Watched};
 use object_notes::notes;
-use program_inputs::{kernel_table, open, read, words_of};
-use refusal::refusal_text;
-use refusal_texts::Kept;
+use program_io::{Kept, Unwritten, kernel_tables, open, print_text, read, read_all, words_of};
+use refusal_texts::{KernelFiles, Refusal, prepare_text};
 use run_settings::{RunSettings, SettingsError};
 use running::run;
+use settings_text::fault_text;
 use std::alloc::Global;
 use std::io;
 use std::io::{BufRead, BufWriter, IsTerminal, Write};
 use std::process::ExitCode;
 
-/// The bytes of the files of some names.
-fn read_all(rt: &HostRuntime, names: &[&str]) -> Result<Vec<Vec<u8>>, ProgramError> {
-    let mut files = Vec::new(rt.alloc());
-    for name in names {
-        files.push(read(rt, name)?)?;
-    }
-    Ok(files)
-}
-
-/// No more tables of types are taken.
-const MAX_TABLES: usize = 0x1_0000_0000;
-
-/// Refuses a line that names more files of types than tables are taken.
-fn check_types(line: &Arguments<'_>) -> Result<(), ProgramError> {
-    if line.types.len() > MAX_TABLES {
-        return Err(ProgramError::TooManyTypes);
-    }
-    Ok(())
-}
-
-/// The kernel's tables of types that files hold.
-fn kernel_types<'t>(
-    alloc: Global,
-    line: &Arguments<'_>,
-    files: &'t [Vec<u8>],
-) -> Result<Vec<Btf<'t>>, ProgramError>
-    ensures { IfOk result (λ tables. length tables.items ≤ 2 ^ 32) }
-{
-    let mut tables = Vec::new(alloc);
-    for (name, bytes) in line.types.iter().zip(files) {
-        tables.push(kernel_table(alloc, name, bytes, line.types_order)?)?;
-    }
-    // There are as many as files.
-    if tables.len() > MAX_TABLES {
-        return Err(ProgramError::TooManyTypes);
-    }
-    Ok(tables)
-}
-
 /// The settings of a file's text, of nothing where there is no file, and over them those of the line.
 fn settings_of(
     alloc: Global,
-    line: &Arguments<'_>,
+    line: &PrepareArguments<'_>,
     file: Option<&[u8]>,
 ) -> Result<RunSettings, ProgramError> {
     let mut settings = match (line.settings, file) {
@@ -97,14 +54,14 @@ fn file_settings(alloc: Global, name: &str, bytes: &[u8]) -> Result<RunSettings,
 /// What a run is made of, beside its symbols and its output.
 #[derive(Drop)]
 struct Given<'g, 'w> {
-    line: &'g Arguments<'w>,
+    line: &'g PrepareArguments<'w>,
     object: &'g [u8],
     settings: &'g RunSettings,
     types: &'g [Vec<u8>],
 }
 
 /// The order of the passes over types.
-fn order_of(line: &Arguments<'_>) -> Order {
+fn order_of(line: &PrepareArguments<'_>) -> Order {
     if line.rewrite_first {
         Order::RewriteFirst
     } else {
@@ -112,22 +69,15 @@ fn order_of(line: &Arguments<'_>) -> Order {
     }
 }
 
-/// What becomes of a refusal: an error with what a user is told of it, or, without memory for that,
-/// with the refusal itself.
+/// What becomes of a refusal.
 fn refused(alloc: Global, given: &Given<'_, '_>, error: PrepareError) -> ProgramError {
-    let settings = given.settings;
-    match refusal_text(alloc, given.object, &settings.settings, given.line, &error) {
-        Ok(text) => ProgramError::Refused { text },
-        Err(_) => ProgramError::Run(RunError::Refused(error)),
-    }
-}
-
-/// Says that a plan can't be written, and why where it is known.
-fn unwritten(error: Option<io::Error>) -> ProgramError {
-    match error {
-        Some(error) => ProgramError::Unwritten { error },
-        None => ProgramError::Run(RunError::Output),
-    }
+    let settings = &given.settings.settings;
+    let files = KernelFiles {
+        types: given.line.types.as_slice(),
+        symbols: given.line.symbols,
+    };
+    let text = prepare_text(alloc, given.object, settings, &files, &error);
+    ProgramError::Refused(Refusal::new(text, error))
 }
 
 /// Prints the plan of an object.
@@ -136,7 +86,8 @@ fn print_plan<R: BufRead>(
     given: &Given<'_, '_>,
     symbols: &mut Watched<R>,
 ) -> Result<(), ProgramError> {
-    let types = kernel_types(rt.alloc(), given.line, given.types)?;
+    let line = given.line;
+    let types = kernel_tables(rt.alloc(), &line.types, given.types, line.types_order)?;
     let Ok(writer) = BufWriter::new(rt.alloc(), Kept::new(io::writer(rt))) else {
         return Err(ProgramError::OutOfMemory);
     };
@@ -147,16 +98,16 @@ fn print_plan<R: BufRead>(
         &types,
         symbols,
         given.settings,
-        order_of(given.line),
+        order_of(line),
         &mut out,
     );
     let mut writer = out.into_inner();
     match written {
         Ok(()) => match writer.flush() {
             Ok(()) => Ok(()),
-            Err(error) => Err(unwritten(Some(error))),
+            Err(error) => Err(ProgramError::PlanUnwritten(Unwritten::because(error))),
         },
-        Err(RunError::Output) => Err(unwritten(writer.get_ref().error())),
+        Err(RunError::Output) => Err(ProgramError::PlanUnwritten(writer.get_ref().unwritten())),
         Err(RunError::Refused(error)) => Err(refused(rt.alloc(), given, error)),
     }
 }
@@ -172,10 +123,9 @@ fn print_notes(rt: &HostRuntime, object: &[u8], settings: &RunSettings) {
 }
 
 /// Reads the files that a line names, and prints the plan of its object.
-fn print_named(rt: &HostRuntime, line: &Arguments<'_>) -> Result<(), ProgramError> {
+fn print_named(rt: &HostRuntime, line: &PrepareArguments<'_>) -> Result<(), ProgramError> {
     let alloc = rt.alloc();
     // Faults of the line come first.
-    check_types(line)?;
     settings_of(alloc, line, None)?;
     let object = read(rt, line.object)?;
     let file = match line.settings {
@@ -206,15 +156,13 @@ fn print_named(rt: &HostRuntime, line: &Arguments<'_>) -> Result<(), ProgramErro
 /// Prints what a line asks for: a plan, the program's help or its version.
 fn print_asked(rt: &HostRuntime) -> Result<(), ProgramError> {
     let words = words_of(rt)?;
-    match arguments(rt.alloc(), &words) {
+    match prepare_arguments(rt.alloc(), &words) {
         Ok(line) => print_named(rt, &line),
         Err(LineError::OutOfMemory) => Err(ProgramError::OutOfMemory),
-        Err(LineError::Line(error)) if error.use_stderr() => Err(ProgramError::Line {
-            text: line_text(rt.alloc(), &error)?,
-        }),
-        Err(LineError::Line(text)) => match print!(rt; "{text}") {
+        Err(LineError::Fault { text }) => Err(ProgramError::Line { text }),
+        Err(LineError::Asked { text }) => match print_text(rt, &text) {
             Ok(()) => Ok(()),
-            Err(error) => Err(ProgramError::Unprinted { error }),
+            Err(error) => Err(ProgramError::TextUnwritten(error)),
         },
     }
 }

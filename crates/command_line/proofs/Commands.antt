@@ -13,7 +13,8 @@ use Rattle.clap.specs.declared.parser.matches.ArgMatches.{ArgMatches}
 use Rattle.clap.proofs.CallerLemmas.{added_plain, required_has_value}
 use Rattle.clap.specs.Simple.{App, with_rule}
 use Rattle.clap.specs.Walk.{Rule}
-use Rattle.command_line.specs.Commands.{IsOption, TakesObject, with_rules}
+use Rattle.command_line.specs.Commands.{TakesObject}
+use Rattle.command_line.specs.Options.{IsOption, with_rules}
 
 -- an option more
 pub with_option : (c d : Command) (a : Arg) → TakesObject c → IsOption a → AddsArg c a d → TakesObject d
@@ -82,13 +83,20 @@ object_is_there c m t p =
         → bytes_eq (slice_index_or (args_of c) j e).id.now (codes "OBJECT") ≡ true → j ≡ 0
     alone j e = rw t.args (others j e)
 
--- five options more, one after the other
+-- options more, one after the other
+pub two_more : (a b c : App) (r1 r2 s1 s2 : Rule) → b ≡ with_rule a r1 → c ≡ with_rule b r2 → r1 ≡ s1 → r2 ≡ s2 → c ≡ with_rules a (s1 ∷ s2 ∷ [])
+two_more a b c r1 r2 s1 s2 h1 h2 e1 e2 =
+    let first : b ≡ with_rule a s1 = h1 ∙ ap (with_rule a) e1 in
+    h2 ∙ (ap (λ x. with_rule x r2) first ∙ ap (with_rule (with_rule a s1)) e2)
+
+pub three_more : (a b c d : App) (r1 r2 r3 s1 s2 s3 : Rule) → b ≡ with_rule a r1 → c ≡ with_rule b r2 → d ≡ with_rule c r3
+    → r1 ≡ s1 → r2 ≡ s2 → r3 ≡ s3 → d ≡ with_rules a (s1 ∷ s2 ∷ s3 ∷ [])
+three_more a b c d r1 r2 r3 s1 s2 s3 h1 h2 h3 e1 e2 e3 =
+    let two : c ≡ with_rule (with_rule a s1) s2 = two_more a b c r1 r2 s1 s2 h1 h2 e1 e2 in
+    h3 ∙ (ap (λ x. with_rule x r3) two ∙ ap (with_rule (with_rule (with_rule a s1) s2)) e3)
+
 pub five_more : (a b c d e f : App) (r1 r2 r3 r4 r5 s1 s2 s3 s4 s5 : Rule) → b ≡ with_rule a r1 → c ≡ with_rule b r2 → d ≡ with_rule c r3 → e ≡ with_rule d r4
     → f ≡ with_rule e r5 → r1 ≡ s1 → r2 ≡ s2 → r3 ≡ s3 → r4 ≡ s4 → r5 ≡ s5 → f ≡ with_rules a (s1 ∷ s2 ∷ s3 ∷ s4 ∷ s5 ∷ [])
 five_more a b c d e f r1 r2 r3 r4 r5 s1 s2 s3 s4 s5 h1 h2 h3 h4 h5 e1 e2 e3 e4 e5 =
-    let first : b ≡ with_rule a s1 = h1 ∙ ap (with_rule a) e1 in
-    let second : c ≡ with_rule (with_rule a s1) s2 = h2 ∙ (ap (λ x. with_rule x r2) first ∙ ap (with_rule (with_rule a s1)) e2) in
-    let third : d ≡ with_rule (with_rule (with_rule a s1) s2) s3 = h3 ∙ (ap (λ x. with_rule x r3) second ∙ ap (with_rule (with_rule (with_rule a s1) s2)) e3) in
-    let fourth : e ≡ with_rule (with_rule (with_rule (with_rule a s1) s2) s3) s4 =
-    h4 ∙ (ap (λ x. with_rule x r4) third ∙ ap (with_rule (with_rule (with_rule (with_rule a s1) s2) s3)) e4) in
-    h5 ∙ (ap (λ x. with_rule x r5) fourth ∙ ap (with_rule (with_rule (with_rule (with_rule (with_rule a s1) s2) s3) s4)) e5)
+    two_more d e f r4 r5 s4 s5 h4 h5 e4 e5
+    ∙ ap (λ x. with_rules x (s4 ∷ s5 ∷ [])) (three_more a b c d r1 r2 r3 s1 s2 s3 h1 h2 h3 e1 e2 e3)

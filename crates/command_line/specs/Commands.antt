@@ -1,20 +1,17 @@
--- What the program's command line may say.
+-- What the command lines of both programs may say.
 use Rattle.std.specs.Prelude.{◌≡◌, ◌∷◌, [], ℕ, List, codes, true, false, Some}
 use Rattle.std.specs.List.{All}
 use Rattle.std.specs.Str.{bytes_eq}
-use Rattle.clap.specs.Built.{IsPlain, IsPlainArg, TakesValue}
+use Rattle.clap.specs.Built.{IsPlain, TakesValue}
 use Rattle.clap.specs.Facts.{args_of}
 use Rattle.clap.specs.Simple.{App, new_app, new_rule, on_top, with_rule}
 use Rattle.clap.specs.Walk.{Rule}
-use Rattle.clap.specs.declared.builder.action.ArgAction.TheVariants.{Append, Set, SetTrue}
+use Rattle.clap.specs.declared.builder.action.ArgAction.TheVariants.{Set}
 use Rattle.clap.specs.declared.builder.command.Command.TheViews.{out-Command}
 use Rattle.clap.specs.declared.builder.arg.Arg.{Arg}
 use Rattle.clap.specs.declared.builder.command.Command.{Command}
 use Rattle.clap.specs.declared.builder.value_parser.ValueParser.{ValueParser}
-
--- an option beside the object's file
-abbrev pub IsOption : Arg → Type 0
-IsOption a = IsPlainArg a × (a.global ≡ false) × (bytes_eq a.id.now (codes "OBJECT") ≡ false)
+use Rattle.command_line.specs.Options.{repeated, valued, with_rules, TakesNames}
 
 -- the object's file has to be named, and excludes nothing
 pub record TakesObject (c : Command) : Type 0 where
@@ -28,60 +25,21 @@ pub record TakesObject (c : Command) : Type 0 where
   pub name : object.id.now ≡ codes "OBJECT"
   pub others : All (λ a. bytes_eq a.id.now (codes "OBJECT") ≡ false) options
 
--- ---- the options, each under its long name: with a value, with one each time that it is given, and without one
-
-abbrev pub valued : List ℕ → Rule
-valued id = record (new_rule id) { long = Some id; action = Some Set; value_names = 1 }
-
-abbrev pub repeated : List ℕ → Rule
-repeated id = record (new_rule id) { long = Some id; action = Some Append; value_names = 1 }
-
-abbrev pub flag : List ℕ → Rule
-flag id = record (new_rule id) { long = Some id; action = Some SetTrue }
-
--- ---- the program's command line
-
--- the object's file alone
-abbrev pub object_app : App
-object_app =
-    with_rule (on_top (λ s. record s { has_version = true }) (new_app (codes "bpf_prepare")))
+-- the object's file alone, for the program of a name
+abbrev pub object_app : List ℕ → App
+object_app program =
+    with_rule (on_top (λ s. record s { has_version = true }) (new_app program))
     (record (new_rule (codes "OBJECT")) { required = true; action = Some Set })
 
-abbrev pub with_rules : App → List Rule → App
-with_rules app [] = app
-with_rules app (r ∷ rs) = with_rules (with_rule app r) rs
-
--- With what says what the kernel has; the byte order is little where it isn't said. Which values it and a feature may have
--- isn't stated.
-abbrev pub kernel_rules : ValueParser → ValueParser → List Rule
-kernel_rules order feature =
+-- with what names files of kernels; the byte order of their types is little where it isn't said
+abbrev pub kernel_file_rules : ValueParser → List Rule
+kernel_file_rules order =
     repeated (codes "types")
     ∷ record (valued (codes "types-order")) { parser = Some order; defaults = codes "little" ∷ [] }
     ∷ valued (codes "symbols")
-    ∷ record (repeated (codes "deny")) { parser = Some feature }
-    ∷ flag (codes "older-helpers")
     ∷ []
 
-pub record HasKernelOptions (app new : App) : Type 0 where
+pub record HasKernelFiles (app new : App) : Type 0 where
   pub order : ValueParser
-  pub feature : ValueParser
-  pub is : new ≡ with_rules app (kernel_rules order feature)
-
--- with what sets something for the object
-abbrev pub settings_rules : List Rule
-settings_rules =
-    valued (codes "settings")
-    ∷ repeated (codes "map")
-    ∷ repeated (codes "global")
-    ∷ flag (codes "rewrite-first")
-    ∷ flag (codes "notes")
-    ∷ []
-
-pub record HasSettings (app new : App) : Type 0 where
-  pub is : new ≡ with_rules app settings_rules
-
--- the command line has all of them
-pub record IsProgram (app : App) : Type 0 where
-  pub kernel : App
-  pub of_kernel : HasKernelOptions object_app kernel
-  pub of_settings : HasSettings kernel app
+  pub orders : TakesNames order (codes "little" ∷ codes "big" ∷ [])
+  pub is : new ≡ with_rules app (kernel_file_rules order)

@@ -1,2 +1,7 @@
+pub mod Options
 pub mod Commands
-pub mod Lines
+pub mod Found
+pub mod PrepareCommand
+pub mod PrepareLine
+pub mod InspectCommand
+pub mod InspectLine

@@ -1,11 +1,19 @@
-//! The words of a command line that ask for a plan.
+//! The words of the command lines of both programs: what may be asked for, and what is.
 #![tactic(auto)]
 
-mod command;
-mod line;
-mod reading;
+mod common_options;
+mod error;
+mod found;
+mod inspect_command;
+mod inspect_line;
+mod line_text;
+mod options;
+mod prepare_command;
+mod prepare_line;
 mod setting_words;
 
-pub use line::{Arguments, LineError};
-pub use reading::arguments;
+pub use error::LineError;
+pub use inspect_line::{InspectArguments, inspect_arguments};
+pub use line_text::first_paragraph;
+pub use prepare_line::{PrepareArguments, prepare_arguments};
 pub use setting_words::WordError;

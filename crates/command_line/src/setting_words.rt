@@ -1,9 +1,9 @@
-//! Words that set something: the number of a map, the bytes of a global variable, a feature.
+//! Words that set something: the number of a map, the bytes of a global variable.
 
 ghost use Rattle.std.specs.Prelude.{◌<◌, ◌^◌, IfOk};
 
 use hex::FromHexError;
-use run_settings::{RunSettings, feature_named};
+use run_settings::RunSettings;
 use std::alloc::{AllocError, Global};
 use thiserror::Error;
 
@@ -22,9 +22,6 @@ pub enum WordError {
     /// The bytes of a variable aren't written in two hexadecimal digits each.
     #[error("the bytes in {word:?} aren't written in two hexadecimal digits each")]
     NoBytes { word: String },
-    /// No feature has this name.
-    #[error("{word:?} is no feature of types")]
-    NoFeature { word: String },
     #[error("out of memory")]
     OutOfMemory,
 }
@@ -100,16 +97,5 @@ pub(crate) fn set_global(
     let (name, digits) = name_and_rest(alloc, word)?;
     let bytes = bytes_of(alloc, word, digits)?;
     settings.settings.set_global(name, &bytes, true)?;
-    Ok(())
-}
-
-/// Takes the feature of a name from the kernel.
-pub(crate) fn deny(alloc: Global, settings: &mut RunSettings, word: &str) -> Result<(), WordError> {
-    let Some(feature) = feature_named(word) else {
-        return Err(WordError::NoFeature {
-            word: String::from_str(alloc, word)?,
-        });
-    };
-    settings.features = settings.features.with_answer(feature, false);
     Ok(())
 }

@@ -3,12 +3,12 @@
 ghost use Rattle.std.specs.Prelude.{◌≡◌};
 ghost use Rattle.inspect_object.specs.declared.error.InspectError.TheVariants.{Refused};
 ghost use Rattle.inspect_object.specs.Program.{status_of};
-ghost use Rattle.inspect_object.specs.declared.error.ProgramError.TheVariants.{Input, OutOfMemory};
+ghost use Rattle.inspect_object.specs.declared.error.ProgramError.TheVariants.{Input, OutOfMemory, Unwritten};
 
 use ebpf_object::ParseError;
-use program_inputs::InputError;
+use program_io::{InputError, Unwritten};
+use refusal_texts::Refusal;
 use std::alloc::{AllocError, AllocFailed};
-use std::io;
 use thiserror::Error;
 
 /// Why [`inspect`](crate::inspecting::inspect) doesn't print an object whole.
@@ -45,21 +45,12 @@ pub enum ProgramError {
     /// There is no memory for the reports, or for writing.
     #[error("out of memory")]
     OutOfMemory,
-    /// The object is refused, or can't be written.
-    #[error("{0}")]
-    Inspect(InspectError),
-    /// The object is refused, and this is told of it.
-    #[error("refused: {text}")]
-    Refused { text: String },
-    /// The text can't be written, for a reason that is known.
-    #[error("the text can't be written: {error}")]
-    Unwritten { error: io::Error },
-}
-
-impl From<InspectError> for ProgramError {
-    fn from(error: InspectError) -> ProgramError {
-        ProgramError::Inspect(error)
-    }
+    /// The object is refused.
+    #[error("refused: {0}")]
+    Refused(Refusal<ParseError>),
+    /// The text can't be written.
+    #[error("the text {0}")]
+    Unwritten(Unwritten),
 }
 
 impl From<InputError> for ProgramError {
@@ -67,6 +58,14 @@ impl From<InputError> for ProgramError {
 
     fn from(error: InputError) -> ProgramError {
         ProgramError::Input(error)
+    }
+}
+
+impl From<Unwritten> for ProgramError {
+    ghost from_gives = { λ error e. e ≡ Unwritten error };
+
+    fn from(error: Unwritten) -> ProgramError {
+        ProgramError::Unwritten(error)
     }
 }
 
@@ -92,8 +91,7 @@ impl ProgramError {
         ensures { result ≡ status_of self.now }
     {
         match self {
-            ProgramError::Inspect(InspectError::Refused(_)) => 1,
-            ProgramError::Refused { .. } => 1,
+            ProgramError::Refused(_) => 1,
             _ => 2,
         }
     }

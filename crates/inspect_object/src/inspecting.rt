@@ -13,7 +13,7 @@ use crate::file::{write_relocations, write_sections};
 use crate::maps::write_maps;
 use crate::notes::write_notes;
 use crate::type_relocations::write_type_relocations;
-use btf_records::Endianness;
+use btf::Endianness;
 use ebpf_object::{Object, ParseError};
 use line_words::Text;
 use object_notes::{Note, file_notes};

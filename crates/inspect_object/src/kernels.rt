@@ -2,14 +2,12 @@
 
 use crate::error::ProgramError;
 use crate::refused;
+use command_line::InspectArguments;
 use ebpf_object::Object;
 use extern_reports::assumed_symbols;
-use inspect_line::InspectArguments;
-use kernel_reports::{
-    KernelReport, PlanAnswer, Reported, every_map_numbered, refusal_text, report_on,
-};
-use program_inputs::{kernel_table, read};
-use refusal_texts::KernelFiles;
+use kernel_reports::{KernelReport, PlanAnswer, Reported, every_map_numbered, report_on};
+use program_io::{kernel_table, print_text, read};
+use refusal_texts::{KernelFiles, prepare_text};
 use relocation_reports::{RelocationAt, relocations_of};
 use report_texts::{Column, Rows, report_lines, rows_of, summary_text};
 use std::alloc::{AllocError, Global};
@@ -19,7 +17,7 @@ use std::io::IsTerminal;
 fn refusal_of(
     alloc: Global,
     line: &InspectArguments<'_>,
-    object: &[u8],
+    reported: &Reported<'_, '_>,
     name: &str,
     plan: &PlanAnswer,
 ) -> Result<Option<String>, AllocError> {
@@ -31,7 +29,7 @@ fn refusal_of(
     match plan {
         PlanAnswer::Planned => Ok(None),
         PlanAnswer::Refused(error) => {
-            let text = refusal_text(alloc, object, &files, error)?;
+            let text = prepare_text(alloc, reported.file, reported.settings, &files, error)?;
             Ok(Some(text))
         }
     }
@@ -41,11 +39,11 @@ fn refusal_of(
 fn column_of<'w>(
     alloc: Global,
     line: &InspectArguments<'w>,
-    object: &[u8],
+    reported: &Reported<'_, '_>,
     name: &'w str,
     report: KernelReport,
 ) -> Result<Column<'w>, AllocError> {
-    let refusal = refusal_of(alloc, line, object, name, &report.plan)?;
+    let refusal = refusal_of(alloc, line, reported, name, &report.plan)?;
     Ok(Column {
         file: name,
         relocations: report.relocations,
@@ -65,7 +63,7 @@ fn report_of<'w>(
     let bytes = read(rt, name)?;
     let tables = [kernel_table(alloc, name, &bytes, line.types_order)?];
     let report = report_on(alloc, reported, &tables)?;
-    let column = column_of(alloc, line, reported.file, name, report)?;
+    let column = column_of(alloc, line, reported, name, report)?;
     Ok(column)
 }
 
@@ -192,8 +190,5 @@ pub(crate) fn print_reports(
         None => None,
     };
     let text = text_on_file(rt, line, &file, symbols.as_deref())?;
-    match print!(rt; "{text}") {
-        Ok(()) => Ok(()),
-        Err(error) => Err(ProgramError::Unwritten { error }),
-    }
+    Ok(print_text(rt, &text)?)
 }

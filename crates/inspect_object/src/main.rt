@@ -12,33 +12,22 @@ mod names;
 mod notes;
 mod type_relocations;
 
+use command_line::{InspectArguments, LineError, inspect_arguments};
 use ebpf_object::ParseError;
 use error::{InspectError, ProgramError};
-use inspect_line::{InspectArguments, LineError, inspect_arguments, told};
 use inspecting::inspect;
 use kernels::print_reports;
-use program_inputs::{read, words_of};
-use refusal_texts::{Kept, parse_text};
+use program_io::{Kept, Unwritten, print_text, read, words_of};
+use refusal_texts::{Refusal, parse_text};
 use std::alloc::Global;
 use std::io;
 use std::io::{BufWriter, Write};
 use std::process::ExitCode;
 
-/// What becomes of a refusal: an error with what a user is told of it, or, without memory for that,
-/// with the refusal itself.
+/// What becomes of a refusal.
 pub(crate) fn refused(alloc: Global, object: &[u8], error: ParseError) -> ProgramError {
-    match parse_text(alloc, object, &error) {
-        Ok(text) => ProgramError::Refused { text },
-        Err(_) => ProgramError::Inspect(InspectError::Refused(error)),
-    }
-}
-
-/// Says that the text can't be written, and why where it is known.
-fn unwritten(error: Option<io::Error>) -> ProgramError {
-    match error {
-        Some(error) => ProgramError::Unwritten { error },
-        None => ProgramError::Inspect(InspectError::Output),
-    }
+    let text = parse_text(alloc, object, &error);
+    ProgramError::Refused(Refusal::new(text, error))
 }
 
 /// Prints an object.
@@ -49,9 +38,9 @@ fn print_bytes(rt: &HostRuntime, object: &[u8]) -> Result<(), ProgramError> {
     match inspect(rt.alloc(), object, &mut out) {
         Ok(()) => match out.flush() {
             Ok(()) => Ok(()),
-            Err(error) => Err(unwritten(Some(error))),
+            Err(error) => Err(ProgramError::Unwritten(Unwritten::because(error))),
         },
-        Err(InspectError::Output) => Err(unwritten(out.get_ref().error())),
+        Err(InspectError::Output) => Err(ProgramError::Unwritten(out.get_ref().unwritten())),
         Err(InspectError::Refused(error)) => Err(refused(rt.alloc(), object, error)),
     }
 }
@@ -69,26 +58,14 @@ fn print_named(rt: &HostRuntime, line: &InspectArguments<'_>) -> Result<(), Prog
     print_bytes(rt, &object)
 }
 
-/// Prints the help or the version, where an error holds that.
-fn print_help(rt: &HostRuntime, error: clap::Error) -> Result<(), ProgramError> {
-    if error.use_stderr() {
-        return Err(ProgramError::Usage {
-            text: told(rt.alloc(), &error)?,
-        });
-    }
-    match print!(rt; "{error}") {
-        Ok(()) => Ok(()),
-        Err(error) => Err(ProgramError::Unwritten { error }),
-    }
-}
-
 /// Prints what a line asks for: an object, reports on it, the program's help or its version.
 fn print_asked(rt: &HostRuntime) -> Result<(), ProgramError> {
     let words = words_of(rt)?;
     match inspect_arguments(rt.alloc(), &words) {
         Ok(line) => print_named(rt, &line),
         Err(LineError::OutOfMemory) => Err(ProgramError::OutOfMemory),
-        Err(LineError::Line(error)) => print_help(rt, error),
+        Err(LineError::Fault { text }) => Err(ProgramError::Usage { text }),
+        Err(LineError::Asked { text }) => Ok(print_text(rt, &text)?),
     }
 }
 

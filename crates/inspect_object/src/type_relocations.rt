@@ -4,8 +4,7 @@ ghost use Rattle.std.specs.Prelude.{◌≡◌};
 ghost use Rattle.std.specs.Option.{option_copied};
 ghost use Rattle.string_table.specs.Texts.{text_at};
 
-use btf_extension::{SecInfo, bpf_core_relo};
-use btf_tables::Btf;
+use btf::{Btf, SecInfo, bpf_core_relo};
 use ebpf_object::Object;
 use line_words::Text;
 use std::io;

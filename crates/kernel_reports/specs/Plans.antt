@@ -1,8 +1,7 @@
 -- Whether an object gets a plan for a kernel that takes all features of types and has the newer helpers.
 use Rattle.std.specs.Prelude.{◌≢◌, ℕ, List, Bool, true, Some}
-use Rattle.btf_records.specs.declared.feature.BtfFeature.{BtfFeature}
 use Rattle.load_plan.specs.Content.{PlanContent}
-use Rattle.load_plan.specs.Inputs.{Inputs, SettingsContent, Table, inputs, symbols_given}
+use Rattle.load_plan.specs.Inputs.{BtfFeature, Inputs, SettingsContent, Table, inputs, symbols_given}
 use Rattle.load_plan.specs.Known.{IsPlanFor, IsRefusalFor}
 use Rattle.load_plan.specs.declared.error.PrepareError.TheVariants.{OutOfMemory}
 use Rattle.load_plan.specs.declared.order.Order.TheVariants.{RelocateFirst}

@@ -1,8 +1,7 @@
 -- What is reported of an object and a kernel.
 use Rattle.std.specs.Prelude.{◌≡◌, ℕ, List, Bool, IfSome, slice_get}
-use Rattle.btf_tables.specs.Tables.{Table}
 use Rattle.ebpf_object.specs.ParsedObject.{ObjectContent}
-use Rattle.load_plan.specs.Inputs.{SettingsContent}
+use Rattle.load_plan.specs.Inputs.{SettingsContent, Table}
 use Rattle.relocation_reports.specs.Answers.{answers_to}
 use Rattle.kernel_reports.specs.Plans.{IsPlanAnswer}
 use Rattle.extern_reports.specs.Presences.{SaysOfExterns}

@@ -4,10 +4,8 @@
 
 mod map_numbers;
 mod planned;
-mod refusals;
 mod report;
 
 pub use map_numbers::every_map_numbered;
 pub use planned::{PlanAnswer, plan_answer};
-pub use refusals::refusal_text;
 pub use report::{KernelReport, Reported, report_on};

@@ -93,7 +93,7 @@ fn hint(
 }
 
 /// What is told of an extern that can't be resolved: where it was looked for.
-pub fn ksyms_text(
+pub(crate) fn ksyms_text(
     alloc: Global,
     object: &[u8],
     error: &KsymsError,
@@ -109,12 +109,12 @@ pub fn ksyms_text(
 }
 
 /// What is told where an object has type relocations and no kernel types are given.
-pub fn required_types_text(alloc: Global) -> Result<String, AllocError> {
+pub(crate) fn required_types_text(alloc: Global) -> Result<String, AllocError> {
     format!(in alloc; "type relocations need kernel types: {NO_TYPES}")
 }
 
 /// What is told of a type relocation that can't be made: which files its types were looked for in.
-pub fn type_relocation_text(
+pub(crate) fn type_relocation_text(
     alloc: Global,
     error: &BtfRelocationError,
     files: &KernelFiles<'_>,

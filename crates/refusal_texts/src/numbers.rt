@@ -34,7 +34,7 @@ fn names_of<'o>(alloc: Global, object: &'o [u8], settings: &Settings) -> Option<
 }
 
 /// What is told where the map of a name has no number: which others have none, and how maps get them.
-pub fn missing_numbers_text(
+pub(crate) fn missing_numbers_text(
     alloc: Global,
     object: &[u8],
     name: &str,

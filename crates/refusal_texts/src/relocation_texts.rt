@@ -72,7 +72,7 @@ fn with_place(
 
 /// What is told of a relocation, or a call, that can't be resolved: the names of its section and
 /// symbol, and the instruction.
-pub fn relocation_text(
+pub(crate) fn relocation_text(
     alloc: Global,
     object: &[u8],
     error: &EbpfRelocationError,

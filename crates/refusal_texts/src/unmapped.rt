@@ -42,7 +42,7 @@ fn variable_of<'s>(
 
 /// What is told where no map is made of the section of an index, 0 for none, in which a variable
 /// with a value lies.
-pub fn unmapped_text(
+pub(crate) fn unmapped_text(
     alloc: Global,
     object: &[u8],
     index: usize,

@@ -1,5 +1,5 @@
 -- Which features of types a kernel grants, and their names.
-use Rattle.std.specs.Prelude.{ℕ, Bool, true, List, codes, Option, None, Some, if◌then◌else◌}
+use Rattle.std.specs.Prelude.{ℕ, Bool, true, List, [], ◌∷◌, codes, Option, None, Some, if◌then◌else◌}
 use Rattle.std.specs.Str.{bytes_eq}
 use Rattle.btf_records.specs.declared.feature.BtfFeature.{BtfFeature}
 use Rattle.btf_records.specs.declared.feature.BtfFeature.TheVariants as feature
@@ -36,6 +36,18 @@ with_answer g feature.Float answer = record g { float = answer }
 with_answer g feature.DeclTag answer = record g { decl_tag = answer }
 with_answer g feature.TypeTag answer = record g { type_tag = answer }
 with_answer g feature.Enum64 answer = record g { enum64 = answer }
+
+abbrev pub feature_names : List (List ℕ)
+feature_names =
+    codes "Func"
+    ∷ codes "FuncGlobal"
+    ∷ codes "DataSec"
+    ∷ codes "DataSecZero"
+    ∷ codes "Float"
+    ∷ codes "DeclTag"
+    ∷ codes "TypeTag"
+    ∷ codes "Enum64"
+    ∷ []
 
 abbrev pub feature_named : List ℕ → Option BtfFeature
 feature_named name =

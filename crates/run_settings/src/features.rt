@@ -1,7 +1,7 @@
 //! Which features of types a kernel grants.
 
-ghost use Rattle.std.specs.Prelude.{◌≡◌};
-ghost use Rattle.run_settings.specs.Features.{all_granted, feature_named, grants, with_answer};
+ghost use Rattle.std.specs.Prelude.{◌≡◌, map};
+ghost use Rattle.run_settings.specs.Features.{all_granted, feature_named, feature_names, grants, with_answer};
 
 use btf_records::BtfFeature;
 
@@ -92,8 +92,25 @@ impl GrantedFeatures {
     }
 }
 
-/// The feature of a name: `Func`, `FuncGlobal`, `DataSec`, `DataSecZero`, `Float`, `DeclTag`, `TypeTag`
-/// or `Enum64`.
+static NAMES: [&str; 8] = [
+    "Func",
+    "FuncGlobal",
+    "DataSec",
+    "DataSecZero",
+    "Float",
+    "DeclTag",
+    "TypeTag",
+    "Enum64",
+];
+
+/// The names of the features.
+pub fn feature_names() -> &'static [&'static str]
+    ensures { map (λ name. name.now) result.now ≡ feature_names }
+{
+    NAMES.as_slice()
+}
+
+/// The feature of a name, one of [`feature_names`].
 pub fn feature_named(name: &str) -> Option<BtfFeature>
     ensures { result ≡ feature_named name.now }
 {

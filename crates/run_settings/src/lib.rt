@@ -10,6 +10,6 @@ mod invalid;
 mod run_settings;
 
 pub use error::SettingsError;
-pub use features::{GrantedFeatures, feature_named};
+pub use features::{GrantedFeatures, feature_named, feature_names};
 pub use invalid::invalid_key;
 pub use run_settings::RunSettings;

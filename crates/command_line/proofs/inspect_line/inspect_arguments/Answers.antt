@@ -1,0 +1,20 @@
+use Rattle.std.proofs.Common.{◌∙◌, ap}
+use Rattle.command_line.specs.Found.{order_named}
+use Rattle.command_line.proofs.Commands.{object_is_there}
+use Rattle.command_line.proofs.inspect_line.inspect_arguments.Goals as goal
+
+pub object_of-requires : goal.object_of-requires
+object_of-requires c =
+    let match = c.in_ok-matches.ensures in
+    object_is_there match.command c.in_ok-matches.matches match.takes match.found.parsed
+
+pub returns : goal.returns
+returns c = record {
+  matches = c.in_ok-matches.matches;
+  match = c.in_ok-matches.ensures;
+  object = c.object_of.ensures;
+  types = c.in_ok-values_of.ensures;
+  types_order = c.order_of.ensures ∙ ap order_named c.get_str.ensures;
+  symbols = c.get_str-2.ensures;
+  summary = record { none = c.get_flag.ensures.none; set = c.get_flag.ensures.value; unset = c.get_flag.ensures.other };
+}

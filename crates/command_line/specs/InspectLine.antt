@@ -1,0 +1,27 @@
+-- What the words of a command line of `inspect_object` ask for.
+use Rattle.std.specs.Prelude.{◌≡◌, ℕ, List, Some, codes, map}
+use Rattle.std.specs.Option.{option_map}
+use Rattle.clap.specs.Simple.{app_of}
+use Rattle.clap.specs.declared.builder.command.Command.{Command}
+use Rattle.clap.specs.declared.parser.matches.ArgMatches.{ArgMatches}
+use Rattle.command_line.specs.Commands.{TakesObject}
+use Rattle.command_line.specs.Found.{order_named, value_found, values_found, IsFlag, IsFoundBy}
+use Rattle.command_line.specs.InspectCommand.{IsInspectCommand}
+use Rattle.command_line.specs.declared.inspect_line.InspectArguments.{InspectArguments}
+
+-- what clap finds in the words, for the program's command line, which has to have the object's file
+pub record IsInspectMatch (words : List (List ℕ)) (matches : ArgMatches) : Type 0 where
+  pub command : Command
+  pub program : IsInspectCommand (app_of command)
+  pub takes : TakesObject command
+  pub found : IsFoundBy command words matches
+
+-- the line says what is found in the words, and has the object's file
+pub record IsInspectLine (words : List (List ℕ)) (line : InspectArguments) : Type 0 where
+  pub matches : ArgMatches
+  pub match : IsInspectMatch words matches
+  pub object : value_found matches (codes "OBJECT") ≡ Some line.object.now
+  pub types : map (λ name. name.now) line.types.items ≡ values_found matches (codes "types")
+  pub types_order : line.types_order ≡ order_named (value_found matches (codes "types-order"))
+  pub symbols : option_map (λ name. name.now) line.symbols ≡ value_found matches (codes "symbols")
+  pub summary : IsFlag matches (codes "summary") line.summary

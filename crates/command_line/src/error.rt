@@ -1,0 +1,24 @@
+//! Why a command line asks for nothing.
+
+ghost use Rattle.std.specs.Prelude.{◌≡◌};
+ghost use Rattle.command_line.specs.declared.error.LineError.TheVariants.{OutOfMemory};
+
+use std::alloc::AllocError;
+
+/// Why a command line asks for nothing.
+#[derive(Debug, Drop)]
+pub enum LineError {
+    /// The command line may not have these words: what is wrong with them, in one line.
+    Fault { text: String },
+    /// The words ask for the help or the version: its text.
+    Asked { text: String },
+    OutOfMemory,
+}
+
+impl From<AllocError> for LineError {
+    ghost from_gives = { λ _ e. e ≡ OutOfMemory };
+
+    fn from(_error: AllocError) -> LineError {
+        LineError::OutOfMemory
+    }
+}

@@ -1,0 +1,59 @@
+//! What is found in the words of a line.
+
+ghost use Rattle.std.specs.Prelude.{◌≡◌, codes, map, Some, IfOk, is_some, true};
+ghost use Rattle.std.specs.Option.{option_map};
+ghost use Rattle.std.specs.String.{string_bytes};
+ghost use Rattle.clap.specs.Matches.{first_value, found_of};
+ghost use Rattle.command_line.specs.Found.{order_named, values_found, IsFoundBy};
+
+use crate::error::LineError;
+use crate::line_text::line_error;
+use btf_records::Endianness;
+use clap::{ArgMatches, Command};
+use std::alloc::{AllocError, Global};
+
+/// What clap finds in the words, for a command.
+pub(crate) fn matches_in<'w>(
+    alloc: Global,
+    command: Command<'w>,
+    words: &'w [String],
+) -> Result<ArgMatches<'w>, LineError>
+    ensures { IfOk result (IsFoundBy command.entry (map string_bytes words.now)) }
+{
+    match command.try_get_matches_from(words) {
+        Ok(matches) => Ok(matches),
+        Err(error) => Err(line_error(alloc, &error)?),
+    }
+}
+
+/// The values of an option that may be given several times.
+pub(crate) fn values_of<'w>(
+    alloc: Global,
+    matches: &ArgMatches<'w>,
+    id: &str,
+) -> Result<Vec<&'w str>, AllocError>
+    ensures { IfOk result (λ values. map (λ value. value.now) values.items ≡ values_found matches.now id.now) }
+{
+    match matches.get_strs(id) {
+        Some(values) => Vec::from_slice(alloc, values),
+        None => Ok(Vec::new(alloc)),
+    }
+}
+
+/// The byte order of a name.
+pub(crate) fn order_of(name: Option<&str>) -> Endianness
+    ensures { result ≡ order_named (option_map (λ name. name.now) name.entry) }
+{
+    match name {
+        Some("big") => Endianness::Big,
+        _ => Endianness::Little,
+    }
+}
+
+/// The object's file, which the words have to name.
+pub(crate) fn object_of<'w>(matches: &ArgMatches<'w>) -> &'w str
+    requires { is_some (first_value (found_of matches.now) (codes "OBJECT")) ≡ true }
+    ensures { first_value (found_of matches.now) (codes "OBJECT") ≡ Some result.now }
+{
+    matches.get_str("OBJECT").unwrap()
+}

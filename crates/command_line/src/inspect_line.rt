@@ -1,0 +1,58 @@
+//! What the words of a command line of `inspect_object` ask for.
+
+ghost use Rattle.std.specs.Prelude.{map, IfOk};
+ghost use Rattle.std.specs.String.{string_bytes};
+ghost use Rattle.command_line.specs.InspectLine.{IsInspectLine, IsInspectMatch};
+
+use crate::error::LineError;
+use crate::found::{matches_in, object_of, order_of, values_of};
+use crate::inspect_command::inspect_command;
+use btf_records::Endianness;
+use clap::ArgMatches;
+use std::alloc::Global;
+
+/// What the words of a command line ask for. File names are as the words have them.
+#[derive(Debug, Drop)]
+pub struct InspectArguments<'w> {
+    /// The object's file.
+    pub object: &'w str,
+    /// Files with types, each of a kernel.
+    pub types: Vec<&'w str>,
+    /// The byte order of all of them.
+    pub types_order: Endianness,
+    /// The file with the symbols of all kernels.
+    pub symbols: Option<&'w str>,
+    /// Whether a table is wanted in place of lines.
+    pub summary: bool,
+}
+
+/// What clap finds in the words, for the program's command line.
+fn matches_of<'w>(alloc: Global, words: &'w [String]) -> Result<ArgMatches<'w>, LineError>
+    ensures { IfOk result (IsInspectMatch (map string_bytes words.now)) }
+{
+    let command = inspect_command(alloc)?;
+    let matches = matches_in(alloc, command, words)?;
+    Ok(matches)
+}
+
+/// What the words of a command line ask for, of which the first is the program's name.
+///
+/// # Errors
+///
+/// [`LineError::Fault`] where the words are others, and [`LineError::Asked`] where they ask for the help or
+/// the version.
+pub fn inspect_arguments<'w>(
+    alloc: Global,
+    words: &'w [String],
+) -> Result<InspectArguments<'w>, LineError>
+    ensures { IfOk result (IsInspectLine (map string_bytes words.now)) }
+{
+    let matches = matches_of(alloc, words)?;
+    Ok(InspectArguments {
+        object: object_of(&matches),
+        types: values_of(alloc, &matches, "types")?,
+        types_order: order_of(matches.get_str("types-order")),
+        symbols: matches.get_str("symbols"),
+        summary: matches.get_flag("summary"),
+    })
+}

@@ -1,0 +1,37 @@
+//! Why the program ends early.
+
+use btf::BtfError;
+use ebpf_object::{EbpfRelocationError, ParseError};
+use elf64::ElfError;
+use load_plan::{PlanReadError, PrepareError};
+use std::alloc::{AllocError, AllocFailed};
+use std::io;
+use thiserror::Error;
+
+#[derive(Debug, Drop, Error)]
+pub(crate) enum ExampleError {
+    #[error("usage: library_example OBJECT [KERNEL_TYPES]")]
+    Usage,
+    #[error("{0}")]
+    Io(#[from] io::Error),
+    #[error("{0}")]
+    Elf(#[from] ElfError),
+    #[error("{0}")]
+    Parse(#[from] ParseError),
+    #[error("kernel types: {0}")]
+    Types(#[from] BtfError),
+    #[error("{0}")]
+    Relocation(#[from] EbpfRelocationError),
+    #[error("refused: {0}")]
+    Refused(#[from] PrepareError),
+    #[error("the plan's text: {0}")]
+    Text(#[from] PlanReadError),
+    #[error("out of memory")]
+    OutOfMemory(#[from] AllocError),
+}
+
+impl<T: Drop> From<AllocFailed<T>> for ExampleError {
+    fn from(_error: AllocFailed<T>) -> ExampleError {
+        ExampleError::OutOfMemory(AllocError)
+    }
+}

@@ -1,0 +1,53 @@
+//! What an object holds, listed.
+
+use crate::error::ExampleError;
+use ebpf_object::{Maps, Object};
+use elf64::ElfFile;
+
+/// Prints how much the file holds.
+pub(crate) fn print_file(rt: &HostRuntime, file: &ElfFile<'_>) -> Result<(), ExampleError> {
+    println!(rt;
+        "{} sections, {} symbols",
+        file.sections().count(),
+        file.symbols().count()
+    )?;
+    Ok(())
+}
+
+/// Prints how many types the object has, and what its functions and variables expect of the kernel.
+pub(crate) fn print_types(rt: &HostRuntime, object: &Object<'_>) -> Result<(), ExampleError> {
+    if let Some(types) = object.btf() {
+        println!(rt; "{} types", types.len())?;
+    }
+    for (_name, desc) in object.externs().iter() {
+        println!(rt; "extern {}", desc.essential_name)?;
+    }
+    Ok(())
+}
+
+/// Prints the maps.
+pub(crate) fn print_maps(rt: &HostRuntime, maps: &Maps<'_>) -> Result<(), ExampleError> {
+    for (name, map) in maps.iter() {
+        println!(rt;
+            "map {name}: type {}, keys of {} bytes, {} entries of {} bytes",
+            map.map_type(),
+            map.key_size(),
+            map.max_entries(),
+            map.value_size()
+        )?;
+    }
+    Ok(())
+}
+
+/// Prints the programs.
+pub(crate) fn print_programs(rt: &HostRuntime, object: &Object<'_>) -> Result<(), ExampleError> {
+    for (name, program) in object.programs().iter() {
+        if let Some(function) = object.function(program.function_key()) {
+            println!(rt;
+                "program {name}: {} instructions",
+                function.instructions.len()
+            )?;
+        }
+    }
+    Ok(())
+}

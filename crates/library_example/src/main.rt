@@ -1,0 +1,86 @@
+//! What a program does with the library, by its four names alone: `elf64` for the file, `ebpf_object` for what
+//! it holds, `btf` for types, and `load_plan` for what a kernel gets of it.
+//!
+//! `library_example OBJECT [KERNEL_TYPES]`
+#![tactic(auto)]
+
+ghost use Rattle.std.specs.Prelude.{◌≤◌, ◌^◌, length, IfOk};
+
+mod error;
+mod listing;
+mod planning;
+mod relocating;
+
+use btf::{Btf, Endianness};
+use ebpf_object::Object;
+use elf64::ElfFile;
+use error::ExampleError;
+use listing::{print_file, print_maps, print_programs, print_types};
+use planning::print_plan;
+use relocating::print_relocated;
+use std::env::Args;
+use std::process::ExitCode;
+use std::{env, fs};
+
+/// The file that a word names, if there is one more.
+fn next_file(rt: &HostRuntime, words: &mut Args) -> Result<Option<Vec<u8>>, ExampleError> {
+    match words.next() {
+        Some(name) => Ok(Some(fs::read(rt, name.as_str())?)),
+        None => Ok(None),
+    }
+}
+
+/// The kernel's tables of types, one or none.
+fn kernel_types<'t>(rt: &HostRuntime, bytes: Option<&'t [u8]>) -> Result<Vec<Btf<'t>>, ExampleError>
+    ensures { IfOk result (λ tables. length tables.items ≤ 2 ^ 32) }
+{
+    let mut tables = Vec::new(rt.alloc());
+    let Some(bytes) = bytes else {
+        return Ok(tables);
+    };
+    let table = Btf::parse(rt.alloc(), bytes, Endianness::Little)?;
+    tables.push(table)?;
+    Ok(tables)
+}
+
+/// Prints what an object holds, and what its programs are once they are linked.
+fn print_object(rt: &HostRuntime, object: &Object<'_>) -> Result<(), ExampleError> {
+    print_types(rt, object)?;
+    print_maps(rt, object.maps())?;
+    print_programs(rt, object)?;
+    print_relocated(rt, object)
+}
+
+/// Prints all of an object's bytes, and of its plan for a kernel with these types.
+fn print_all(rt: &HostRuntime, bytes: &[u8], types: Option<&[u8]>) -> Result<(), ExampleError> {
+    let object = Object::parse(rt.alloc(), bytes)?;
+    print_object(rt, &object)?;
+    let tables = kernel_types(rt, types)?;
+    print_plan(rt, bytes, &object, &tables)
+}
+
+/// Prints how much a file holds.
+fn print_bytes(rt: &HostRuntime, bytes: &[u8]) -> Result<(), ExampleError> {
+    print_file(rt, &ElfFile::parse(bytes)?)
+}
+
+fn run(rt: &HostRuntime) -> Result<(), ExampleError> {
+    let mut words = env::args(rt)?;
+    let _program = words.next();
+    let Some(bytes) = next_file(rt, &mut words)? else {
+        return Err(ExampleError::Usage);
+    };
+    let types = next_file(rt, &mut words)?;
+    print_bytes(rt, &bytes)?;
+    print_all(rt, &bytes, types.as_deref())
+}
+
+fn main(rt: HostRuntime) -> ExitCode {
+    match run(&rt) {
+        Ok(()) => ExitCode::SUCCESS,
+        Err(error) => {
+            let _ = eprintln!(rt; "library_example: {error}");
+            ExitCode::from(1)
+        }
+    }
+}

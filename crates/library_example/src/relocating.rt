@@ -1,0 +1,72 @@
+//! A loader's own passes over an object, under the names that aya-obj has for them.
+
+use crate::error::ExampleError;
+use ebpf_object::{Map, Object};
+use std::alloc::{AllocError, Global};
+use std::collections::{HashMap, HashSet};
+
+/// The number that a loader gives the first map: a file descriptor.
+const FIRST_NUMBER: i32 = 3;
+
+/// The sections that functions lie in.
+fn text_sections(alloc: Global, object: &Object<'_>) -> Result<HashSet<usize>, AllocError> {
+    let mut sections = HashSet::new(alloc);
+    for (key, _function) in object.functions().iter() {
+        sections.insert(key.0)?;
+    }
+    Ok(sections)
+}
+
+/// The maps under numbers, one after the other.
+fn numbered<'m>(
+    alloc: Global,
+    object: &'m Object<'_>,
+) -> Result<Vec<(&'m str, i32, &'m Map)>, AllocError> {
+    let mut numbered = Vec::new(alloc);
+    for (number, (name, map)) in (FIRST_NUMBER..).zip(object.maps().iter()) {
+        numbered.push((*name, number, map))?;
+    }
+    Ok(numbered)
+}
+
+/// Puts the value of the global variable `longest`, if there is one.
+fn put_value(alloc: Global, object: &mut Object<'_>) -> Result<(), ExampleError> {
+    let mut values = HashMap::new(alloc);
+    values.insert("longest", (&[0xe8u8, 3, 0, 0][..], false))?;
+    object.patch_map_data(values)?;
+    Ok(())
+}
+
+/// Writes the numbers of the maps of an object into a copy of it, and links that one's programs.
+fn relocate(
+    alloc: Global,
+    object: &Object<'_>,
+    relocated: &mut Object<'_>,
+) -> Result<(), ExampleError> {
+    let sections = text_sections(alloc, object)?;
+    let maps = numbered(alloc, object)?;
+    relocated.relocate_maps(maps.into_iter(), &sections)?;
+    relocated.relocate_calls(&sections)?;
+    Ok(())
+}
+
+/// Prints how long an object's programs are.
+fn print_lengths(rt: &HostRuntime, object: &Object<'_>) -> Result<(), ExampleError> {
+    for (name, program) in object.programs().iter() {
+        if let Some(function) = object.function(program.function_key()) {
+            println!(rt;
+                "linked {name}: {} instructions",
+                function.instructions.len()
+            )?;
+        }
+    }
+    Ok(())
+}
+
+/// Relocates a copy of an object as a loader does, with one value set, and prints how long its programs are.
+pub(crate) fn print_relocated(rt: &HostRuntime, object: &Object<'_>) -> Result<(), ExampleError> {
+    let mut relocated = object.try_clone()?;
+    put_value(rt.alloc(), &mut relocated)?;
+    relocate(rt.alloc(), object, &mut relocated)?;
+    print_lengths(rt, &relocated)
+}

@@ -1,0 +1,45 @@
+//! Why a program can't have what it is called with.
+
+ghost use Rattle.std.specs.Prelude.{◌≡◌};
+ghost use Rattle.program_io.specs.declared.error.InputError.TheVariants.{OutOfMemory};
+
+use btf_records::BtfError;
+use std::alloc::{AllocError, AllocFailed};
+use std::io;
+use thiserror::Error;
+
+/// Why words or files can't be had.
+#[derive(Debug, Drop, Error)]
+pub enum InputError {
+    /// A word isn't UTF-8.
+    #[error("a word isn't UTF-8")]
+    WordNotText,
+    /// A file can't be read.
+    #[error("can't read {name:?}: {error}")]
+    Read { name: String, error: io::Error },
+    /// The kernel types of a file can't be parsed.
+    #[error("kernel types in {name:?}: {error}")]
+    Types { name: String, error: BtfError },
+    /// More files with kernel types are named than tables are taken.
+    #[error("more than 4294967296 files of kernel types")]
+    TooManyTypes,
+    /// Memory ran out.
+    #[error("out of memory")]
+    OutOfMemory,
+}
+
+impl From<AllocError> for InputError {
+    ghost from_gives = { λ _ e. e ≡ OutOfMemory };
+
+    fn from(_error: AllocError) -> InputError {
+        InputError::OutOfMemory
+    }
+}
+
+impl<T: Drop> From<AllocFailed<T>> for InputError {
+    ghost from_gives = { λ _ e. e ≡ OutOfMemory };
+
+    fn from(_error: AllocFailed<T>) -> InputError {
+        InputError::OutOfMemory
+    }
+}

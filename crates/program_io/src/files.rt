@@ -1,0 +1,107 @@
+//! Files, by their names.
+
+ghost use Rattle.std.specs.Prelude.{◌≤◌, ◌^◌, length, IfOk};
+
+use crate::error::InputError;
+use btf_records::{BtfError, Endianness};
+use btf_tables::Btf;
+use std::alloc::Global;
+use std::fs::File;
+use std::io::BufReader;
+use std::{fs, io};
+
+/// Says that the file of a name can't be read.
+fn unread(alloc: Global, name: &str, error: io::Error) -> InputError {
+    match String::from_str(alloc, name) {
+        Ok(name) => InputError::Read { name, error },
+        Err(_) => InputError::OutOfMemory,
+    }
+}
+
+/// The bytes of the file of a name.
+///
+/// # Errors
+///
+/// `Read`, with the cause, and `OutOfMemory`.
+pub fn read(rt: &HostRuntime, name: &str) -> Result<Vec<u8>, InputError> {
+    match fs::read(rt, name) {
+        Ok(bytes) => Ok(bytes),
+        Err(error) => Err(unread(rt.alloc(), name, error)),
+    }
+}
+
+/// The bytes of the files of some names.
+///
+/// # Errors
+///
+/// `Read` at the first that can't be read, with the cause, and `OutOfMemory`.
+pub fn read_all(rt: &HostRuntime, names: &[&str]) -> Result<Vec<Vec<u8>>, InputError> {
+    let mut files = Vec::new(rt.alloc());
+    for name in names {
+        files.push(read(rt, name)?)?;
+    }
+    Ok(files)
+}
+
+/// The types of a kernel that the file of a name holds, in its bytes.
+///
+/// # Errors
+///
+/// `Types`, with what is wrong, and `OutOfMemory`.
+pub fn kernel_table<'t>(
+    alloc: Global,
+    name: &str,
+    bytes: &'t [u8],
+    order: Endianness,
+) -> Result<Btf<'t>, InputError> {
+    match Btf::parse(alloc, bytes, order) {
+        Ok(table) => Ok(table),
+        Err(BtfError::OutOfMemory) => Err(InputError::OutOfMemory),
+        Err(error) => Err(InputError::Types {
+            name: String::from_str(alloc, name)?,
+            error,
+        }),
+    }
+}
+
+/// No more tables of types are taken.
+const MAX_TABLES: usize = 0x1_0000_0000;
+
+/// The types of a kernel that files of these names hold, in their bytes.
+///
+/// # Errors
+///
+/// `Types` at the first that can't be parsed, `TooManyTypes` where there are more than 2^32 files, and
+/// `OutOfMemory`.
+pub fn kernel_tables<'t>(
+    alloc: Global,
+    names: &[&str],
+    files: &'t [Vec<u8>],
+    order: Endianness,
+) -> Result<Vec<Btf<'t>>, InputError>
+    ensures { IfOk result (λ tables. length tables.items ≤ 2 ^ 32) }
+{
+    let mut tables = Vec::new(alloc);
+    for (name, bytes) in names.iter().zip(files) {
+        tables.push(kernel_table(alloc, name, bytes, order)?)?;
+    }
+    if tables.len() > MAX_TABLES {
+        return Err(InputError::TooManyTypes);
+    }
+    Ok(tables)
+}
+
+/// The reader of the file of a name.
+///
+/// # Errors
+///
+/// `Read`, with the cause, and `OutOfMemory`.
+pub fn open(rt: &HostRuntime, name: &str) -> Result<BufReader<File>, InputError> {
+    match fs::open(rt, name) {
+        Ok(file) => match BufReader::new(rt.alloc(), file) {
+            Ok(reader) => Ok(reader),
+            Err(_) => Err(InputError::OutOfMemory),
+        },
+        Err(error) => Err(unread(rt.alloc(), name, error)),
+    }
+}

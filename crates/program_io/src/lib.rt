@@ -1,0 +1,12 @@
+//! What a program reads and writes: its words, the files that these name, and its output.
+#![tactic(auto)]
+
+mod error;
+mod files;
+mod output;
+mod words;
+
+pub use error::InputError;
+pub use files::{kernel_table, kernel_tables, open, read, read_all};
+pub use output::{Kept, Unwritten, print_text};
+pub use words::words_of;

@@ -1,0 +1,72 @@
+//! Output, and why it can't be written.
+
+use std::io::Write;
+use std::{fmt, io};
+
+/// That something can't be written, and why where it is known.
+#[derive(Clone, Copy, Debug)]
+pub struct Unwritten {
+    error: Option<io::Error>,
+}
+
+impl Unwritten {
+    /// That something can't be written for this reason.
+    pub fn because(error: io::Error) -> Unwritten {
+        Unwritten { error: Some(error) }
+    }
+}
+
+impl fmt::Display for Unwritten {
+    fn fmt<W: fmt::Write>(&self, f: &mut fmt::Formatter<W>) -> fmt::Result {
+        match self.error {
+            Some(error) => write!(f, "can't be written: {error}"),
+            None => write!(f, "can't be written"),
+        }
+    }
+}
+
+/// Prints a text.
+pub fn print_text(rt: &HostRuntime, text: &str) -> Result<(), Unwritten> {
+    match print!(rt; "{text}") {
+        Ok(()) => Ok(()),
+        Err(error) => Err(Unwritten::because(error)),
+    }
+}
+
+/// A writer that keeps its last error.
+#[derive(Debug, Drop)]
+pub struct Kept<W> {
+    inner: W,
+    error: Option<io::Error>,
+}
+
+impl<W: Write> Kept<W> {
+    pub fn new(inner: W) -> Kept<W> {
+        Kept { inner, error: None }
+    }
+
+    /// That something can't be written, for the reason why a call failed, of several the last one.
+    pub fn unwritten(&self) -> Unwritten {
+        Unwritten { error: self.error }
+    }
+}
+
+impl<W: Write> Write for Kept<W> {
+    ghost contents = { λ k. W.contents k.inner };
+
+    fn write(&mut self, buf: &[u8]) -> io::Result<usize> {
+        let written = self.inner.write(buf);
+        if let Err(error) = written {
+            self.error = Some(error);
+        }
+        written
+    }
+
+    fn flush(&mut self) -> io::Result<()> {
+        let flushed = self.inner.flush();
+        if let Err(error) = flushed {
+            self.error = Some(error);
+        }
+        flushed
+    }
+}

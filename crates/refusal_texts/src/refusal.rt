@@ -1,0 +1,30 @@
+//! A refusal, as it is told.
+
+use std::alloc::AllocError;
+use std::fmt;
+
+/// A refusal: what is told of it, or, without memory for that, its error.
+#[derive(Debug, Drop)]
+pub enum Refusal<E> {
+    Told(String),
+    Untold(E),
+}
+
+impl<E: Drop> Refusal<E> {
+    /// The refusal of an error, of which this text is told if it could be made.
+    pub fn new(text: Result<String, AllocError>, error: E) -> Refusal<E> {
+        match text {
+            Ok(text) => Refusal::Told(text),
+            Err(_) => Refusal::Untold(error),
+        }
+    }
+}
+
+impl<E: fmt::Display> fmt::Display for Refusal<E> {
+    fn fmt<W: fmt::Write>(&self, f: &mut fmt::Formatter<W>) -> fmt::Result {
+        match self {
+            Refusal::Told(text) => write!(f, "{text}"),
+            Refusal::Untold(error) => write!(f, "{error}"),
+        }
+    }
+}
