@@ -1,2 +1,7 @@
+pub mod Entries
 pub mod Exchange
+pub mod Kept
+pub mod Mapped
+pub mod Parsed
 pub mod Short
+pub mod Values

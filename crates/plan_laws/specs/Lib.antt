@@ -1,2 +1,3 @@
 pub mod Lengths
+pub mod Maps
 pub mod Orders

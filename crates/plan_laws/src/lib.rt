@@ -1,8 +1,11 @@
-//! Laws of plans, over what the contract of `prepare` names. The functions here compute nothing: their contracts are the theorems.
+//! Laws of plans, over what the contract of `prepare` names. The functions here compute nothing: their contracts are
+//! the theorems.
 #![tactic(auto)]
 
 mod lengths;
+mod maps;
 mod orders;
 
 pub use lengths::plan_programs_are_short;
+pub use maps::maps_keep_lengths;
 pub use orders::orders_agree;
