@@ -1,3 +1,4 @@
+pub mod Described
 pub mod Entries
 pub mod Exchange
 pub mod Kept

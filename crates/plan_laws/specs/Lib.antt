@@ -1,3 +1,4 @@
 pub mod Lengths
 pub mod Maps
 pub mod Orders
+pub mod Programs
