@@ -1,3 +1,4 @@
+pub mod Determined
 pub mod Lengths
 pub mod Maps
 pub mod Orders
