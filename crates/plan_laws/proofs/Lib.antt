@@ -1,2 +1,13 @@
+pub mod Asked
+pub mod Chains
+pub mod Described
+pub mod Determining
+pub mod Entries
 pub mod Exchange
+pub mod Kept
+pub mod Mapped
+pub mod Parsed
+pub mod Passes
+pub mod Resolved
 pub mod Short
+pub mod Values

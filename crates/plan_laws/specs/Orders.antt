@@ -31,11 +31,13 @@ pub record IsMadePlan (i : Inputs) (u : Under) (object : State) (plan : PlanCont
 -- what type relocations reach: their own types, and with a type all that its record holds
 pub record IsReach (reached : ℕ → Bool) (table : Table) (groups : Groups) : Type 0 where
   pub types : All (λ x. All (λ r. reached r.type_id ≡ true) x.records) groups
-  pub closed : (id : ℕ) → reached id ≡ true → IfSome (type_by_id table id) (λ t. All (λ next. reached next ≡ true) (held_ids t))
+  pub closed : (id : ℕ) → reached id ≡ true
+      → IfSome (type_by_id table id) (λ t. All (λ next. reached next ≡ true) (held_ids t))
 
 -- the names that the records hold, the access strings and the names of the groups' sections can be read
 pub record IsReadable (reached : ℕ → Bool) (table : Table) (groups : Groups) : Type 0 where
-  pub names : (id : ℕ) (t : BtfType) → reached id ≡ true → type_by_id table id ≡ Some t → All (λ offset. is_some (text_at table.strings offset) ≡ true) (held_names t)
+  pub names : (id : ℕ) (t : BtfType) → reached id ≡ true → type_by_id table id ≡ Some t
+      → All (λ offset. is_some (text_at table.strings offset) ≡ true) (held_names t)
   pub accesses : All (λ x. All (λ r. is_some (text_at table.strings r.access_str_off) ≡ true) x.records) groups
   pub sections : All (λ x. is_some (text_at table.strings x.name_offset) ≡ true) groups
 
@@ -52,6 +54,7 @@ pub record IsOrderFree (reached : ℕ → Bool) (answers : Answers) (object : St
 
 -- then both orders come to the same plans, the kernel tables that relocations matched among all else that a plan says
 pub record OrdersAgree : Type 0 where
-  pub each : (i : Inputs) (u : Under) (object : State) (reached : ℕ → Bool) → IsOrderFree reached u.answers object → (plan : PlanContent)
+  pub each : (i : Inputs) (u : Under) (object : State) (reached : ℕ → Bool) → IsOrderFree reached u.answers object
+      → (plan : PlanContent)
       → (IsMadePlan (in_order RelocateFirst i) u object plan → IsMadePlan (in_order RewriteFirst i) u object plan)
       × (IsMadePlan (in_order RewriteFirst i) u object plan → IsMadePlan (in_order RelocateFirst i) u object plan)

@@ -1,0 +1,226 @@
+-- Plans and refusals are determined by inputs and answers.
+use Rattle.std.proofs.Common.{◌≡◌, inl, inr, ℕ, Bool, true, List, [], ◌∷◌, ◌++◌, map, Option, None, Some, is_some, refl, sym, ap, ap₂, ◌∙◌, subst}
+use Rattle.btf_records.specs.declared.feature.BtfFeature.{BtfFeature}
+use Rattle.btf_sanitizing.specs.Answers.{Answers}
+use Rattle.ebpf_items.specs.declared.instruction.bpf_insn.{bpf_insn}
+use Rattle.ebpf_object.specs.Faults.{HasFault}
+use Rattle.function_layout.specs.Layout.{Key}
+use Rattle.function_layout.specs.Theorems.{LayoutIsUnique}
+use Rattle.load_plan.specs.Inputs.{Inputs, IsSaid, State, Under}
+use Rattle.load_plan.specs.Known.{GoByFeature, IsPlanFor, IsRefusalFor}
+use Rattle.load_plan.specs.Passes.{ExternSlots, Externs, FunctionRecords, GlobalValues, Helpers, KernelTypes, Made, MapNumbers, MapSlots, OfParse, Pass, Refused, TypeSlots, Types, linking, passes, patching}
+use Rattle.load_plan.specs.Planned.{IsPlanOf, IsWholeObject}
+use Rattle.load_plan.specs.declared.error.PrepareError.{PrepareError}
+use Rattle.load_plan.specs.declared.order.Order.{Order}
+use Rattle.load_plan.specs.declared.order.Order.TheVariants.{RelocateFirst, RewriteFirst}
+use Rattle.object_parts.specs.Content.{FunctionContent, ProgramContent, function_at}
+use Rattle.object_plan.specs.Plans.{plan_of, plan_program_of, program_of, type_bytes}
+use Rattle.plan_laws.proofs.Asked.{asked-same}
+use Rattle.plan_laws.proofs.Chains.{blind-same, has_types, made-answers, made-not-refused, made-one, made-parts, made-sound, made-whole, passes-need, patching-needs}
+use Rattle.plan_laws.proofs.Parsed.{whole-rises, whole-same}
+use Rattle.plan_laws.proofs.Passes.{Agree, Needs, Sound, of-parse}
+use Rattle.plan_laws.specs.Determined.{FeaturesLeaveSlotsAndMaps, IsKnown, IsPlanUnder, IsRefusalUnder, PlansAreDetermined, PlansExcludeRefusals, SameSlotsAndMaps, slots_of}
+use Rattle.plan_maps.specs.PlanMaps.{plan_map}
+use Rattle.plan_text.specs.Content.{PlanContent}
+use Rattle.plan_text.specs.PlanGrammar.{text_of}
+use Rattle.program_kinds.specs.declared.program_section.ProgramSection.{ProgramSection}
+
+-- ---- answers that agree
+
+agree-itself : (u : Under) → Agree u u
+agree-itself u = record { answers = λ table one two. refl }
+
+agree-known : (grants : BtfFeature → Bool) (u v : Under) → GoByFeature grants u.answers → GoByFeature grants v.answers
+    → Agree u v
+agree-known grants u v one two = record {
+  answers =
+      λ table first second. asked-same grants table.strings table.types u.answers v.answers one two first.questions
+      second.questions;
+}
+
+said-same : (has_helpers : Bool) (a b : Option Bool) → IsSaid (λ answer. answer ≡ has_helpers) a
+    → IsSaid (λ answer. answer ≡ has_helpers) b → is_some a ≡ is_some b → a ≡ b
+said-same has_helpers None None one two same = refl
+said-same has_helpers None (Some y) one two same = absurd (cc)
+said-same has_helpers (Some x) None one two same = absurd (cc)
+said-same has_helpers (Some x) (Some y) one two same = ap (λ (b : Bool). Some b) (one ∙ sym two)
+
+has-types : (order : Order) → has_types (patching order) ≡ true
+has-types RelocateFirst = refl
+has-types RewriteFirst = refl
+
+-- ---- a plan is one
+
+whole-sound : (i : Inputs) → IsKnown i → (object : State) → IsWholeObject i.file object → Sound i object
+whole-sound i known object whole = record { rising = whole-rises i.file object whole; unread = known.each object whole }
+
+plan-one : (laws : LayoutIsUnique) (i : Inputs) (u v : Under) (agree : Agree u v)
+    → (helped : Needs Helpers u v) (object : State) (a b : PlanContent) → Sound i object → IsPlanOf i u object a
+    → IsPlanOf i v object b → a ≡ b
+plan-one laws i u v agree helped object a b sound one two =
+    let needs = patching-needs u v agree i.order in
+    let patched : two.patched ≡ one.patched =
+    sym (made-one laws i u v
+    (patching i.order) object one.patched two.patched sound needs one.patching two.patching) in
+    let linked : Made linking i v one.patched two.final =
+    subst (λ (s : State). Made linking i v s two.final) patched two.linking in
+    let rises = made-sound i u (patching i.order) object one.patched sound one.patching in
+    let final : one.final ≡ two.final =
+    made-one laws i u v linking one.patched one.final two.final rises (tt, (helped, tt)) one.linking linked in
+    let answers : u.answers ≡ v.answers =
+    made-answers laws i u v
+    (patching i.order) object one.patched two.patched sound needs one.patching two.patching (has-types i.order) in
+    one.is ∙ ap₂ (λ (x : Answers) (s : State). plan_of x (map (plan_map i.settings) s.maps) s) answers final
+    ∙ sym two.is
+
+for-object : (i : Inputs) (u : Under) (a b : State) (plan : PlanContent) → IsWholeObject i.file a
+    → IsWholeObject i.file b → IsPlanOf i u b plan → IsPlanOf i u a plan
+for-object i u a b plan one two planned =
+    subst (λ (s : State). IsPlanOf i u s plan) (whole-same i.file b a two one) planned
+
+kernel-one : (laws : LayoutIsUnique) (i : Inputs) → IsKnown i → (grants : BtfFeature → Bool)
+    → (has_helpers : Bool) (a b : PlanContent) → IsPlanFor grants has_helpers i a → IsPlanFor grants has_helpers i b
+    → a ≡ b
+kernel-one laws i known grants has_helpers a b one two =
+    plan-one laws i one.under two.under
+    (agree-known grants one.under two.under one.known.features two.known.features)
+    (said-same has_helpers one.under.has_helpers two.under.has_helpers one.known.helpers two.known.helpers)
+    one.object a b (whole-sound i known one.object one.whole) one.planned
+    (for-object i two.under one.object two.object b one.whole two.whole two.planned)
+
+pub determined : (laws : LayoutIsUnique) → PlansAreDetermined
+determined laws = record {
+  under = λ i known u a b one two.
+      plan-one laws i u u (agree-itself u) (λ same. refl) one.object a b
+      (whole-sound i known one.object one.whole) one.planned
+      (for-object i u one.object two.object b one.whole two.whole two.planned);
+  kernel = kernel-one laws;
+  texts = λ i known grants has_helpers a b one two.
+      ap text_of (kernel-one laws i known grants has_helpers a b one two);
+}
+
+-- ---- a plan and a refusal exclude each other
+
+not-both : (laws : LayoutIsUnique) (i : Inputs) (u v : Under) (agree : Agree u v)
+    → (object : State) (plan : PlanContent) (e : PrepareError) → Sound i object → IsPlanOf i u object plan
+    → Refused (passes i.order) i v object e → ⊥
+not-both laws i u v agree object plan e sound planned refused =
+    made-not-refused laws i u v agree (passes i.order) object planned.final e sound
+    (passes-need u v agree i.order)
+    (made-whole i u (patching i.order) linking object planned.patched planned.final planned.patching planned.linking)
+    refused
+
+not-faulty : (file : List ℕ) (object : State) (e : PrepareError) → IsWholeObject file object → OfParse (HasFault file) e
+    → ⊥
+not-faulty file object e whole fault = of-parse (HasFault file) whole.faultless.none e fault
+
+pub excluded : (laws : LayoutIsUnique) → PlansExcludeRefusals
+excluded laws = record { under = under; kernel = kernel } where
+  under : (i : Inputs) → IsKnown i → (u : Under) (plan : PlanContent) (e : PrepareError)
+      → IsPlanUnder i u plan → IsRefusalUnder i u e → ⊥
+  under i known u plan e planned (inl fault) = not-faulty i.file planned.object e planned.whole fault
+  under i known u plan e planned (inr refusal) =
+      not-both laws i u u (agree-itself u) planned.object plan e
+      (whole-sound i known planned.object planned.whole) planned.planned
+      (subst (λ (s : State). Refused (passes i.order) i u s e)
+      (whole-same i.file refusal.object planned.object refusal.whole planned.whole) refusal.refused)
+
+  kernel : (i : Inputs) → IsKnown i
+      → (grants : BtfFeature → Bool) (has_helpers : Bool) (plan : PlanContent) (e : PrepareError)
+      → IsPlanFor grants has_helpers i plan → IsRefusalFor grants i e → ⊥
+  kernel i known grants has_helpers plan e planned (inl fault) = not-faulty i.file planned.object e planned.whole fault
+  kernel i known grants has_helpers plan e planned (inr refusal) =
+      not-both laws i planned.under refusal.under
+      (agree-known grants planned.under refusal.under planned.known.features refusal.known) planned.object plan e
+      (whole-sound i known planned.object planned.whole) planned.planned
+      (subst (λ (s : State). Refused (passes i.order) i refusal.under s e)
+      (whole-same i.file refusal.object planned.object refusal.whole planned.whole) refusal.refused)
+
+-- ---- answers on features change no slot where relocations come first
+
+-- the passes before the rewriting of types, and behind it
+abbrev before : List Pass
+before = FunctionRecords ∷ MapNumbers ∷ GlobalValues ∷ KernelTypes ∷ Externs ∷ TypeSlots ∷ []
+
+abbrev behind : List Pass
+behind = MapSlots ∷ ExternSlots ∷ []
+
+slots-by : (a b : Answers) (x y : Bool) (name : List ℕ) (section : ProgramSection) (o : Option FunctionContent)
+    → (program_of a x name section o).slots ≡ (program_of b y name section o).slots
+slots-by a b x y name section None = refl
+slots-by a b x y name section (Some f) = refl
+
+slots-same : (a b : Answers) (x y : Bool) (functions : List (Key × FunctionContent))
+    → (programs : List (List ℕ × ProgramContent))
+    → map (λ p. p.slots) (map (plan_program_of a x functions) programs)
+    ≡ map (λ p. p.slots) (map (plan_program_of b y functions) programs)
+slots-same a b x y functions [] = refl
+slots-same a b x y functions (e ∷ es) =
+    ap₂ (λ (s : List bpf_insn) (ss : List (List bpf_insn)). s ∷ ss)
+    (slots-by a b x y e.0 e.1.section (function_at functions (e.1.section_index, e.1.address)))
+    (slots-same a b x y functions es)
+
+-- what these make of an object, and those behind the rewriting of one that differs in its types alone
+record Ends (i : Inputs) (u : Under) (object final : State) : Type 0 where
+  middle : State
+  made : Made before i u object middle
+  rewritten : State
+  only : rewritten ≡ record middle { types = rewritten.types }
+  rest : Made (behind ++ linking) i u rewritten final
+
+ends : (i : Inputs) (u : Under) (object : State) (plan : PlanContent) → i.order ≡ RelocateFirst
+    → (planned : IsPlanOf i u object plan) → Ends i u object planned.final
+ends i u object plan first planned =
+    let made : Made (patching RelocateFirst) i u object planned.patched =
+    subst (λ (o : Order). Made (patching o) i u object planned.patched) first planned.patching in
+    let parts = made-parts i u before (Types ∷ behind) object planned.patched made in
+    record {
+      middle = parts.0;
+      made = parts.1;
+      rewritten = parts.2.0;
+      only = parts.2.1.others;
+      rest = made-whole i u behind linking parts.2.0 planned.patched planned.final parts.2.2 planned.linking;
+    }
+
+slots-and-maps-same : (laws : LayoutIsUnique) (i : Inputs) (first : i.order ≡ RelocateFirst)
+    → (u v : Under) (helped : Needs Helpers u v) (object : State) (a b : PlanContent) → Sound i object
+    → IsPlanOf i u object a → IsPlanOf i v object b → SameSlotsAndMaps a b
+slots-and-maps-same laws i first u v helped object a b sound one two =
+    let x = ends i u object a first one in
+    let y = ends i v object b first two in
+    let middle : y.middle ≡ x.middle =
+    sym (made-one laws i u v before object x.middle y.middle sound
+    (tt, (tt, (tt, (tt, (tt, (tt, tt)))))) x.made y.made) in
+    let only : y.rewritten ≡ record x.middle { types = y.rewritten.types } =
+    subst (λ (s : State). y.rewritten ≡ record s { types = y.rewritten.types }) middle y.only in
+    let rises = made-sound i u before object x.middle sound x.made in
+    let final =
+    blind-same laws i u v (behind ++ linking) (tt, (tt, (tt, (tt, tt))))
+    (tt, (tt, (tt, (helped, tt)))) x.middle x.rewritten y.rewritten one.final two.final rises x.only only x.rest
+    y.rest in
+    let slots =
+    slots-same u.answers v.answers (is_some (type_bytes one.final.types))
+    (is_some (type_bytes two.final.types)) one.final.functions one.final.programs in
+    let there =
+    ap (λ (s : State). map (λ p. p.slots)
+    (map (plan_program_of v.answers (is_some (type_bytes two.final.types)) s.functions) s.programs)) (sym final) in
+    record {
+      maps =
+          ap (λ (p : PlanContent). p.maps) one.is ∙ ap (λ (s : State). map (plan_map i.settings) s.maps) (sym final)
+          ∙ sym (ap (λ (p : PlanContent). p.maps) two.is);
+      slots = ap slots_of one.is ∙ slots ∙ there ∙ sym (ap slots_of two.is);
+    }
+
+pub unchanged : (laws : LayoutIsUnique) → FeaturesLeaveSlotsAndMaps
+unchanged laws = record {
+  under = λ i known first u v helpers a b one two.
+      slots-and-maps-same laws i first u v (λ same. helpers) one.object a b
+      (whole-sound i known one.object one.whole) one.planned
+      (for-object i v one.object two.object b one.whole two.whole two.planned);
+  kernel = λ i known first grants others has_helpers a b one two.
+      slots-and-maps-same laws i first one.under two.under
+      (said-same has_helpers one.under.has_helpers two.under.has_helpers one.known.helpers two.known.helpers) one.object
+      a b
+      (whole-sound i known one.object one.whole) one.planned
+      (for-object i two.under one.object two.object b one.whole two.whole two.planned);
+}

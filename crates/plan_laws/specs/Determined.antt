@@ -1,0 +1,69 @@
+-- That a plan is determined by its inputs and by the answers about the kernel.
+use Rattle.std.specs.Prelude.{◌≡◌, ◌⊎◌, Bool, false, IsSome, List, map}
+use Rattle.btf_records.specs.declared.feature.BtfFeature.{BtfFeature}
+use Rattle.ebpf_items.specs.declared.instruction.bpf_insn.{bpf_insn}
+use Rattle.ebpf_object.specs.Faults.{HasFault}
+use Rattle.extern_resolution.specs.Outcomes.{is_any_sought}
+use Rattle.load_plan.specs.Inputs.{Inputs, State, Under}
+use Rattle.load_plan.specs.Known.{IsPlanFor, IsRefusalFor}
+use Rattle.load_plan.specs.Passes.{OfParse, Refused, passes}
+use Rattle.load_plan.specs.Planned.{IsPlanOf, IsWholeObject}
+use Rattle.load_plan.specs.declared.error.PrepareError.{PrepareError}
+use Rattle.load_plan.specs.declared.order.Order.TheVariants.{RelocateFirst}
+use Rattle.plan_text.specs.Content.{PlanContent}
+use Rattle.plan_text.specs.PlanGrammar.{text_of}
+
+-- the plan of the object that a file holds, under answers
+pub record IsPlanUnder (i : Inputs) (u : Under) (plan : PlanContent) : Type 0 where
+  pub object : State
+  pub whole : IsWholeObject i.file object
+  pub planned : IsPlanOf i u object plan
+
+-- a pass refuses that object, under answers
+pub record IsPassRefusalUnder (i : Inputs) (u : Under) (e : PrepareError) : Type 0 where
+  pub object : State
+  pub whole : IsWholeObject i.file object
+  pub refused : Refused (passes i.order) i u object e
+
+-- what a refusal says, memory apart
+abbrev pub IsRefusalUnder : Inputs → Under → PrepareError → Type 0
+IsRefusalUnder i u e = OfParse (HasFault i.file) e ⊎ IsPassRefusalUnder i u e
+
+-- it is known which text the reader of the kernel's symbols gives, or no extern of the object is looked for in it
+pub record IsKnown (i : Inputs) : Type 0 where
+  pub each : (object : State) → IsWholeObject i.file object
+      → IsSome i.symbols.bytes ⊎ (is_any_sought object.externs.by_name ≡ false)
+
+-- Equal inputs and equal answers give equal plans. So do equal inputs for a kernel of these features, that has the
+-- newer helpers or lacks them; and then equal texts.
+pub record PlansAreDetermined : Type 0 where
+  pub under : (i : Inputs) → IsKnown i → (u : Under) (a b : PlanContent)
+      → IsPlanUnder i u a → IsPlanUnder i u b → a ≡ b
+  pub kernel : (i : Inputs) → IsKnown i → (grants : BtfFeature → Bool) (has_helpers : Bool) (a b : PlanContent)
+      → IsPlanFor grants has_helpers i a → IsPlanFor grants has_helpers i b → a ≡ b
+  pub texts : (i : Inputs) → IsKnown i → (grants : BtfFeature → Bool) (has_helpers : Bool) (a b : PlanContent)
+      → IsPlanFor grants has_helpers i a → IsPlanFor grants has_helpers i b → text_of a ≡ text_of b
+
+-- where there is a plan nothing is refused, and where something is there is none
+pub record PlansExcludeRefusals : Type 0 where
+  pub under : (i : Inputs) → IsKnown i → (u : Under) (plan : PlanContent) (e : PrepareError)
+      → IsPlanUnder i u plan → IsRefusalUnder i u e → ⊥
+  pub kernel : (i : Inputs) → IsKnown i → (grants : BtfFeature → Bool) (has_helpers : Bool) (plan : PlanContent)
+      → (e : PrepareError) → IsPlanFor grants has_helpers i plan → IsRefusalFor grants i e → ⊥
+
+-- the slots of a plan's programs
+abbrev pub slots_of : PlanContent → List (List bpf_insn)
+slots_of plan = map (λ p. p.slots) plan.programs
+
+-- plans have the same maps and, program by program, the same slots
+pub record SameSlotsAndMaps (a b : PlanContent) : Type 0 where
+  pub maps : a.maps ≡ b.maps
+  pub slots : slots_of a ≡ slots_of b
+
+-- where relocations come first, answers on features of types change neither slots nor maps
+pub record FeaturesLeaveSlotsAndMaps : Type 0 where
+  pub under : (i : Inputs) → IsKnown i → i.order ≡ RelocateFirst → (u v : Under) → u.has_helpers ≡ v.has_helpers
+      → (a b : PlanContent) → IsPlanUnder i u a → IsPlanUnder i v b → SameSlotsAndMaps a b
+  pub kernel : (i : Inputs) → IsKnown i → i.order ≡ RelocateFirst → (grants others : BtfFeature → Bool)
+      → (has_helpers : Bool) (a b : PlanContent)
+      → IsPlanFor grants has_helpers i a → IsPlanFor others has_helpers i b → SameSlotsAndMaps a b
