@@ -15,9 +15,9 @@ use Rattle.btf_tables.specs.Tables.{Table}
 use Rattle.ebpf_object.specs.Rewriting.{IsRewritten, IsRewrittenIf}
 use Rattle.load_plan.specs.Granted.{AreGranted, NeedGranted, came_as}
 use Rattle.load_plan.specs.Inputs.{Inputs, State, Under}
-use Rattle.load_plan.specs.Passes.{ExternSlots, Externs, FunctionRecords, GlobalValues, Helpers, KernelTypes, Links, Made, Makes, MapNumbers, MapSlots, Pass, TypeSlots, Types, linking, patching}
+use Rattle.load_plan.specs.Passes.{ExternSlots, Externs, FunctionRecords, GlobalValues, Helpers, KernelTypes, Links, Made, Makes, MapNumbers, MapSlots, Pass, TypeSlots, Types, linking, patching, unlinked_of}
 use Rattle.load_plan.specs.Planned.{IsPlanOf}
-use Rattle.load_plan.specs.Programs.{ArePlanPrograms, source}
+use Rattle.load_plan.specs.Programs.{ArePlanPrograms, func_records_of, own_key, source}
 use Rattle.object_parts.specs.Content.{ProgramContent}
 use Rattle.object_plan.specs.Plans.{HoldsTypeBytes}
 use Rattle.plan_laws.proofs.Kept.{made-keeps}
@@ -138,13 +138,14 @@ types-granted answers object (Some table) (Some bytes) same holds granted = by o
 -- ---- the programs of a plan
 
 described-by : (i : Inputs) (u : Under) (object patched : State) (made : Made (patching i.order) i u object patched)
-    → (whole : PlanContent) → TypesAreGranted object whole.features whole.type_bytes
+    → (whole : PlanContent) → whole.features ≡ u.answers → TypesAreGranted object whole.features whole.type_bytes
     → (es : List (List ℕ × ProgramContent)) (ps : List plan.ProgramContent)
-    → ArePlanPrograms i u object patched made whole es ps → AllZip (IsDescribed (source u patched) object whole) es ps
-described-by i u object patched made whole types [] [] are = tt
-described-by i u object patched made whole types [] (p ∷ ps) are = absurd are
-described-by i u object patched made whole types (e ∷ es) [] are = absurd are
-described-by i u object patched made whole types (e ∷ es) (p ∷ ps) are =
+    → ArePlanPrograms i u object patched made whole es ps
+    → AllZip (IsDescribed (unlinked_of patched) (source u patched) object whole) es ps
+described-by i u object patched made whole features types [] [] are = tt
+described-by i u object patched made whole features types [] (p ∷ ps) are = absurd are
+described-by i u object patched made whole features types (e ∷ es) [] are = absurd are
+described-by i u object patched made whole features types (e ∷ es) (p ∷ ps) are =
     let is = are.0 in (
       record {
         name = is.name;
@@ -153,10 +154,14 @@ described-by i u object patched made whole types (e ∷ es) (p ∷ ps) are =
         layout = is.layout;
         slots = is.slots;
         visits = is.visits;
+        records =
+            is.func_records
+            ∙ ap (λ (answers : Answers). func_records_of answers (unlinked_of patched) (own_key e.1) is.keys)
+            (sym features);
         names = is.names;
         types = types;
       },
-      described-by i u object patched made whole types es ps are.1,
+      described-by i u object patched made whole features types es ps are.1,
     )
 
 described : (i : Inputs) (u : Under) (object : State) (whole : PlanContent) → IsPlanOf i u object whole
@@ -174,8 +179,8 @@ described i u object whole planned =
       patched = planned.patched;
       made = planned.patching;
       programs =
-          described-by i u object planned.patched planned.patching whole types object.programs whole.programs
-          planned.programs;
+          described-by i u object planned.patched planned.patching whole features types object.programs
+          whole.programs planned.programs;
     }
 
 pub programs_are_described : PlanProgramsAreDescribed

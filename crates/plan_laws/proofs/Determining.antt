@@ -20,6 +20,7 @@ use Rattle.plan_laws.proofs.Chains.{blind-same, has_types, made-answers, made-no
 use Rattle.plan_laws.proofs.Parsed.{whole-rises, whole-same}
 use Rattle.plan_laws.proofs.Passes.{Agree, Needs, Sound, of-parse}
 use Rattle.plan_laws.specs.Determined.{FeaturesLeaveSlotsAndMaps, IsKnown, IsPlanUnder, IsRefusalUnder, PlansAreDetermined, PlansExcludeRefusals, SameSlotsAndMaps, slots_of}
+use Rattle.plan_laws.specs.Orders.{IsMadePlan}
 use Rattle.plan_maps.specs.PlanMaps.{plan_map}
 use Rattle.plan_text.specs.Content.{PlanContent}
 use Rattle.plan_text.specs.PlanGrammar.{text_of}
@@ -27,18 +28,18 @@ use Rattle.program_kinds.specs.declared.program_section.ProgramSection.{ProgramS
 
 -- ---- answers that agree
 
-agree-itself : (u : Under) → Agree u u
+pub agree-itself : (u : Under) → Agree u u
 agree-itself u = record { answers = λ table one two. refl }
 
-agree-known : (grants : BtfFeature → Bool) (u v : Under) → GoByFeature grants u.answers → GoByFeature grants v.answers
-    → Agree u v
+pub agree-known : (grants : BtfFeature → Bool) (u v : Under) → GoByFeature grants u.answers
+    → GoByFeature grants v.answers → Agree u v
 agree-known grants u v one two = record {
   answers =
       λ table first second. asked-same grants table.strings table.types u.answers v.answers one two first.questions
       second.questions;
 }
 
-said-same : (has_helpers : Bool) (a b : Option Bool) → IsSaid (λ answer. answer ≡ has_helpers) a
+pub said-same : (has_helpers : Bool) (a b : Option Bool) → IsSaid (λ answer. answer ≡ has_helpers) a
     → IsSaid (λ answer. answer ≡ has_helpers) b → is_some a ≡ is_some b → a ≡ b
 said-same has_helpers None None one two same = refl
 said-same has_helpers None (Some y) one two same = absurd (cc)
@@ -51,12 +52,22 @@ has-types RewriteFirst = refl
 
 -- ---- a plan is one
 
-whole-sound : (i : Inputs) → IsKnown i → (object : State) → IsWholeObject i.file object → Sound i object
+pub whole-sound : (i : Inputs) → IsKnown i → (object : State) → IsWholeObject i.file object → Sound i object
 whole-sound i known object whole = record { rising = whole-rises i.file object whole; unread = known.each object whole }
 
-plan-one : (laws : LayoutIsUnique) (i : Inputs) (u v : Under) (agree : Agree u v)
-    → (helped : Needs Helpers u v) (object : State) (a b : PlanContent) → Sound i object → IsPlanOf i u object a
-    → IsPlanOf i v object b → a ≡ b
+pub is-made : (i : Inputs) (u : Under) (object : State) (plan : PlanContent) → IsPlanOf i u object plan
+    → IsMadePlan i u object plan
+is-made i u object plan planned = record {
+  patched = planned.patched;
+  patching = planned.patching;
+  final = planned.final;
+  linking = planned.linking;
+  is = planned.is;
+}
+
+pub plan-one : (laws : LayoutIsUnique) (i : Inputs) (u v : Under) (agree : Agree u v)
+    → (helped : Needs Helpers u v) (object : State) (a b : PlanContent) → Sound i object → IsMadePlan i u object a
+    → IsMadePlan i v object b → a ≡ b
 plan-one laws i u v agree helped object a b sound one two =
     let needs = patching-needs u v agree i.order in
     let patched : two.patched ≡ one.patched =
@@ -73,7 +84,7 @@ plan-one laws i u v agree helped object a b sound one two =
     one.is ∙ ap₂ (λ (x : Answers) (s : State). plan_of x (map (plan_map i.settings) s.maps) s) answers final
     ∙ sym two.is
 
-for-object : (i : Inputs) (u : Under) (a b : State) (plan : PlanContent) → IsWholeObject i.file a
+pub for-object : (i : Inputs) (u : Under) (a b : State) (plan : PlanContent) → IsWholeObject i.file a
     → IsWholeObject i.file b → IsPlanOf i u b plan → IsPlanOf i u a plan
 for-object i u a b plan one two planned =
     subst (λ (s : State). IsPlanOf i u s plan) (whole-same i.file b a two one) planned
@@ -85,15 +96,16 @@ kernel-one laws i known grants has_helpers a b one two =
     plan-one laws i one.under two.under
     (agree-known grants one.under two.under one.known.features two.known.features)
     (said-same has_helpers one.under.has_helpers two.under.has_helpers one.known.helpers two.known.helpers)
-    one.object a b (whole-sound i known one.object one.whole) one.planned
-    (for-object i two.under one.object two.object b one.whole two.whole two.planned)
+    one.object a b (whole-sound i known one.object one.whole) (is-made i one.under one.object a one.planned)
+    (is-made i two.under one.object b
+    (for-object i two.under one.object two.object b one.whole two.whole two.planned))
 
 pub determined : (laws : LayoutIsUnique) → PlansAreDetermined
 determined laws = record {
   under = λ i known u a b one two.
       plan-one laws i u u (agree-itself u) (λ same. refl) one.object a b
-      (whole-sound i known one.object one.whole) one.planned
-      (for-object i u one.object two.object b one.whole two.whole two.planned);
+      (whole-sound i known one.object one.whole) (is-made i u one.object a one.planned)
+      (is-made i u one.object b (for-object i u one.object two.object b one.whole two.whole two.planned));
   kernel = kernel-one laws;
   texts = λ i known grants has_helpers a b one two.
       ap text_of (kernel-one laws i known grants has_helpers a b one two);
@@ -101,8 +113,8 @@ determined laws = record {
 
 -- ---- a plan and a refusal exclude each other
 
-not-both : (laws : LayoutIsUnique) (i : Inputs) (u v : Under) (agree : Agree u v)
-    → (object : State) (plan : PlanContent) (e : PrepareError) → Sound i object → IsPlanOf i u object plan
+pub not-both : (laws : LayoutIsUnique) (i : Inputs) (u v : Under) (agree : Agree u v)
+    → (object : State) (plan : PlanContent) (e : PrepareError) → Sound i object → IsMadePlan i u object plan
     → Refused (passes i.order) i v object e → ⊥
 not-both laws i u v agree object plan e sound planned refused =
     made-not-refused laws i u v agree (passes i.order) object planned.final e sound
@@ -110,8 +122,8 @@ not-both laws i u v agree object plan e sound planned refused =
     (made-whole i u (patching i.order) linking object planned.patched planned.final planned.patching planned.linking)
     refused
 
-not-faulty : (file : List ℕ) (object : State) (e : PrepareError) → IsWholeObject file object → OfParse (HasFault file) e
-    → ⊥
+pub not-faulty : (file : List ℕ) (object : State) (e : PrepareError) → IsWholeObject file object
+    → OfParse (HasFault file) e → ⊥
 not-faulty file object e whole fault = of-parse (HasFault file) whole.faultless.none e fault
 
 pub excluded : (laws : LayoutIsUnique) → PlansExcludeRefusals
@@ -121,7 +133,7 @@ excluded laws = record { under = under; kernel = kernel } where
   under i known u plan e planned (inl fault) = not-faulty i.file planned.object e planned.whole fault
   under i known u plan e planned (inr refusal) =
       not-both laws i u u (agree-itself u) planned.object plan e
-      (whole-sound i known planned.object planned.whole) planned.planned
+      (whole-sound i known planned.object planned.whole) (is-made i u planned.object plan planned.planned)
       (subst (λ (s : State). Refused (passes i.order) i u s e)
       (whole-same i.file refusal.object planned.object refusal.whole planned.whole) refusal.refused)
 
@@ -132,7 +144,7 @@ excluded laws = record { under = under; kernel = kernel } where
   kernel i known grants has_helpers plan e planned (inr refusal) =
       not-both laws i planned.under refusal.under
       (agree-known grants planned.under refusal.under planned.known.features refusal.known) planned.object plan e
-      (whole-sound i known planned.object planned.whole) planned.planned
+      (whole-sound i known planned.object planned.whole) (is-made i planned.under planned.object plan planned.planned)
       (subst (λ (s : State). Refused (passes i.order) i refusal.under s e)
       (whole-same i.file refusal.object planned.object refusal.whole planned.whole) refusal.refused)
 

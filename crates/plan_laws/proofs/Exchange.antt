@@ -181,7 +181,7 @@ agree-after reached answers object s free left table new e rewritten =
     (agree reached table new (type_groups object) (free.reach table known) (free.readable table known) (free.stays table new known there)
     (texts-stay answers object.file object.externs.ksyms table new (length table.types == 0) there))
 
-to-rewrite-first : (law : RelocationsRest) (i : Inputs) (u : Under) (object : State) (reached : ℕ → Bool) → IsOrderFree reached u.answers object → (plan : PlanContent)
+pub to-rewrite-first : (law : RelocationsRest) (i : Inputs) (u : Under) (object : State) (reached : ℕ → Bool) → IsOrderFree reached u.answers object → (plan : PlanContent)
     → IsMadePlan (in_order RelocateFirst i) u object plan → IsMadePlan (in_order RewriteFirst i) u object plan
 to-rewrite-first law i u object reached free plan p =
     let one = p.patching in
@@ -201,7 +201,7 @@ to-rewrite-first law i u object reached free plan p =
       is = p.is;
     }
 
-to-relocate-first : (law : RelocationsRest) (i : Inputs) (u : Under) (object : State) (reached : ℕ → Bool) → IsOrderFree reached u.answers object → (plan : PlanContent)
+pub to-relocate-first : (law : RelocationsRest) (i : Inputs) (u : Under) (object : State) (reached : ℕ → Bool) → IsOrderFree reached u.answers object → (plan : PlanContent)
     → IsMadePlan (in_order RewriteFirst i) u object plan → IsMadePlan (in_order RelocateFirst i) u object plan
 to-relocate-first law i u object reached free plan p =
     let one = p.patching in

@@ -1,5 +1,6 @@
--- That the order of the passes on types changes no plan.
+-- That the order of the passes on types changes no plan, and nothing of whether there is one.
 use Rattle.std.specs.Prelude.{◌≡◌, ℕ, Bool, true, map, All, IfSome, Some, is_some}
+use Rattle.btf_records.specs.declared.feature.BtfFeature.{BtfFeature}
 use Rattle.btf_records.specs.declared.types.BtfType.{BtfType}
 use Rattle.btf_sanitizing.specs.Answers.{Answers}
 use Rattle.btf_tables.specs.Holdings.{held_ids, held_names}
@@ -7,10 +8,14 @@ use Rattle.btf_tables.specs.Tables.{Table, type_by_id}
 use Rattle.ebpf_object.specs.Rewriting.{IsRewritten}
 use Rattle.ebpf_object.specs.TypeRelocations.{type_groups}
 use Rattle.load_plan.specs.Inputs.{Inputs, State, Under}
+use Rattle.load_plan.specs.Known.{GoByFeature, IsPlanFor, IsRefusalFor}
 use Rattle.load_plan.specs.Passes.{Made, linking, patching}
+use Rattle.load_plan.specs.Planned.{IsWholeObject}
+use Rattle.load_plan.specs.declared.error.PrepareError.{PrepareError}
 use Rattle.load_plan.specs.declared.order.Order.{Order}
 use Rattle.load_plan.specs.declared.order.Order.TheVariants.{RelocateFirst, RewriteFirst}
 use Rattle.object_plan.specs.Plans.{plan_of}
+use Rattle.plan_laws.specs.Determined.{IsKnown, IsPlanUnder, IsRefusalUnder}
 use Rattle.plan_maps.specs.PlanMaps.{plan_map}
 use Rattle.plan_text.specs.Content.{PlanContent}
 use Rattle.string_table.specs.Texts.{text_at}
@@ -58,3 +63,29 @@ pub record OrdersAgree : Type 0 where
       → (plan : PlanContent)
       → (IsMadePlan (in_order RelocateFirst i) u object plan → IsMadePlan (in_order RewriteFirst i) u object plan)
       × (IsMadePlan (in_order RewriteFirst i) u object plan → IsMadePlan (in_order RelocateFirst i) u object plan)
+
+-- under any answers that go by the feature alone
+pub record IsOrderFreeFor (reached : ℕ → Bool) (grants : BtfFeature → Bool) (object : State) : Type 0 where
+  pub each : (answers : Answers) → GoByFeature grants answers → IsOrderFree reached answers object
+
+-- Under that premise plans of a file's object are equal, each in an order of its own: under the same answers, or for a
+-- kernel of these features, that has the newer helpers or lacks them.
+pub record OrdersPlanAlike : Type 0 where
+  pub under : (order other : Order) (i : Inputs) → IsKnown i → (u : Under) (object : State)
+      → IsWholeObject i.file object → (reached : ℕ → Bool) → IsOrderFree reached u.answers object
+      → (a b : PlanContent) → IsPlanUnder (in_order order i) u a → IsPlanUnder (in_order other i) u b → a ≡ b
+  pub kernel : (order other : Order) (i : Inputs) → IsKnown i → (grants : BtfFeature → Bool) (has_helpers : Bool)
+      → (object : State) → IsWholeObject i.file object → (reached : ℕ → Bool) → IsOrderFreeFor reached grants object
+      → (a b : PlanContent) → IsPlanFor grants has_helpers (in_order order i) a
+      → IsPlanFor grants has_helpers (in_order other i) b → a ≡ b
+
+-- and where there is a plan in one order nothing is refused in the other
+pub record OrdersRefuseAlike : Type 0 where
+  pub under : (order other : Order) (i : Inputs) → IsKnown i → (u : Under) (object : State)
+      → IsWholeObject i.file object → (reached : ℕ → Bool) → IsOrderFree reached u.answers object
+      → (plan : PlanContent) (e : PrepareError) → IsPlanUnder (in_order order i) u plan
+      → IsRefusalUnder (in_order other i) u e → ⊥
+  pub kernel : (order other : Order) (i : Inputs) → IsKnown i → (grants : BtfFeature → Bool) (has_helpers : Bool)
+      → (object : State) → IsWholeObject i.file object → (reached : ℕ → Bool) → IsOrderFreeFor reached grants object
+      → (plan : PlanContent) (e : PrepareError) → IsPlanFor grants has_helpers (in_order order i) plan
+      → IsRefusalFor grants (in_order other i) e → ⊥

@@ -7,11 +7,12 @@ use Rattle.btf_tables.specs.Sections.{HoldsTable}
 use Rattle.btf_tables.specs.Tables.{Table}
 use Rattle.function_layout.specs.Layout.{IsLayout, Key, Table as Functions, linked}
 use Rattle.function_layout.specs.Machines.{VisitsSame}
+use Rattle.linker.specs.Unlinked.{Unlinked}
 use Rattle.load_plan.specs.Granted.{NeedGranted}
 use Rattle.load_plan.specs.Inputs.{Inputs, State, Under}
-use Rattle.load_plan.specs.Passes.{Made, patching}
+use Rattle.load_plan.specs.Passes.{Made, patching, unlinked_of}
 use Rattle.load_plan.specs.Planned.{IsPlanOf}
-use Rattle.load_plan.specs.Programs.{own_key, source}
+use Rattle.load_plan.specs.Programs.{func_records_of, own_key, source}
 use Rattle.object_parts.specs.Content as parts
 use Rattle.object_plan.specs.Plans.{AllName}
 use Rattle.plan_text.specs.Content.{PlanContent, ProgramContent}
@@ -33,8 +34,10 @@ TypesAreGranted object features (Some bytes) = (table : Table) × HoldsGranted o
 abbrev pub Named : Type 0
 Named = List ℕ × parts.ProgramContent
 
--- a program of a plan of an object, by functions
-pub record IsDescribed (t : Functions) (o : State) (plan : PlanContent) (e : Named) (p : ProgramContent) : Type 0 where
+-- a program of a plan of an object, by the object's functions as relocations leave them, and by these with the helpers
+-- that the kernel has
+pub record IsDescribed (u : Unlinked) (t : Functions) (o : State) (plan : PlanContent) (e : Named)
+    (p : ProgramContent) : Type 0 where
   -- name and kind are those of a program of the object
   pub name : p.name ≡ e.0
   pub kind : p.section ≡ e.1.section
@@ -44,16 +47,19 @@ pub record IsDescribed (t : Functions) (o : State) (plan : PlanContent) (e : Nam
   pub slots : p.slots ≡ linked t (own_key e.1) keys
   -- on each list of decisions they are visited as the functions are, run with a stack of calls
   pub visits : VisitsSame t (own_key e.1) keys p.slots
-  -- each record of a function names, in the plan's own bytes, the function that it names in the object's types
+  -- the records of functions are those of the copies, each at its copy's beginning; none where functions are denied
+  pub records : p.func_records ≡ func_records_of plan.features u (own_key e.1) keys
+  -- each names, in the plan's own bytes, the function that it names in the object's types
   pub names : AllName o.types plan.type_bytes p.func_records
-  -- and what the records in these bytes need is granted
+  -- and what the records of types in these bytes need is granted
   pub types : TypesAreGranted o plan.features plan.type_bytes
 
--- the programs of a plan are so by the object's functions as relocations leave them
+-- the programs of a plan are so
 pub record AreDescribed (i : Inputs) (u : Under) (object : State) (plan : PlanContent) : Type 0 where
   pub patched : State
   pub made : Made (patching i.order) i u object patched
-  pub programs : AllZip (IsDescribed (source u patched) object plan) object.programs plan.programs
+  pub programs : AllZip (IsDescribed (unlinked_of patched) (source u patched) object plan) object.programs
+      plan.programs
 
 -- so are those of each plan
 pub record PlanProgramsAreDescribed : Type 0 where
