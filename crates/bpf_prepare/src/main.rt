@@ -71,12 +71,12 @@ fn order_of(line: &PrepareArguments<'_>) -> Order {
 
 /// What becomes of a refusal.
 fn refused(alloc: Global, given: &Given<'_, '_>, error: PrepareError) -> ProgramError {
-    let settings = &given.settings.settings;
+    let settings = given.settings;
     let files = KernelFiles {
         types: given.line.types.as_slice(),
         symbols: given.line.symbols,
     };
-    let text = prepare_text(alloc, given.object, settings, &files, &error);
+    let text = prepare_text(alloc, given.object, &settings.settings, &files, &error);
     ProgramError::Refused(Refusal::new(text, error))
 }
 
