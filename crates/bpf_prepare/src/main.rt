@@ -5,7 +5,7 @@ mod error;
 mod running;
 mod settings_text;
 
-use command_line::{LineError, PrepareArguments, prepare_arguments};
+use command_line::{Arguments, LineError, arguments};
 use error::{ProgramError, RunError};
 use load_plan::{Order, PrepareError, Watched};
 use object_notes::notes;
@@ -22,7 +22,7 @@ use std::process::ExitCode;
 /// The settings of a file's text, of nothing where there is no file, and over them those of the line.
 fn settings_of(
     alloc: Global,
-    line: &PrepareArguments<'_>,
+    line: &Arguments<'_>,
     file: Option<&[u8]>,
 ) -> Result<RunSettings, ProgramError> {
     let mut settings = match (line.settings, file) {
@@ -54,14 +54,14 @@ fn file_settings(alloc: Global, name: &str, bytes: &[u8]) -> Result<RunSettings,
 /// What a run is made of, beside its symbols and its output.
 #[derive(Drop)]
 struct Given<'g, 'w> {
-    line: &'g PrepareArguments<'w>,
+    line: &'g Arguments<'w>,
     object: &'g [u8],
     settings: &'g RunSettings,
     types: &'g [Vec<u8>],
 }
 
 /// The order of the passes over types.
-fn order_of(line: &PrepareArguments<'_>) -> Order {
+fn order_of(line: &Arguments<'_>) -> Order {
     if line.rewrite_first {
         Order::RewriteFirst
     } else {
@@ -123,7 +123,7 @@ fn print_notes(rt: &HostRuntime, object: &[u8], settings: &RunSettings) {
 }
 
 /// Reads the files that a line names, and prints the plan of its object.
-fn print_named(rt: &HostRuntime, line: &PrepareArguments<'_>) -> Result<(), ProgramError> {
+fn print_named(rt: &HostRuntime, line: &Arguments<'_>) -> Result<(), ProgramError> {
     let alloc = rt.alloc();
     // Faults of the line come first.
     settings_of(alloc, line, None)?;
@@ -156,7 +156,7 @@ fn print_named(rt: &HostRuntime, line: &PrepareArguments<'_>) -> Result<(), Prog
 /// Prints what a line asks for: a plan, the program's help or its version.
 fn print_asked(rt: &HostRuntime) -> Result<(), ProgramError> {
     let words = words_of(rt)?;
-    match prepare_arguments(rt.alloc(), &words) {
+    match arguments(rt.alloc(), &words) {
         Ok(line) => print_named(rt, &line),
         Err(LineError::OutOfMemory) => Err(ProgramError::OutOfMemory),
         Err(LineError::Fault { text }) => Err(ProgramError::Line { text }),

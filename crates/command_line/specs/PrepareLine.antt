@@ -8,7 +8,7 @@ use Rattle.command_line.specs.Commands.{TakesObject}
 use Rattle.command_line.specs.Found.{order_named, value_found, values_found, IsFlag, IsFoundBy}
 use Rattle.command_line.specs.PrepareCommand.{IsPrepareCommand}
 use Rattle.run_settings.specs.Features.{feature_named}
-use Rattle.command_line.specs.declared.prepare_line.PrepareArguments.{PrepareArguments}
+use Rattle.command_line.specs.declared.prepare_line.Arguments.{Arguments}
 
 -- what clap finds in the words, for the program's command line, which has to have the object's file
 pub record IsPrepareMatch (words : List (List ℕ)) (matches : ArgMatches) : Type 0 where
@@ -18,7 +18,7 @@ pub record IsPrepareMatch (words : List (List ℕ)) (matches : ArgMatches) : Typ
   pub found : IsFoundBy command words matches
 
 -- the line says what is found in the words, and has the object's file
-pub record IsPrepareLine (words : List (List ℕ)) (line : PrepareArguments) : Type 0 where
+pub record IsPrepareLine (words : List (List ℕ)) (line : Arguments) : Type 0 where
   pub matches : ArgMatches
   pub match : IsPrepareMatch words matches
   pub object : value_found matches (codes "OBJECT") ≡ Some line.object.now

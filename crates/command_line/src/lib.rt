@@ -10,10 +10,12 @@ mod line_text;
 mod options;
 mod prepare_command;
 mod prepare_line;
+mod prepare_reading;
 mod setting_words;
 
 pub use error::LineError;
 pub use inspect_line::{InspectArguments, inspect_arguments};
 pub use line_text::first_paragraph;
-pub use prepare_line::{PrepareArguments, prepare_arguments};
+pub use prepare_line::Arguments;
+pub use prepare_reading::arguments;
 pub use setting_words::WordError;

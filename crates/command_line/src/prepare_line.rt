@@ -1,23 +1,13 @@
 //! What the words of a command line of `bpf_prepare` ask for.
 
-ghost use Rattle.std.specs.Prelude.{◌≡◌, is_some, map, true, IfOk, Some};
-ghost use Rattle.std.specs.List.{All};
-ghost use Rattle.std.specs.String.{string_bytes};
-ghost use Rattle.run_settings.specs.Features.{feature_named};
-ghost use Rattle.command_line.specs.PrepareLine.{IsPrepareLine, IsPrepareMatch};
-
-use crate::error::LineError;
-use crate::found::{matches_in, object_of, order_of, values_of};
-use crate::prepare_command::prepare_command;
 use crate::setting_words::{WordError, set_global, set_map};
 use btf_records::{BtfFeature, Endianness};
-use clap::ArgMatches;
-use run_settings::{RunSettings, feature_named};
-use std::alloc::{AllocError, Global};
+use run_settings::RunSettings;
+use std::alloc::Global;
 
 /// What the words of a command line ask for. File names are as the words have them.
 #[derive(Debug, Drop)]
-pub struct PrepareArguments<'w> {
+pub struct Arguments<'w> {
     /// The object's file.
     pub object: &'w str,
     /// Files with kernel types, in order.
@@ -38,57 +28,7 @@ pub struct PrepareArguments<'w> {
     pub(crate) denied: Vec<BtfFeature>,
 }
 
-/// What clap finds in the words, for the program's command line.
-fn matches_of<'w>(alloc: Global, words: &'w [String]) -> Result<ArgMatches<'w>, LineError>
-    ensures { IfOk result (IsPrepareMatch (map string_bytes words.now)) }
-{
-    let command = prepare_command(alloc)?;
-    let matches = matches_in(alloc, command, words)?;
-    Ok(matches)
-}
-
-/// The features of these names.
-fn features_of(alloc: Global, names: &[&str]) -> Result<Vec<BtfFeature>, AllocError>
-    requires { All (λ name. is_some (feature_named name.now) ≡ true) names.now }
-    ensures { IfOk result (λ features. map Some features.items ≡ map (λ name. feature_named name.now) names.now) }
-{
-    let mut features = Vec::new(alloc);
-    for name in names {
-        features.push(feature_named(name).unwrap())?;
-    }
-    Ok(features)
-}
-
-/// What the words of a command line ask for, of which the first is the program's name.
-///
-/// # Errors
-///
-/// [`LineError::Fault`] where the words are others, and [`LineError::Asked`] where they ask for the help or
-/// the version.
-pub fn prepare_arguments<'w>(
-    alloc: Global,
-    words: &'w [String],
-) -> Result<PrepareArguments<'w>, LineError>
-    ensures { IfOk result (IsPrepareLine (map string_bytes words.now)) }
-{
-    let matches = matches_of(alloc, words)?;
-    let denied = values_of(alloc, &matches, "deny")?;
-    Ok(PrepareArguments {
-        object: object_of(&matches),
-        types: values_of(alloc, &matches, "types")?,
-        types_order: order_of(matches.get_str("types-order")),
-        symbols: matches.get_str("symbols"),
-        settings: matches.get_str("settings"),
-        rewrite_first: matches.get_flag("rewrite-first"),
-        notes: matches.get_flag("notes"),
-        has_older_helpers: matches.get_flag("older-helpers"),
-        maps: values_of(alloc, &matches, "map")?,
-        globals: values_of(alloc, &matches, "global")?,
-        denied: features_of(alloc, &denied)?,
-    })
-}
-
-impl<'w> PrepareArguments<'w> {
+impl<'w> Arguments<'w> {
     /// Sets what the line sets, over what is set already.
     ///
     /// # Errors

@@ -4,7 +4,7 @@ use Rattle.run_settings.specs.Features.{feature_named}
 use Rattle.command_line.specs.Found.{order_named}
 use Rattle.command_line.proofs.Commands.{object_is_there}
 use Rattle.command_line.proofs.Features.{all_before, denied_are_features, map_after}
-use Rattle.command_line.proofs.prepare_line.prepare_arguments.Goals as goal
+use Rattle.command_line.proofs.prepare_reading.arguments.Goals as goal
 
 pub object_of-requires : goal.object_of-requires
 object_of-requires c =

@@ -1,4 +1,4 @@
-use Rattle.command_line.proofs.prepare_line.matches_of.Goals as goal
+use Rattle.command_line.proofs.prepare_reading.matches_of.Goals as goal
 
 pub returns : goal.returns
 returns c = record {
