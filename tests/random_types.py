@@ -139,17 +139,16 @@ def member_type(random, structs, enumerations, before):
         return Array(random.choice(INTEGERS), random.randint(1, 4))
     if choice == 8 and before:
         return Struct(random.randrange(before))
-    inner = member_type(random, structs, enumerations, before) if choice == 9 else Struct(random.randrange(structs))
     if choice == 9:
-        return Modifier(random.choice((CONST, TYPEDEF)), "", inner)._replace(name=random.choice(NAMES) + "_t")
+        return modified(random, member_type(random, structs, enumerations, before))
+    inner = Struct(random.randrange(structs))
     return Pointer(Modifier(TYPE_TAG, "rcu", inner) if choice == 10 else inner)
 
 
-def named_modifier(type):
-    """A modifier as tables have it: only a TYPEDEF and a TYPE_TAG have names."""
-    if isinstance(type, Modifier) and type.kind == CONST:
-        return type._replace(name="")
-    return type
+def modified(random, of):
+    """A type under a CONST, which has no name, or a TYPEDEF."""
+    kind, name = random.choice((CONST, TYPEDEF)), random.choice(NAMES) + "_t"
+    return Modifier(kind, name if kind == TYPEDEF else "", of)
 
 
 def structs_of(random, enumerations):
@@ -157,7 +156,7 @@ def structs_of(random, enumerations):
     structs = []
     for place in range(count):
         names = random.sample(NAMES, random.randint(1, 6))
-        types = [named_modifier(member_type(random, count, enumerations, place)) for _ in names]
+        types = [member_type(random, count, enumerations, place) for _ in names]
         structs.append((f"struct_{place}", tuple(zip(names, types))))
     return structs
 
