@@ -1,3 +1,4 @@
 pub mod FieldMatches
 pub mod MatchesAlike
+pub mod VariantIndexes
 pub mod Variants

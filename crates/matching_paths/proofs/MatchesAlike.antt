@@ -30,8 +30,6 @@ use Rattle.matching_paths.specs.Steps.{has_members, local_member, max_parts, mem
 use Rattle.matching_paths.specs.VariantMatches.{first_variant, local_variant, variant_matched}
 use Rattle.matching_paths.specs.declared.step.Progress.{Progress}
 use Rattle.member_search.specs.Laws.{SearchesRest}
-use Rattle.member_search.specs.Looks.{searched}
-use Rattle.member_search.specs.Searches.{member_found}
 use Rattle.member_search.specs.declared.search.Found.{Found}
 
 -- the tables, and what is reached
@@ -139,7 +137,7 @@ named-same b place here = type-same b.one b.other place.type_id _ _ (records b p
   by t known None is = refl
   by t known (Some offset) is = text-same b.one b.other offset _ _ (b.lookups.variants b.reached b.one b.other b.alike place.type_id place.index t offset here known is) (λ name. refl)
 
--- the variant of a name, of so many
+-- the variant of a name, of the first ones
 abbrev variant_of : Table → ℕ → BtfType → ℕ → List ℕ → Result (Option Place) AccessError
 variant_of target root t count name = and_then (first_variant target t name count 0) (λ index. Ok (option_map (λ i. record { type_id = root; index = i }) index))
 

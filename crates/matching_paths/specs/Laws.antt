@@ -6,8 +6,9 @@ use Rattle.access_paths.specs.declared.subject.Subject.{Subject}
 use Rattle.btf_tables.specs.Tables.{Table}
 use Rattle.matching_paths.specs.Matches.{matching_path}
 
--- the path in a target's type is the same for every other local table that agrees on what the local path reaches, and
--- whose texts there can be read alike
+-- the path in a target's type is the same for every other local table that agrees on what the local
+-- path reaches, and whose texts there can be read alike
 pub record MatchesRest : Type 0 where
   pub same : (reached : ℕ → Bool) (one other : Table) → AreAlike reached one other → (subject : Subject) (path : AccessPath) → IsReachedPath reached path
-      → (target : Table) (id : ℕ) → matching_path subject other path target id ≡ matching_path subject one path target id
+      → (target : Table) (id : ℕ)
+      → matching_path subject other path target id ≡ matching_path subject one path target id

@@ -19,14 +19,22 @@ use Rattle.matching_paths.specs.declared.step.Progress.{Progress}
 -- the path at its end: the sum of bits has 32
 abbrev pub path_found : ℕ → List Step → Option ℕ → Result (Option AccessPath) AccessError
 path_found id steps None = Err (errors.BtfError InvalidTypeInfo)
-path_found id steps (Some bits) = Ok (Some (record { type_id = id; steps = steps; bit_offset = bits }))
+path_found id steps (Some bits) =
+    Ok (Some (record { type_id = id; steps = steps; bit_offset = bits }))
 
 -- the path that goes on by these steps of a local one
-unfoldable pub matched_from : Table → Table → ℕ → List Step → Progress → List Step → Result (Option AccessPath) AccessError
+unfoldable pub matched_from : Table
+    → Table
+    → ℕ
+    → List Step
+    → Progress
+    → List Step
+    → Result (Option AccessPath) AccessError
 matched_from local target id steps from [] = path_found id steps from.bits
 matched_from local target id steps from (s ∷ ss) =
     and_then (step_matched local s target from) (λ next.
-    option_map_or (λ n. matched_from local target id (steps ++ option_to_list n.last) n ss) next (Ok None))
+    option_map_or (λ n. matched_from local target id (steps ++ option_to_list n.last) n ss) next
+    (Ok None))
 
 abbrev pub first_progress : ℕ → Progress
 first_progress id = record { type_id = id; last = None; bits = Some 0; parts = 0 }
@@ -47,7 +55,13 @@ enum_matched local (Some (Variant place)) target id =
     Ok (option_map (λ p. record { type_id = id; steps = Variant p ∷ []; bit_offset = 0 }) found))
 enum_matched local _ target id = Err (errors.InvalidRelocationKindForType id)
 
-abbrev pub matching_path : Subject → Table → AccessPath → Table → ℕ → Result (Option AccessPath) AccessError
+abbrev pub matching_path : Subject
+    → Table
+    → AccessPath
+    → Table
+    → ℕ
+    → Result (Option AccessPath) AccessError
 matching_path subjects.Field local path target id = fields_matched local path.steps target id
 matching_path subjects.Type local path target id = type_matched local path.type_id target id
-matching_path subjects.Variant local path target id = enum_matched local (slice_get path.steps (length path.steps - 1)) target id
+matching_path subjects.Variant local path target id =
+    enum_matched local (slice_get path.steps (length path.steps - 1)) target id

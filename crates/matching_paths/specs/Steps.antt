@@ -1,4 +1,5 @@
--- Steps of a local path, done in the target's types (`bpf_core_spec_match`, tools/lib/bpf/relo_core.c).
+-- Steps of a local path, done in the target's types (`bpf_core_spec_match`,
+-- tools/lib/bpf/relo_core.c).
 use Rattle.std.specs.Prelude.{ℕ, ◌+◌, Bool, ◌&&◌, is_some, min, slice_get, Option, None, Some, Result, Ok, Err, if◌then◌else◌, nat_le}
 use Rattle.std.specs.Option.{option_map, option_map_or}
 use Rattle.access_paths.specs.FieldPaths.{elements_after, is_in_array}
@@ -28,13 +29,15 @@ max_parts = 64
 abbrev pub element_of_array : Table → Step → ℕ → Option BtfArray → Result (Option ℕ) AccessError
 element_of_array target last index None = Ok None
 element_of_array target last index (Some array) =
-    if is_in_array target array.len last index then with_found (resolved_type target array.element_type) (λ id. Ok (Some id))
+    if is_in_array target array.len last index then with_found
+    (resolved_type target array.element_type) (λ id. Ok (Some id))
     else Ok None
 
 -- the first number counts elements of the type itself, another one those of an array
 abbrev pub element_in : Table → ℕ → Option Step → ℕ → Result (Option ℕ) AccessError
 element_in target id None index = Ok (Some id)
-element_in target id (Some last) index = with_type target id (λ t. element_of_array target last index (array_of t))
+element_in target id (Some last) index =
+    with_type target id (λ t. element_of_array target last index (array_of t))
 
 -- on to this element
 abbrev pub element_reached : Table → Progress → ℕ → ℕ → Result (Option Progress) AccessError
@@ -57,7 +60,8 @@ element_matched target from index =
 abbrev pub local_member : Table → Place → Result BtfMember AccessError
 local_member local place =
     with_type local place.type_id (λ t.
-    option_map_or (λ m. Ok m) (slice_get (members_of t) place.index) (Err (InvalidRelocationKindForType place.type_id)))
+    option_map_or (λ m. Ok m) (slice_get (members_of t) place.index)
+    (Err (InvalidRelocationKindForType place.type_id)))
 
 abbrev pub has_members : BtfType → Bool
 has_members t = is_some (slice_get (members_of t) 0)
@@ -71,7 +75,9 @@ gone_to from found = option_map (λ f. record {
   parts = min (from.parts + f.parts) max_parts;
 }) found
 
-abbrev pub passed_to : Progress → Result (Option Found) AccessError → Result (Option Progress) AccessError
+abbrev pub passed_to : Progress
+    → Result (Option Found) AccessError
+    → Result (Option Progress) AccessError
 passed_to from (Err e) = Err e
 passed_to from (Ok found) = Ok (gone_to from found)
 

@@ -1,4 +1,5 @@
--- The variant of an enum that has a local variant's name (`bpf_core_spec_match`, tools/lib/bpf/relo_core.c).
+-- The variant of an enum that has a local variant's name (`bpf_core_spec_match`,
+-- tools/lib/bpf/relo_core.c).
 use Rattle.std.specs.Prelude.{ℕ, zero, suc, Bool, nat_eq, List, Option, None, Some, Result, Ok, Err, if◌then◌else◌}
 use Rattle.std.specs.Cmp.Lexicographic.{pointwise}
 use Rattle.std.specs.Option.{option_map, option_map_or}
@@ -14,9 +15,11 @@ use Rattle.btf_tables.specs.Tables.{Table}
 
 -- flavours don't count
 abbrev pub is_so_named : Table → ℕ → List ℕ → Result Bool AccessError
-is_so_named target offset name = with_text target offset (λ text. Ok (pointwise nat_eq (essential_name text) (essential_name name)))
+is_so_named target offset name =
+    with_text target offset (λ text.
+    Ok (pointwise nat_eq (essential_name text) (essential_name name)))
 
--- of so many variants from this index on the first of the name
+-- of as many variants from this index on the first of the name
 unfoldable pub first_variant : Table → BtfType → List ℕ → ℕ → ℕ → Result (Option ℕ) AccessError
 first_variant target t name zero index = Ok None
 first_variant target t name (suc n) index =

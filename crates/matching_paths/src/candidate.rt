@@ -2,17 +2,19 @@
 
 ghost use Rattle.std.specs.Prelude.{◌≡◌, ◌≢◌, ◌++◌, ◌∷◌, [], IfOk, IfErr, IfSome, Ok, Err};
 ghost use Rattle.std.specs.Option.{option_to_list};
-ghost use Rattle.matching_paths.specs.Matches.{path_found, enum_matched, fields_matched, matching_path, type_matched};
+ghost use Rattle.matching_paths.specs.Matches.{path_found, enum_matched, fields_matched, type_matched};
 ghost use Rattle.matching_paths.specs.Steps.{step_matched};
 ghost use Rattle.access_paths.specs.declared.error.AccessError.TheVariants.{BtfError as TypeError};
 ghost use Rattle.btf_records.specs.declared.error.BtfError.TheVariants.{OutOfMemory};
 
 use crate::step::{Progress, step_matched};
 use crate::variant::variant_matched;
-use access_paths::{AccessError, AccessPath, Step, Steps, Subject};
+use crate::variant_finder::VariantFinder;
+use access_paths::{AccessError, AccessPath, Step, Steps};
 use btf_compatibility::types_are_compatible;
 use btf_records::BtfError;
 use btf_tables::Btf;
+use member_search::MemberFinder;
 
 /// The path at its end.
 fn path_found(
@@ -36,15 +38,18 @@ fn path_found(
 fn go_on<'t>(
     local: &Btf<'t>,
     step: Step,
-    target: &Btf<'t>,
+    members: &mut MemberFinder<'t>,
     from: Progress,
     steps: &mut Steps,
 ) -> Result<Option<Progress>, AccessError>
-    ensures value { IfOk result (λ next. step_matched local.now step target.now from ≡ Ok next) }
-    ensures steps { IfOk result (λ next. IfSome next (λ n. steps.new ≡ steps.old ++ option_to_list n.last)) }
-    ensures refused { IfErr result (λ e. e ≢ TypeError OutOfMemory → step_matched local.now step target.now from ≡ Err e) }
+    ensures value { IfOk result (λ next. step_matched local.now step members.old from ≡ Ok next) }
+    ensures steps { IfOk result (λ next.
+        IfSome next (λ n. steps.new ≡ steps.old ++ option_to_list n.last)) }
+    ensures refused { IfErr result (λ e.
+        e ≢ TypeError OutOfMemory → step_matched local.now step members.old from ≡ Err e) }
+    ensures same { members.new ≡ members.old }
 {
-    let Some(next) = step_matched(local, step, target, from)? else {
+    let Some(next) = step_matched(local, step, members, from)? else {
         return Ok(None);
     };
     if let Some(last) = next.last {
@@ -54,15 +59,18 @@ fn go_on<'t>(
 }
 
 /// The path of a field in a type of the target.
-#[tactic(auto, using(crate::proofs::FieldMatches::none_left, crate::proofs::FieldMatches::no_step, crate::proofs::FieldMatches::one_step))]
-fn fields_matched<'t>(
+#[tactic(auto, using(crate::proofs::FieldMatches::none_left, crate::proofs::FieldMatches::no_step, crate::proofs::FieldMatches::one_step,),)]
+pub(crate) fn fields_matched<'t>(
     local: &Btf<'t>,
     path: &[Step],
-    target: &Btf<'t>,
+    members: &mut MemberFinder<'t>,
     type_id: u32,
 ) -> Result<Option<AccessPath>, AccessError>
-    ensures value { IfOk result (λ found. fields_matched local.now path.now target.now type_id ≡ Ok found) }
-    ensures refused { IfErr result (λ e. e ≢ TypeError OutOfMemory → fields_matched local.now path.now target.now type_id ≡ Err e) }
+    ensures value { IfOk result (λ found.
+        fields_matched local.now path.now members.old type_id ≡ Ok found) }
+    ensures refused { IfErr result (λ e.
+        e ≢ TypeError OutOfMemory → fields_matched local.now path.now members.old type_id ≡ Err e) }
+    ensures same { members.new ≡ members.old }
 {
     let mut progress = Progress {
         type_id,
@@ -70,9 +78,9 @@ fn fields_matched<'t>(
         bits: Some(0),
         parts: 0,
     };
-    let mut steps = Steps::new(target.allocator());
+    let mut steps = Steps::new(members.target().allocator());
     for step in path {
-        let Some(next) = go_on(local, *step, target, progress, &mut steps)? else {
+        let Some(next) = go_on(local, *step, members, progress, &mut steps)? else {
             return Ok(None);
         };
         progress = next;
@@ -81,14 +89,16 @@ fn fields_matched<'t>(
 }
 
 /// The whole of a type of the target that is compatible with the local one.
-fn type_matched<'t>(
+pub(crate) fn type_matched<'t>(
     local: &Btf<'t>,
     local_id: u32,
     target: &Btf<'t>,
     type_id: u32,
 ) -> Result<Option<AccessPath>, AccessError>
-    ensures value { IfOk result (λ found. type_matched local.now local_id target.now type_id ≡ Ok found) }
-    ensures refused { IfErr result (λ e. e ≢ TypeError OutOfMemory → type_matched local.now local_id target.now type_id ≡ Err e) }
+    ensures value { IfOk result (λ found.
+        type_matched local.now local_id target.now type_id ≡ Ok found) }
+    ensures refused { IfErr result (λ e.
+        e ≢ TypeError OutOfMemory → type_matched local.now local_id target.now type_id ≡ Err e) }
 {
     if types_are_compatible(local, local_id, target, type_id)? {
         Ok(Some(AccessPath {
@@ -102,53 +112,29 @@ fn type_matched<'t>(
 }
 
 /// The variant of an enum of the target.
-fn enum_matched(
+pub(crate) fn enum_matched(
     local: &Btf<'_>,
     step: Option<Step>,
-    target: &Btf<'_>,
+    variants: &mut VariantFinder<'_>,
     type_id: u32,
 ) -> Result<Option<AccessPath>, AccessError>
-    ensures value { IfOk result (λ found. enum_matched local.now step target.now type_id ≡ Ok found) }
-    ensures refused { IfErr result (λ e. e ≢ TypeError OutOfMemory → enum_matched local.now step target.now type_id ≡ Err e) }
+    ensures value { IfOk result (λ found.
+        enum_matched local.now step variants.old type_id ≡ Ok found) }
+    ensures refused { IfErr result (λ e.
+        e ≢ TypeError OutOfMemory → enum_matched local.now step variants.old type_id ≡ Err e) }
+    ensures same { variants.new ≡ variants.old }
 {
     let Some(Step::Variant(place)) = step else {
         return Err(AccessError::InvalidRelocationKindForType { type_id });
     };
-    let Some(found) = variant_matched(local, place, target, type_id)? else {
+    let Some(found) = variant_matched(local, place, variants, type_id)? else {
         return Ok(None);
     };
-    let mut steps = Steps::new(target.allocator());
+    let mut steps = Steps::new(variants.target().allocator());
     steps.push(Step::Variant(found))?;
     Ok(Some(AccessPath {
         type_id,
         steps,
         bit_offset: 0,
     }))
-}
-
-/// The path of a type relocation in a type of the target, where the type has what the local path
-/// leads to: the fields that its steps lead to by name and index, the variant of the same name, or
-/// the whole type, if it is compatible (`bpf_core_spec_match`, tools/lib/bpf/relo_core.c). An index
-/// past an array's end is none, unless the array is without elements and the last member of a
-/// struct.
-///
-/// `MaximumNestingLevelReached` where a step would come after 64 elements and members or more, those
-/// without names too, or a struct or union is met inside itself; `BtfError::InvalidTypeInfo` where
-/// the field lies 2^32 bits or more behind the type's beginning; and what the look-ups of names,
-/// sizes and types and the comparisons on the way answer.
-pub fn matching_path<'t>(
-    subject: Subject,
-    local: &Btf<'t>,
-    path: &AccessPath,
-    target: &Btf<'t>,
-    type_id: u32,
-) -> Result<Option<AccessPath>, AccessError>
-    ensures value { IfOk result (λ found. matching_path subject local.now path.now target.now type_id ≡ Ok found) }
-    ensures refused { IfErr result (λ e. e ≢ TypeError OutOfMemory → matching_path subject local.now path.now target.now type_id ≡ Err e) }
-{
-    match subject {
-        Subject::Field => fields_matched(local, path.steps.as_slice(), target, type_id),
-        Subject::Type => type_matched(local, path.type_id, target, type_id),
-        Subject::Variant => enum_matched(local, path.steps.last(), target, type_id),
-    }
 }

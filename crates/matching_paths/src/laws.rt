@@ -6,8 +6,8 @@ use access_paths::lookups_rest;
 use btf_compatibility::comparisons_rest;
 use member_search::searches_rest;
 
-/// The path in a target's type rests, of the local table, on the records that the local path reaches,
-/// and on their texts.
+/// The path in a target's type rests, of the local table, on the records that the local path
+/// reaches, and on their texts.
 pub fn matches_rest()
     ensures { MatchesRest }
 {

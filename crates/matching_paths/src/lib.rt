@@ -3,9 +3,12 @@
 #![tactic(auto)]
 
 mod candidate;
+mod finder;
 mod laws;
 mod step;
 mod variant;
+mod variant_finder;
+mod variant_index;
 
-pub use candidate::matching_path;
+pub use finder::{PathFinder, matching_path};
 pub use laws::matches_rest;

@@ -9,9 +9,9 @@ use access_paths::{AccessError, Place, Step, elements_after, is_in_array};
 use btf_encoding::TypeRef;
 use btf_records::BtfMember;
 use btf_tables::Btf;
-use member_search::{Found, find_member};
+use member_search::{Found, MemberFinder};
 
-/// A step isn't begun with so many parts: libbpf's `BPF_CORE_SPEC_MAX_LEN`.
+/// A step isn't begun with this number of parts: libbpf's `BPF_CORE_SPEC_MAX_LEN`.
 const MAX_PARTS: usize = 64;
 
 /// How far a path has come in the target's types.
@@ -115,12 +115,16 @@ fn gone_to(from: Progress, found: Option<Found>) -> Option<Progress>
 fn member_matched<'t>(
     local: &Btf<'t>,
     place: Place,
-    target: &Btf<'t>,
+    members: &mut MemberFinder<'t>,
     from: Progress,
 ) -> Result<Option<Progress>, AccessError>
-    ensures value { IfOk result (λ next. member_matched local.now place target.now from ≡ Ok next) }
-    ensures refused { IfErr result (λ e. e ≢ TypeError OutOfMemory → member_matched local.now place target.now from ≡ Err e) }
+    ensures value { IfOk result (λ next.
+        member_matched local.now place members.old from ≡ Ok next) }
+    ensures refused { IfErr result (λ e.
+        e ≢ TypeError OutOfMemory → member_matched local.now place members.old from ≡ Err e) }
+    ensures same { members.new ≡ members.old }
 {
+    let target = members.target();
     let root = target.resolve_type(from.type_id)?;
     let member = local_member(local, place)?;
     let name = local.string_at(member.name_offset)?;
@@ -128,26 +132,29 @@ fn member_matched<'t>(
     if from.parts >= MAX_PARTS && has_members(&t) {
         return Err(AccessError::MaximumNestingLevelReached);
     }
-    let found = find_member(local, member.btf_type, name, target, root, from.bits)?;
+    let found = members.find(local, member.btf_type, name, root, from.bits)?;
     Ok(gone_to(from, found))
 }
 
-/// How far a path comes with the next step of a local path; none where there is nothing of the kind.
+/// How far a path comes with the next step of a local path; none where there is nothing of the
+/// kind.
 ///
 /// `MaximumNestingLevelReached` where the step would come after 64 parts or more, or a struct or
 /// union is met inside itself, and what the look-ups of names, sizes and types answer.
 pub(crate) fn step_matched<'t>(
     local: &Btf<'t>,
     step: Step,
-    target: &Btf<'t>,
+    members: &mut MemberFinder<'t>,
     from: Progress,
 ) -> Result<Option<Progress>, AccessError>
-    ensures value { IfOk result (λ next. step_matched local.now step target.now from ≡ Ok next) }
-    ensures refused { IfErr result (λ e. e ≢ TypeError OutOfMemory → step_matched local.now step target.now from ≡ Err e) }
+    ensures value { IfOk result (λ next. step_matched local.now step members.old from ≡ Ok next) }
+    ensures refused { IfErr result (λ e.
+        e ≢ TypeError OutOfMemory → step_matched local.now step members.old from ≡ Err e) }
+    ensures same { members.new ≡ members.old }
 {
     match step {
-        Step::Element(place) => element_matched(target, from, place.index),
-        Step::Member(place) => member_matched(local, place, target, from),
+        Step::Element(place) => element_matched(members.target(), from, place.index),
+        Step::Member(place) => member_matched(local, place, members, from),
         Step::Variant(place) => Err(AccessError::InvalidRelocationKindForType {
             type_id: place.type_id,
         }),

@@ -1,14 +1,17 @@
 //! Variants of enums by name.
 
-ghost use Rattle.std.specs.Prelude.{◌≡◌, MatchResult, Ok, Err};
+ghost use Rattle.std.specs.Prelude.{◌≡◌, ◌≢◌, IfOk, IfErr, MatchResult, Ok, Err};
+ghost use Rattle.access_paths.specs.declared.error.AccessError.TheVariants.{BtfError as TypeError};
+ghost use Rattle.btf_records.specs.declared.error.BtfError.TheVariants.{OutOfMemory};
 ghost use Rattle.matching_paths.specs.VariantMatches.{first_variant, is_so_named, local_variant, variant_matched};
 
+use crate::variant_finder::VariantFinder;
 use access_paths::{AccessError, Place, variant_count, variant_name};
 use btf_encoding::TypeRef;
 use btf_tables::{Btf, essential_name};
 
 /// Whether the name at an offset is this one, flavours aside.
-fn is_so_named(target: &Btf<'_>, offset: u32, name: &str) -> Result<bool, AccessError>
+pub(crate) fn is_so_named(target: &Btf<'_>, offset: u32, name: &str) -> Result<bool, AccessError>
     ensures { result ≡ is_so_named target.now offset name.now }
 {
     let text = target.string_at(offset)?;
@@ -16,8 +19,8 @@ fn is_so_named(target: &Btf<'_>, offset: u32, name: &str) -> Result<bool, Access
 }
 
 /// The index of the first variant of a name, flavours aside.
-#[tactic(auto, using(crate::proofs::Variants::none_left, crate::proofs::Variants::unnamed, crate::proofs::Variants::this_variant, crate::proofs::Variants::bad_variant, crate::proofs::Variants::next_variant))]
-fn first_variant(
+#[tactic(auto, using(crate::proofs::Variants::none_left, crate::proofs::Variants::unnamed, crate::proofs::Variants::this_variant, crate::proofs::Variants::bad_variant, crate::proofs::Variants::next_variant,),)]
+pub(crate) fn first_variant(
     target: &Btf<'_>,
     t: &TypeRef<'_>,
     count: usize,
@@ -39,7 +42,8 @@ fn first_variant(
 
 /// The name of a variant of the local types.
 fn local_variant<'l>(local: &'l Btf<'_>, place: Place) -> Result<&'l str, AccessError>
-    ensures { MatchResult result (λ name. local_variant local.now place ≡ Ok name.now) (λ e. local_variant local.now place ≡ Err e) }
+    ensures { MatchResult result (λ name. local_variant local.now place ≡ Ok name.now) (λ e.
+        local_variant local.now place ≡ Err e) }
 {
     let t = local.type_by_id(place.type_id)?;
     let Some(offset) = variant_name(&t, place.index as usize) else {
@@ -60,11 +64,16 @@ fn local_variant<'l>(local: &'l Btf<'_>, place: Place) -> Result<&'l str, Access
 pub(crate) fn variant_matched(
     local: &Btf<'_>,
     place: Place,
-    target: &Btf<'_>,
+    variants: &mut VariantFinder<'_>,
     type_id: u32,
 ) -> Result<Option<Place>, AccessError>
-    ensures { result ≡ variant_matched local.now place target.now type_id }
+    ensures value { IfOk result (λ found.
+        variant_matched local.now place variants.old type_id ≡ Ok found) }
+    ensures refused { IfErr result (λ e.
+        e ≢ TypeError OutOfMemory → variant_matched local.now place variants.old type_id ≡ Err e) }
+    ensures same { variants.new ≡ variants.old }
 {
+    let target = variants.target();
     let root = target.resolve_type(type_id)?;
     let t = target.type_by_id(root)?;
     let Some(count) = variant_count(&t) else {
@@ -74,7 +83,7 @@ pub(crate) fn variant_matched(
         Ok(name) => name,
         Err(error) => return Err(error),
     };
-    match first_variant(target, &t, count, name)? {
+    match variants.first(root, &t, count, name)? {
         Some(index) => Ok(Some(Place {
             type_id: root,
             index: index as u64,

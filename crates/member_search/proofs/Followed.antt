@@ -37,11 +37,11 @@ pub record IsNext (search : Search) (f : Frame) (t : BtfType) (m : BtfMember) : 
 abbrev pub here_in : List Frame → Frame → BtfType → BtfMember → Found
 here_in below f t m = member_here f.type_id t (length below + 1) f.bits f.next m
 
-same-here : (search : Search) (below : List Frame) (f : Frame) (t : BtfType) (m : BtfMember) → next_here search (opened below f) f t m ≡ here_in below f t m
+pub same-here : (search : Search) (below : List Frame) (f : Frame) (t : BtfType) (m : BtfMember) → next_here search (opened below f) f t m ≡ here_in below f t m
 same-here search below f t m = ap (λ (depth : ℕ). member_here f.type_id t depth f.bits f.next m) (length-opened below f)
 
 -- the stack gives what is left of the innermost, or what the others do
-by-rest : (search : Search) (below : List Frame) (f : Frame) (r : Result (Option Found) AccessError) → rest_of search (opened below f) f ≡ r → stack_value search (below ++ f ∷ []) ≡ or_next r (stack_value search below)
+pub by-rest : (search : Search) (below : List Frame) (f : Frame) (r : Result (Option Found) AccessError) → rest_of search (opened below f) f ≡ r → stack_value search (below ++ f ∷ []) ≡ or_next r (stack_value search below)
 by-rest search below f r e = top-first search below f ∙ ap (λ (x : Result (Option Found) AccessError). or_next x (stack_value search below)) e
 
 value-popped : (search : Search) (below : List Frame) (f : Frame) → rest_of search (opened below f) f ≡ Ok None → stack_value search below ≡ stack_value search (below ++ f ∷ [])
@@ -179,7 +179,7 @@ refused-follow search below f t m (Inside id) e next seen h =
     value-inside search below f t m id next seen
     ∙ (ap (λ (r : Result (Option Found) AccessError). or_next r (stack_value search (below ++ after_next f ∷ []))) (refused-inside search below f id (here_in below f t m).bits h.1) ∙ ap (λ (x : AccessError). Err x) (sym h.0))
 
-passed_on : {T : Type 0} (result : Result T AccessError) (e : AccessError) (P : AccessError → Type 0) → IsErrAnd result (λ f. f ≡ e) → P e → IfErr result P
+pub passed_on : {T : Type 0} (result : Result T AccessError) (e : AccessError) (P : AccessError → Type 0) → IsErrAnd result (λ f. f ≡ e) → P e → IfErr result P
 passed_on (Ok found) e P h p = tt
 passed_on (Err f) e P h p = subst P (sym h) p
 
@@ -193,6 +193,9 @@ record_of place id bits parts = record { place = place; type_id = id; bits = bit
 
 pub same-found : (place : Place) (id : ℕ) (b c : Option ℕ) (p q : ℕ) → b ≡ c → p ≡ q → record_of place id b p ≡ record_of place id c q
 same-found place id b c p q e h = rw (e, h) refl
+
+pub same-member : (below : List Frame) (f : Frame) (t : BtfType) (m : BtfMember) (parts : ℕ) (here : Found) → here ≡ member_here f.type_id t parts f.bits f.next m → parts ≡ length below + 1 → here ≡ here_in below f t m
+same-member below f t m parts here is depth = is ∙ ap (λ (n : ℕ). member_here f.type_id t n f.bits f.next m) depth
 
 -- the parts of a turn
 pub turned-ok : (search : Search) (below : List Frame) (f : Frame) (t : BtfType) (m : BtfMember) (seen : Look) (here : Found) (before : List ℕ) (r : Result Turn AccessError) (new : List Frame) (after : List ℕ) → IsSound search before below f → IsNext search f t m → Ok seen ≡ look_at search m → here ≡ here_in below f t m

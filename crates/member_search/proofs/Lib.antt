@@ -1,7 +1,11 @@
+pub mod Answered
+pub mod Collected
 pub mod EmptyTypes
+pub mod Entries
 pub mod Followed
 pub mod Free
 pub mod Members
+pub mod Moved
 pub mod Nesting
 pub mod Passed
 pub mod Rests

@@ -1,4 +1,5 @@
--- What one member of a struct or union says in a search for a member (`bpf_core_match_member`, tools/lib/bpf/relo_core.c).
+-- What one member of a struct or union says in a search for a member (`bpf_core_match_member`,
+-- tools/lib/bpf/relo_core.c).
 use Rattle.std.specs.Prelude.{ℕ, ⊤, Bool, false, true, nat_eq, List, [], ◌∷◌, Result, Ok, if◌then◌else◌}
 use Rattle.std.specs.Cmp.Lexicographic.{pointwise}
 use Rattle.std.specs.Option.{IsSomeAnd}
@@ -37,12 +38,15 @@ look_inside target m =
 
 -- one of the name is compared
 abbrev pub look_at_type : Table → ℕ → Table → BtfMember → Result Look AccessError
-look_at_type local id target m = with_found (fields_compatible local id target m.btf_type) (λ yes. if yes then Ok Here else Ok NotHere)
+look_at_type local id target m =
+    with_found (fields_compatible local id target m.btf_type) (λ yes.
+    if yes then Ok Here else Ok NotHere)
 
 abbrev pub look_by_name : Search → BtfMember → List ℕ → Result Look AccessError
 look_by_name search m [] = look_inside search.target m
 look_by_name search m (b ∷ bs) =
-    if pointwise nat_eq (b ∷ bs) search.name then look_at_type search.local search.type_id search.target m
+    if pointwise nat_eq (b ∷ bs) search.name then look_at_type search.local search.type_id
+    search.target m
     else Ok GoOn
 
 abbrev pub look_at : Search → BtfMember → Result Look AccessError

@@ -1,5 +1,5 @@
--- The member of a name in a struct or union: members are looked at in order, one without a name is searched as it is met,
--- and the first of the name decides.
+-- The member of a name in a struct or union: members are looked at in order, one without a name is
+-- searched as it is met, and the first of the name decides.
 use Rattle.std.specs.Prelude.{ℕ, zero, suc, ◌==◌, Bool, List, [], ◌∷◌, ◌++◌, length, Option, None, Some, Result, Ok, Err, if◌then◌else◌}
 use Rattle.std.specs.List.{list_any}
 use Rattle.access_paths.specs.FieldPaths.{bits_after}
@@ -18,13 +18,15 @@ use Rattle.member_search.specs.declared.look.Look.TheVariants.{GoOn, Here, Insid
 use Rattle.member_search.specs.declared.search.Found.{Found}
 
 -- an answer, or another one where nothing was found
-abbrev pub or_next : Result (Option Found) AccessError → Result (Option Found) AccessError → Result (Option Found) AccessError
+abbrev pub or_next : Result (Option Found) AccessError
+    → Result (Option Found) AccessError
+    → Result (Option Found) AccessError
 or_next (Ok None) next = next
 or_next (Ok (Some found)) next = Ok (Some found)
 or_next (Err e) next = Err e
 
--- after a look at a member that begins at these bits, where `next` is the answer for the members behind it; `go`
--- searches inside
+-- after a look at a member that begins at these bits, where `next` is the answer for the members
+-- after it; `go` searches inside
 abbrev pub by_look : (ℕ → Option ℕ → Result (Option Found) AccessError) → Found → Result (Option Found) AccessError → Look
     → Result (Option Found) AccessError
 by_look go here next GoOn = next
@@ -32,7 +34,8 @@ by_look go here next NotHere = Ok None
 by_look go here next Here = Ok (Some here)
 by_look go here next (Inside id) = or_next (go id here.bits) next
 
--- a member of this index, where the struct or union begins at these bits and is the last of so many open ones
+-- a member of this index, where the struct or union begins at these bits and is the last of so many
+-- open ones
 abbrev pub member_here : ℕ → BtfType → ℕ → Option ℕ → ℕ → BtfMember → Found
 member_here id t depth bits index m = record {
   place = record { type_id = id; index = index };
@@ -47,19 +50,21 @@ unfoldable pub members_found : (ℕ → Option ℕ → Result (Option Found) Acc
 members_found go search id t depth bits index [] = Ok None
 members_found go search id t depth bits index (m ∷ ms) =
     and_then (look_at search m)
-    (by_look go (member_here id t depth bits index m) (members_found go search id t depth bits (suc index) ms))
+    (by_look go (member_here id t depth bits index m)
+    (members_found go search id t depth bits (suc index) ms))
 
 abbrev pub is_among : List ℕ → ℕ → Bool
 is_among open_ids id = list_any (λ other. other == id) open_ids
 
--- in the struct or union of an id, inside the open ones; one that is met while it is open is nested too deep. So many at
--- most are opened one inside the other
+-- in the struct or union of an id, inside the open ones; one that is met while it is open is nested
+-- too deep. So many at most are opened one inside the other
 unfoldable pub found_in : ℕ → Search → List ℕ → ℕ → Option ℕ → Result (Option Found) AccessError
 found_in zero search open_ids id bits = Err MaximumNestingLevelReached
 found_in (suc n) search open_ids id bits =
     if is_among open_ids id then Err MaximumNestingLevelReached
     else with_type search.target id (λ t.
-    members_found (found_in n search (open_ids ++ id ∷ [])) search id t (length (open_ids ++ id ∷ [])) bits 0 (members_of t))
+    members_found (found_in n search (open_ids ++ id ∷ [])) search id t
+    (length (open_ids ++ id ∷ [])) bits 0 (members_of t))
 
 -- all types are fewer
 abbrev pub most_open : Table → ℕ

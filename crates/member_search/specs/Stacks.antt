@@ -37,25 +37,33 @@ opened outer f = ids outer ++ f.type_id ∷ []
 unfoldable pub rest_of : Search → List ℕ → Frame → Result (Option Found) AccessError
 rest_of search open_ids f =
     with_type search.target f.type_id (λ t.
-    members_found (found_in (most_open search.target - length open_ids) search open_ids) search f.type_id t (length open_ids) f.bits f.next (drop f.next (members_of t)))
+    members_found (found_in (most_open search.target - length open_ids) search open_ids) search
+    f.type_id t (length open_ids) f.bits f.next (drop f.next (members_of t)))
 
 -- and then those of the ones that it lies in; `below` is what comes after all of these
-unfoldable pub value_above : Search → List ℕ → List Frame → Result (Option Found) AccessError → Result (Option Found) AccessError
+unfoldable pub value_above : Search
+    → List ℕ
+    → List Frame
+    → Result (Option Found) AccessError
+    → Result (Option Found) AccessError
 value_above search open_ids [] below = below
 value_above search open_ids (f ∷ fs) below =
-    value_above search (open_ids ++ f.type_id ∷ []) fs (or_next (rest_of search (open_ids ++ f.type_id ∷ []) f) below)
+    value_above search (open_ids ++ f.type_id ∷ []) fs
+    (or_next (rest_of search (open_ids ++ f.type_id ∷ []) f) below)
 
 abbrev pub stack_value : Search → List Frame → Result (Option Found) AccessError
 stack_value search stack = value_above search [] stack (Ok None)
 
 -- how many members are left
 abbrev pub left_of : Table → Frame → ℕ
-left_of target f = option_map_or (λ t. length (members_of t) - f.next) (type_by_id target f.type_id) 0
+left_of target f =
+    option_map_or (λ t. length (members_of t) - f.next) (type_by_id target f.type_id) 0
 
 -- a number that each turn makes less
 unfoldable pub work_from : Table → ℕ → List Frame → ℕ
 work_from target depth [] = 0
-work_from target depth (f ∷ fs) = suc (left_of target f) * 65537 ^ (most_open target - depth) + work_from target (suc depth) fs
+work_from target depth (f ∷ fs) =
+    suc (left_of target f) * 65537 ^ (most_open target - depth) + work_from target (suc depth) fs
 
 abbrev pub work : Table → List Frame → ℕ
 work target stack = work_from target 0 stack
@@ -87,7 +95,16 @@ IsLeft id old before (turns.On f) new after = (old ≡ new ++ f ∷ []) × Notes
 IsLeft id old before turns.Over new after = (length old ≡ 0) × (length new ≡ 0)
 
 -- one that isn't open is entered
-abbrev pub IsEntered : Table → ℕ → Option ℕ → Frame → List Frame → List ℕ → Turn → List Frame → List ℕ → Type 0
+abbrev pub IsEntered : Table
+    → ℕ
+    → Option ℕ
+    → Frame
+    → List Frame
+    → List ℕ
+    → Turn
+    → List Frame
+    → List ℕ
+    → Type 0
 IsEntered target id bits f old before turn new after =
     (turn ≡ turns.On (inside id bits))
     × (new ≡ old ++ f ∷ [])
@@ -97,18 +114,31 @@ IsEntered target id bits f old before turn new after =
     × (length old + 1 < most_open target)
     × (left_of target (inside id bits) < 65536)
 
--- what a look at a member makes of the stack without the innermost: `f` is the innermost after that member. One that is
--- known to hold nothing isn't entered
-abbrev pub IsFollowed : Table → Look → Found → Frame → List Frame → List ℕ → Turn → List Frame → List ℕ → Type 0
+-- what a look at a member makes of the stack without the innermost: `f` is the innermost after that
+-- member. One that is known to hold nothing isn't entered
+abbrev pub IsFollowed : Table
+    → Look
+    → Found
+    → Frame
+    → List Frame
+    → List ℕ
+    → Turn
+    → List Frame
+    → List ℕ
+    → Type 0
 IsFollowed target GoOn here f old before turn new after = GoesOn f old before turn new after
-IsFollowed target NotHere here f old before turn new after = IsLeft f.type_id old before turn new after
+IsFollowed target NotHere here f old before turn new after =
+    IsLeft f.type_id old before turn new after
 IsFollowed target Here here f old before turn new after = turn ≡ turns.Found here
 IsFollowed target (Inside id) here f old before turn new after =
-    ((is_noted before id ≡ true) × GoesOn f old before turn new after) ⊎ IsEntered target id here.bits f old before turn new after
+    ((is_noted before id ≡ true) × GoesOn f old before turn new after)
+    ⊎ IsEntered target id here.bits f old before turn new after
 
 -- why it is refused
 abbrev pub IsTooDeep : Table → Look → List Frame → AccessError → Type 0
-IsTooDeep target (Inside id) stack e = (e ≡ MaximumNestingLevelReached) × ((is_open stack id ≡ true) ⊎ (most_open target ≤ length stack))
+IsTooDeep target (Inside id) stack e =
+    (e ≡ MaximumNestingLevelReached)
+    × ((is_open stack id ≡ true) ⊎ (most_open target ≤ length stack))
 IsTooDeep target _ stack e = ⊥
 
 -- a member that is passed isn't the one, or has no name, and holds nothing
@@ -117,14 +147,17 @@ Passes holds_nothing (Ok GoOn) = ⊤
 Passes holds_nothing (Ok (Inside id)) = holds_nothing id ≡ true
 Passes holds_nothing _ = ⊥
 
--- the first ones, so many
+-- the first ones
 abbrev pub ArePassed : Search → (ℕ → Bool) → ℕ → List BtfMember → Type 0
 ArePassed search holds_nothing zero members = ⊤
 ArePassed search holds_nothing (suc n) [] = ⊤
-ArePassed search holds_nothing (suc n) (m ∷ ms) = Passes holds_nothing (look_at search m) × ArePassed search holds_nothing n ms
+ArePassed search holds_nothing (suc n) (m ∷ ms) =
+    Passes holds_nothing (look_at search m) × ArePassed search holds_nothing n ms
 
 pub record IsPassed (search : Search) (holds_nothing : ℕ → Bool) (f : Frame) : Type 0 where
-  pub members : (t : BtfType) → type_by_id search.target f.type_id ≡ Some t → ArePassed search holds_nothing f.next (members_of t)
+  pub members : (t : BtfType)
+      → type_by_id search.target f.type_id ≡ Some t
+      → ArePassed search holds_nothing f.next (members_of t)
 
 -- besides those that are noted the one that is being searched
 abbrev pub or_noted : List ℕ → ℕ → ℕ → Bool
@@ -137,13 +170,15 @@ first_id (f ∷ fs) top = f.type_id
 -- each of those around the innermost has passed what lies before the one that it is around
 abbrev pub AllPassed : Search → List ℕ → List Frame → ℕ → Type 0
 AllPassed search noted [] top = ⊤
-AllPassed search noted (f ∷ fs) top = IsPassed search (or_noted noted (first_id fs top)) f × AllPassed search noted fs top
+AllPassed search noted (f ∷ fs) top =
+    IsPassed search (or_noted noted (first_id fs top)) f × AllPassed search noted fs top
 
 -- what holds between turns
 pub record IsSound (search : Search) (noted : List ℕ) (outer : List Frame) (f : Frame) : Type 0 where
   pub nothing : HoldNothing search noted
   pub apart : AreApart noted (opened outer f)
-  pub few : free (most_open search.target) (opened outer f) + length (opened outer f) ≤ most_open search.target
+  pub few : free (most_open search.target) (opened outer f) + length (opened outer f)
+      ≤ most_open search.target
   pub passed : IsPassed search (is_noted noted) f
   pub around : AllPassed search noted outer f.type_id
 

@@ -2,11 +2,16 @@
 //! (`bpf_core_match_member`, tools/lib/bpf/relo_core.c).
 #![tactic(auto)]
 
+mod collect;
 mod empty_types;
+mod finder;
 mod laws;
 mod look;
+mod member_index;
 mod search;
 mod turn;
 
+pub use finder::MemberFinder;
 pub use laws::{nesting_never_decides, searches_rest};
+pub use member_index::name_hash;
 pub use search::{Found, find_member};

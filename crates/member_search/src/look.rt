@@ -29,7 +29,7 @@ fn is_composite(t: &TypeRef<'_>) -> bool
 }
 
 /// A member without a name.
-fn look_inside(target: &Btf<'_>, member: BtfMember) -> Result<Look, AccessError>
+pub(crate) fn look_inside(target: &Btf<'_>, member: BtfMember) -> Result<Look, AccessError>
     ensures value { result ≡ look_inside target.now member }
     ensures inside { IfOk result (LeadsInside target.now) }
 {

@@ -17,7 +17,7 @@ pub struct Found {
     pub place: Place,
     /// The id of its type.
     pub type_id: u32,
-    /// Its bits, behind those with which the search began, where 32 bits hold them.
+    /// Its bits, after those with which the search began, where 32 bits hold them.
     pub bits: Option<u32>,
     /// How many members lead to it: those without names, and itself.
     pub parts: usize,
@@ -27,8 +27,8 @@ pub struct Found {
 /// the local type of the first id: libbpf's `bpf_core_match_member` (tools/lib/bpf/relo_core.c).
 /// The struct or union, `root`, begins at these bits.
 ///
-/// Members are looked at in order. One without a name that is a struct or union is searched as it is
-/// met; the first of the name decides for the struct or union that it stands in. One that is met
+/// Members are looked at in order. One without a name that is a struct or union is searched as it
+/// is met; the first of the name decides for the struct or union that it stands in. One that is met
 /// again, outside of itself, holds nothing, and isn't gone through once more.
 ///
 /// `MaximumNestingLevelReached` where a struct or union is met inside itself, and what the look-ups
@@ -41,8 +41,11 @@ pub fn find_member<'t>(
     root: u32,
     bits: Option<u32>,
 ) -> Result<Option<Found>, AccessError>
-    ensures value { IfOk result (λ found. member_found (searched local.now type_id name.now target.now) root bits ≡ Ok found) }
-    ensures refused { IfErr result (λ e. e ≢ TypeError OutOfMemory → member_found (searched local.now type_id name.now target.now) root bits ≡ Err e) }
+    ensures value { IfOk result (λ found.
+        member_found (searched local.now type_id name.now target.now) root bits ≡ Ok found) }
+    ensures refused { IfErr result (λ e.
+        e ≢ TypeError OutOfMemory
+        → member_found (searched local.now type_id name.now target.now) root bits ≡ Err e) }
 {
     let _root = target.type_by_id(root)?;
     let mut memory = Memory::new(target.allocator());

@@ -3,7 +3,7 @@
 ghost use Rattle.std.specs.Prelude.{◌≡◌, ◌≢◌, ◌+◌, ◌<◌, ◌≤◌, ◌⊎◌, ◌++◌, ◌∷◌, [], IfOk, IfErr, IfSome, Err, true, false, length, slice_get};
 ghost use Rattle.member_search.specs.EmptyTypes.{is_noted};
 ghost use Rattle.member_search.specs.Looks.{searched};
-ghost use Rattle.member_search.specs.Searches.{most_open};
+ghost use Rattle.member_search.specs.Searches.{member_here, most_open};
 ghost use Rattle.member_search.specs.Stacks.{IsEntered, IsFollowed, IsLeft, IsSound, IsSoundTurn, IsTooDeep, IsTurn, found_of, frames_of, inside, is_open, left_of, stack_value};
 ghost use Rattle.access_paths.specs.declared.error.AccessError.TheVariants.{BtfError as TypeError, MaximumNestingLevelReached};
 ghost use Rattle.btf_records.specs.Fields.{members_of};
@@ -62,7 +62,7 @@ impl Memory {
 
 /// The member of an index of a struct or union.
 #[tactic(auto, using(crate::proofs::Members::no_more))]
-fn member_at(t: &TypeRef<'_>, index: usize) -> Option<BtfMember>
+pub(crate) fn member_at(t: &TypeRef<'_>, index: usize) -> Option<BtfMember>
     ensures value { result ≡ slice_get (members_of t.now) index }
     ensures few { IfSome result (λ _. index < 65536) }
 {
@@ -70,6 +70,21 @@ fn member_at(t: &TypeRef<'_>, index: usize) -> Option<BtfMember>
         return None;
     }
     t.member(index)
+}
+
+/// What the next member of a struct or union is, if it is the one; so many members lead to it.
+pub(crate) fn member_here(frame: Frame, t: &TypeRef<'_>, member: BtfMember, parts: usize) -> Found
+    ensures { result ≡ member_here frame.type_id t.now parts frame.bits frame.next member }
+{
+    Found {
+        place: Place {
+            type_id: frame.type_id,
+            index: frame.next as u64,
+        },
+        type_id: member.btf_type,
+        bits: bits_after(frame.bits, u64::from(member.bit_offset(t.flag()))),
+        parts,
+    }
 }
 
 /// Whether a struct or union is being looked at.
@@ -107,8 +122,14 @@ fn enter(
     memory: &mut Memory,
 ) -> Result<Turn, AccessError>
     requires { is_noted memory.old.nothing type_id ≡ false }
-    ensures entered { IfOk result (λ turn. IsEntered target.now type_id bits innermost memory.old.outer.items memory.old.nothing turn memory.new.outer.items memory.new.nothing) }
-    ensures refused { IfErr result (λ e. e ≢ TypeError OutOfMemory → (e ≡ MaximumNestingLevelReached) × ((is_open (memory.old.outer.items ++ innermost ∷ []) type_id ≡ true) ⊎ (most_open target.now ≤ length (memory.old.outer.items ++ innermost ∷ [])))) }
+    ensures entered { IfOk result (λ turn.
+        IsEntered target.now type_id bits innermost memory.old.outer.items memory.old.nothing turn
+        memory.new.outer.items memory.new.nothing) }
+    ensures refused { IfErr result (λ e.
+        e ≢ TypeError OutOfMemory
+        → (e ≡ MaximumNestingLevelReached)
+        × ((is_open (memory.old.outer.items ++ innermost ∷ []) type_id ≡ true)
+        ⊎ (most_open target.now ≤ length (memory.old.outer.items ++ innermost ∷ [])))) }
 {
     memory.outer.push(innermost)?;
     if is_open(memory.outer.as_slice(), type_id) || memory.outer.len() > target.len() {
@@ -118,8 +139,10 @@ fn enter(
 }
 
 /// Goes on around a struct or union that holds nothing, which was the innermost.
-fn leave(type_id: u32, memory: &mut Memory) -> Result<Turn, AllocError>
-    ensures { IfOk result (λ turn. IsLeft type_id memory.old.outer.items memory.old.nothing turn memory.new.outer.items memory.new.nothing) }
+pub(crate) fn leave(type_id: u32, memory: &mut Memory) -> Result<Turn, AllocError>
+    ensures { IfOk result (λ turn.
+        IsLeft type_id memory.old.outer.items memory.old.nothing turn memory.new.outer.items
+        memory.new.nothing) }
 {
     match memory.outer.pop() {
         Some(frame) => {
@@ -131,15 +154,19 @@ fn leave(type_id: u32, memory: &mut Memory) -> Result<Turn, AllocError>
 }
 
 /// Goes on after a look at a member of the innermost struct or union.
-fn follow(
+pub(crate) fn follow(
     target: &Btf<'_>,
     seen: Look,
     here: Found,
     after: Frame,
     memory: &mut Memory,
 ) -> Result<Turn, AccessError>
-    ensures over { IfOk result (λ turn. IsFollowed target.now seen here after memory.old.outer.items memory.old.nothing turn memory.new.outer.items memory.new.nothing) }
-    ensures refused { IfErr result (λ e. e ≢ TypeError OutOfMemory → IsTooDeep target.now seen (memory.old.outer.items ++ after ∷ []) e) }
+    ensures over { IfOk result (λ turn.
+        IsFollowed target.now seen here after memory.old.outer.items memory.old.nothing turn
+        memory.new.outer.items memory.new.nothing) }
+    ensures refused { IfErr result (λ e.
+        e ≢ TypeError OutOfMemory
+        → IsTooDeep target.now seen (memory.old.outer.items ++ after ∷ []) e) }
 {
     match seen {
         Look::GoOn => Ok(Turn::On(after)),
@@ -166,10 +193,20 @@ pub(crate) fn next_turn<'t>(
     frame: Frame,
     memory: &mut Memory,
 ) -> Result<Turn, AccessError>
-    requires { IsSound (searched local.now type_id name.now target.now) memory.old.nothing memory.old.outer.items frame }
-    ensures turn { IfOk result (λ turn. IsTurn (searched local.now type_id name.now target.now) (memory.old.outer.items ++ frame ∷ []) (found_of turn) (memory.new.outer.items ++ frames_of turn)) }
-    ensures sound { IfOk result (λ turn. IsSoundTurn (searched local.now type_id name.now target.now) turn memory.new.nothing memory.new.outer.items) }
-    ensures refused { IfErr result (λ e. e ≢ TypeError OutOfMemory → stack_value (searched local.now type_id name.now target.now) (memory.old.outer.items ++ frame ∷ []) ≡ Err e) }
+    requires { IsSound (searched local.now type_id name.now target.now) memory.old.nothing
+        memory.old.outer.items frame }
+    ensures turn { IfOk result (λ turn.
+        IsTurn (searched local.now type_id name.now target.now)
+        (memory.old.outer.items ++ frame ∷ []) (found_of turn)
+        (memory.new.outer.items ++ frames_of turn)) }
+    ensures sound { IfOk result (λ turn.
+        IsSoundTurn (searched local.now type_id name.now target.now) turn memory.new.nothing
+        memory.new.outer.items) }
+    ensures refused { IfErr result (λ e.
+        e ≢ TypeError OutOfMemory
+        → stack_value (searched local.now type_id name.now target.now)
+        (memory.old.outer.items ++ frame ∷ [])
+        ≡ Err e) }
 {
     let t = target.type_by_id(frame.type_id)?;
     let Some(member) = member_at(&t, frame.next) else {
@@ -177,15 +214,7 @@ pub(crate) fn next_turn<'t>(
         return Ok(turn);
     };
     let seen = look_at(local, type_id, name, target, member)?;
-    let here = Found {
-        place: Place {
-            type_id: frame.type_id,
-            index: frame.next as u64,
-        },
-        type_id: member.btf_type,
-        bits: bits_after(frame.bits, u64::from(member.bit_offset(t.flag()))),
-        parts: memory.outer.len() + 1,
-    };
+    let here = member_here(frame, &t, member, memory.outer.len() + 1);
     let after = Frame {
         next: frame.next + 1,
         ..frame

@@ -27,7 +27,6 @@ use Rattle.type_match.specs.Matches.{followed_by, kernel_matches, match_at, matc
 use Rattle.type_match.specs.RelocationOutcomes.{decided, local_value, relocation_outcome, settled}
 use Rattle.type_match.specs.declared.error.TypeRelocationError.{TypeRelocationError}
 use Rattle.type_match.specs.declared.matches.Match.{Match}
-use Rattle.type_match.specs.declared.outcome.Outcome.{Outcome}
 use Rattle.type_match.specs.declared.relocation.RelocationOutcome.{RelocationOutcome}
 use Rattle.type_match.specs.declared.relocation.TypeRelocation.{TypeRelocation}
 

@@ -1,4 +1,5 @@
--- Paths in a kernel's types, from which the matches of all kinds that ask for the same part of a type are computed.
+-- Paths in a kernel's types, from which the matches of all kinds that ask for the same part of a
+-- type are computed.
 use Rattle.std.specs.Prelude.{◌≡◌, Bool, false, true, List, [], ◌∷◌, ◌++◌, All, IfOk, slice_get, Option, None, option_and_then, Result, Ok}
 use Rattle.std.specs.Option.{option_map, option_map_or, option_to_list}
 use Rattle.std.specs.Result.{result_ok}
@@ -27,7 +28,12 @@ is_part subjects.Type = false
 is_part _ = true
 
 -- the path in a candidate, if this has what is asked for
-abbrev pub path_at : Subject → Table → AccessPath → List Table → KernelType → Result (Option FoundPath) TypeRelocationError
+abbrev pub path_at : Subject
+    → Table
+    → AccessPath
+    → List Table
+    → KernelType
+    → Result (Option FoundPath) TypeRelocationError
 path_at subject local path targets place =
     option_map_or
     (λ target.
@@ -36,8 +42,12 @@ path_at subject local path targets place =
     (slice_get targets place.table) (Ok None)
 
 -- it is added, if there is one
-abbrev pub IsAdded : Result (Option FoundPath) TypeRelocationError → List FoundPath → List FoundPath → Type 0
-IsAdded found old new = (one : Option FoundPath) × (found ≡ Ok one) × (new ≡ old ++ option_to_list one)
+abbrev pub IsAdded : Result (Option FoundPath) TypeRelocationError
+    → List FoundPath
+    → List FoundPath
+    → Type 0
+IsAdded found old new =
+    (one : Option FoundPath) × (found ≡ Ok one) × (new ≡ old ++ option_to_list one)
 
 -- the paths so far, and those in these candidates, in order
 unfoldable pub paths_of : Subject → Table → AccessPath → List Table → List FoundPath → List KernelType
@@ -48,7 +58,11 @@ paths_of subject local path targets done (c ∷ cs) =
     paths_of subject local path targets (done ++ option_to_list found) cs)
 
 -- those in the tables of a kernel
-abbrev pub found_paths : Subject → Table → AccessPath → List Table → Result (List FoundPath) TypeRelocationError
+abbrev pub found_paths : Subject
+    → Table
+    → AccessPath
+    → List Table
+    → Result (List FoundPath) TypeRelocationError
 found_paths subject local path targets =
     with_own_type (wanted_for local path.type_id) (λ wanted.
     with_candidates (candidates wanted targets) (paths_of subject local path targets []))
@@ -70,12 +84,15 @@ match_from kind targets f = record {
 -- two relocations ask for the same part
 abbrev pub AskForOne : TypeRelocation → TypeRelocation → Type 0
 AskForOne one other =
-    (one.type_id ≡ other.type_id) × (one.access_str_off ≡ other.access_str_off) × (subject_of one.kind ≡ subject_of other.kind)
+    (one.type_id ≡ other.type_id)
+    × (one.access_str_off ≡ other.access_str_off)
+    × (subject_of one.kind ≡ subject_of other.kind)
 
 -- these are the paths of such a relocation
 abbrev pub ArePathsOf : Table → List Table → TypeRelocation → List FoundPath → Type 0
 ArePathsOf local targets r paths =
-    IfOk (local_path local r.kind r.type_id r.access_str_off) (λ path. found_paths (subject_of r.kind) local path targets ≡ Ok paths)
+    IfOk (local_path local r.kind r.type_id r.access_str_off) (λ path.
+    found_paths (subject_of r.kind) local path targets ≡ Ok paths)
 
 pub record AreKnown (local : Table) (targets : List Table) (known : List KnownPaths) : Type 0 where
   pub each : All (λ k. ArePathsOf local targets k.relocation k.paths.items) known

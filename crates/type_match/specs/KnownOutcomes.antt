@@ -7,7 +7,8 @@ use Rattle.type_match.specs.declared.relocation.RelocationOutcome.{RelocationOut
 use Rattle.type_match.specs.declared.relocation.TypeRelocation.{TypeRelocation}
 
 abbrev pub IsOutcome : Table → List Table → TypeRelocation → RelocationOutcome → Type 0
-IsOutcome local targets relocation outcome = relocation_outcome local relocation targets ≡ Ok outcome
+IsOutcome local targets relocation outcome =
+    relocation_outcome local relocation targets ≡ Ok outcome
 
 pub record AreOutcomes (local : Table) (targets : List Table) (known : List KnownOutcome) : Type 0 where
   pub each : All (λ k. IsOutcome local targets k.relocation k.outcome) known

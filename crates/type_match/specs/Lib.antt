@@ -5,3 +5,4 @@ pub mod Matches
 pub mod OneTable
 pub mod Outcomes
 pub mod RelocationOutcomes
+pub mod TableFinders

@@ -28,12 +28,18 @@ followed_by (Ok x) go = go x
 followed_by (Err e) go = Err e
 
 -- of one about the object's own types
-abbrev pub with_local : {T U : Type 0} → Result T AccessError → (T → Result U TypeRelocationError) → Result U TypeRelocationError
+abbrev pub with_local : {T U : Type 0}
+    → Result T AccessError
+    → (T → Result U TypeRelocationError)
+    → Result U TypeRelocationError
 with_local (Ok x) go = go x
 with_local (Err e) go = Err (errors.Local e)
 
 -- of what is looked up there
-abbrev pub with_own_type : {T U : Type 0} → Result T BtfError → (T → Result U TypeRelocationError) → Result U TypeRelocationError
+abbrev pub with_own_type : {T U : Type 0}
+    → Result T BtfError
+    → (T → Result U TypeRelocationError)
+    → Result U TypeRelocationError
 with_own_type (Ok x) go = go x
 with_own_type (Err e) go = Err (errors.Local (TypeError e))
 
@@ -42,7 +48,10 @@ abbrev pub of_candidates : CandidateError → TypeRelocationError
 of_candidates (faults.UnreadableName place offset) = errors.UnreadableName place offset
 of_candidates faults.OutOfMemory = errors.OutOfMemory
 
-abbrev pub with_candidates : {T U : Type 0} → Result T CandidateError → (T → Result U TypeRelocationError) → Result U TypeRelocationError
+abbrev pub with_candidates : {T U : Type 0}
+    → Result T CandidateError
+    → (T → Result U TypeRelocationError)
+    → Result U TypeRelocationError
 with_candidates (Ok x) go = go x
 with_candidates (Err e) go = Err (of_candidates e)
 
@@ -53,7 +62,9 @@ with_kernel place (Ok x) go = go x
 with_kernel place (Err e) go = Err (errors.Kernel place e)
 
 -- a match whose value can't be computed is one; a type's size must be computable
-abbrev pub if_computed : RelocationKind → Result RelocationValue AccessError → Result (Option RelocationValue) AccessError
+abbrev pub if_computed : RelocationKind
+    → Result RelocationValue AccessError
+    → Result (Option RelocationValue) AccessError
 if_computed kind (Ok value) = Ok (Some value)
 if_computed kinds.TypeSize (Err e) = Err e
 if_computed kind (Err e) = Ok None
@@ -63,16 +74,32 @@ match_of kind target table path =
     and_then (if_computed kind (path_value target kind path)) (λ value.
     Ok (record { table = table; type_id = path.type_id; bit_offset = path.bit_offset; value = value }))
 
-abbrev pub of_path : RelocationKind → Table → ℕ → Option AccessPath → Result (Option Match) AccessError
+abbrev pub of_path : RelocationKind
+    → Table
+    → ℕ
+    → Option AccessPath
+    → Result (Option Match) AccessError
 of_path kind target table None = Ok None
-of_path kind target table (Some path) = and_then (match_of kind target table path) (λ m. Ok (Some m))
+of_path kind target table (Some path) =
+    and_then (match_of kind target table path) (λ m. Ok (Some m))
 
 -- the match that a candidate is, if it is one
-abbrev pub match_in : RelocationKind → Table → AccessPath → Table → KernelType → Result (Option Match) AccessError
+abbrev pub match_in : RelocationKind
+    → Table
+    → AccessPath
+    → Table
+    → KernelType
+    → Result (Option Match) AccessError
 match_in kind local path target place =
-    and_then (matching_path (subject_of kind) local path target place.type_id) (of_path kind target place.table)
+    and_then (matching_path (subject_of kind) local path target place.type_id)
+    (of_path kind target place.table)
 
-abbrev pub match_at : RelocationKind → Table → AccessPath → List Table → KernelType → Result (Option Match) TypeRelocationError
+abbrev pub match_at : RelocationKind
+    → Table
+    → AccessPath
+    → List Table
+    → KernelType
+    → Result (Option Match) TypeRelocationError
 match_at kind local path targets place =
     option_map_or (λ target. with_kernel place (match_in kind local path target place) (λ m. Ok m))
     (slice_get targets place.table) (Ok None)
@@ -85,14 +112,20 @@ matches_of kind local path targets done (c ∷ cs) =
     followed_by (match_at kind local path targets c) (λ m.
     matches_of kind local path targets (done ++ option_to_list m) cs)
 
--- which tables are searched: an id of the object's own types is in none, one of the kernel's in the first alone
+-- which tables are searched: an id of the object's own types is in none, one of the kernel's in the
+-- first alone
 abbrev pub searched_tables : {T : Type 0} → RelocationKind → List T → List T
 searched_tables kinds.TypeIdLocal targets = []
 searched_tables kinds.TypeIdTarget targets = take 1 targets
 searched_tables _ targets = targets
 
 -- all candidates are found before one is matched
-abbrev pub kernel_matches : RelocationKind → Table → AccessPath → List Table → Result (List Match) TypeRelocationError
+abbrev pub kernel_matches : RelocationKind
+    → Table
+    → AccessPath
+    → List Table
+    → Result (List Match) TypeRelocationError
 kernel_matches kind local path targets =
     with_own_type (wanted_for local path.type_id) (λ wanted.
-    with_candidates (candidates wanted (searched_tables kind targets)) (matches_of kind local path targets []))
+    with_candidates (candidates wanted (searched_tables kind targets))
+    (matches_of kind local path targets []))

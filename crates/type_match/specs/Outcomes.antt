@@ -37,7 +37,8 @@ of_first first = value_of_first first.value
 -- in the order of tables and ids: the first decides, and the others must agree with it
 abbrev pub outcome_of : RelocationKind → List Match → Result Outcome TypeRelocationError
 outcome_of kind [] = no_match kind
-outcome_of kind (first ∷ others) = if list_all (agree first) others then Ok (of_first first) else Err ConflictingCandidates
+outcome_of kind (first ∷ others) =
+    if list_all (agree first) others then Ok (of_first first) else Err ConflictingCandidates
 
 -- the matches that don't agree with the first, in order
 abbrev pub conflicts : List Match → List Match

@@ -18,13 +18,17 @@ use Rattle.type_match.specs.declared.outcome.Outcome.TheVariants.{Value}
 use Rattle.type_match.specs.declared.relocation.RelocationOutcome.{RelocationOutcome}
 use Rattle.type_match.specs.declared.relocation.TypeRelocation.{TypeRelocation}
 
--- the value in the object's own types must be computable; a type's size is asked of the kernel's alone
+-- the value in the object's own types must be computable; a type's size is asked of the kernel's
+-- alone
 abbrev pub local_value : Table → RelocationKind → AccessPath → Result RelocationValue AccessError
 local_value local kinds.TypeSize path = Ok (plain 0)
 local_value local kind path = path_value local kind path
 
 -- an id of the object's own types is its value there
-abbrev pub decided : RelocationKind → RelocationValue → List Match → Result Outcome TypeRelocationError
+abbrev pub decided : RelocationKind
+    → RelocationValue
+    → List Match
+    → Result Outcome TypeRelocationError
 decided kinds.TypeIdLocal value matches = Ok (Value value)
 decided kind value matches = outcome_of kind matches
 
@@ -33,12 +37,18 @@ abbrev pub first_table : List Match → Option ℕ
 first_table [] = None
 first_table (m ∷ ms) = Some m.table
 
-abbrev pub settled : RelocationKind → List Match → RelocationValue → Result RelocationOutcome TypeRelocationError
+abbrev pub settled : RelocationKind
+    → List Match
+    → RelocationValue
+    → Result RelocationOutcome TypeRelocationError
 settled kind matches value =
     followed_by (decided kind value matches) (λ outcome.
     Ok (record { outcome = outcome; local_field = value.field; table = first_table matches }))
 
-abbrev pub relocation_outcome : Table → TypeRelocation → List Table → Result RelocationOutcome TypeRelocationError
+abbrev pub relocation_outcome : Table
+    → TypeRelocation
+    → List Table
+    → Result RelocationOutcome TypeRelocationError
 relocation_outcome local r targets =
     with_local (local_path local r.kind r.type_id r.access_str_off) (λ path.
     followed_by (kernel_matches r.kind local path targets) (λ matches.

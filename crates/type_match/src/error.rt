@@ -32,8 +32,8 @@ pub enum TypeRelocationError {
         place: KernelType,
         error: AccessError,
     },
-    /// A type of a kernel's that has what is asked for has it elsewhere than the first such type, or
-    /// with another value.
+    /// A type of a kernel's that has what is asked for has it elsewhere than the first such type,
+    /// or with another value.
     #[error("conflicting candidates")]
     ConflictingCandidates,
     /// The id or the size of a type is asked for that the kernel doesn't have.
@@ -45,7 +45,8 @@ pub enum TypeRelocationError {
 }
 
 impl From<AccessError> for TypeRelocationError {
-    ghost from_gives = { λ error e. e ≢ OutOfMemory → (e ≡ Local error) × (error ≢ TypeError NoMemory) };
+    ghost from_gives = { λ error e.
+        e ≢ OutOfMemory → (e ≡ Local error) × (error ≢ TypeError NoMemory) };
 
     fn from(error: AccessError) -> TypeRelocationError {
         match error {

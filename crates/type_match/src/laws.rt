@@ -12,8 +12,8 @@ pub fn lists_of_one_table()
     ensures { ListsOfOneTable }
 {}
 
-/// What a type relocation comes to rests, of the object's own types, on the records that are reached
-/// from its type, on their texts, and on the access string.
+/// What a type relocation comes to rests, of the object's own types, on the records that are
+/// reached from its type, on their texts, and on the access string.
 pub fn outcomes_rest()
     ensures { OutcomesRest }
 {

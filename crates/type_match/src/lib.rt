@@ -3,6 +3,7 @@
 #![tactic(auto)]
 
 mod error;
+mod finders;
 mod known;
 mod laws;
 mod matcher;

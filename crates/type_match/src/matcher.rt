@@ -12,6 +12,7 @@ ghost use Rattle.type_match.specs.RelocationOutcomes.{IsTableOf, relocation_outc
 ghost use Rattle.type_match.specs.declared.error.TypeRelocationError.TheVariants.{OutOfMemory};
 
 use crate::error::TypeRelocationError;
+use crate::finders::TableFinders;
 use crate::known::{AccessKey, KnownOutcome, access_key, is_same};
 use crate::matches::{Match, matches_of, searched_tables};
 use crate::paths::{FoundPath, KnownPaths, ask_for_one, is_part, matches_from, paths_of};
@@ -39,6 +40,7 @@ pub struct TypeMatcher<'m> {
     /// The paths that were found for relocations about fields and variants, by type and access
     /// string.
     paths: BTreeMap<(u32, u32), KnownPaths>,
+    finders: TableFinders<'m>,
 }
 
 impl<'m> Model for TypeMatcher<'m> {
@@ -52,7 +54,12 @@ impl<'m> Model for TypeMatcher<'m> {
 
     ghost view = { λ m. record { local = m.local.now; targets = m.targets.now } };
 
-    ghost invariant = { λ m. (IfSome m.in_all (λ c. c ≡ m.targets.now)) × (IfSome m.in_first (λ c. c ≡ take 1 m.targets.now)) × AreOutcomes m.local.now m.targets.now (values_of m.known.entries) × AreKnown m.local.now m.targets.now (values_of m.paths.entries) };
+    ghost invariant = { λ m.
+        (IfSome m.in_all (λ c. c ≡ m.targets.now))
+        × (IfSome m.in_first (λ c. c ≡ take 1 m.targets.now))
+        × AreOutcomes m.local.now m.targets.now (values_of m.known.entries)
+        × AreKnown m.local.now m.targets.now (values_of m.paths.entries)
+        × (m.finders ≡ m.targets.now) };
 }
 
 /// The local types of relocations that are looked for in these of the tables, each once.
@@ -90,7 +97,7 @@ fn collected<'m>(
 
 impl<'m> TypeMatcher<'m> {
     /// The types of an object and of a kernel. Each relocation goes over the kernel's tables.
-    #[tactic(auto, using(crate::proofs::KnownOutcomes::none_known, crate::proofs::FoundPaths::no_paths_known))]
+    #[tactic(auto, using(crate::proofs::KnownOutcomes::none_known, crate::proofs::FoundPaths::no_paths_known),)]
     pub fn new(local: &'m Btf<'m>, targets: &'m [Btf<'m>]) -> TypeMatcher<'m>
         ensures { result ≡ record { local = local.now; targets = targets.now } }
     {
@@ -101,18 +108,21 @@ impl<'m> TypeMatcher<'m> {
             in_first: None,
             known: BTreeMap::new(local.allocator()),
             paths: BTreeMap::new(local.allocator()),
+            finders: TableFinders::new(local.allocator(), targets),
         }
     }
 
     /// The types of an object and of a kernel, of which each table is gone over once for all of
-    /// these relocations, the first of several once more where ids of a kernel's types are asked for.
-    #[tactic(auto, using(crate::proofs::KnownOutcomes::none_known, crate::proofs::FoundPaths::no_paths_known))]
+    /// these relocations, the first of several once more where ids of a kernel's types are asked
+    /// for.
+    #[tactic(auto, using(crate::proofs::KnownOutcomes::none_known, crate::proofs::FoundPaths::no_paths_known),)]
     pub fn collect(
         local: &'m Btf<'m>,
         relocations: &[TypeRelocation],
         targets: &'m [Btf<'m>],
     ) -> Result<TypeMatcher<'m>, AllocError>
-        ensures { IfOk result (λ matcher. matcher ≡ record { local = local.now; targets = targets.now }) }
+        ensures { IfOk result (λ matcher.
+            matcher ≡ record { local = local.now; targets = targets.now }) }
     {
         let in_all = wanted_types(local, relocations, targets, Tables::All)?;
         let in_first = wanted_types(local, relocations, targets, Tables::First)?;
@@ -126,6 +136,7 @@ impl<'m> TypeMatcher<'m> {
             in_first,
             known: BTreeMap::new(local.allocator()),
             paths: BTreeMap::new(local.allocator()),
+            finders: TableFinders::new(local.allocator(), targets),
         })
     }
 
@@ -146,8 +157,10 @@ impl<'m> TypeMatcher<'m> {
         kind: RelocationKind,
         wanted: &WantedType<'_>,
     ) -> Result<Vec<KernelType>, CandidateError>
-        ensures value { IfOk result (λ found. candidates wanted.now (searched_tables kind self.now.targets) ≡ Ok found.items) }
-        ensures refused { IfErr result (λ e. e ≢ NoMemory → candidates wanted.now (searched_tables kind self.now.targets) ≡ Err e) }
+        ensures value { IfOk result (λ found.
+            candidates wanted.now (searched_tables kind self.now.targets) ≡ Ok found.items) }
+        ensures refused { IfErr result (λ e.
+            e ≢ NoMemory → candidates wanted.now (searched_tables kind self.now.targets) ≡ Err e) }
     {
         let alloc = self.local.allocator();
         match self.collected(kind) {
@@ -162,8 +175,11 @@ impl<'m> TypeMatcher<'m> {
         kind: RelocationKind,
         path: &AccessPath,
     ) -> Result<Vec<Match>, TypeRelocationError>
-        ensures value { IfOk result (λ found. kernel_matches kind self.now.local path.now self.now.targets ≡ Ok found.items) }
-        ensures refused { IfErr result (λ e. e ≢ OutOfMemory → kernel_matches kind self.now.local path.now self.now.targets ≡ Err e) }
+        ensures value { IfOk result (λ found.
+            kernel_matches kind self.now.local path.now self.now.targets ≡ Ok found.items) }
+        ensures refused { IfErr result (λ e.
+            e ≢ OutOfMemory
+            → kernel_matches kind self.now.local path.now self.now.targets ≡ Err e) }
     {
         let wanted = match WantedType::find(self.local, path.type_id) {
             Ok(wanted) => wanted,
@@ -176,13 +192,18 @@ impl<'m> TypeMatcher<'m> {
     /// The paths in all tables that lead to a part of a local type.
     #[tactic(auto, using(crate::proofs::FoundPaths::all_searched))]
     fn found_paths(
-        &self,
+        &mut self,
         kind: RelocationKind,
         path: &AccessPath,
     ) -> Result<Vec<FoundPath>, TypeRelocationError>
         requires { is_part (subject_of kind) ≡ true }
-        ensures value { IfOk result (λ found. found_paths (subject_of kind) self.now.local path.now self.now.targets ≡ Ok found.items) }
-        ensures refused { IfErr result (λ e. e ≢ OutOfMemory → found_paths (subject_of kind) self.now.local path.now self.now.targets ≡ Err e) }
+        ensures value { IfOk result (λ found.
+            found_paths (subject_of kind) self.old.local path.now self.old.targets
+            ≡ Ok found.items) }
+        ensures refused { IfErr result (λ e.
+            e ≢ OutOfMemory
+            → found_paths (subject_of kind) self.old.local path.now self.old.targets ≡ Err e) }
+        ensures same { self.new ≡ self.old }
     {
         let wanted = match WantedType::find(self.local, path.type_id) {
             Ok(wanted) => wanted,
@@ -193,7 +214,7 @@ impl<'m> TypeMatcher<'m> {
             subject_of(kind),
             self.local,
             path,
-            self.targets,
+            &mut self.finders,
             found.as_slice(),
         )
     }
@@ -201,7 +222,8 @@ impl<'m> TypeMatcher<'m> {
     /// The paths that were found for a relocation that asks for the same.
     #[tactic(auto, using(crate::proofs::FoundPaths::paths_known))]
     fn known_paths(&self, relocation: TypeRelocation) -> Option<&[FoundPath]>
-        ensures { IfSome result (λ paths. ArePathsOf self.now.local self.now.targets relocation paths.now) }
+        ensures { IfSome result (λ paths.
+            ArePathsOf self.now.local self.now.targets relocation paths.now) }
     {
         let known = self
             .paths
@@ -221,9 +243,15 @@ impl<'m> TypeMatcher<'m> {
         path: &AccessPath,
     ) -> Result<Vec<Match>, TypeRelocationError>
         requires part { is_part (subject_of relocation.kind) ≡ true }
-        requires path { local_path self.old.local relocation.kind relocation.type_id relocation.access_str_off ≡ Ok path.now }
-        ensures value { IfOk result (λ found. kernel_matches relocation.kind self.old.local path.now self.old.targets ≡ Ok found.items) }
-        ensures refused { IfErr result (λ e. e ≢ OutOfMemory → kernel_matches relocation.kind self.old.local path.now self.old.targets ≡ Err e) }
+        requires path { local_path self.old.local relocation.kind relocation.type_id
+            relocation.access_str_off
+            ≡ Ok path.now }
+        ensures value { IfOk result (λ found.
+            kernel_matches relocation.kind self.old.local path.now self.old.targets
+            ≡ Ok found.items) }
+        ensures refused { IfErr result (λ e.
+            e ≢ OutOfMemory
+            → kernel_matches relocation.kind self.old.local path.now self.old.targets ≡ Err e) }
         ensures same { self.new ≡ self.old }
     {
         let alloc = self.local.allocator();
@@ -247,9 +275,15 @@ impl<'m> TypeMatcher<'m> {
         relocation: TypeRelocation,
         path: &AccessPath,
     ) -> Result<Vec<Match>, TypeRelocationError>
-        requires { local_path self.old.local relocation.kind relocation.type_id relocation.access_str_off ≡ Ok path.now }
-        ensures value { IfOk result (λ found. kernel_matches relocation.kind self.old.local path.now self.old.targets ≡ Ok found.items) }
-        ensures refused { IfErr result (λ e. e ≢ OutOfMemory → kernel_matches relocation.kind self.old.local path.now self.old.targets ≡ Err e) }
+        requires { local_path self.old.local relocation.kind relocation.type_id
+            relocation.access_str_off
+            ≡ Ok path.now }
+        ensures value { IfOk result (λ found.
+            kernel_matches relocation.kind self.old.local path.now self.old.targets
+            ≡ Ok found.items) }
+        ensures refused { IfErr result (λ e.
+            e ≢ OutOfMemory
+            → kernel_matches relocation.kind self.old.local path.now self.old.targets ≡ Err e) }
         ensures same { self.new ≡ self.old }
     {
         if is_part(subject_of(relocation.kind)) {
@@ -264,9 +298,12 @@ impl<'m> TypeMatcher<'m> {
         &mut self,
         relocation: TypeRelocation,
     ) -> Result<RelocationOutcome, TypeRelocationError>
-        ensures value { IfOk result (λ outcome. relocation_outcome self.old.local relocation self.old.targets ≡ Ok outcome) }
+        ensures value { IfOk result (λ outcome.
+            relocation_outcome self.old.local relocation self.old.targets ≡ Ok outcome) }
         ensures table { IfOk result (λ outcome. IsTableOf self.old.targets outcome.table) }
-        ensures refused { IfErr result (λ e. e ≢ OutOfMemory → relocation_outcome self.old.local relocation self.old.targets ≡ Err e) }
+        ensures refused { IfErr result (λ e.
+            e ≢ OutOfMemory
+            → relocation_outcome self.old.local relocation self.old.targets ≡ Err e) }
         ensures same { self.new ≡ self.old }
     {
         let kind = relocation.kind;
@@ -295,9 +332,12 @@ impl<'m> TypeMatcher<'m> {
         &mut self,
         relocation: TypeRelocation,
     ) -> Result<RelocationOutcome, TypeRelocationError>
-        ensures value { IfOk result (λ outcome. relocation_outcome self.old.local relocation self.old.targets ≡ Ok outcome) }
+        ensures value { IfOk result (λ outcome.
+            relocation_outcome self.old.local relocation self.old.targets ≡ Ok outcome) }
         ensures table { IfOk result (λ outcome. IsTableOf self.old.targets outcome.table) }
-        ensures refused { IfErr result (λ e. e ≢ OutOfMemory → relocation_outcome self.old.local relocation self.old.targets ≡ Err e) }
+        ensures refused { IfErr result (λ e.
+            e ≢ OutOfMemory
+            → relocation_outcome self.old.local relocation self.old.targets ≡ Err e) }
         ensures same { self.new ≡ self.old }
     {
         if let Some(outcome) = self.known_outcome(relocation) {

@@ -22,7 +22,7 @@ pub struct Match {
     /// Which of the kernel's tables it stands in, counted from 0.
     pub table: usize,
     pub type_id: u32,
-    /// The bits that the field lies behind its beginning.
+    /// The bits that the field lies after its beginning.
     pub bit_offset: u32,
     /// The relocation's value there, if it can be computed.
     pub value: Option<RelocationValue>,
@@ -62,8 +62,10 @@ fn match_in<'t>(
     target: &Btf<'t>,
     place: KernelType,
 ) -> Result<Option<Match>, AccessError>
-    ensures value { IfOk result (λ found. match_in kind local.now path.now target.now place ≡ Ok found) }
-    ensures refused { IfErr result (λ e. e ≢ TypeError NoMemory → match_in kind local.now path.now target.now place ≡ Err e) }
+    ensures value { IfOk result (λ found.
+        match_in kind local.now path.now target.now place ≡ Ok found) }
+    ensures refused { IfErr result (λ e.
+        e ≢ TypeError NoMemory → match_in kind local.now path.now target.now place ≡ Err e) }
 {
     let found = matching_path(subject_of(kind), local, path, target, place.type_id)?;
     let Some(found) = found else {
@@ -81,8 +83,10 @@ fn match_at<'t>(
     targets: &[Btf<'t>],
     place: KernelType,
 ) -> Result<Option<Match>, TypeRelocationError>
-    ensures value { IfOk result (λ found. match_at kind local.now path.now targets.now place ≡ Ok found) }
-    ensures refused { IfErr result (λ e. e ≢ OutOfMemory → match_at kind local.now path.now targets.now place ≡ Err e) }
+    ensures value { IfOk result (λ found.
+        match_at kind local.now path.now targets.now place ≡ Ok found) }
+    ensures refused { IfErr result (λ e.
+        e ≢ OutOfMemory → match_at kind local.now path.now targets.now place ≡ Err e) }
 {
     let Some(target) = targets.get(place.table) else {
         return Ok(None);
@@ -102,9 +106,12 @@ fn add_match<'t>(
     place: KernelType,
     matches: &mut Vec<Match>,
 ) -> Result<Option<Match>, TypeRelocationError>
-    ensures value { IfOk result (λ found. match_at kind local.now path.now targets.now place ≡ Ok found) }
-    ensures added { IfOk result (λ found. matches.new.items ≡ matches.old.items ++ option_to_list found) }
-    ensures refused { IfErr result (λ e. e ≢ OutOfMemory → match_at kind local.now path.now targets.now place ≡ Err e) }
+    ensures value { IfOk result (λ found.
+        match_at kind local.now path.now targets.now place ≡ Ok found) }
+    ensures added { IfOk result (λ found.
+        matches.new.items ≡ matches.old.items ++ option_to_list found) }
+    ensures refused { IfErr result (λ e.
+        e ≢ OutOfMemory → match_at kind local.now path.now targets.now place ≡ Err e) }
 {
     let found = match_at(kind, local, path, targets, place)?;
     if let Some(m) = found {
@@ -114,7 +121,7 @@ fn add_match<'t>(
 }
 
 /// The matches of candidates, in order.
-#[tactic(auto, using(crate::proofs::MatchesOf::none_left, crate::proofs::MatchesOf::next_candidate))]
+#[tactic(auto, using(crate::proofs::MatchesOf::none_left, crate::proofs::MatchesOf::next_candidate),)]
 pub(crate) fn matches_of<'t>(
     kind: RelocationKind,
     local: &Btf<'t>,
@@ -122,8 +129,11 @@ pub(crate) fn matches_of<'t>(
     targets: &[Btf<'t>],
     candidates: &[KernelType],
 ) -> Result<Vec<Match>, TypeRelocationError>
-    ensures value { IfOk result (λ found. matches_of kind local.now path.now targets.now [] candidates.now ≡ Ok found.items) }
-    ensures refused { IfErr result (λ e. e ≢ OutOfMemory → matches_of kind local.now path.now targets.now [] candidates.now ≡ Err e) }
+    ensures value { IfOk result (λ found.
+        matches_of kind local.now path.now targets.now [] candidates.now ≡ Ok found.items) }
+    ensures refused { IfErr result (λ e.
+        e ≢ OutOfMemory
+        → matches_of kind local.now path.now targets.now [] candidates.now ≡ Err e) }
 {
     let mut matches = Vec::new(local.allocator());
     for candidate in candidates {
@@ -153,16 +163,18 @@ pub(crate) fn searched_tables<'k, 't>(kind: RelocationKind, targets: &'k [Btf<'t
 ///
 /// `Local` where the local type isn't there or its name can't be read; `UnreadableName` where the
 /// name of a type of the kind can't be read in a table that is searched; `Kernel` where all can be
-/// read, with what a search for the path in a type of the kind and the name answers, or why the size
-/// of a match isn't known, where that is asked for.
+/// read, with what a search for the path in a type of the kind and the name answers, or why the
+/// size of a match isn't known, where that is asked for.
 pub fn kernel_matches<'t>(
     kind: RelocationKind,
     local: &Btf<'t>,
     path: &AccessPath,
     targets: &[Btf<'t>],
 ) -> Result<Vec<Match>, TypeRelocationError>
-    ensures value { IfOk result (λ found. kernel_matches kind local.now path.now targets.now ≡ Ok found.items) }
-    ensures refused { IfErr result (λ e. e ≢ OutOfMemory → kernel_matches kind local.now path.now targets.now ≡ Err e) }
+    ensures value { IfOk result (λ found.
+        kernel_matches kind local.now path.now targets.now ≡ Ok found.items) }
+    ensures refused { IfErr result (λ e.
+        e ≢ OutOfMemory → kernel_matches kind local.now path.now targets.now ≡ Err e) }
 {
     TypeMatcher::new(local, targets).kernel_matches(kind, path)
 }

@@ -103,9 +103,11 @@ pub fn relocation_outcome<'t>(
     relocation: TypeRelocation,
     targets: &[Btf<'t>],
 ) -> Result<RelocationOutcome, TypeRelocationError>
-    ensures value { IfOk result (λ outcome. relocation_outcome local.now relocation targets.now ≡ Ok outcome) }
+    ensures value { IfOk result (λ outcome.
+        relocation_outcome local.now relocation targets.now ≡ Ok outcome) }
     ensures table { IfOk result (λ outcome. IsTableOf targets.now outcome.table) }
-    ensures refused { IfErr result (λ e. e ≢ OutOfMemory → relocation_outcome local.now relocation targets.now ≡ Err e) }
+    ensures refused { IfErr result (λ e.
+        e ≢ OutOfMemory → relocation_outcome local.now relocation targets.now ≡ Err e) }
 {
     let mut matcher = TypeMatcher::new(local, targets);
     matcher.found_outcome(relocation)

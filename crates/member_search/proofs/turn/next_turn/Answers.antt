@@ -1,12 +1,9 @@
 use Rattle.std.proofs.Common.{◌≡◌, ◌+◌, Err, length, arith, sym, ap, ◌∙◌}
 use Rattle.std.proofs.lemmas.Grind.{common_steps}
-use Rattle.access_paths.specs.FieldPaths.{bits_after}
 use Rattle.access_paths.specs.declared.error.AccessError.TheVariants.{BtfError as TypeError}
-use Rattle.btf_encoding.specs.Records.{bits_of}
-use Rattle.btf_records.specs.Items.{bit_offset_of}
 use Rattle.btf_records.specs.declared.error.BtfError.{BtfError}
 use Rattle.member_search.specs.Looks.{searched}
-use Rattle.member_search.proofs.Followed.{IsNext, done, refused-err, refused-look, refused-unknown, refused_by, same-found, sound-ok, turned-ok}
+use Rattle.member_search.proofs.Followed.{IsNext, done, refused-err, refused-look, refused-unknown, refused_by, same-member, sound-ok, turned-ok}
 use Rattle.member_search.proofs.turn.next_turn.Goals as goal
 
 pub returns-in_err-t-clause-refused : goal.returns-in_err-t-clause-refused
@@ -36,17 +33,15 @@ pub returns-clause-turn : goal.returns-clause-turn
 returns-clause-turn c =
     let search = searched c.args.local.now c.args.type_id c.args.name.now c.args.target.now in
     let next : IsNext search c.args.frame c.in_ok-t.t c.in-Some.member = record { known = c.in_ok-t.ensures; here = c.in-Some.ensures.value } in
-    let bits : c.bits_after.result ≡ bits_after c.args.frame.bits (bit_offset_of (bits_of c.in_ok-t.t).flag c.in-Some.member) = cc in
     let depth : c.len.result + 1 ≡ length c.args.memory.now.outer.items + 1 = grind (arith, common_steps, c.len.ensures) in
-    turned-ok search c.args.memory.now.outer.items c.args.frame c.in_ok-t.t c.in-Some.member c.in_ok-seen.seen _ _ _ _ _ c.requires next c.in_ok-seen.ensures.value (same-found _ _ _ _ _ _ bits depth) c.follow.ensures.over
+    turned-ok search c.args.memory.now.outer.items c.args.frame c.in_ok-t.t c.in-Some.member c.in_ok-seen.seen _ _ _ _ _ c.requires next c.in_ok-seen.ensures.value (same-member c.args.memory.now.outer.items c.args.frame c.in_ok-t.t c.in-Some.member _ _ c.member_here-here.ensures depth) c.follow.ensures.over
 
 pub returns-clause-sound : goal.returns-clause-sound
 returns-clause-sound c =
     let search = searched c.args.local.now c.args.type_id c.args.name.now c.args.target.now in
     let next : IsNext search c.args.frame c.in_ok-t.t c.in-Some.member = record { known = c.in_ok-t.ensures; here = c.in-Some.ensures.value } in
-    let bits : c.bits_after.result ≡ bits_after c.args.frame.bits (bit_offset_of (bits_of c.in_ok-t.t).flag c.in-Some.member) = cc in
     let depth : c.len.result + 1 ≡ length c.args.memory.now.outer.items + 1 = grind (arith, common_steps, c.len.ensures) in
-    sound-ok search c.args.memory.now.outer.items c.args.frame c.in_ok-t.t c.in-Some.member c.in_ok-seen.seen _ _ _ _ _ c.requires next c.in_ok-seen.ensures.value (same-found _ _ _ _ _ _ bits depth) c.follow.ensures.over
+    sound-ok search c.args.memory.now.outer.items c.args.frame c.in_ok-t.t c.in-Some.member c.in_ok-seen.seen _ _ _ _ _ c.requires next c.in_ok-seen.ensures.value (same-member c.args.memory.now.outer.items c.args.frame c.in_ok-t.t c.in-Some.member _ _ c.member_here-here.ensures depth) c.follow.ensures.over
 
 pub returns-clause-refused : goal.returns-clause-refused
 returns-clause-refused c =

@@ -1,0 +1,187 @@
+//! Many searches in one table.
+
+ghost use Rattle.std.specs.Prelude.{◌≡◌, ◌≢◌, IfErr, IfOk, IfSome, Some, Ok, Err};
+ghost use Rattle.access_paths.specs.declared.error.AccessError.TheVariants.{BtfError as TypeError};
+ghost use Rattle.btf_records.specs.declared.error.BtfError.TheVariants.{OutOfMemory};
+ghost use Rattle.member_search.specs.Looks.{searched};
+ghost use Rattle.member_search.specs.Searches.{member_found};
+ghost use Rattle.btf_compatibility.specs.FieldCompatibility.{fields_compatible};
+ghost use Rattle.string_table.specs.Texts.{text_at};
+ghost use Rattle.member_search.specs.Finders.{DecidesAs};
+ghost use Rattle.member_search.specs.Indexes.{begun_at, moved};
+
+use crate::member_index::{FirstMember, MemberIndex, name_hash};
+use crate::search::{Found, find_member};
+use access_paths::{AccessError, bits_after};
+use btf_compatibility::fields_are_compatible;
+use btf_tables::Btf;
+use std::alloc::AllocError;
+use std::collections::BTreeMap;
+use std::marker::Model;
+
+/// How many searches in a struct or union go over its members; the next one makes an index of them.
+const WALKS: u8 = 7;
+
+/// Where indexes have so many members together, no more are made: those of structs and unions that
+/// have the members of one in common may have as many as the product.
+const MOST_INDEXED: usize = 1_000_000;
+
+/// Searches for members in the structs and unions of one table. The members of one that is searched
+/// often are gone over once.
+#[derive(Debug, Drop)]
+pub struct MemberFinder<'t> {
+    target: &'t Btf<'t>,
+    /// How many searches there were in each struct or union without an index.
+    searches: BTreeMap<u32, u8>,
+    /// By the ids of structs and unions.
+    indexes: BTreeMap<u32, MemberIndex>,
+    /// How many members they have together.
+    indexed: usize,
+}
+
+impl<'t> Model for MemberFinder<'t> {
+    ghost use Rattle.btf_tables.specs.Tables.{Table};
+    ghost use Rattle.member_search.specs.Finders.{AreIndexes};
+
+    ghost Value = { Table };
+
+    ghost view = { λ f. f.target.now };
+
+    ghost invariant = { λ f. AreIndexes f.target.now f.indexes.entries };
+}
+
+/// What a member is in a struct or union that begins at these bits, if it is this where that begins
+/// at bit 0.
+fn moved(found: Found, bits: Option<u32>) -> Found
+    ensures { result ≡ moved bits found }
+{
+    let bits = match found.bits {
+        Some(more) => bits_after(bits, u64::from(more)),
+        None => None,
+    };
+    Found { bits, ..found }
+}
+
+/// The bits of a struct or union that begins at bit 0, where that is at these.
+fn begun_at(bits: Option<u32>) -> Option<u32>
+    ensures value { result ≡ begun_at bits }
+    ensures same { result ≡ bits }
+{
+    match bits {
+        Some(first) => bits_after(Some(first), 0),
+        None => None,
+    }
+}
+
+impl<'t> MemberFinder<'t> {
+    /// A table in which nothing was searched yet.
+    pub fn new(target: &'t Btf<'t>) -> MemberFinder<'t>
+        ensures { result ≡ target.now }
+    {
+        MemberFinder {
+            target,
+            searches: BTreeMap::new(target.allocator()),
+            indexes: BTreeMap::new(target.allocator()),
+            indexed: 0,
+        }
+    }
+
+    /// The table.
+    pub fn target(&self) -> &'t Btf<'t>
+        ensures { result.now ≡ self.now }
+    {
+        self.target
+    }
+
+    /// Counts a search in a struct or union; after some of them an index is made.
+    fn count_search(&mut self, root: u32) -> Result<(), AllocError>
+        ensures { self.new ≡ self.old }
+    {
+        if self.indexes.contains_key(&root) {
+            return Ok(());
+        }
+        let searches = self.searches.get(&root).copied().unwrap_or(0);
+        if searches < WALKS {
+            self.searches.insert(root, searches + 1)?;
+            return Ok(());
+        }
+        if self.indexed >= MOST_INDEXED {
+            return Ok(());
+        }
+        let index = MemberIndex::collect(self.target, root)?;
+        self.indexed = self.indexed.saturating_add(index.by_hash.len());
+        self.indexes.insert(root, index)?;
+        Ok(())
+    }
+
+    /// What the first member of a hash answers, if that is the one of this name and decides.
+    fn answer_of(
+        &self,
+        local: &Btf<'t>,
+        type_id: u32,
+        name: &str,
+        first: FirstMember,
+        bits: Option<u32>,
+    ) -> Option<Result<Option<Found>, AccessError>>
+        ensures text { IfSome result (λ _.
+            text_at self.now.strings first.name_offset ≡ Some name.now) }
+        ensures decided { IfSome result
+            (DecidesAs (fields_compatible local.now type_id self.now first.found.type_id)
+            (moved bits first.found)) }
+    {
+        match self.target.string_at(first.name_offset) {
+            Ok(text) if text == name => {}
+            _ => return None,
+        }
+        match fields_are_compatible(local, type_id, self.target, first.found.type_id) {
+            Ok(true) => Some(Ok(Some(moved(first.found, bits)))),
+            Ok(false) if first.found.parts == 1 => Some(Ok(None)),
+            Ok(false) => None,
+            Err(error) => Some(Err(AccessError::BtfError(error))),
+        }
+    }
+
+    /// What the index of a struct or union answers, if it has one that decides.
+    fn answer(
+        &self,
+        local: &Btf<'t>,
+        type_id: u32,
+        name: &str,
+        root: u32,
+        bits: Option<u32>,
+    ) -> Option<Result<Option<Found>, AccessError>>
+        ensures { IfSome result (λ answer.
+            member_found (searched local.now type_id name.now self.now) root bits ≡ answer) }
+    {
+        let index = self.indexes.get(&root)?;
+        let bits = begun_at(bits);
+        match index.by_hash.get(&name_hash(name)) {
+            Some(first) => self.answer_of(local, type_id, name, *first, bits),
+            None => index.walk_end.value(),
+        }
+    }
+
+    /// What `find_member` answers about this table; `BtfError::OutOfMemory` too where there is no
+    /// memory for an index.
+    pub fn find(
+        &mut self,
+        local: &Btf<'t>,
+        type_id: u32,
+        name: &str,
+        root: u32,
+        bits: Option<u32>,
+    ) -> Result<Option<Found>, AccessError>
+        ensures same { self.new ≡ self.old }
+        ensures value { IfOk result (λ found.
+            member_found (searched local.now type_id name.now self.old) root bits ≡ Ok found) }
+        ensures refused { IfErr result (λ e.
+            e ≢ TypeError OutOfMemory
+            → member_found (searched local.now type_id name.now self.old) root bits ≡ Err e) }
+    {
+        self.count_search(root)?;
+        match self.answer(local, type_id, name, root, bits) {
+            Some(answer) => answer,
+            None => find_member(local, type_id, name, self.target, root, bits),
+        }
+    }
+}

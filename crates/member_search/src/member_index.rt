@@ -1,0 +1,140 @@
+//! An index of the members of a struct or union by hashes of their names.
+
+ghost use Rattle.std.specs.Prelude.{◌≡◌, ◌≢◌, ◌-◌, drop, fold, length, take, IfOk, IfSome, OnOk, Err};
+ghost use Rattle.access_paths.specs.declared.error.AccessError.TheVariants.{BtfError as TypeError};
+ghost use Rattle.btf_records.specs.declared.error.BtfError.TheVariants.{OutOfMemory};
+ghost use Rattle.member_search.specs.Collecting.{EntersFirst};
+ghost use Rattle.member_search.specs.Indexes.{end_value, name_hash, next_hash};
+
+use crate::search::Found;
+use access_paths::AccessError;
+use btf_records::BtfError;
+use std::alloc::AllocError;
+use std::collections::BTreeMap;
+
+/// How many bytes of a name are hashed at its beginning, and as many at its end: many members may
+/// have one long name, or names that are ends of one long text.
+const HASHED: usize = 64;
+
+/// The first member of a hash in a struct or union that begins at bit 0.
+#[derive(Clone, Copy, Debug)]
+pub(crate) struct FirstMember {
+    /// Where its name stands in the strings.
+    pub(crate) name_offset: u32,
+    pub(crate) found: Found,
+}
+
+/// How a walk over all members ends.
+#[derive(Clone, Copy, Debug)]
+pub(crate) enum WalkEnd {
+    /// With the last one.
+    Over,
+    /// Where a struct or union is met inside itself.
+    NestedTooDeep,
+    /// At a member whose name, at this offset, can't be read.
+    UnreadableName(usize),
+    /// At a type of this id, which isn't there.
+    UnknownType(u32),
+    /// At a chain of modifiers from this id that is too long.
+    LongChain(u32),
+    /// With another error.
+    NotKept,
+}
+
+/// The first members of their hashes in a struct or union, and how the walk over it ended.
+#[derive(Debug, Drop)]
+pub(crate) struct MemberIndex {
+    pub(crate) by_hash: BTreeMap<u64, FirstMember>,
+    pub(crate) walk_end: WalkEnd,
+}
+
+/// The hash with one more byte.
+fn next_hash(hash: u64, byte: u8) -> u64
+    ensures { result ≡ next_hash hash byte }
+{
+    hash.wrapping_mul(0x100_0000_01b3)
+        .wrapping_add(u64::from(byte))
+}
+
+/// The hash with the first bytes.
+fn hash_beginning(hash: u64, bytes: &[u8]) -> u64
+    ensures { result ≡ fold next_hash hash (take 64 bytes.now) }
+{
+    bytes
+        .iter()
+        .take(HASHED)
+        .fold(hash, |hash, byte| next_hash(hash, *byte))
+}
+
+/// The hash with the last bytes.
+fn hash_end(hash: u64, bytes: &[u8]) -> u64
+    ensures { result ≡ fold next_hash hash (drop (length bytes.now - 64) bytes.now) }
+{
+    bytes
+        .iter()
+        .skip(bytes.len().saturating_sub(HASHED))
+        .fold(hash, |hash, byte| next_hash(hash, *byte))
+}
+
+/// A hash of a name, by its length, its first 64 bytes and its last 64.
+#[tactic(auto, unfolding(crate::specs::Indexes::name_hash))]
+pub fn name_hash(name: &str) -> u64
+    ensures { result ≡ name_hash name.now }
+{
+    let bytes = name.as_bytes();
+    hash_end(hash_beginning(bytes.len() as u64, bytes), bytes)
+}
+
+/// Enters a member, if there is none of its hash.
+pub(crate) fn enter_first(
+    by_hash: &mut BTreeMap<u64, FirstMember>,
+    hash: u64,
+    member: FirstMember,
+) -> Result<(), AllocError>
+    ensures { OnOk result (EntersFirst hash member by_hash.old.entries by_hash.new.entries) }
+{
+    if by_hash.contains_key(&hash) {
+        return Ok(());
+    }
+    by_hash.insert(hash, member)?;
+    Ok(())
+}
+
+/// The end of a walk that fails with an error.
+pub(crate) fn failed_end(error: AccessError) -> Result<WalkEnd, AllocError>
+    ensures value { IfOk result (λ walk_end.
+        IfSome (end_value walk_end) (λ value. value ≡ Err error)) }
+    ensures other { IfOk result (λ _. error ≢ TypeError OutOfMemory) }
+{
+    match error {
+        AccessError::MaximumNestingLevelReached => Ok(WalkEnd::NestedTooDeep),
+        AccessError::BtfError(BtfError::InvalidStringOffset { offset }) => {
+            Ok(WalkEnd::UnreadableName(offset))
+        }
+        AccessError::BtfError(BtfError::UnknownBtfType { type_id }) => {
+            Ok(WalkEnd::UnknownType(type_id))
+        }
+        AccessError::BtfError(BtfError::MaximumTypeDepthReached { type_id }) => {
+            Ok(WalkEnd::LongChain(type_id))
+        }
+        AccessError::BtfError(BtfError::OutOfMemory) => Err(AllocError),
+        _ => Ok(WalkEnd::NotKept),
+    }
+}
+
+impl WalkEnd {
+    /// What a search gives that comes to this end, if that is kept.
+    pub(crate) fn value(self) -> Option<Result<Option<Found>, AccessError>>
+        ensures { result ≡ end_value self }
+    {
+        let error = match self {
+            WalkEnd::Over => return Some(Ok(None)),
+            WalkEnd::NestedTooDeep => return Some(Err(AccessError::MaximumNestingLevelReached)),
+            WalkEnd::UnreadableName(offset) => BtfError::InvalidStringOffset { offset },
+            WalkEnd::UnknownType(type_id) => BtfError::UnknownBtfType { type_id },
+            WalkEnd::LongChain(type_id) => BtfError::MaximumTypeDepthReached { type_id },
+            WalkEnd::NotKept => return None,
+        };
+        Some(Err(AccessError::BtfError(error)))
+    }
+}
