@@ -14,7 +14,7 @@ use Rattle.type_candidates.specs.declared.kernel_type.KernelType.{KernelType}
 abbrev pub type_at : ℕ → ℕ → KernelType
 type_at table id = record { table = table; type_id = id }
 
--- those of its types, so many, that are left from an id on
+-- those of its types that are left from an id on, as many as `n`
 abbrev pub types_left : ℕ → ℕ → ℕ → List KernelType
 types_left table n id = map (type_at table) (range_with_len id (n - id))
 
@@ -48,7 +48,7 @@ find_on u table n id all lt left is = found_past u (type_at table id) (types_lef
 pub find_here : (u : KernelType → Bool) (table n id : ℕ) (all : Option KernelType) → id < n → find u (types_left table n id) ≡ all → u (type_at table id) ≡ true → all ≡ Some (type_at table id)
 find_here u table n id all lt left is = found_here u (type_at table id) (types_left table n (id + 1)) all (rw (this_type table n id lt) at left) is
 
--- table by table: what is left, of so many tables
+-- table by table: what is left of the first tables
 abbrev pub tables_left : (ℕ → List KernelType) → ℕ → ℕ → List KernelType
 tables_left types n table = flat_map types (range_with_len table (n - table))
 

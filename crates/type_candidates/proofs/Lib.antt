@@ -1,7 +1,9 @@
 pub mod ByBytes
+pub mod FirstBytes
 pub mod FoundCandidates
 pub mod Held
 pub mod Lengths
 pub mod Numbers
 pub mod PickedTypes
 pub mod SeenTypes
+pub mod Texts

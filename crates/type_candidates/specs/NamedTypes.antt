@@ -1,5 +1,5 @@
 -- The types of a kernel that have wanted names, found in one walk over each table.
-use Rattle.std.specs.Prelude.{◌≡◌, ℕ, ◌<◌, ◌==◌, ◌&&◌, ◌||◌, nat_eq, codes, drop, length, not, All, Bool, true, false, List, [], ◌∷◌, ◌++◌, filter, find, map, slice_get, slice_index_or, IfSome, Option, None, Some, if◌then◌else◌}
+use Rattle.std.specs.Prelude.{◌≡◌, ℕ, ◌<◌, ◌==◌, ◌&&◌, ◌||◌, nat_eq, codes, drop, length, not, All, Bool, true, false, List, [], ◌∷◌, ◌++◌, filter, find, map, slice_get, slice_index_or, IfSome, Option, None, Some, is_some, if◌then◌else◌}
 use Rattle.std.specs.BTreeMap.{is_at}
 use Rattle.std.specs.Borrow.{Bor}
 use Rattle.std.specs.Cmp.Lexicographic.{slice_cmp}
@@ -29,34 +29,52 @@ number_of_name numbers name = lookup (is_at (slice_cmp nat_cmp name)) numbers
 
 -- no two names have the same number
 pub record AreApart (numbers : List (List ℕ × ℕ)) : Type 0 where
-  pub one : (name other : List ℕ) (number : ℕ) → number_of_name numbers name ≡ Some number → number_of_name numbers other ≡ Some number → name ≡ other
+  pub one : (name other : List ℕ) (number : ℕ)
+      → number_of_name numbers name ≡ Some number
+      → number_of_name numbers other ≡ Some number
+      → name ≡ other
 
--- so many numbers are given
+-- the numbers below the count are given
 pub record AreNumbered (numbers : List (List ℕ × ℕ)) (count : ℕ) : Type 0 where
   pub below : (name : List ℕ) → IfSome (number_of_name numbers name) (λ number. number < count)
   pub apart : AreApart numbers
 
 -- a name that has a number has one of these lengths
 pub record AreLengths (numbers : List (List ℕ × ℕ)) (lengths : List ℕ) : Type 0 where
-  pub each : (name : List ℕ) → IfSome (number_of_name numbers name) (λ _. list_any (is_at (nat_cmp (length name))) lengths ≡ true)
+  pub each : (name : List ℕ)
+      → IfSome (number_of_name numbers name) (λ _.
+      list_any (is_at (nat_cmp (length name))) lengths ≡ true)
 
--- a text ends behind so many bytes, or a flavour may begin there
+-- a text ends after as many bytes, or a flavour may begin there
 abbrev pub may_end : List ℕ → ℕ → Bool
 may_end text len = (length text == len) || starts_with nat_eq (drop len text) (codes "___")
 
 -- what was found for the name at an offset
 abbrev pub IsNumberAt : List (List ℕ × ℕ) → List ℕ → LongName → Type 0
-IsNumberAt numbers strings found = IsSomeAnd (text_at strings found.offset) (λ text. number_of_name numbers (essential_name text) ≡ found.number)
+IsNumberAt numbers strings found =
+    IsSomeAnd (text_at strings found.offset) (λ text.
+    number_of_name numbers (essential_name text) ≡ found.number)
 
-pub record AreNumbersOf (numbers : List (List ℕ × ℕ)) (strings : List ℕ) (found : List LongName) : Type 0 where
-  pub each : All (IsNumberAt numbers strings) found
+-- what is known of the names of a table: those that were looked up, and whether each byte of its
+-- strings begins a text
+pub record KnownNames : Type 0 where
+  pub names : List LongName
+  pub are_texts : Bool
+
+pub record AreNumbersOf (numbers : List (List ℕ × ℕ)) (strings : List ℕ) (known : KnownNames) : Type 0 where
+  pub each : All (IsNumberAt numbers strings) known.names
+  pub texts : known.are_texts ≡ true
+      → (offset : ℕ)
+      → offset < length strings
+      → is_some (text_at strings offset) ≡ true
 
 -- among the strings of a table
-abbrev pub AreNumbersAt : List (List ℕ × ℕ) → List Table → ℕ → List LongName → Type 0
-AreNumbersAt numbers targets table found = IfSome (slice_get targets table) (λ target. AreNumbersOf numbers target.strings found)
+abbrev pub AreNumbersAt : List (List ℕ × ℕ) → List Table → ℕ → KnownNames → Type 0
+AreNumbersAt numbers targets table known =
+    IfSome (slice_get targets table) (λ target. AreNumbersOf numbers target.strings known)
 
-abbrev pub IsFoundAt : List LongName → ℕ → LongName → Type 0
-IsFoundAt found offset name = IsAmong found name × (name.offset ≡ offset)
+abbrev pub IsFoundAt : KnownNames → ℕ → LongName → Type 0
+IsFoundAt known offset name = IsAmong known.names name × (name.offset ≡ offset)
 
 -- what a type is, of these kinds and these names
 abbrev pub of_number : Option ℕ → Sighting
@@ -67,11 +85,21 @@ abbrev pub of_name : List (List ℕ × ℕ) → ℕ → Option (List ℕ) → Si
 of_name numbers kind None = Unreadable kind
 of_name numbers kind (Some text) = of_number (number_of_name numbers (essential_name text))
 
+-- a text that can be read and has no number
+abbrev pub HasNoNumber : List (List ℕ × ℕ) → Option (List ℕ) → Type 0
+HasNoNumber numbers text = IsSomeAnd text (λ t. number_of_name numbers (essential_name t) ≡ None)
+
 abbrev pub of_type : List Bool → List (List ℕ × ℕ) → List ℕ → BtfType → Sighting
-of_type kinds numbers strings t = if slice_index_or kinds (number_of (kind_of_type t)) false then of_name numbers (number_of (kind_of_type t)) (text_at strings (name_offset_of t)) else Other
+of_type kinds numbers strings t =
+    if slice_index_or kinds (number_of (kind_of_type t)) false
+    then of_name numbers (number_of (kind_of_type t)) (text_at strings (name_offset_of t))
+    else Other
 
 abbrev pub sighted : List Bool → List (List ℕ × ℕ) → List Table → KernelType → Sighting
-sighted kinds numbers targets place = option_map_or (λ table. option_map_or (of_type kinds numbers table.strings) (type_by_id table place.type_id) Other) (slice_get targets place.table) Other
+sighted kinds numbers targets place =
+    option_map_or (λ table.
+    option_map_or (of_type kinds numbers table.strings) (type_by_id table place.type_id) Other)
+    (slice_get targets place.table) Other
 
 abbrev pub is_under : ℕ → Sighting → Bool
 is_under number (Named other) = other == number
@@ -81,33 +109,50 @@ abbrev pub is_unreadable_of : ℕ → Sighting → Bool
 is_unreadable_of kind (Unreadable other) = other == kind
 is_unreadable_of kind _ = false
 
--- by number, the types of that name among those that were seen; and of which kinds all names could be read
+-- by number, the types of that name among those that were seen; and of which kinds all names could
+-- be read
 pub record AreSeen (see : KernelType → Sighting) (seen : List KernelType) (named : List (List KernelType)) (unreadable : List Bool) : Type 0 where
-  pub each : (number : ℕ) → IfSome (slice_get named number) (λ places. places ≡ filter (λ place. is_under number (see place)) seen)
-  pub readable : (kind : ℕ) → slice_index_or unreadable kind true ≡ false → find (λ place. is_unreadable_of kind (see place)) seen ≡ None
+  pub each : (number : ℕ)
+      → IfSome (slice_get named number) (λ places.
+      places ≡ filter (λ place. is_under number (see place)) seen)
+  pub readable : (kind : ℕ)
+      → slice_index_or unreadable kind true ≡ false
+      → find (λ place. is_unreadable_of kind (see place)) seen ≡ None
 
 -- one more is seen
 pub record IsNamedNext (sighting : Sighting) (place : KernelType) (old new : List (List KernelType)) : Type 0 where
-  pub each : (number : ℕ) → IfSome (slice_get new number) (λ places. IsSomeAnd (slice_get old number) (λ before. places ≡ before ++ (if is_under number sighting then place ∷ [] else [])))
+  pub each : (number : ℕ)
+      → IfSome (slice_get new number) (λ places.
+      IsSomeAnd (slice_get old number) (λ before.
+      places ≡ before ++ (if is_under number sighting then place ∷ [] else [])))
 
 pub record IsUnreadableNext (sighting : Sighting) (old new : List Bool) : Type 0 where
-  pub readable : (kind : ℕ) → slice_index_or new kind true ≡ false → (slice_index_or old kind true ≡ false) × (is_unreadable_of kind sighting ≡ false)
+  pub readable : (kind : ℕ)
+      → slice_index_or new kind true ≡ false
+      → (slice_index_or old kind true ≡ false) × (is_unreadable_of kind sighting ≡ false)
 
--- the types of so many tables, and so many of the next
+-- the types of the first tables, and the first ones of the next
 abbrev pub types_before : List Table → ℕ → ℕ → List KernelType
-types_before targets table count = flat_map (types_at targets) (range_with_len 0 table) ++ first_types table count
+types_before targets table count =
+    flat_map (types_at targets) (range_with_len 0 table) ++ first_types table count
 
 -- all names of a kind were looked at, and could be read
 abbrev pub is_known_kind : List Bool → List Bool → ℕ → Bool
-is_known_kind kinds unreadable kind = slice_index_or kinds kind false && not (slice_index_or unreadable kind true)
+is_known_kind kinds unreadable kind =
+    slice_index_or kinds kind false && not (slice_index_or unreadable kind true)
 
 abbrev pub is_known : List Bool → List Bool → Wanted → Bool
-is_known kinds unreadable wanted = is_known_kind kinds unreadable (number_of wanted.kind) && (not wanted.or_enum64 || is_known_kind kinds unreadable (number_of Enum64))
+is_known kinds unreadable wanted =
+    is_known_kind kinds unreadable (number_of wanted.kind)
+    && (not wanted.or_enum64 || is_known_kind kinds unreadable (number_of Enum64))
 
 abbrev pub is_of_kind_at : Wanted → List Table → KernelType → Bool
-is_of_kind_at wanted targets place = asked_of (λ _ t. is_of_kind wanted t) (slice_get targets place.table) place.type_id
+is_of_kind_at wanted targets place =
+    asked_of (λ _ t. is_of_kind wanted t) (slice_get targets place.table) place.type_id
 
--- the candidates are those of these types that are of the kind, and no name of the kind is unreadable
+-- the candidates are those of these types that are of the kind, and no name of the kind is
+-- unreadable
 pub record HoldCandidates (targets : List Table) (wanted : Wanted) (places : List KernelType) : Type 0 where
   pub readable : find (is_unreadable_at wanted targets) (all_types targets) ≡ None
-  pub all : filter (is_of_kind_at wanted targets) places ≡ filter (is_candidate wanted targets) (all_types targets)
+  pub all : filter (is_of_kind_at wanted targets) places
+      ≡ filter (is_candidate wanted targets) (all_types targets)

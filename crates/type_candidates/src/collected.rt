@@ -45,10 +45,12 @@ impl<'c> Model for Candidates<'c> {
 
     ghost view = { λ c. c.targets.now };
 
-    ghost invariant = { λ c. AreSeen (sighted c.kinds c.names c.targets.now) (all_types c.targets.now) c.named.items c.unreadable };
+    ghost invariant = { λ c.
+        AreSeen (sighted c.kinds c.names c.targets.now) (all_types c.targets.now) c.named.items
+        c.unreadable };
 }
 
-/// So many empty lists.
+/// Empty lists, as many as `count`.
 fn no_places(alloc: Global, count: usize) -> Result<Vec<Places>, AllocError>
     ensures { IfOk result (λ named. All (λ places. places ≡ []) named.items) }
 {
@@ -102,7 +104,9 @@ fn places_of<'p>(
     named: &'p [Places],
     name: &str,
 ) -> Option<&'p [KernelType]>
-    ensures places { IfSome result (λ places. IsSomeAnd (number_of_name names.now name.now) (λ number. slice_get named.now number ≡ Some places.now)) }
+    ensures places { IfSome result (λ places.
+        IsSomeAnd (number_of_name names.now name.now) (λ number.
+        slice_get named.now number ≡ Some places.now)) }
     ensures apart { AreApart names.now }
 {
     let number = names.number(name)?;
@@ -126,14 +130,15 @@ fn is_of_kind(wanted: &WantedType<'_>, targets: &[Btf<'_>], place: KernelType) -
 }
 
 /// Those of some types that are of the wanted kind.
-#[tactic(auto, using(crate::proofs::PickedTypes::picked_on, crate::proofs::PickedTypes::picked_past, crate::proofs::PickedTypes::picked_end))]
+#[tactic(auto, using(crate::proofs::PickedTypes::picked_on, crate::proofs::PickedTypes::picked_past, crate::proofs::PickedTypes::picked_end,),)]
 fn picked(
     alloc: Global,
     wanted: &WantedType<'_>,
     targets: &[Btf<'_>],
     places: &[KernelType],
 ) -> Result<Vec<KernelType>, AllocError>
-    ensures { IfOk result (λ found. found.items ≡ filter (is_of_kind_at wanted.now targets.now) places.now) }
+    ensures { IfOk result (λ found.
+        found.items ≡ filter (is_of_kind_at wanted.now targets.now) places.now) }
 {
     let mut found = Vec::new(alloc);
     for place in places {
@@ -191,8 +196,8 @@ impl<'c> Candidates<'c> {
     }
 
     /// The types of the tables that may be taken for a local one, table by table, and in each by
-    /// id. Looks at those with the name alone, where this was among the wanted ones and all names of
-    /// its kind can be read.
+    /// id. Looks at those with the name alone, where this was among the wanted ones and all names
+    /// of its kind can be read.
     ///
     /// `UnreadableName` where the name of a type of the kind can't be read.
     pub fn of(
@@ -201,7 +206,8 @@ impl<'c> Candidates<'c> {
         wanted: &WantedType<'_>,
     ) -> Result<Vec<KernelType>, CandidateError>
         ensures value { IfOk result (λ found. candidates wanted.now self.now ≡ Ok found.items) }
-        ensures refused { IfErr result (λ e. e ≢ OutOfMemory → candidates wanted.now self.now ≡ Err e) }
+        ensures refused { IfErr result (λ e.
+            e ≢ OutOfMemory → candidates wanted.now self.now ≡ Err e) }
     {
         match self.places(wanted) {
             Some(places) => {

@@ -1,8 +1,8 @@
-//! The numbers of long names, by where they begin.
+//! The names of a table, looked up among the wanted ones.
 
-ghost use Rattle.std.specs.Prelude.{◌≡◌, [], IfOk, IfSome};
+ghost use Rattle.std.specs.Prelude.{◌≡◌, ◌<◌, ℕ, List, IfOk, IfSome, is_some, length, slice_get, true};
 ghost use Rattle.string_table.specs.Texts.{text_at};
-ghost use Rattle.type_candidates.specs.NamedTypes.{AreNumbersOf, IsFoundAt, of_name, of_number};
+ghost use Rattle.type_candidates.specs.NamedTypes.{AreNumbersOf, HasNoNumber, IsFoundAt, of_name, of_number};
 
 use crate::sighting::Sighting;
 use crate::wanted_names::WantedNames;
@@ -11,7 +11,7 @@ use std::alloc::{AllocError, Global};
 use std::collections::BTreeMap;
 use std::marker::Model;
 
-/// Names of so many bytes are looked up once for each place where they begin.
+/// Names of this number of bytes or more are looked up once for each place where they begin.
 const LONG: usize = 256;
 
 /// A name that was looked up among the wanted ones.
@@ -21,22 +21,42 @@ pub(crate) struct LongName {
     number: Option<usize>,
 }
 
-/// The long names of a table that were looked up, so that types which share one cost no more than it
-/// is long.
+/// The long names of a table that were looked up, so that types which share one cost no more than
+/// it is long.
 #[derive(Debug, Drop)]
 pub(crate) struct LongNames {
     /// By offset.
     names: BTreeMap<u32, LongName>,
+    /// Whether each byte of the table's strings is known to begin a text.
+    are_texts: bool,
 }
 
 impl Model for LongNames {
-    ghost use Rattle.std.specs.Prelude.{List};
     ghost use Rattle.std.specs.Map.{values_of};
-    ghost use Rattle.type_candidates.specs.declared.long_names.LongName.{LongName};
+    ghost use Rattle.type_candidates.specs.NamedTypes.{KnownNames};
 
-    ghost Value = { List LongName };
+    ghost Value = { KnownNames };
 
-    ghost view = { λ n. values_of n.names.entries };
+    ghost view = { λ n. record { names = values_of n.names.entries; are_texts = n.are_texts } };
+}
+
+/// The byte at an offset.
+fn byte_at(bytes: &[u8], offset: u32) -> Option<u8>
+    ensures { result ≡ slice_get bytes.now offset }
+{
+    bytes.get(offset as usize).copied()
+}
+
+/// Whether each byte of these strings is known to begin a text: they are ASCII, and end in a NUL.
+#[tactic(auto, using(crate::proofs::Texts::all_texts))]
+fn are_texts(strings: &[u8]) -> bool
+    ensures { result ≡ true → (offset : ℕ) → offset < length strings.now
+        → is_some (text_at strings.now offset) ≡ true }
+{
+    match strings.last() {
+        Some(0) => strings.is_ascii(),
+        _ => false,
+    }
 }
 
 /// What a type is whose name has this number.
@@ -50,12 +70,24 @@ fn of_number(number: Option<usize>) -> Sighting
 }
 
 impl LongNames {
-    /// None was looked up.
-    pub(crate) fn new(alloc: Global) -> LongNames
-        ensures { result ≡ [] }
+    /// No name of a table with these strings was looked up.
+    pub(crate) fn new(alloc: Global, strings: &[u8]) -> LongNames
+        ensures { (numbers : List (List ℕ × ℕ)) → AreNumbersOf numbers strings.now result }
     {
         LongNames {
             names: BTreeMap::new(alloc),
+            are_texts: are_texts(strings),
+        }
+    }
+
+    /// Whether the text at an offset can be read and has no wanted name, as its first byte tells.
+    fn is_passed_over(&self, names: &WantedNames<'_>, strings: &[u8], offset: u32) -> bool
+        requires { AreNumbersOf names.now strings.now self.now }
+        ensures { result ≡ true → HasNoNumber names.now (text_at strings.now offset) }
+    {
+        match byte_at(strings, offset) {
+            Some(byte) => self.are_texts && !names.may_begin(byte),
+            None => false,
         }
     }
 
@@ -80,9 +112,13 @@ impl LongNames {
         offset: u32,
     ) -> Result<Sighting, AllocError>
         requires { AreNumbersOf names.now target.now.strings self.old }
-        ensures value { IfOk result (λ sighting. sighting ≡ of_name names.now kind (text_at target.now.strings offset)) }
+        ensures value { IfOk result (λ sighting.
+            sighting ≡ of_name names.now kind (text_at target.now.strings offset)) }
         ensures numbers { AreNumbersOf names.now target.now.strings self.new }
     {
+        if self.is_passed_over(names, target.strings().as_slice(), offset) {
+            return Ok(Sighting::Other);
+        }
         let Ok(name) = target.string_at(offset) else {
             return Ok(Sighting::Unreadable(kind));
         };

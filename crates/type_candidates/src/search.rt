@@ -22,7 +22,9 @@ fn is_candidate(
     ensures value { IfOk result (λ is. is ≡ is_candidate wanted.now targets.now place) }
     ensures other { IfErr result (λ _. is_candidate wanted.now targets.now place ≡ false) }
     ensures readable { IfOk result (λ _. is_unreadable_at wanted.now targets.now place ≡ false) }
-    ensures refused { IfErr result (λ e. (e ≡ unreadable targets.now place) × (is_unreadable_at wanted.now targets.now place ≡ true)) }
+    ensures refused { IfErr result (λ e.
+        (e ≡ unreadable targets.now place)
+        × (is_unreadable_at wanted.now targets.now place ≡ true)) }
 {
     let Some(target) = targets.get(place.table) else {
         return Ok(false);
@@ -49,9 +51,14 @@ fn add_candidate(
     place: KernelType,
     found: &mut Vec<KernelType>,
 ) -> Result<(), CandidateError>
-    ensures value { OnOk result (found.new.items ≡ found.old.items ++ filter (is_candidate wanted.now targets.now) (place ∷ [])) }
+    ensures value { OnOk result
+        (found.new.items
+        ≡ found.old.items ++ filter (is_candidate wanted.now targets.now) (place ∷ [])) }
     ensures readable { OnOk result (is_unreadable_at wanted.now targets.now place ≡ false) }
-    ensures refused { IfErr result (λ e. e ≢ OutOfMemory → (e ≡ unreadable targets.now place) × (is_unreadable_at wanted.now targets.now place ≡ true)) }
+    ensures refused { IfErr result (λ e.
+        e ≢ OutOfMemory
+        → (e ≡ unreadable targets.now place)
+        × (is_unreadable_at wanted.now targets.now place ≡ true)) }
 {
     if is_candidate(wanted, targets, place)? {
         found.push(place)?;
@@ -77,9 +84,16 @@ fn add_candidates(
     table: usize,
     found: &mut Vec<KernelType>,
 ) -> Result<(), CandidateError>
-    ensures value { OnOk result (found.new.items ≡ found.old.items ++ filter (is_candidate wanted.now targets.now) (types_at targets.now table)) }
-    ensures readable { OnOk result (find (is_unreadable_at wanted.now targets.now) (types_at targets.now table) ≡ None) }
-    ensures refused { IfErr result (λ e. e ≢ OutOfMemory → IsSomeAnd (find (is_unreadable_at wanted.now targets.now) (types_at targets.now table)) (λ place. e ≡ unreadable targets.now place)) }
+    ensures value { OnOk result
+        (found.new.items
+        ≡ found.old.items
+        ++ filter (is_candidate wanted.now targets.now) (types_at targets.now table)) }
+    ensures readable { OnOk result
+        (find (is_unreadable_at wanted.now targets.now) (types_at targets.now table) ≡ None) }
+    ensures refused { IfErr result (λ e.
+        e ≢ OutOfMemory
+        → IsSomeAnd (find (is_unreadable_at wanted.now targets.now) (types_at targets.now table))
+        (λ place. e ≡ unreadable targets.now place)) }
 {
     let count = type_count(targets, table);
     for id in 0..count {
@@ -99,7 +113,8 @@ pub fn candidates(
     targets: &[Btf<'_>],
 ) -> Result<Vec<KernelType>, CandidateError>
     ensures value { IfOk result (λ found. candidates wanted.now targets.now ≡ Ok found.items) }
-    ensures refused { IfErr result (λ e. e ≢ OutOfMemory → candidates wanted.now targets.now ≡ Err e) }
+    ensures refused { IfErr result (λ e.
+        e ≢ OutOfMemory → candidates wanted.now targets.now ≡ Err e) }
 {
     let mut found = Vec::new(alloc);
     for table in 0..targets.len() {

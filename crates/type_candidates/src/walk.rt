@@ -1,6 +1,6 @@
 //! One walk over each table of a kernel, for all types that are wanted.
 
-ghost use Rattle.std.specs.Prelude.{◌≡◌, ◌+◌, false, slice_index_or, IfOk, OnOk, []};
+ghost use Rattle.std.specs.Prelude.{◌≡◌, ◌+◌, false, slice_get, slice_index_or, IfOk, IfSome, OnOk, []};
 ghost use Rattle.std.specs.List.{flat_map, range_with_len};
 ghost use Rattle.type_candidates.specs.Candidates.{all_types, types_at};
 ghost use Rattle.type_candidates.specs.NamedTypes.{AreNumbersAt, AreNumbersOf, AreSeen, IsNamedNext, IsUnreadableNext, of_type, sighted, types_before};
@@ -34,7 +34,8 @@ fn of_type(
     long_names: &mut LongNames,
 ) -> Result<Sighting, AllocError>
     requires { AreNumbersOf names.now target.now.strings long_names.old }
-    ensures value { IfOk result (λ sighting. sighting ≡ of_type kinds.now names.now target.now.strings t.now) }
+    ensures value { IfOk result (λ sighting.
+        sighting ≡ of_type kinds.now names.now target.now.strings t.now) }
     ensures numbers { AreNumbersOf names.now target.now.strings long_names.new }
 {
     let kind = t.kind() as usize;
@@ -54,7 +55,8 @@ fn sighted(
     long_names: &mut LongNames,
 ) -> Result<Sighting, AllocError>
     requires { AreNumbersAt names.now targets.now place.table long_names.old }
-    ensures value { IfOk result (λ sighting. sighting ≡ sighted kinds.now names.now targets.now place) }
+    ensures value { IfOk result (λ sighting.
+        sighting ≡ sighted kinds.now names.now targets.now place) }
     ensures numbers { AreNumbersAt names.now targets.now place.table long_names.new }
 {
     let Some(target) = targets.get(place.table) else {
@@ -91,7 +93,7 @@ fn note_named(sighting: Sighting, place: KernelType, named: &mut [Places]) -> Re
     Ok(())
 }
 
-/// Enters a type, behind those before it.
+/// Enters a type, after those before it.
 fn note(
     kinds: &[bool],
     names: &WantedNames<'_>,
@@ -101,17 +103,37 @@ fn note(
     named: &mut [Places],
     unreadable: &mut [bool],
 ) -> Result<(), AllocError>
-    requires seen { AreSeen (sighted kinds.now names.now targets.now) (types_before targets.now place.table place.type_id) named.old unreadable.old }
+    requires seen { AreSeen (sighted kinds.now names.now targets.now)
+        (types_before targets.now place.table place.type_id) named.old unreadable.old }
     requires numbers { AreNumbersAt names.now targets.now place.table long_names.old }
     ensures numbers { AreNumbersAt names.now targets.now place.table long_names.new }
-    ensures seen { OnOk result (AreSeen (sighted kinds.now names.now targets.now) (types_before targets.now place.table (place.type_id + 1)) named.new unreadable.new) }
+    ensures seen { OnOk result
+        (AreSeen (sighted kinds.now names.now targets.now)
+        (types_before targets.now place.table (place.type_id + 1)) named.new unreadable.new) }
 {
     let sighting = sighted(kinds, names, targets, place, long_names)?;
     note_unreadable(sighting, unreadable);
     note_named(sighting, place, named)
 }
 
-/// Enters the types of a table, behind those of the tables before it.
+/// The strings of a table.
+fn strings_at<'t>(targets: &'t [Btf<'_>], table: usize) -> &'t [u8]
+    ensures { IfSome (slice_get targets.now table) (λ target. result.now ≡ target.strings) }
+{
+    match targets.get(table) {
+        Some(target) => target.strings().as_slice(),
+        None => &[],
+    }
+}
+
+/// No name of a table was looked up.
+fn no_names(alloc: Global, names: &WantedNames<'_>, targets: &[Btf<'_>], table: usize) -> LongNames
+    ensures { AreNumbersAt names.now targets.now table result }
+{
+    LongNames::new(alloc, strings_at(targets, table))
+}
+
+/// Enters the types of a table, after those of the tables before it.
 fn note_table(
     alloc: Global,
     kinds: &[bool],
@@ -121,10 +143,13 @@ fn note_table(
     named: &mut [Places],
     unreadable: &mut [bool],
 ) -> Result<(), AllocError>
-    requires { AreSeen (sighted kinds.now names.now targets.now) (flat_map (types_at targets.now) (range_with_len 0 table)) named.old unreadable.old }
-    ensures { OnOk result (AreSeen (sighted kinds.now names.now targets.now) (flat_map (types_at targets.now) (range_with_len 0 (table + 1))) named.new unreadable.new) }
+    requires { AreSeen (sighted kinds.now names.now targets.now)
+        (flat_map (types_at targets.now) (range_with_len 0 table)) named.old unreadable.old }
+    ensures { OnOk result
+        (AreSeen (sighted kinds.now names.now targets.now)
+        (flat_map (types_at targets.now) (range_with_len 0 (table + 1))) named.new unreadable.new) }
 {
-    let mut long_names = LongNames::new(alloc);
+    let mut long_names = no_names(alloc, names, targets, table);
     let count = type_count(targets, table);
     for id in 0..count {
         let type_id = id as u32;
@@ -151,7 +176,9 @@ pub(crate) fn note_all(
     unreadable: &mut [bool],
 ) -> Result<(), AllocError>
     requires { AreSeen (sighted kinds.now names.now targets.now) [] named.old unreadable.old }
-    ensures { OnOk result (AreSeen (sighted kinds.now names.now targets.now) (all_types targets.now) named.new unreadable.new) }
+    ensures { OnOk result
+        (AreSeen (sighted kinds.now names.now targets.now) (all_types targets.now) named.new
+        unreadable.new) }
 {
     for table in 0..targets.len() {
         note_table(alloc, kinds, names, targets, table, named, unreadable)?;

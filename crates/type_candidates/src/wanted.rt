@@ -42,9 +42,11 @@ impl<'l> WantedType<'l> {
 
     /// What is wanted for the local type of an id.
     ///
-    /// `UnknownBtfType` where there is no such type, `InvalidStringOffset` where its name can't be read.
+    /// `UnknownBtfType` where there is no such type, `InvalidStringOffset` where its name can't be
+    /// read.
     pub fn find(local: &'l Btf<'_>, type_id: u32) -> Result<WantedType<'l>, BtfError>
-        ensures { MatchResult result (λ wanted. wanted_for local.now type_id ≡ Ok wanted) (λ e. wanted_for local.now type_id ≡ Err e) }
+        ensures { MatchResult result (λ wanted. wanted_for local.now type_id ≡ Ok wanted) (λ e.
+            wanted_for local.now type_id ≡ Err e) }
     {
         let t = local.type_by_id(type_id)?;
         match local.string_at(t.name_offset()) {

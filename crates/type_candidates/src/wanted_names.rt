@@ -1,9 +1,10 @@
 //! The names of the types that are wanted.
 
-ghost use Rattle.std.specs.Prelude.{◌≡◌, [], IfNone, IfSome, None, drop, length};
+ghost use Rattle.std.specs.Prelude.{◌≡◌, [], IfNone, IfSome, None, drop, false, length, slice_index_or};
 ghost use Rattle.std.specs.BTreeMap.{btree_map_len};
 ghost use Rattle.std.specs.List.{list_any};
 ghost use Rattle.btf_tables.specs.EssentialNames.{essential_name};
+ghost use Rattle.type_candidates.specs.FirstBytes.{AreFirstBytes, BeginsNone, MarksFirst};
 ghost use Rattle.type_candidates.specs.NamedTypes.{AreApart, AreLengths, AreNumbered, by_bytes, may_end, number_of_name};
 
 use btf_tables::essential_name;
@@ -17,10 +18,13 @@ pub(crate) struct WantedNames<'l> {
     numbers: BTreeMap<&'l str, usize>,
     /// How many bytes the names have.
     lengths: BTreeSet<usize>,
+    /// Which bytes a text of such a name, with its NUL, can begin with.
+    first_bytes: [bool; 256],
 }
 
 impl<'l> Model for WantedNames<'l> {
     ghost use Rattle.std.specs.Prelude.{ℕ, List};
+    ghost use Rattle.type_candidates.specs.FirstBytes.{AreFirstBytes};
     ghost use Rattle.type_candidates.specs.NamedTypes.{AreLengths, AreNumbered, by_bytes};
     ghost use Rattle.std.specs.BTreeMap.{btree_map_len};
 
@@ -28,28 +32,59 @@ impl<'l> Model for WantedNames<'l> {
 
     ghost view = { λ n. by_bytes n.numbers.entries };
 
-    ghost invariant = { λ n. AreNumbered (by_bytes n.numbers.entries) (btree_map_len n.numbers) × AreLengths (by_bytes n.numbers.entries) n.lengths.keys };
+    ghost invariant = { λ n. AreNumbered (by_bytes n.numbers.entries) (btree_map_len n.numbers)
+        × AreLengths (by_bytes n.numbers.entries) n.lengths.keys
+        × AreFirstBytes (by_bytes n.numbers.entries) n.first_bytes };
+}
+
+/// Marks the bytes that a text of a name can begin with: the name's first, and of the empty name
+/// that of a flavour, or the NUL.
+#[tactic(auto, using(crate::proofs::FirstBytes::one_marked, crate::proofs::FirstBytes::two_marked))]
+fn mark_first(first_bytes: &mut [bool; 256], name: &str)
+    ensures { MarksFirst name.now first_bytes.old first_bytes.new }
+{
+    match name.as_bytes() {
+        [first, ..] => first_bytes[*first as usize] = true,
+        [] => {
+            first_bytes[0] = true;
+            first_bytes[b'_' as usize] = true;
+        }
+    }
+}
+
+/// Whether a byte is marked.
+fn is_marked(first_bytes: &[bool], byte: u8) -> bool
+    ensures { result ≡ slice_index_or first_bytes.now byte false }
+{
+    match first_bytes.get(byte as usize) {
+        Some(is) => *is,
+        None => false,
+    }
 }
 
 /// Adds a name with the next number.
 fn enter<'l>(
     numbers: &mut BTreeMap<&'l str, usize>,
     lengths: &mut BTreeSet<usize>,
+    first_bytes: &mut [bool; 256],
     name: &'l str,
 ) -> Result<(), AllocError>
     requires numbered { AreNumbered (by_bytes numbers.old.entries) (btree_map_len numbers.old) }
     requires lengths { AreLengths (by_bytes numbers.old.entries) lengths.old.keys }
+    requires first { AreFirstBytes (by_bytes numbers.old.entries) first_bytes.old }
     requires absent { number_of_name (by_bytes numbers.old.entries) name.now ≡ None }
     ensures numbered { AreNumbered (by_bytes numbers.new.entries) (btree_map_len numbers.new) }
     ensures lengths { AreLengths (by_bytes numbers.new.entries) lengths.new.keys }
+    ensures first { AreFirstBytes (by_bytes numbers.new.entries) first_bytes.new }
 {
     let number = numbers.len();
+    mark_first(first_bytes, name);
     lengths.insert(name.len())?;
     numbers.insert(name, number)?;
     Ok(())
 }
 
-/// The bytes behind so many.
+/// The bytes after the first `len`.
 fn bytes_behind(bytes: &[u8], len: usize) -> Option<&[u8]>
     ensures found { IfSome result (λ rest. rest.now ≡ drop len bytes.now) }
     ensures past { IfNone result (drop len bytes.now ≡ []) }
@@ -57,7 +92,7 @@ fn bytes_behind(bytes: &[u8], len: usize) -> Option<&[u8]>
     bytes.get(len..)
 }
 
-/// Whether a text ends behind so many bytes, or a flavour may begin there.
+/// Whether a text ends after `len` bytes, or a flavour may begin there.
 fn may_end(text: &[u8], len: usize) -> bool
     ensures { result ≡ may_end text.now len }
 {
@@ -85,6 +120,7 @@ impl<'l> WantedNames<'l> {
         WantedNames {
             numbers: BTreeMap::new(alloc),
             lengths: BTreeSet::new(alloc),
+            first_bytes: [false; 256],
         }
     }
 
@@ -106,7 +142,20 @@ impl<'l> WantedNames<'l> {
         if self.number(name).is_some() {
             return Ok(());
         }
-        enter(&mut self.numbers, &mut self.lengths, name)
+        enter(
+            &mut self.numbers,
+            &mut self.lengths,
+            &mut self.first_bytes,
+            name,
+        )
+    }
+
+    /// Whether a text, with its NUL, that begins with this byte may have one of the names.
+    #[tactic(auto, using(crate::proofs::FirstBytes::begins_none))]
+    pub(crate) fn may_begin(&self, byte: u8) -> bool
+        ensures { result ≡ false → BeginsNone self.now byte }
+    {
+        is_marked(&self.first_bytes, byte)
     }
 
     /// The number of a name without its flavour.
@@ -116,8 +165,8 @@ impl<'l> WantedNames<'l> {
         self.number(essential_name(text))
     }
 
-    /// The same of a long text, at which no further than a name reaches is looked: of texts that end
-    /// alike, few have the length of one.
+    /// The same of a long text, at which no further than a name reaches is looked: of texts that
+    /// end alike, few have the length of one.
     #[tactic(auto, using(crate::proofs::Lengths::no_number))]
     pub(crate) fn long_number(&self, text: &str) -> Option<usize>
         ensures { result ≡ number_of_name self.now (essential_name text.now) }
