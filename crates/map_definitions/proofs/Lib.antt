@@ -1,3 +1,4 @@
 pub mod Gathered
 pub mod Left
 pub mod KnownDefinitions
+pub mod InnerRefusals

@@ -19,7 +19,9 @@ use Rattle.map_definitions.specs.declared.member.Said.TheVariants as said
 
 -- the name and the struct of the map that a variable is
 abbrev pub named_struct : Table → Var → Result (List ℕ × ℕ) BtfError
-named_struct table v = and_then (λ name. answer_map (λ id. (name, id)) (struct_behind table v.btf_type)) (name_at table v.name_offset)
+named_struct table v =
+    and_then (λ name. answer_map (λ id. (name, id)) (struct_behind table v.btf_type))
+    (name_at table v.name_offset)
 
 abbrev pub map_variable : Table → ℕ → Result (List ℕ × ℕ) BtfError
 map_variable table id = and_then (named_struct table) (variable_at table id)
@@ -68,7 +70,10 @@ inner_said table inner (said.Inner id) = Some (inner_words table id)
 inner_said table inner _ = inner
 
 abbrev pub defined_by : Table → Definition → Result Said Refusal → Definition
-defined_by table d (Ok s) = record { words = with_said d.words s; inner = inner_said table d.inner s }
+defined_by table d (Ok s) = record {
+  words = with_said d.words s;
+  inner = inner_said table d.inner s;
+}
 defined_by table d (Err r) = d
 
 abbrev pub with_member : Table → Definition → BtfMember → Definition
@@ -95,9 +100,12 @@ refusals table id = flat_map (member_refusals table) (members_at table id)
 
 -- the errors that name the map
 abbrev pub HasNamedFault : List Refusal → List ℕ → BtfError → Type 0
-HasNamedFault all name (btf.InnerMapCannotBePinned n) = (string_bytes n ≡ name) × Contains all refusal.PinnedInnerMap
-HasNamedFault all name (btf.MultiLevelMapInMapNotSupported n) = (string_bytes n ≡ name) × Contains all refusal.MapsInInnerMap
-HasNamedFault all name (btf.InvalidValuesSpec n) = (string_bytes n ≡ name) × Contains all refusal.ValuesWithCount
+HasNamedFault all name (btf.InnerMapCannotBePinned n) =
+    (string_bytes n ≡ name) × Contains all refusal.PinnedInnerMap
+HasNamedFault all name (btf.MultiLevelMapInMapNotSupported n) =
+    (string_bytes n ≡ name) × Contains all refusal.MapsInInnerMap
+HasNamedFault all name (btf.InvalidValuesSpec n) =
+    (string_bytes n ≡ name) × Contains all refusal.ValuesWithCount
 HasNamedFault all name _ = ⊥
 
 -- an error that says one of these of the map of a name

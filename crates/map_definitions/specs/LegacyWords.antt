@@ -1,17 +1,23 @@
--- Maps of a section `maps`: the words of a `struct bpf_map_def`, as the kernel's samples and libbpf before its version 1.0
--- laid them out, and behind them the id and the way of pinning.
+-- Maps of a section `maps`: the words of a `struct bpf_map_def`, as the kernel's samples and libbpf
+-- before its version 1.0 laid them out, and after them the id and the way of pinning.
 use Rattle.std.specs.Prelude.{ℕ, ◌+◌, ◌*◌, List, [], ◌∷◌, length, get_or, nat_lt, Option, Some, None, if◌then◌else◌}
 use Rattle.std.specs.Int.{w32, from_le_bytes}
 use Rattle.ebpf_items.specs.Maps.{MapWords, pinning_or_none}
 
--- a definition has at least so many bytes: its type, the sizes of keys and values, its entries and its flags
+-- how many bytes a definition has at least: its type, the sizes of keys and values, its entries and
+-- its flags
 abbrev pub least_size : ℕ
 least_size = 20
 
 -- the little-endian word of an index; bytes that are missing are 0
 abbrev pub word_in : List ℕ → ℕ → ℕ
 word_in bytes index =
-    from_le_bytes w32 (get_or bytes (4 * index) 0 ∷ get_or bytes (4 * index + 1) 0 ∷ get_or bytes (4 * index + 2) 0 ∷ get_or bytes (4 * index + 3) 0 ∷ [])
+    from_le_bytes w32
+    (get_or bytes (4 * index) 0
+    ∷ get_or bytes (4 * index + 1) 0
+    ∷ get_or bytes (4 * index + 2) 0
+    ∷ get_or bytes (4 * index + 3) 0
+    ∷ [])
 
 -- the words that bytes define a map by
 abbrev pub legacy_map_words : List ℕ → Option MapWords

@@ -1,5 +1,5 @@
--- What the members of a map's struct lead to in a type table. libbpf has these look-ups in `parse_btf_map_def` and
--- `get_map_field_int` (tools/lib/bpf/libbpf.c).
+-- What the members of a map's struct lead to in a type table. libbpf has these look-ups in
+-- `parse_btf_map_def` and `get_map_field_int` (tools/lib/bpf/libbpf.c).
 use Rattle.std.specs.Prelude.{ℕ, ◌==◌, Bool, true, false, List, [], Option, None, Some, Result, Ok, Err, unwrap_or, if◌then◌else◌}
 use Rattle.std.specs.Option.{ok_or, option_map_or}
 use Rattle.btf_records.specs.Fields.{array_of, members_of, type_of, var_of}
@@ -61,32 +61,38 @@ variable_at table id = of_record (λ t. ok_or (var_of t) (unexpected t)) table i
 
 -- the struct at the end of a chain of modifiers
 abbrev pub struct_at_end : Table → ℕ → Result ℕ BtfError
-struct_at_end table end = of_record (λ t. if is_struct t then Ok end else Err (unexpected t)) table end
+struct_at_end table end =
+    of_record (λ t. if is_struct t then Ok end else Err (unexpected t)) table end
 
 abbrev pub struct_behind : Table → ℕ → Result ℕ BtfError
 struct_behind table id = and_then (struct_at_end table) (resolved_type table id)
 
 -- a number: the count of the array that a pointer points to (libbpf's `__uint`)
 abbrev pub number_of : Table → ℕ → Result ℕ BtfError
-number_of table id = and_then (λ target. answer_map (λ a. a.len) (array_at table target)) (pointer_target table id)
+number_of table id =
+    and_then (λ target. answer_map (λ a. a.len) (array_at table target)) (pointer_target table id)
 
--- a type and its size: those that a pointer points to (libbpf's `__type`); where there is no pointer the error names the
--- member's type
+-- a type and its size: those that a pointer points to (libbpf's `__type`); where there is no
+-- pointer the error names the member's type
 abbrev pub typed_target : Table → ℕ → Result ℕ BtfError
 typed_target table id = of_record (λ t. ok_or (target_of t) (UnexpectedBtfType id)) table id
 
 abbrev pub with_size : Table → ℕ → Result SizedType BtfError
-with_size table id = answer_map (λ size. record { type_id = id; size = size }) (type_size_in_32_bits table id)
+with_size table id =
+    answer_map (λ size. record { type_id = id; size = size }) (type_size_in_32_bits table id)
 
 abbrev pub sized_target : Table → ℕ → Result SizedType BtfError
 sized_target table id = and_then (with_size table) (typed_target table id)
 
--- the struct of the maps that a map holds: an array without elements of pointers to it (libbpf's `__array`)
+-- the struct of the maps that a map holds: an array without elements of pointers to it (libbpf's
+-- `__array`)
 abbrev pub struct_of_element : Table → ℕ → Result ℕ BtfError
-struct_of_element table element = and_then (struct_behind table) (and_then (pointer_target table) (resolved_type table element))
+struct_of_element table element =
+    and_then (struct_behind table) (and_then (pointer_target table) (resolved_type table element))
 
 abbrev pub struct_of_values : Table → BtfArray → Result ℕ Refusal
-struct_of_values table a = if a.len == 0 then in_types (struct_of_element table a.element_type) else Err ValuesWithCount
+struct_of_values table a =
+    if a.len == 0 then in_types (struct_of_element table a.element_type) else Err ValuesWithCount
 
 abbrev pub values_struct : Table → ℕ → Result ℕ Refusal
 values_struct table id = and_then (struct_of_values table) (in_types (array_at table id))

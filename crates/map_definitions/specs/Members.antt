@@ -1,5 +1,6 @@
 -- What a member of a map's struct says, by its name. libbpf has the names in `parse_btf_map_def`
--- (tools/lib/bpf/libbpf.c); maps that hold maps are documented in the kernel's Documentation/bpf/map_of_maps.rst.
+-- (tools/lib/bpf/libbpf.c); maps that hold maps are documented in the kernel's
+-- Documentation/bpf/map_of_maps.rst.
 use Rattle.std.specs.Prelude.{ℕ, List, [], ◌∷◌, codes, bytes_eq, Result, Ok, Err, unwrap_or}
 use Rattle.std.specs.Map.{lookup}
 use Rattle.btf_records.specs.declared.item.BtfMember.{BtfMember}

@@ -4,6 +4,7 @@ ghost use Rattle.std.specs.Prelude.{◌≡◌, ◌≢◌, List, [], Contains, Ma
 ghost use Rattle.ebpf_items.specs.Maps.{btf_words};
 ghost use Rattle.btf_records.specs.declared.error.BtfError.TheVariants.{OutOfMemory};
 ghost use Rattle.map_definitions.specs.Definitions.{IsFaultAmong, inner_refusals, inner_words, map_variable};
+ghost use Rattle.map_definitions.specs.declared.lookup.Refusal.TheVariants.{Types};
 
 use crate::lookup::{Refusal, name_at, struct_behind, variable_at};
 use crate::member::{enter_said, member_said_inside};
@@ -34,9 +35,11 @@ pub struct BtfDefinition {
 ///
 /// `UnknownBtfType` where a type isn't in the table, `UnexpectedBtfType` where the entry's is no
 /// variable or the variable's no struct, `InvalidStringOffset` where the name can't be read,
-/// `MaximumTypeDepthReached` where the struct stands behind too many modifiers.
+/// `MaximumTypeDepthReached` where the struct stands after too many modifiers.
 pub fn map_variable<'t>(table: &'t Btf<'_>, type_id: u32) -> Result<MapVariable<'t>, BtfError>
-    ensures { MatchResult result (λ v. map_variable table.now type_id ≡ Ok (v.name.now, v.struct_id)) (λ e. map_variable table.now type_id ≡ Err e) }
+    ensures { MatchResult result (λ v.
+        map_variable table.now type_id ≡ Ok (v.name.now, v.struct_id)) (λ e.
+        map_variable table.now type_id ≡ Err e) }
 {
     let variable = variable_at(table, type_id)?;
     let name = name_at(table, variable.name_offset)?;
@@ -60,7 +63,10 @@ pub(crate) fn inner_def(table: &Btf<'_>, struct_id: u32) -> Result<BtfMapDef, Re
 
 /// The error of a refusal, of the map of this name.
 pub(crate) fn named_error(alloc: Global, name: &str, refusal: Refusal) -> BtfError
-    ensures { (all : List Refusal) → Contains all refusal → result ≢ OutOfMemory → IsFaultAmong all name.now result }
+    ensures { (all : List Refusal)
+        → (refusal ≢ Types OutOfMemory → Contains all refusal)
+        → result ≢ OutOfMemory
+        → IsFaultAmong all name.now result }
 {
     let name = match String::from_str(alloc, name) {
         Ok(name) => name,

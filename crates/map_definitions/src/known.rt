@@ -5,6 +5,7 @@ ghost use Rattle.ebpf_items.specs.Maps.{btf_words};
 ghost use Rattle.btf_records.specs.declared.error.BtfError.TheVariants.{OutOfMemory};
 ghost use Rattle.map_definitions.specs.Definitions.{HasDefinitionFault, defined, definition_of, inner_refusals, inner_words, member_refusals, refusals, with_member};
 ghost use Rattle.map_definitions.specs.KnownDefinitions.{IsDefinition, IsInnerDef};
+ghost use Rattle.map_definitions.specs.declared.lookup.Refusal.TheVariants.{Types};
 
 use crate::definition::{BtfDefinition, inner_def, named_error};
 use crate::lookup::Refusal;
@@ -48,12 +49,14 @@ impl<'t, 'b> Model for MapDefinitions<'t, 'b> {
 
     ghost view = { λ d. d.table.now };
 
-    ghost invariant = { λ d. AreDefinitions d.table.now (values_of d.known.entries) × AreInnerDefs d.table.now (values_of d.inner.entries) };
+    ghost invariant = { λ d.
+        AreDefinitions d.table.now (values_of d.known.entries)
+        × AreInnerDefs d.table.now (values_of d.inner.entries) };
 }
 
 impl<'t, 'b> MapDefinitions<'t, 'b> {
     /// A table of which no struct was read.
-    #[tactic(auto, using(crate::proofs::KnownDefinitions::no_definitions, crate::proofs::KnownDefinitions::no_inner_defs))]
+    #[tactic(auto, using(crate::proofs::KnownDefinitions::no_definitions, crate::proofs::KnownDefinitions::no_inner_defs,),)]
     pub fn new(alloc: Global, table: &'t Btf<'b>) -> MapDefinitions<'t, 'b>
         ensures { result ≡ table.now }
     {
@@ -73,7 +76,7 @@ impl<'t, 'b> MapDefinitions<'t, 'b> {
 
     /// What a struct that was read defines, if it was kept.
     #[tactic(auto, using(crate::proofs::KnownDefinitions::known_definition))]
-    pub fn known(&self, struct_id: u32) -> Option<BtfDefinition>
+    fn known(&self, struct_id: u32) -> Option<BtfDefinition>
         ensures { IfSome result (IsDefinition self.now struct_id) }
     {
         let known = self.known.get(&struct_id)?;
@@ -119,19 +122,19 @@ impl<'t, 'b> MapDefinitions<'t, 'b> {
         Ok(())
     }
 
-    /// The words of the maps that a map holds, which the struct of this id defines. They are kept,
-    /// where there is memory for them.
+    /// The words of the maps that a map holds, which the struct of this id defines. They are kept.
     fn inner_def(&mut self, struct_id: u32) -> Result<BtfMapDef, Refusal>
         ensures value { IfOk result (λ def. btf_words def ≡ inner_words self.old struct_id) }
         ensures accepted { OnOk result (inner_refusals self.old struct_id ≡ []) }
-        ensures refused { IfErr result (Contains (inner_refusals self.old struct_id)) }
+        ensures refused { IfErr result (λ r.
+            r ≢ Types OutOfMemory → Contains (inner_refusals self.old struct_id) r) }
         ensures same { self.new ≡ self.old }
     {
         if let Some(def) = self.known_inner(struct_id) {
             return Ok(def);
         }
         let def = inner_def(self.table, struct_id)?;
-        let _kept = self.keep_inner(struct_id, def);
+        self.keep_inner(struct_id, def)?;
         Ok(def)
     }
 
@@ -141,9 +144,11 @@ impl<'t, 'b> MapDefinitions<'t, 'b> {
         defined: &mut BtfDefinition,
         member: BtfMember,
     ) -> Result<(), Refusal>
-        ensures value { OnOk result (definition_of defined.new ≡ with_member self.old (definition_of defined.old) member) }
+        ensures value { OnOk result
+            (definition_of defined.new ≡ with_member self.old (definition_of defined.old) member) }
         ensures accepted { OnOk result (member_refusals self.old member ≡ []) }
-        ensures refused { IfErr result (Contains (member_refusals self.old member)) }
+        ensures refused { IfErr result (λ r.
+            r ≢ Types OutOfMemory → Contains (member_refusals self.old member) r) }
         ensures same { self.new ≡ self.old }
     {
         let said = member_said(self.table, member)?;
@@ -159,7 +164,8 @@ impl<'t, 'b> MapDefinitions<'t, 'b> {
     fn definition(&mut self, struct_id: u32) -> Result<BtfDefinition, Refusal>
         ensures value { IfOk result (λ d. definition_of d ≡ defined self.old struct_id) }
         ensures accepted { OnOk result (refusals self.old struct_id ≡ []) }
-        ensures refused { IfErr result (Contains (refusals self.old struct_id)) }
+        ensures refused { IfErr result (λ r.
+            r ≢ Types OutOfMemory → Contains (refusals self.old struct_id) r) }
         ensures same { self.new ≡ self.old }
     {
         let mut defined = BtfDefinition {
@@ -172,16 +178,16 @@ impl<'t, 'b> MapDefinitions<'t, 'b> {
         Ok(defined)
     }
 
-    /// What the struct of an id defines, of the map of this name. It is kept, where there is memory
-    /// for it, so that no struct is read again for another map.
+    /// What the struct of an id defines, of the map of this name. It is kept, so that no struct is
+    /// read again for another map.
     ///
     /// # Errors
     ///
-    /// `InvalidStringOffset` where a member's name can't be read, `UnexpectedBtfType` where a member
-    /// isn't of the shape that its name asks for, `UnknownBtfType`, `MaximumTypeDepthReached` and
-    /// `InvalidTypeInfo` where a type or its size can't be found, `InvalidValuesSpec` where the array
-    /// of inner maps has elements, `InnerMapCannotBePinned` and `MultiLevelMapInMapNotSupported` where
-    /// an inner map is pinned or holds maps, `OutOfMemory`.
+    /// `InvalidStringOffset` where a member's name can't be read, `UnexpectedBtfType` where a
+    /// member isn't of the shape that its name asks for, `UnknownBtfType`,
+    /// `MaximumTypeDepthReached` and `InvalidTypeInfo` where a type or its size can't be found,
+    /// `InvalidValuesSpec` where the array of inner maps has elements, `InnerMapCannotBePinned` and
+    /// `MultiLevelMapInMapNotSupported` where an inner map is pinned or holds maps, `OutOfMemory`.
     pub fn read(
         &mut self,
         alloc: Global,
@@ -190,7 +196,8 @@ impl<'t, 'b> MapDefinitions<'t, 'b> {
     ) -> Result<BtfDefinition, BtfError>
         ensures value { IfOk result (λ d. definition_of d ≡ defined self.old struct_id) }
         ensures accepted { OnOk result (refusals self.old struct_id ≡ []) }
-        ensures refused { IfErr result (λ e. e ≢ OutOfMemory → HasDefinitionFault self.old name.now struct_id e) }
+        ensures refused { IfErr result (λ e.
+            e ≢ OutOfMemory → HasDefinitionFault self.old name.now struct_id e) }
         ensures same { self.new ≡ self.old }
     {
         if let Some(definition) = self.known(struct_id) {
@@ -198,7 +205,7 @@ impl<'t, 'b> MapDefinitions<'t, 'b> {
         }
         match self.definition(struct_id) {
             Ok(definition) => {
-                let _kept = self.keep(struct_id, definition);
+                self.keep(struct_id, definition)?;
                 Ok(definition)
             }
             Err(refusal) => Err(named_error(alloc, name, refusal)),

@@ -7,7 +7,7 @@ ghost use Rattle.map_definitions.specs.LegacyWords.{legacy_map_words, word_in};
 
 use ebpf_items::{PinningType, bpf_map_def};
 
-/// A definition has at least so many bytes.
+/// How many bytes a definition has at least.
 const LEAST_SIZE: usize = 20;
 
 fn byte(bytes: &[u8], at: usize) -> u8

@@ -7,11 +7,12 @@ ghost use Rattle.map_definitions.specs.Lookups.{array_at, is_struct, name_at, nu
 use btf_encoding::TypeRef;
 use btf_records::{BtfArray, BtfError, BtfKind, Var};
 use btf_tables::Btf;
+use std::alloc::AllocError;
 
 /// Why a map's struct is refused, without the map's name.
 #[derive(Debug, Drop)]
 pub enum Refusal {
-    /// A look-up in the type table fails.
+    /// A look-up in the type table fails, or memory ran out.
     Types(BtfError),
     /// A map inside another is pinned.
     PinnedInnerMap,
@@ -29,6 +30,18 @@ impl From<BtfError> for Refusal {
 
     fn from(error: BtfError) -> Refusal {
         Refusal::Types(error)
+    }
+}
+
+impl From<AllocError> for Refusal {
+    ghost use Rattle.std.specs.Prelude.{◌≡◌};
+    ghost use Rattle.btf_records.specs.declared.error.BtfError.TheVariants.{OutOfMemory};
+    ghost use Rattle.map_definitions.specs.declared.lookup.Refusal.TheVariants.{Types};
+
+    ghost from_gives = { λ _ r. r ≡ Types OutOfMemory };
+
+    fn from(_error: AllocError) -> Refusal {
+        Refusal::Types(BtfError::OutOfMemory)
     }
 }
 
@@ -156,7 +169,8 @@ pub(crate) fn values_struct(table: &Btf<'_>, type_id: u32) -> Result<u32, Refusa
 
 /// The text at an offset of the table's strings.
 pub(crate) fn name_at<'t>(table: &'t Btf<'_>, offset: u32) -> Result<&'t str, BtfError>
-    ensures { MatchResult result (λ name. name_at table.now offset ≡ Ok name.now) (λ e. name_at table.now offset ≡ Err e) }
+    ensures { MatchResult result (λ name. name_at table.now offset ≡ Ok name.now) (λ e.
+        name_at table.now offset ≡ Err e) }
 {
     table.string_at(offset)
 }

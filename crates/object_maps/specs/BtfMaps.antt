@@ -25,30 +25,41 @@ symbol_named symbols name = find (has_symbol_name name) (reverse symbols)
 
 -- the map of a variable, which has the variable's name
 abbrev pub variable_view : Table → Section → ℕ → Symbol → MapView
-variable_view table section id s = btf_map_view (defined table id).words (defined table id).inner section.index s.index
+variable_view table section id s =
+    btf_map_view (defined table id).words (defined table id).inner section.index s.index
 
-abbrev pub variable_map : Table → Section → List Symbol → Result (List ℕ × ℕ) BtfError → List (List ℕ × MapView)
+abbrev pub variable_map : Table
+    → Section
+    → List Symbol
+    → Result (List ℕ × ℕ) BtfError
+    → List (List ℕ × MapView)
 variable_map table section symbols (Ok v) =
     option_map_or (λ s. (v.0, variable_view table section v.1 s) ∷ []) (symbol_named symbols v.0) []
 variable_map table section symbols (Err e) = []
 
 abbrev pub entry_map : Table → Section → List Symbol → DataSecEntry → List (List ℕ × MapView)
-entry_map table section symbols entry = variable_map table section symbols (map_variable table entry.btf_type)
+entry_map table section symbols entry =
+    variable_map table section symbols (map_variable table entry.btf_type)
 
 -- those of the variables of a section of the table
 abbrev pub entries_maps : Table → Section → List Symbol → BtfType → List (List ℕ × MapView)
 entries_maps table section symbols t = flat_map (entry_map table section symbols) (entries_of t)
 
+-- those of the sections of the table that have a section's name
+abbrev pub named_maps : Table → Section → List Symbol → List (List ℕ × MapView)
+named_maps table section symbols =
+    flat_map (entries_maps table section symbols) (sections_named table (section_name section))
+
 abbrev pub btf_maps : Table → List Symbol → Section → List (List ℕ × MapView)
-btf_maps table symbols section =
-    flat_map (entries_maps table section (symbols_in symbols section.index)) (sections_named table (section_name section))
+btf_maps table symbols section = named_maps table section (symbols_in symbols section.index)
 
 -- what is wrong with them
 abbrev pub symbol_faults : List ℕ → Option Symbol → List MapFault
 symbol_faults name found = if is_none found then NoSymbol name ∷ [] else []
 
 abbrev pub variable_faults : Table → List Symbol → Result (List ℕ × ℕ) BtfError → List MapFault
-variable_faults table symbols (Ok v) = symbol_faults v.0 (symbol_named symbols v.0) ++ map (struct_fault v.0) (refusals table v.1)
+variable_faults table symbols (Ok v) =
+    symbol_faults v.0 (symbol_named symbols v.0) ++ map (struct_fault v.0) (refusals table v.1)
 variable_faults table symbols (Err e) = types_fault e ∷ []
 
 abbrev pub entry_faults : Table → List Symbol → DataSecEntry → List MapFault
@@ -57,9 +68,14 @@ entry_faults table symbols entry = variable_faults table symbols (map_variable t
 abbrev pub entries_faults : Table → List Symbol → BtfType → List MapFault
 entries_faults table symbols t = flat_map (entry_faults table symbols) (entries_of t)
 
+abbrev pub named_faults : Table → Section → List Symbol → List MapFault
+named_faults table section symbols =
+    flat_map (entries_faults table symbols) (sections_named table (section_name section))
+
 abbrev pub btf_maps_faults : Table → List Symbol → Section → List MapFault
 btf_maps_faults table symbols section =
-    flat_map (entries_faults table (symbols_in symbols section.index)) (sections_named table (section_name section))
+    named_faults table section (symbols_in symbols section.index)
 
 abbrev pub any_symbol_faults : List Symbol → Section → List MapFault
-any_symbol_faults symbols section = symbols_lack (section_name section) (not (length (symbols_in symbols section.index) == 0))
+any_symbol_faults symbols section =
+    symbols_lack (section_name section) (not (length (symbols_in symbols section.index) == 0))

@@ -1,5 +1,5 @@
--- Maps of sections of variables, `.data`, `.rodata` and `.bss`: the kernel's array maps of one entry ("Global data
--- sections" of the libbpf documentation).
+-- Maps of sections of variables, `.data`, `.rodata` and `.bss`: the kernel's array maps of one
+-- entry ("Global data sections" of the libbpf documentation).
 use Rattle.std.specs.Prelude.{ℕ, ◌^◌, List, [], ◌∷◌, nat_lt, false, None, unwrap_or, if◌then◌else◌}
 use Rattle.std.proofs.Math.ListN.{replicate}
 use Rattle.elf64.specs.Sections.{Section}
@@ -60,4 +60,5 @@ data_map section =
 
 -- the size doesn't fit 32 bits
 abbrev pub data_map_faults : Section → List MapFault
-data_map_faults section = if nat_lt section.size (2 ^ 32) then [] else BadDefinition (section_name section) ∷ []
+data_map_faults section =
+    if nat_lt section.size (2 ^ 32) then [] else BadDefinition (section_name section) ∷ []

@@ -16,7 +16,8 @@ is_data_section _ = false
 
 abbrev pub is_section_named : Table → List ℕ → BtfType → Bool
 is_section_named table name t =
-    is_data_section t && option_map_or (λ text. bytes_eq text name) (text_at table.strings (name_offset_of t)) false
+    is_data_section t
+    && option_map_or (λ text. bytes_eq text name) (text_at table.strings (name_offset_of t)) false
 
 -- those of a name, in order
 abbrev pub sections_named : Table → List ℕ → List BtfType
@@ -28,7 +29,9 @@ unreadable_at offset = NoType (InvalidStringOffset offset)
 
 abbrev pub section_name_faults : Table → BtfType → List MapFault
 section_name_faults table t =
-    if is_data_section t && is_none (text_at table.strings (name_offset_of t)) then unreadable_at (name_offset_of t) ∷ [] else []
+    if is_data_section t && is_none (text_at table.strings (name_offset_of t))
+    then unreadable_at (name_offset_of t) ∷ []
+    else []
 
 abbrev pub name_faults : Table → List MapFault
 name_faults table = flat_map (section_name_faults table) table.types

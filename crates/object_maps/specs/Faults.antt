@@ -9,10 +9,10 @@ use Rattle.ebpf_items.specs.declared.error.ParseError.TheVariants as error
 use Rattle.map_definitions.specs.declared.lookup.Refusal.{Refusal}
 use Rattle.map_definitions.specs.declared.lookup.Refusal.TheVariants as refusal
 
--- No symbol that could be a map lies in the section of this name; the definition of the map of this name doesn't fit its
--- section, or its size 32 bits; maps are defined by types, and there is no table; no symbol of the section has the name
--- of this map; a look-up in the table fails; a map inside the map of this name is pinned, or holds maps; the array of
--- inner maps has elements.
+-- No symbol that could be a map lies in the section of this name; the definition of the map of this
+-- name doesn't fit its section, or its size 32 bits; maps are defined by types, and there is no
+-- table; no symbol of the section has the name of this map; a look-up in the table fails; a map
+-- inside the map of this name is pinned, or holds maps; the array of inner maps has elements.
 pub data MapFault : Type 0 where
   NoSymbols : (name : List ℕ) → MapFault
   BadDefinition : (name : List ℕ) → MapFault

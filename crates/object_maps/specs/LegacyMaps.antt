@@ -27,9 +27,12 @@ is_section_kind _ = false
 abbrev pub is_map_symbol : Symbol → Bool
 is_map_symbol s = not (is_section_kind s.kind)
 
--- the words of a symbol's map, in st_size bytes of the section from st_value on: none where they lie outside, or are too few
+-- the words of a symbol's map, in st_size bytes of the section from st_value on: none where they
+-- lie outside, or are too few
 abbrev pub symbol_words : Section → Symbol → Option MapWords
-symbol_words section s = option_and_then legacy_map_words (option_and_then (λ bytes. bytes_at bytes s.address s.size) section.contents)
+symbol_words section s =
+    option_and_then legacy_map_words
+    (option_and_then (λ bytes. bytes_at bytes s.address s.size) section.contents)
 
 abbrev pub legacy_map_view : Section → Symbol → MapWords → MapView
 legacy_map_view section s words = record {
@@ -46,7 +49,8 @@ legacy_map_view section s words = record {
 abbrev pub legacy_map : Section → Symbol → List (List ℕ × MapView)
 legacy_map section s =
     if is_map_symbol s
-    then option_map_or (λ words. (symbol_name s, legacy_map_view section s words) ∷ []) (symbol_words section s) []
+    then option_map_or (λ words. (symbol_name s, legacy_map_view section s words) ∷ [])
+    (symbol_words section s) []
     else []
 
 abbrev pub legacy_maps : List Symbol → Section → List (List ℕ × MapView)
@@ -55,10 +59,14 @@ legacy_maps symbols section = flat_map (legacy_map section) (symbols_in symbols 
 -- what is wrong with them
 abbrev pub legacy_map_faults : Section → Symbol → List MapFault
 legacy_map_faults section s =
-    if is_map_symbol s && is_none (symbol_words section s) then BadDefinition (symbol_name s) ∷ [] else []
+    if is_map_symbol s && is_none (symbol_words section s)
+    then BadDefinition (symbol_name s) ∷ []
+    else []
 
 abbrev pub legacy_maps_faults : List Symbol → Section → List MapFault
-legacy_maps_faults symbols section = flat_map (legacy_map_faults section) (symbols_in symbols section.index)
+legacy_maps_faults symbols section =
+    flat_map (legacy_map_faults section) (symbols_in symbols section.index)
 
 abbrev pub map_symbol_faults : List Symbol → Section → List MapFault
-map_symbol_faults symbols section = symbols_lack (section_name section) (list_any is_map_symbol (symbols_in symbols section.index))
+map_symbol_faults symbols section =
+    symbols_lack (section_name section) (list_any is_map_symbol (symbols_in symbols section.index))

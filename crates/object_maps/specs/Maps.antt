@@ -32,11 +32,16 @@ typed_maps (Some table) symbols section = btf_maps table symbols section
 typed_maps None symbols section = []
 
 abbrev pub typed_faults : Option Table → List Symbol → Section → List MapFault
-typed_faults (Some table) symbols section = name_faults table ++ btf_maps_faults table symbols section
+typed_faults (Some table) symbols section =
+    name_faults table ++ btf_maps_faults table symbols section
 typed_faults None symbols section = NoTable ∷ []
 
 -- the maps of a section, by its kind
-abbrev pub kind_maps : Option Table → List Symbol → Section → EbpfSectionKind → List (List ℕ × MapView)
+abbrev pub kind_maps : Option Table
+    → List Symbol
+    → Section
+    → EbpfSectionKind
+    → List (List ℕ × MapView)
 kind_maps table symbols section kind.Maps = legacy_maps symbols section
 kind_maps table symbols section kind.BtfMaps = typed_maps table symbols section
 kind_maps table symbols section kind.Data = data_map section
@@ -49,8 +54,10 @@ section_maps table symbols section = kind_maps table symbols section (kind_of se
 
 -- what is wrong with them
 abbrev pub kind_faults : Option Table → List Symbol → Section → EbpfSectionKind → List MapFault
-kind_faults table symbols section kind.Maps = map_symbol_faults symbols section ++ legacy_maps_faults symbols section
-kind_faults table symbols section kind.BtfMaps = any_symbol_faults symbols section ++ typed_faults table symbols section
+kind_faults table symbols section kind.Maps =
+    map_symbol_faults symbols section ++ legacy_maps_faults symbols section
+kind_faults table symbols section kind.BtfMaps =
+    any_symbol_faults symbols section ++ typed_faults table symbols section
 kind_faults table symbols section kind.Data = data_map_faults section
 kind_faults table symbols section kind.Rodata = data_map_faults section
 kind_faults table symbols section kind.Bss = data_map_faults section

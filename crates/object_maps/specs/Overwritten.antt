@@ -9,18 +9,21 @@ use Rattle.ebpf_items.specs.Maps.{MapView}
 
 -- bytes put over others, from a place on
 abbrev pub overwritten : List ℕ → ℕ → List ℕ → List ℕ
-overwritten contents start bytes = take start contents ++ (bytes ++ drop (start + length bytes) contents)
+overwritten contents start bytes =
+    take start contents ++ (bytes ++ drop (start + length bytes) contents)
 
 abbrev pub map_overwritten : ℕ → List ℕ → MapView → MapView
 map_overwritten start bytes m = record m { contents = overwritten m.contents start bytes }
 
 abbrev pub entry_overwritten : List ℕ → ℕ → List ℕ → List ℕ × MapView → List ℕ × MapView
-entry_overwritten name start bytes m = if bytes_eq name m.0 then (m.0, map_overwritten start bytes m.1) else m
+entry_overwritten name start bytes m =
+    if bytes_eq name m.0 then (m.0, map_overwritten start bytes m.1) else m
 
 -- the maps with these bytes put over those of the map of a name: all else stays
 unfoldable pub with_bytes : List (List ℕ × MapView) → List ℕ → ℕ → List ℕ → List (List ℕ × MapView)
 with_bytes maps name start bytes = map (entry_overwritten name start bytes) maps
 
--- there is a map of the name that has so many bytes from this place on
+-- there is a map of the name that has as many bytes from this place on
 abbrev pub HasRange : List (List ℕ × MapView) → List ℕ → ℕ → ℕ → Type 0
-HasRange maps name start size = IsSomeAnd (lookup (is_at (slice_cmp nat_cmp name)) maps) (λ m. start + size ≤ length m.contents)
+HasRange maps name start size =
+    IsSomeAnd (lookup (is_at (slice_cmp nat_cmp name)) maps) (λ m. start + size ≤ length m.contents)

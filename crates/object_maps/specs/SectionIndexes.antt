@@ -11,14 +11,19 @@ use Rattle.object_maps.specs.declared.data_sections.SectionIndex.{SectionIndex}
 
 -- the sections that a map has for a name
 abbrev pub sections_at : SectionIndex → List ℕ → List BtfType
-sections_at index name = option_map_or (λ v. v.items) (get_by (λ key. slice_cmp nat_cmp name key.now) index.by_name) []
+sections_at index name =
+    option_map_or (λ v. v.items) (get_by (λ key. slice_cmp nat_cmp name key.now) index.by_name) []
 
--- a section is added behind those of its name
+-- a section is added after those of its name
 pub record AddsSection (old new : SectionIndex) (name : List ℕ) (t : BtfType) : Type 0 where
-  pub at : (other : List ℕ) → sections_at new other ≡ sections_at old other ++ (if bytes_eq name other then t ∷ [] else [])
+  pub at : (other : List ℕ)
+      → sections_at new other
+      ≡ sections_at old other ++ (if bytes_eq name other then t ∷ [] else [])
   pub unreadable : new.unreadable ≡ old.unreadable
 
--- a map has for each name the sections of the table, and knows one whose name can't be read, if there is one
+-- a map has for each name the sections of the table, and knows one whose name can't be read, if
+-- there is one
 pub record IsIndexOf (index : SectionIndex) (table : Table) : Type 0 where
   pub at : (name : List ℕ) → sections_at index name ≡ sections_named table name
-  pub unreadable : MatchOption index.unreadable (name_faults table ≡ []) (λ offset. Contains (name_faults table) (unreadable_at offset))
+  pub unreadable : MatchOption index.unreadable (name_faults table ≡ []) (λ offset.
+      Contains (name_faults table) (unreadable_at offset))

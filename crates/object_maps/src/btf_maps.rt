@@ -1,109 +1,125 @@
 //! Maps of sections `.maps`, which their types define.
 
-ghost use Rattle.std.specs.Prelude.{◌≡◌, ◌≢◌, [], ◌++◌, flat_map, IfErr, OnOk};
-ghost use Rattle.std.specs.Option.{option_copied};
+ghost use Rattle.std.specs.Prelude.{◌≡◌, ◌≢◌, [], ◌++◌, Some, flat_map, IfErr, OnOk};
 ghost use Rattle.elf64.specs.Symbols.{symbols_of};
 ghost use Rattle.ebpf_items.specs.declared.error.ParseError.TheVariants.{OutOfMemory};
-ghost use Rattle.object_file.specs.Symbols.{symbols_in};
-ghost use Rattle.object_maps.specs.BtfMaps.{any_symbol_faults, btf_maps_faults, entries_faults, entries_maps, entry_faults, entry_map};
+ghost use Rattle.map_definitions.specs.Definitions.{definition_of};
+ghost use Rattle.object_maps.specs.BtfMaps.{any_symbol_faults, btf_maps, named_faults, named_maps};
+ghost use Rattle.object_maps.specs.DefinedMaps.{all_unnamed_faults, defined_map, unnamed_faults};
 ghost use Rattle.object_maps.specs.Faults.{Says};
 ghost use Rattle.object_maps.specs.Found.{entered};
 ghost use Rattle.object_maps.specs.Maps.{typed_faults, typed_maps};
 
 use crate::data_sections::DataSections;
-use crate::entries::Entries;
+use crate::defined_maps::DefinedMaps;
 use crate::maps::Maps;
 use crate::named_symbols::NamedSymbols;
-use btf_encoding::TypeRef;
-use btf_records::DataSecEntry;
 use ebpf_items::{BtfMap, Map, ParseError};
+use map_definitions::BtfDefinition;
 use object_file::{ObjectFile, ReadSection};
 use std::alloc::Global;
 
 impl<'a> Maps<'a> {
-    /// Enters the map of an entry of a section of the table.
+    /// Enters the map of a definition, under the symbol of its name.
     #[tactic(auto, unfolding(crate::specs::Found::entered))]
-    fn read_entry(
+    fn enter_definition(
         &mut self,
         alloc: Global,
-        types: &DataSections<'_, '_>,
         section: &ReadSection<'a>,
         symbols: &NamedSymbols<'_, 'a>,
-        entry: DataSecEntry,
+        name: &str,
+        definition: &BtfDefinition,
     ) -> Result<(), ParseError>
-        ensures value { OnOk result (self.new ≡ entered self.old (entry_map types.now section.now symbols.now entry)) }
-        ensures accepted { OnOk result (entry_faults types.now symbols.now entry ≡ []) }
-        ensures refused { IfErr result (λ e. e ≢ OutOfMemory → Says (entry_faults types.now symbols.now entry) e) }
+        ensures value { OnOk result
+            (self.new
+            ≡ entered self.old
+            (defined_map section.now symbols.now (name.now, definition_of definition.now))) }
+        ensures accepted { OnOk result (unnamed_faults symbols.now name.now ≡ []) }
+        ensures refused { IfErr result (λ e.
+            e ≢ OutOfMemory → Says (unnamed_faults symbols.now name.now) e) }
     {
-        let variable = types.variable(entry.btf_type)?;
-        let Some(symbol) = symbols.named(variable.name) else {
+        let Some(symbol) = symbols.named(name) else {
             return Err(ParseError::SymbolNotFound {
-                name: String::from_str(alloc, variable.name)?,
+                name: String::from_str(alloc, name)?,
             });
         };
-        let defined = types.definition(alloc, variable.name, variable.struct_id)?;
         let index = symbol.view().index();
-        let map = BtfMap::new(alloc, defined.def, defined.inner, section.index(), index);
+        let map = BtfMap::new(
+            alloc,
+            definition.def,
+            definition.inner,
+            section.index(),
+            index,
+        );
         self.insert(symbol.name(), Map::Btf(map))?;
         Ok(())
     }
 
-    /// Enters the maps of the entries of a section of the table.
-    #[tactic(auto, using(crate::proofs::Entered::entered_append, crate::proofs::Entered::entered_none))]
-    fn read_entries(
+    /// Enters the maps of these definitions.
+    #[tactic(auto, using(crate::proofs::Entered::entered_append, crate::proofs::Entered::entered_none),)]
+    fn enter_definitions(
         &mut self,
         alloc: Global,
-        types: &DataSections<'_, '_>,
         section: &ReadSection<'a>,
         symbols: &NamedSymbols<'_, 'a>,
-        variables: &TypeRef<'_>,
+        maps: &DefinedMaps<'_>,
     ) -> Result<(), ParseError>
-        ensures value { OnOk result (self.new ≡ entered self.old (entries_maps types.now section.now symbols.now variables.now)) }
-        ensures accepted { OnOk result (entries_faults types.now symbols.now variables.now ≡ []) }
-        ensures refused { IfErr result (λ e. e ≢ OutOfMemory → Says (entries_faults types.now symbols.now variables.now) e) }
+        ensures value { OnOk result
+            (self.new
+            ≡ entered self.old (flat_map (defined_map section.now symbols.now) maps.now)) }
+        ensures accepted { OnOk result (all_unnamed_faults symbols.now maps.now ≡ []) }
+        ensures refused { IfErr result (λ e.
+            e ≢ OutOfMemory → Says (all_unnamed_faults symbols.now maps.now) e) }
     {
-        for entry in Entries::new(variables) {
-            self.read_entry(alloc, types, section, symbols, entry)?;
+        for (name, definition) in maps.iter() {
+            self.enter_definition(alloc, section, symbols, name, definition)?;
         }
         Ok(())
     }
 
-    /// Enters the maps of these sections of the table.
-    #[tactic(auto, using(crate::proofs::Entered::entered_none))]
-    fn read_variables(
+    /// Enters the maps that the table defines for sections of this one's name.
+    fn read_defined(
         &mut self,
         alloc: Global,
-        types: &DataSections<'_, '_>,
+        types: &mut DataSections<'a, '_, '_>,
         section: &ReadSection<'a>,
         symbols: &NamedSymbols<'_, 'a>,
-        sections: &[TypeRef<'_>],
     ) -> Result<(), ParseError>
-        ensures value { OnOk result (self.new ≡ entered self.old (flat_map (entries_maps types.now section.now symbols.now) sections.now)) }
-        ensures accepted { OnOk result (flat_map (entries_faults types.now symbols.now) sections.now ≡ []) }
-        ensures refused { IfErr result (λ e. e ≢ OutOfMemory → Says (flat_map (entries_faults types.now symbols.now) sections.now) e) }
+        ensures value { OnOk result
+            (self.new ≡ entered self.old (named_maps types.old section.now symbols.now)) }
+        ensures accepted { OnOk result (named_faults types.old section.now symbols.now ≡ []) }
+        ensures refused { IfErr result (λ e.
+            e ≢ OutOfMemory → Says (named_faults types.old section.now symbols.now) e) }
+        ensures same { types.new ≡ types.old }
     {
-        for variables in sections {
-            self.read_entries(alloc, types, section, symbols, variables)?;
-        }
+        self.rising();
+        let maps = types.take(alloc, section.name())?;
+        self.enter_definitions(alloc, section, symbols, &maps)?;
+        types.keep(section.name(), maps)?;
         Ok(())
     }
 
-    /// Enters the maps of a section `.maps`.
-    #[tactic(auto, using(crate::proofs::Entered::entered_none))]
-    pub(crate) fn read_btf_maps(
+    /// Enters the maps of a section `.maps` of an object with a type table.
+    fn read_typed_maps(
         &mut self,
         alloc: Global,
         file: &ObjectFile<'a>,
-        types: Option<&DataSections<'_, '_>>,
+        types: &mut DataSections<'a, '_, '_>,
         section: &ReadSection<'a>,
     ) -> Result<(), ParseError>
-        ensures value { OnOk result (self.new ≡ entered self.old (typed_maps (option_copied types.entry) (symbols_of file.now) section.now)) }
-        ensures accepted { OnOk result (any_symbol_faults (symbols_of file.now) section.now ++ typed_faults (option_copied types.entry) (symbols_of file.now) section.now ≡ []) }
-        ensures refused { IfErr result (λ e. e ≢ OutOfMemory → Says (any_symbol_faults (symbols_of file.now) section.now ++ typed_faults (option_copied types.entry) (symbols_of file.now) section.now) e) }
+        ensures value { OnOk result
+            (self.new ≡ entered self.old (btf_maps types.old (symbols_of file.now) section.now)) }
+        ensures accepted { OnOk result
+            (any_symbol_faults (symbols_of file.now) section.now
+            ++ typed_faults (Some types.old) (symbols_of file.now) section.now
+            ≡ []) }
+        ensures refused { IfErr result (λ e.
+            e ≢ OutOfMemory
+            → Says
+            (any_symbol_faults (symbols_of file.now) section.now
+            ++ typed_faults (Some types.old) (symbols_of file.now) section.now) e) }
+        ensures same { types.new ≡ types.old }
     {
-        let Some(types) = types else {
-            return Err(ParseError::NoBTF);
-        };
         let symbols = file.symbols_in(section.index());
         if symbols.is_empty() {
             return Err(ParseError::NoSymbolsForSection {
@@ -112,11 +128,34 @@ impl<'a> Maps<'a> {
         }
         types.check_names()?;
         let named = NamedSymbols::new(alloc, symbols)?;
-        match types.named(section.name()) {
-            Some(sections) => {
-                self.read_variables(alloc, types, section, &named, sections.as_slice())
-            }
-            None => Ok(()),
+        self.read_defined(alloc, types, section, &named)
+    }
+
+    /// Enters the maps of a section `.maps`.
+    #[tactic(auto, using(crate::proofs::Entered::entered_none))]
+    pub(crate) fn read_btf_maps(
+        &mut self,
+        alloc: Global,
+        file: &ObjectFile<'a>,
+        types: &mut Option<DataSections<'a, '_, '_>>,
+        section: &ReadSection<'a>,
+    ) -> Result<(), ParseError>
+        ensures value { OnOk result
+            (self.new ≡ entered self.old (typed_maps types.old (symbols_of file.now) section.now)) }
+        ensures accepted { OnOk result
+            (any_symbol_faults (symbols_of file.now) section.now
+            ++ typed_faults types.old (symbols_of file.now) section.now
+            ≡ []) }
+        ensures refused { IfErr result (λ e.
+            e ≢ OutOfMemory
+            → Says
+            (any_symbol_faults (symbols_of file.now) section.now
+            ++ typed_faults types.old (symbols_of file.now) section.now) e) }
+        ensures same { types.new ≡ types.old }
+    {
+        match types {
+            Some(types) => self.read_typed_maps(alloc, file, types, section),
+            None => Err(ParseError::NoBTF),
         }
     }
 }

@@ -50,7 +50,8 @@ impl<'a> Maps<'a> {
     ) -> Result<(), ParseError>
         ensures value { OnOk result (self.new ≡ entered self.old (data_map section.now)) }
         ensures accepted { OnOk result (data_map_faults section.now ≡ []) }
-        ensures refused { IfErr result (λ e. e ≢ OutOfMemory → Says (data_map_faults section.now) e) }
+        ensures refused { IfErr result (λ e.
+            e ≢ OutOfMemory → Says (data_map_faults section.now) e) }
     {
         let Ok(value_size) = u32::try_from(section.size()) else {
             return Err(ParseError::InvalidMapDefinition {

@@ -1,24 +1,22 @@
 //! The sections of variables of a type table by name.
 
-ghost use Rattle.std.specs.Prelude.{◌≡◌, ◌≢◌, [], Some, IfOk, IfErr, OnOk, MatchResult, Ok, Err};
-ghost use Rattle.std.specs.Option.{option_map_or, option_or};
-ghost use Rattle.btf_records.specs.declared.error.BtfError.TheVariants.{OutOfMemory};
-ghost use Rattle.map_definitions.specs.Definitions.{HasDefinitionFault, defined, definition_of, map_variable, refusals};
-ghost use Rattle.object_maps.specs.DataSections.{is_data_section, name_faults, sections_named};
+ghost use Rattle.std.specs.Prelude.{◌≡◌, ◌≢◌, [], Some, flat_map, IfOk, IfErr, OnOk};
+ghost use Rattle.std.specs.Option.{option_or};
+ghost use Rattle.ebpf_items.specs.declared.error.ParseError.TheVariants.{OutOfMemory};
+ghost use Rattle.object_maps.specs.DataSections.{is_data_section, name_faults};
+ghost use Rattle.object_maps.specs.DefinedMaps.{IsDefinedIn, all_struct_faults, by_name, defined_after, entries_defined, entries_struct_faults, entry_defined, entry_struct_faults};
 ghost use Rattle.object_maps.specs.Faults.{Says};
 
+use crate::defined_maps::DefinedMaps;
 use crate::entries::Entries;
 use btf_encoding::TypeRef;
 use btf_records::{BtfError, BtfKind, DataSecEntry};
 use btf_tables::Btf;
 use ebpf_items::ParseError;
-use map_definitions::{BtfDefinition, MapDefinitions, MapVariable, map_variable};
+use map_definitions::{MapDefinitions, map_variable};
 use std::alloc::{AllocError, Global};
 use std::collections::BTreeMap;
 use std::marker::Model;
-
-/// The name of sections whose variables are maps.
-const MAPS: &str = ".maps";
 
 /// Sections of variables by name, and where a name stands that can't be read.
 #[derive(Debug, Drop)]
@@ -39,7 +37,8 @@ impl<'t> SectionIndex<'t> {
 
     /// Keeps where a name stands that can't be read, unless one is kept.
     fn note_unreadable(&mut self, offset: u32)
-        ensures { self.new ≡ record self.old { unreadable = option_or self.old.unreadable (Some offset) } }
+        ensures { self.new
+            ≡ record self.old { unreadable = option_or self.old.unreadable (Some offset) } }
     {
         self.unreadable = self.unreadable.or(Some(offset));
     }
@@ -65,66 +64,104 @@ impl<'t> SectionIndex<'t> {
     }
 }
 
-/// Reads what the struct of an entry's variable defines.
-fn read_entry(
+/// Enters what the variable of an entry defines.
+#[tactic(auto, unfolding(crate::specs::DefinedMaps::defined_after))]
+fn read_entry<'t>(
     alloc: Global,
-    definitions: &mut MapDefinitions<'_, '_>,
+    definitions: &mut MapDefinitions<'t, '_>,
     entry: DataSecEntry,
-) -> Result<(), BtfError>
-    ensures { definitions.new ≡ definitions.old }
+    maps: &mut DefinedMaps<'t>,
+) -> Result<(), ParseError>
+    ensures value { OnOk result
+        (maps.new ≡ defined_after maps.old (entry_defined definitions.old entry)) }
+    ensures accepted { OnOk result (entry_struct_faults definitions.old entry ≡ []) }
+    ensures refused { IfErr result (λ e.
+        e ≢ OutOfMemory → Says (entry_struct_faults definitions.old entry) e) }
+    ensures same { definitions.new ≡ definitions.old }
 {
     let variable = map_variable(definitions.table(), entry.btf_type)?;
-    let _definition = definitions.read(alloc, variable.name, variable.struct_id)?;
+    let definition = definitions.read(alloc, variable.name, variable.struct_id)?;
+    maps.insert(variable.name, definition)?;
     Ok(())
 }
 
-/// Reads what the structs of a section's variables define, up to the first that is refused.
-fn read_entries(
+/// Enters what the variables of a section define.
+#[tactic(auto, using(crate::proofs::Defined::defined_append, crate::proofs::Defined::defined_none))]
+fn read_entries<'t>(
     alloc: Global,
-    definitions: &mut MapDefinitions<'_, '_>,
+    definitions: &mut MapDefinitions<'t, '_>,
     section: &TypeRef<'_>,
-) -> Result<(), BtfError>
-    ensures { definitions.new ≡ definitions.old }
+    maps: &mut DefinedMaps<'t>,
+) -> Result<(), ParseError>
+    ensures value { OnOk result
+        (maps.new ≡ defined_after maps.old (entries_defined definitions.old section.now)) }
+    ensures accepted { OnOk result (entries_struct_faults definitions.old section.now ≡ []) }
+    ensures refused { IfErr result (λ e.
+        e ≢ OutOfMemory → Says (entries_struct_faults definitions.old section.now) e) }
+    ensures same { definitions.new ≡ definitions.old }
 {
     for entry in Entries::new(section) {
-        read_entry(alloc, definitions, entry)?;
+        read_entry(alloc, definitions, entry, maps)?;
     }
     Ok(())
 }
 
-/// Reads what the structs of the variables of these sections define, up to the first that is
-/// refused.
-fn read_sections(
+/// Enters what the variables of these sections define.
+#[tactic(auto, using(crate::proofs::Defined::defined_none))]
+fn read_sections<'t>(
     alloc: Global,
-    definitions: &mut MapDefinitions<'_, '_>,
+    definitions: &mut MapDefinitions<'t, '_>,
     sections: &[TypeRef<'_>],
-) -> Result<(), BtfError>
-    ensures { definitions.new ≡ definitions.old }
+    maps: &mut DefinedMaps<'t>,
+) -> Result<(), ParseError>
+    ensures value { OnOk result
+        (maps.new
+        ≡ defined_after maps.old (flat_map (entries_defined definitions.old) sections.now)) }
+    ensures accepted { OnOk result
+        (flat_map (entries_struct_faults definitions.old) sections.now ≡ []) }
+    ensures refused { IfErr result (λ e.
+        e ≢ OutOfMemory → Says (flat_map (entries_struct_faults definitions.old) sections.now) e) }
+    ensures same { definitions.new ≡ definitions.old }
 {
     for section in sections {
-        read_entries(alloc, definitions, section)?;
+        read_entries(alloc, definitions, section, maps)?;
     }
     Ok(())
 }
 
-/// A type table, its sections of variables by name, and what the structs of its maps define.
+/// What the sections of a name define as maps.
 #[derive(Debug, Drop)]
-pub(crate) struct DataSections<'t, 'b> {
+pub(crate) struct KnownMaps<'a, 't> {
+    pub(crate) section: &'a str,
+    pub(crate) maps: DefinedMaps<'t>,
+}
+
+/// A type table, its sections of variables by name, and what they define as maps, read once for
+/// each name that sections of the object have. These names are told apart by their lengths first:
+/// those that are ends of one long text are costly to compare.
+#[derive(Debug, Drop)]
+pub(crate) struct DataSections<'a, 't, 'b> {
     table: &'t Btf<'b>,
     index: SectionIndex<'t>,
     definitions: MapDefinitions<'t, 'b>,
+    known: BTreeMap<(usize, &'a str), KnownMaps<'a, 't>>,
 }
 
-impl<'t, 'b> Model for DataSections<'t, 'b> {
+impl<'a, 't, 'b> Model for DataSections<'a, 't, 'b> {
     ghost use Rattle.std.specs.Prelude.{◌≡◌};
+    ghost use Rattle.std.specs.Map.{values_of};
     ghost use Rattle.btf_tables.specs.Tables.{Table};
+    ghost use Rattle.object_maps.specs.KnownMaps.{AreKnown};
     ghost use Rattle.object_maps.specs.SectionIndexes.{IsIndexOf};
 
     ghost Value = { Table };
 
     ghost view = { λ d. d.table.now };
 
-    ghost invariant = { λ d. IsIndexOf d.index d.table.now × (d.definitions ≡ d.table.now) };
+    ghost invariant = { λ d.
+        IsIndexOf d.index d.table.now
+        × (d.definitions ≡ d.table.now)
+        × AreKnown d.table.now (values_of d.known.entries) };
 }
 
 fn is_data_section(t: &TypeRef<'_>) -> bool
@@ -133,45 +170,20 @@ fn is_data_section(t: &TypeRef<'_>) -> bool
     t.kind() == BtfKind::DataSec
 }
 
-impl<'t, 'b> DataSections<'t, 'b> {
-    pub(crate) fn new(alloc: Global, table: &'t Btf<'b>) -> Result<DataSections<'t, 'b>, AllocError>
+impl<'a, 't, 'b> DataSections<'a, 't, 'b> {
+    #[tactic(auto, using(crate::proofs::KnownMaps::none_known))]
+    pub(crate) fn new(
+        alloc: Global,
+        table: &'t Btf<'b>,
+    ) -> Result<DataSections<'a, 't, 'b>, AllocError>
         ensures { IfOk result (λ d. d ≡ table.now) }
     {
-        let index = SectionIndex::of_table(alloc, table)?;
-        let mut definitions = MapDefinitions::new(alloc, table);
-        if let Some(sections) = index.by_name.get(MAPS) {
-            // What is refused here is refused again where the maps are read, if they are.
-            let _read = read_sections(alloc, &mut definitions, sections.as_slice());
-        }
         Ok(DataSections {
             table,
-            index,
-            definitions,
+            index: SectionIndex::of_table(alloc, table)?,
+            definitions: MapDefinitions::new(alloc, table),
+            known: BTreeMap::new(alloc),
         })
-    }
-
-    /// The variable of an entry, by the entry's type.
-    pub(crate) fn variable(&self, type_id: u32) -> Result<MapVariable<'t>, BtfError>
-        ensures { MatchResult result (λ v. map_variable self.now type_id ≡ Ok (v.name.now, v.struct_id)) (λ e. map_variable self.now type_id ≡ Err e) }
-    {
-        map_variable(self.table, type_id)
-    }
-
-    /// What the struct of an id defines, of the map of this name.
-    pub(crate) fn definition(
-        &self,
-        alloc: Global,
-        name: &str,
-        struct_id: u32,
-    ) -> Result<BtfDefinition, BtfError>
-        ensures value { IfOk result (λ d. definition_of d ≡ defined self.now struct_id) }
-        ensures accepted { OnOk result (refusals self.now struct_id ≡ []) }
-        ensures refused { IfErr result (λ e. e ≢ OutOfMemory → HasDefinitionFault self.now name.now struct_id e) }
-    {
-        match self.definitions.known(struct_id) {
-            Some(definition) => Ok(definition),
-            None => MapDefinitions::new(alloc, self.table).read(alloc, name, struct_id),
-        }
     }
 
     /// Refuses a table in which the name of a section of variables can't be read.
@@ -187,10 +199,53 @@ impl<'t, 'b> DataSections<'t, 'b> {
         }
     }
 
-    /// The sections of a name, in order, if there are any.
-    pub(crate) fn named(&self, name: &str) -> Option<&Vec<TypeRef<'t>>>
-        ensures { option_map_or (λ v. v.now.items) result [] ≡ sections_named self.now name.now }
+    /// What the sections of a name define, read anew.
+    #[tactic(auto, unfolding(crate::specs::DefinedMaps::defined_after))]
+    fn read_named(&mut self, alloc: Global, name: &str) -> Result<DefinedMaps<'t>, ParseError>
+        ensures value { IfOk result (λ maps. maps ≡ by_name self.old name.now) }
+        ensures accepted { OnOk result (all_struct_faults self.old name.now ≡ []) }
+        ensures refused { IfErr result (λ e.
+            e ≢ OutOfMemory → Says (all_struct_faults self.old name.now) e) }
+        ensures same { self.new ≡ self.old }
     {
-        self.index.by_name.get(name)
+        let mut maps = DefinedMaps::new(alloc);
+        if let Some(sections) = self.index.by_name.get(name) {
+            read_sections(alloc, &mut self.definitions, sections.as_slice(), &mut maps)?;
+        }
+        Ok(maps)
+    }
+
+    /// What the sections of a name define: what is kept of them, which no longer is then, or else
+    /// read anew.
+    pub(crate) fn take(
+        &mut self,
+        alloc: Global,
+        name: &'a str,
+    ) -> Result<DefinedMaps<'t>, ParseError>
+        ensures value { IfOk result (λ maps. maps ≡ by_name self.old name.now) }
+        ensures accepted { OnOk result (all_struct_faults self.old name.now ≡ []) }
+        ensures refused { IfErr result (λ e.
+            e ≢ OutOfMemory → Says (all_struct_faults self.old name.now) e) }
+        ensures same { self.new ≡ self.old }
+    {
+        if let Some(known) = self.known.remove(&(name.len(), name)) {
+            if known.section == name {
+                return Ok(known.maps);
+            }
+        }
+        self.read_named(alloc, name)
+    }
+
+    /// Keeps what the sections of a name define.
+    pub(crate) fn keep(&mut self, name: &'a str, maps: DefinedMaps<'t>) -> Result<(), AllocError>
+        requires { IsDefinedIn self.old name.now maps }
+        ensures { self.new ≡ self.old }
+    {
+        let known = KnownMaps {
+            section: name,
+            maps,
+        };
+        self.known.insert((name.len(), name), known)?;
+        Ok(())
     }
 }

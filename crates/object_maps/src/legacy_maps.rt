@@ -36,7 +36,7 @@ fn any_map(symbols: &[ReadSymbol<'_>]) -> bool
     false
 }
 
-/// So many bytes from an offset on, where they are there.
+/// A number of bytes from an offset on, where they are there.
 fn range(bytes: &[u8], offset: u64, len: u64) -> Option<&[u8]>
     ensures { option_copied result ≡ bytes_at bytes.now offset len }
 {
@@ -65,9 +65,11 @@ impl<'a> Maps<'a> {
         section: &ReadSection<'a>,
         symbol: &ReadSymbol<'a>,
     ) -> Result<(), ParseError>
-        ensures value { OnOk result (self.new ≡ entered self.old (legacy_map section.now symbol.now)) }
+        ensures value { OnOk result
+            (self.new ≡ entered self.old (legacy_map section.now symbol.now)) }
         ensures accepted { OnOk result (legacy_map_faults section.now symbol.now ≡ []) }
-        ensures refused { IfErr result (λ e. e ≢ OutOfMemory → Says (legacy_map_faults section.now symbol.now) e) }
+        ensures refused { IfErr result (λ e.
+            e ≢ OutOfMemory → Says (legacy_map_faults section.now symbol.now) e) }
     {
         if !is_map(symbol) {
             return Ok(());
@@ -97,9 +99,11 @@ impl<'a> Maps<'a> {
         section: &ReadSection<'a>,
         symbols: &[ReadSymbol<'a>],
     ) -> Result<(), ParseError>
-        ensures value { OnOk result (self.new ≡ entered self.old (flat_map (legacy_map section.now) symbols.now)) }
+        ensures value { OnOk result
+            (self.new ≡ entered self.old (flat_map (legacy_map section.now) symbols.now)) }
         ensures accepted { OnOk result (flat_map (legacy_map_faults section.now) symbols.now ≡ []) }
-        ensures refused { IfErr result (λ e. e ≢ OutOfMemory → Says (flat_map (legacy_map_faults section.now) symbols.now) e) }
+        ensures refused { IfErr result (λ e.
+            e ≢ OutOfMemory → Says (flat_map (legacy_map_faults section.now) symbols.now) e) }
     {
         for symbol in symbols {
             self.read_legacy_map(alloc, section, symbol)?;
@@ -114,9 +118,17 @@ impl<'a> Maps<'a> {
         file: &ObjectFile<'a>,
         section: &ReadSection<'a>,
     ) -> Result<(), ParseError>
-        ensures value { OnOk result (self.new ≡ entered self.old (legacy_maps (symbols_of file.now) section.now)) }
-        ensures accepted { OnOk result (map_symbol_faults (symbols_of file.now) section.now ++ legacy_maps_faults (symbols_of file.now) section.now ≡ []) }
-        ensures refused { IfErr result (λ e. e ≢ OutOfMemory → Says (map_symbol_faults (symbols_of file.now) section.now ++ legacy_maps_faults (symbols_of file.now) section.now) e) }
+        ensures value { OnOk result
+            (self.new ≡ entered self.old (legacy_maps (symbols_of file.now) section.now)) }
+        ensures accepted { OnOk result
+            (map_symbol_faults (symbols_of file.now) section.now
+            ++ legacy_maps_faults (symbols_of file.now) section.now
+            ≡ []) }
+        ensures refused { IfErr result (λ e.
+            e ≢ OutOfMemory
+            → Says
+            (map_symbol_faults (symbols_of file.now) section.now
+            ++ legacy_maps_faults (symbols_of file.now) section.now) e) }
     {
         let symbols = file.symbols_in(section.index());
         if !any_map(symbols) {

@@ -5,6 +5,7 @@
 mod btf_maps;
 mod data_maps;
 mod data_sections;
+mod defined_maps;
 mod entries;
 mod legacy_maps;
 mod maps;

@@ -69,7 +69,8 @@ impl<'a> Maps<'a> {
 
     /// The map of a name.
     pub fn get(&self, name: &str) -> Option<&Map>
-        ensures { option_map (λ m. map_view m.now) result ≡ lookup (is_at (slice_cmp nat_cmp name.now)) self.now }
+        ensures { option_map (λ m. map_view m.now) result
+            ≡ lookup (is_at (slice_cmp nat_cmp name.now)) self.now }
     {
         self.entries.get(name)
     }
@@ -82,6 +83,13 @@ impl<'a> Maps<'a> {
         self.entries.iter()
     }
 
+    /// That the names strictly rise by bytes.
+    pub(crate) fn rising(&self)
+        ensures { IsStrictlySortedBy (slice_cmp nat_cmp) (map (λ e. e.0) self.now) }
+    {
+        let _entries = self.iter();
+    }
+
     /// Enters a map under a name, in place of an earlier one of that name.
     pub(crate) fn insert(&mut self, name: &'a str, map: Map) -> Result<(), AllocError>
         ensures ok { OnOk result (self.new ≡ with_map self.old (name.now, map_view map)) }
@@ -91,8 +99,8 @@ impl<'a> Maps<'a> {
         Ok(())
     }
 
-    /// Puts bytes over those of the map of a name, from a place on. The map is there, and has so many
-    /// bytes there.
+    /// Puts bytes over those of the map of a name, from a place on. The map is there, and has so
+    /// many bytes there.
     pub fn overwrite(&mut self, name: &str, start: usize, bytes: &[u8])
         requires { HasRange self.old name.now start (length bytes.now) }
         ensures { self.new ≡ with_bytes self.old name.now start bytes.now }

@@ -17,17 +17,22 @@ use std::alloc::Global;
 
 impl<'a> Maps<'a> {
     /// Enters the maps of a section.
-    #[tactic(auto, using(crate::proofs::Entered::entered_none), unfolding(crate::specs::Maps::section_faults, crate::specs::Maps::section_maps))]
+    #[tactic(auto, using(crate::proofs::Entered::entered_none), unfolding(crate::specs::Maps::section_faults, crate::specs::Maps::section_maps),)]
     fn read_section(
         &mut self,
         alloc: Global,
         file: &ObjectFile<'a>,
-        types: Option<&DataSections<'_, '_>>,
+        types: &mut Option<DataSections<'a, '_, '_>>,
         section: &ReadSection<'a>,
     ) -> Result<(), ParseError>
-        ensures value { OnOk result (self.new ≡ entered self.old (section_maps (option_copied types.entry) (symbols_of file.now) section.now)) }
-        ensures accepted { OnOk result (section_faults (option_copied types.entry) (symbols_of file.now) section.now ≡ []) }
-        ensures refused { IfErr result (λ e. e ≢ OutOfMemory → Says (section_faults (option_copied types.entry) (symbols_of file.now) section.now) e) }
+        ensures value { OnOk result
+            (self.new
+            ≡ entered self.old (section_maps types.old (symbols_of file.now) section.now)) }
+        ensures accepted { OnOk result
+            (section_faults types.old (symbols_of file.now) section.now ≡ []) }
+        ensures refused { IfErr result (λ e.
+            e ≢ OutOfMemory → Says (section_faults types.old (symbols_of file.now) section.now) e) }
+        ensures same { types.new ≡ types.old }
     {
         match section.kind() {
             EbpfSectionKind::Maps => self.read_legacy_maps(alloc, file, section),
@@ -45,12 +50,19 @@ impl<'a> Maps<'a> {
         &mut self,
         alloc: Global,
         file: &ObjectFile<'a>,
-        types: Option<&DataSections<'_, '_>>,
+        types: &mut Option<DataSections<'a, '_, '_>>,
         sections: &[ReadSection<'a>],
     ) -> Result<(), ParseError>
-        ensures value { OnOk result (self.new ≡ entered self.old (flat_map (section_maps (option_copied types.entry) (symbols_of file.now)) sections.now)) }
-        ensures accepted { OnOk result (flat_map (section_faults (option_copied types.entry) (symbols_of file.now)) sections.now ≡ []) }
-        ensures refused { IfErr result (λ e. e ≢ OutOfMemory → Says (flat_map (section_faults (option_copied types.entry) (symbols_of file.now)) sections.now) e) }
+        ensures value { OnOk result
+            (self.new
+            ≡ entered self.old
+            (flat_map (section_maps types.old (symbols_of file.now)) sections.now)) }
+        ensures accepted { OnOk result
+            (flat_map (section_faults types.old (symbols_of file.now)) sections.now ≡ []) }
+        ensures refused { IfErr result (λ e.
+            e ≢ OutOfMemory
+            → Says (flat_map (section_faults types.old (symbols_of file.now)) sections.now) e) }
+        ensures same { types.new ≡ types.old }
     {
         for section in sections {
             self.read_section(alloc, file, types, section)?;
@@ -64,12 +76,12 @@ impl<'a> Maps<'a> {
 fn maps_in<'a>(
     alloc: Global,
     file: &ObjectFile<'a>,
-    types: Option<&DataSections<'_, '_>>,
+    types: &mut Option<DataSections<'a, '_, '_>>,
 ) -> Result<Maps<'a>, ParseError>
-    ensures value { IfOk result (λ maps. maps ≡ maps_of file.now (option_copied types.entry)) }
-    ensures last { IfOk result (λ maps. AreLast maps (found_maps file.now (option_copied types.entry))) }
-    ensures accepted { OnOk result (maps_faults file.now (option_copied types.entry) ≡ []) }
-    ensures refused { IfErr result (λ e. e ≢ OutOfMemory → HasMapsFault file.now (option_copied types.entry) e) }
+    ensures value { IfOk result (λ maps. maps ≡ maps_of file.now types.old) }
+    ensures last { IfOk result (λ maps. AreLast maps (found_maps file.now types.old)) }
+    ensures accepted { OnOk result (maps_faults file.now types.old ≡ []) }
+    ensures refused { IfErr result (λ e. e ≢ OutOfMemory → HasMapsFault file.now types.old e) }
 {
     let mut maps = Maps::new(alloc);
     maps.read_sections(alloc, file, types, file.sections())?;
@@ -91,15 +103,17 @@ pub fn read_maps<'a>(
     table: Option<&Btf<'_>>,
 ) -> Result<Maps<'a>, ParseError>
     ensures value { IfOk result (λ maps. maps ≡ maps_of file.now (option_copied table.entry)) }
-    ensures last { IfOk result (λ maps. AreLast maps (found_maps file.now (option_copied table.entry))) }
+    ensures last { IfOk result (λ maps.
+        AreLast maps (found_maps file.now (option_copied table.entry))) }
     ensures accepted { OnOk result (maps_faults file.now (option_copied table.entry) ≡ []) }
-    ensures refused { IfErr result (λ e. e ≢ OutOfMemory → HasMapsFault file.now (option_copied table.entry) e) }
+    ensures refused { IfErr result (λ e.
+        e ≢ OutOfMemory → HasMapsFault file.now (option_copied table.entry) e) }
 {
     match table {
         Some(table) => {
-            let types = DataSections::new(alloc, table)?;
-            maps_in(alloc, file, Some(&types))
+            let mut types = Some(DataSections::new(alloc, table)?);
+            maps_in(alloc, file, &mut types)
         }
-        None => maps_in(alloc, file, None),
+        None => maps_in(alloc, file, &mut None),
     }
 }

@@ -73,7 +73,7 @@ pub place-stands : (here : Place → Bool) (info : SectionInfo) (symbols : List 
 place-stands here info symbols section old new offset entered left passes =
     stands here entered.steps (symbols_in symbols section.index) section.address (byte_count section) offset entered.done (places_of symbols section) left entered.enough entered.all passes
 
--- the places behind a function
+-- the places after a function
 moved : (steps : ℕ) (symbols : List Symbol) (address len offset : ℕ) (s : Symbol) (done all : List Place) → offset < len → defined_at symbols (address + offset) ≡ Some s → is_sound_at len offset s ≡ true → done ++ places_from (suc steps) symbols address len offset ≡ all → (done ++ place_at symbols address offset ∷ []) ++ places_from steps symbols address len (offset + s.size) ≡ all
 moved steps symbols address len offset s done all left is well whole =
     append_assoc done (place_at symbols address offset ∷ []) (places_from steps symbols address len (offset + s.size))
@@ -113,7 +113,7 @@ next-steps (suc steps) info symbols section old mid new offset s done left is we
           (ap (λ o. not (option_map_or (is_sound_at (byte_count section) offset) o false)) is ∙ ap not well);
     }
 
--- a function is entered behind the others
+-- a function is entered after the others
 pub entered-next : (info : SectionInfo) (symbols : List Symbol) (section : Section) (old mid new : List ((ℕ × ℕ) × FunctionContent)) (offset : ℕ) (s : Symbol) → AreEntered info symbols section old mid offset → offset < byte_count section → defined_at (symbols_in symbols section.index) (section.address + offset) ≡ Some s → is_sound_at (byte_count section) offset s ≡ true
     → new ≡ insert_entry key_cmp mid (section.index, s.address) (text_function_of info section offset s) → AreEntered info symbols section old new (offset + s.size)
 entered-next info symbols section old mid new offset s entered left is well put =

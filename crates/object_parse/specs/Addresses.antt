@@ -8,5 +8,8 @@ use Rattle.object_parse.specs.TextSections.{function_addresses}
 
 -- the answer says whether the address was there before
 pub record AddsAddress (old new : BTreeSet ℕ) (symbol : Symbol) (answer : Bool) : Type 0 where
-  pub at : (address : ℕ) → contains nat_cmp new address ≡ (contains nat_cmp old address || list_any (λ b. b == address) (function_addresses (symbol ∷ [])))
+  pub at : (address : ℕ)
+      → contains nat_cmp new address
+      ≡ (contains nat_cmp old address
+      || list_any (λ b. b == address) (function_addresses (symbol ∷ [])))
   pub repeated : answer ≡ list_any (λ b. contains nat_cmp old b) (function_addresses (symbol ∷ []))

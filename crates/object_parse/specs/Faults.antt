@@ -19,16 +19,19 @@ is_invalid section = is_program section && is_none (program_kind section)
 
 -- a program section in which no symbol lies
 abbrev pub has_no_symbols : List Symbol → Section → Bool
-has_no_symbols symbols section = is_program section && (length (symbols_in symbols section.index) == 0)
+has_no_symbols symbols section =
+    is_program section && (length (symbols_in symbols section.index) == 0)
 
 -- a program section with a function that has no code
 abbrev pub has_function_without_code : List Symbol → Section → Bool
-has_function_without_code symbols section = is_program section && list_any (has_no_code section) (symbols_in symbols section.index)
+has_function_without_code symbols section =
+    is_program section && list_any (has_no_code section) (symbols_in symbols section.index)
 
 -- whether an address stands twice
 abbrev pub repeats : ℕ → List ℕ → Bool
 repeats address [] = false
-repeats address (a ∷ rest) = ((a == address) && list_any (λ b. b == address) rest) || repeats address rest
+repeats address (a ∷ rest) =
+    ((a == address) && list_any (λ b. b == address) rest) || repeats address rest
 
 -- no address stands twice
 pub record AreDistinct (addresses : List ℕ) : Type 0 where
@@ -36,11 +39,14 @@ pub record AreDistinct (addresses : List ℕ) : Type 0 where
 
 -- a `.text` section with two functions at an address
 abbrev pub has_conflict : List Symbol → ℕ → Section → Bool
-has_conflict symbols address section = is_text_section section && repeats address (function_addresses (symbols_in symbols section.index))
+has_conflict symbols address section =
+    is_text_section section
+    && repeats address (function_addresses (symbols_in symbols section.index))
 
 -- a place at which no function begins; its address is counted as the file's numbers are, in 64 bits
 abbrev pub is_unknown : Section → ℕ → Place → Bool
-is_unknown section address place = is_none place.symbol && ((section.address + place.offset) % 2 ^ 64 == address)
+is_unknown section address place =
+    is_none place.symbol && ((section.address + place.offset) % 2 ^ 64 == address)
 
 -- a place at which a function of size 0 begins, by its symbol
 abbrev pub has_symbol_name : Option (List ℕ) → Symbol → Bool
@@ -54,14 +60,17 @@ is_empty index name place = option_map_or (is_empty_symbol index name) place.sym
 
 -- a place at which a function begins that goes past the section's bytes, or isn't whole slots
 abbrev pub is_cut : ℕ → Place → Bool
-is_cut len place = option_map_or (λ s. if has_code_at len place.offset s then false else true) place.symbol false
+is_cut len place =
+    option_map_or (λ s. if has_code_at len place.offset s then false else true) place.symbol false
 
 -- a `.text` section with such a place
 abbrev pub has_place : (Section → Place → Bool) → List Symbol → Section → Bool
-has_place here symbols section = is_text_section section && list_any (here section) (places_of symbols section)
+has_place here symbols section =
+    is_text_section section && list_any (here section) (places_of symbols section)
 
 abbrev pub has_cut_function : List Symbol → Section → Bool
-has_cut_function symbols section = has_place (λ s. is_cut (length (unwrap_or s.contents []))) symbols section
+has_cut_function symbols section =
+    has_place (λ s. is_cut (length (unwrap_or s.contents []))) symbols section
 
 -- a `.text` section with a place at which no function begins that has code
 abbrev pub has_gap : List Symbol → Section → Bool
@@ -69,26 +78,43 @@ has_gap symbols section = is_text_section section && has_unsound_place symbols s
 
 -- what is wrong with a place of a section
 abbrev pub PlaceFault : Section → Place → ParseError → Type 0
-PlaceFault section place (error.UnknownSymbol index address) = (index ≡ section.index) × (is_unknown section address place ≡ true)
-PlaceFault section place (error.InvalidSymbol index name) = is_empty index (option_map string_bytes name) place ≡ true
-PlaceFault section place error.InvalidProgramCode = is_cut (length (unwrap_or section.contents [])) place ≡ true
+PlaceFault section place (error.UnknownSymbol index address) =
+    (index ≡ section.index) × (is_unknown section address place ≡ true)
+PlaceFault section place (error.InvalidSymbol index name) =
+    is_empty index (option_map string_bytes name) place ≡ true
+PlaceFault section place error.InvalidProgramCode =
+    is_cut (length (unwrap_or section.contents [])) place ≡ true
 PlaceFault section place _ = ⊥
 
 -- what is wrong with some place of a section
 abbrev pub HasPlaceFault : List Symbol → Section → ParseError → Type 0
-HasPlaceFault symbols section (error.UnknownSymbol index address) = (index ≡ section.index) × (list_any (is_unknown section address) (places_of symbols section) ≡ true)
-HasPlaceFault symbols section (error.InvalidSymbol index name) = list_any (is_empty index (option_map string_bytes name)) (places_of symbols section) ≡ true
-HasPlaceFault symbols section error.InvalidProgramCode = list_any (is_cut (length (unwrap_or section.contents []))) (places_of symbols section) ≡ true
+HasPlaceFault symbols section (error.UnknownSymbol index address) =
+    (index ≡ section.index)
+    × (list_any (is_unknown section address) (places_of symbols section) ≡ true)
+HasPlaceFault symbols section (error.InvalidSymbol index name) =
+    list_any (is_empty index (option_map string_bytes name)) (places_of symbols section) ≡ true
+HasPlaceFault symbols section error.InvalidProgramCode =
+    list_any (is_cut (length (unwrap_or section.contents []))) (places_of symbols section) ≡ true
 HasPlaceFault symbols section _ = ⊥
 
 -- a fault of program and `.text` sections
 abbrev pub HasSectionFault : List Symbol → List Section → ParseError → Type 0
-HasSectionFault symbols sections (error.InvalidProgramSection name) = list_any (λ s. has_name (string_bytes name) s && is_invalid s) sections ≡ true
-HasSectionFault symbols sections (error.NoSymbolsForSection name) = list_any (λ s. has_name (string_bytes name) s && has_no_symbols symbols s) sections ≡ true
-HasSectionFault symbols sections error.InvalidProgramCode = list_any (λ s. has_function_without_code symbols s || has_cut_function symbols s) sections ≡ true
-HasSectionFault symbols sections (error.SymbolTableConflict index address) = list_any (λ s. (s.index == index) && has_conflict symbols address s) sections ≡ true
-HasSectionFault symbols sections (error.UnknownSymbol index address) = list_any (λ s. (s.index == index) && has_place (λ section. is_unknown section address) symbols s) sections ≡ true
-HasSectionFault symbols sections (error.InvalidSymbol index name) = list_any (has_place (λ _. is_empty index (option_map string_bytes name)) symbols) sections ≡ true
+HasSectionFault symbols sections (error.InvalidProgramSection name) =
+    list_any (λ s. has_name (string_bytes name) s && is_invalid s) sections ≡ true
+HasSectionFault symbols sections (error.NoSymbolsForSection name) =
+    list_any (λ s. has_name (string_bytes name) s && has_no_symbols symbols s) sections ≡ true
+HasSectionFault symbols sections error.InvalidProgramCode =
+    list_any (λ s. has_function_without_code symbols s || has_cut_function symbols s) sections
+    ≡ true
+HasSectionFault symbols sections (error.SymbolTableConflict index address) =
+    list_any (λ s. (s.index == index) && has_conflict symbols address s) sections ≡ true
+HasSectionFault symbols sections (error.UnknownSymbol index address) =
+    list_any (λ s.
+    (s.index == index) && has_place (λ section. is_unknown section address) symbols s) sections
+    ≡ true
+HasSectionFault symbols sections (error.InvalidSymbol index name) =
+    list_any (has_place (λ _. is_empty index (option_map string_bytes name)) symbols) sections
+    ≡ true
 HasSectionFault symbols sections _ = ⊥
 
 -- sections without such a fault

@@ -12,20 +12,36 @@ use Rattle.object_parse.specs.SectionInfos.{info_of}
 use Rattle.object_parse.specs.TextSections.{is_text_section, with_text_functions}
 
 -- the programs with those of one more section
-abbrev pub with_section_programs : List ℕ → Option ℕ → List Symbol → List (List ℕ × ProgramContent) → Section → List (List ℕ × ProgramContent)
+abbrev pub with_section_programs : List ℕ
+    → Option ℕ
+    → List Symbol
+    → List (List ℕ × ProgramContent)
+    → Section
+    → List (List ℕ × ProgramContent)
 with_section_programs license version symbols programs section =
     if is_program section then with_programs license version symbols programs section else programs
 
 -- the programs by name, of which the last of one name counts
 abbrev pub programs_of : List ℕ → List (List ℕ × ProgramContent)
-programs_of file = fold (with_section_programs (license_of file) (version_of file) (symbols_of file)) [] (read_sections file)
+programs_of file =
+    fold (with_section_programs (license_of file) (version_of file) (symbols_of file)) []
+    (read_sections file)
 
 -- the functions with those of one more section
-abbrev pub with_functions : Option Extension → List Symbol → List ((ℕ × ℕ) × FunctionContent) → Section → List ((ℕ × ℕ) × FunctionContent)
+abbrev pub with_functions : Option Extension
+    → List Symbol
+    → List ((ℕ × ℕ) × FunctionContent)
+    → Section
+    → List ((ℕ × ℕ) × FunctionContent)
 with_functions extension symbols functions section =
-    if is_program section then with_program_functions (info_of extension section) symbols functions section
-    else (if is_text_section section then with_text_functions (info_of extension section) symbols functions section else functions)
+    if is_program section then with_program_functions (info_of extension section) symbols functions
+    section
+    else
+    (if is_text_section section
+    then with_text_functions (info_of extension section) symbols functions section
+    else functions)
 
 -- the functions by key, of which the last of one key counts
 abbrev pub functions_of : List ℕ → Option Extension → List ((ℕ × ℕ) × FunctionContent)
-functions_of file extension = fold (with_functions extension (symbols_of file)) [] (read_sections file)
+functions_of file extension =
+    fold (with_functions extension (symbols_of file)) [] (read_sections file)

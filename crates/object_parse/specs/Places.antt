@@ -17,7 +17,9 @@ pub record AreDefinitionsOf (map : BTreeMap ℕ Symbol) (symbols : List Symbol) 
 
 -- a symbol that defines a function is entered, where no other stands at its address
 pub record AddsDefinition (old new : BTreeMap ℕ Symbol) (symbol : Symbol) : Type 0 where
-  pub at : (address : ℕ) → get nat_cmp new address ≡ option_or (get nat_cmp old address) (definition_of (symbol ∷ []) address)
+  pub at : (address : ℕ)
+      → get nat_cmp new address
+      ≡ option_or (get nat_cmp old address) (definition_of (symbol ∷ []) address)
 
 -- the symbol that a map has for an address
 abbrev pub defined_in : BTreeMap ℕ Symbol → ℕ → Option Symbol
@@ -35,6 +37,9 @@ pub record AreEntered (info : SectionInfo) (symbols : List Symbol) (section : Se
   pub steps : ℕ
   pub done : List Place
   pub enough : byte_count section ≤ offset + steps
-  pub all : done ++ places_from steps (symbols_in symbols section.index) section.address (byte_count section) offset ≡ places_of symbols section
+  pub all : done
+      ++ places_from steps (symbols_in symbols section.index) section.address (byte_count section)
+      offset
+      ≡ places_of symbols section
   pub functions : new ≡ fold (with_text_function info section) old done
   pub sound : list_any (is_unsound (byte_count section)) done ≡ false

@@ -38,11 +38,12 @@ is_text_kind _ = false
 abbrev pub is_function : Symbol → Bool
 is_function s = is_text_kind s.kind && option_map_or (λ name. not (length name == 0)) s.name false
 
--- The code of a symbol: st_size bytes of the section, from the offset st_value on. None where that isn't whole slots, goes
--- past the bytes, or where st_value lies below the section's sh_addr.
+-- The code of a symbol: st_size bytes of the section, from the offset st_value on. None where that
+-- isn't whole slots, goes past the bytes, or where st_value lies below the section's sh_addr.
 abbrev pub code_in : List ℕ → ℕ → Symbol → Option (List ℕ)
 code_in bytes address s =
-    if nat_lt s.address address || nat_lt (length bytes) (s.address + s.size) || not (s.size % 8 == 0) then None
+    if nat_lt s.address address || nat_lt (length bytes) (s.address + s.size) || not
+    (s.size % 8 == 0) then None
     else Some (take s.size (drop s.address bytes))
 
 abbrev pub code_of : Section → Symbol → Option (List ℕ)
@@ -50,7 +51,8 @@ code_of section s = option_and_then (λ bytes. code_in bytes section.address s) 
 
 -- a function that has no code among the section's bytes
 abbrev pub lacks_code : Section → Symbol → Bool
-lacks_code section s = option_map_or (λ bytes. is_none (code_in bytes section.address s)) section.contents false
+lacks_code section s =
+    option_map_or (λ bytes. is_none (code_in bytes section.address s)) section.contents false
 
 abbrev pub has_no_code : Section → Symbol → Bool
 has_no_code section s = is_function s && lacks_code section s
@@ -84,21 +86,46 @@ function_of info section s = record {
 }
 
 -- the programs with that of one more function: it takes the place of an earlier one of its name
-abbrev pub with_program : List ℕ → Option ℕ → Section → ProgramSection → List (List ℕ × ProgramContent) → Symbol → List (List ℕ × ProgramContent)
+abbrev pub with_program : List ℕ
+    → Option ℕ
+    → Section
+    → ProgramSection
+    → List (List ℕ × ProgramContent)
+    → Symbol
+    → List (List ℕ × ProgramContent)
 with_program license version section kind programs s =
     if is_function s
-    then insert_entry (slice_cmp nat_cmp) programs (unwrap_or s.name []) (program_of license version section kind s)
+    then insert_entry (slice_cmp nat_cmp) programs (unwrap_or s.name [])
+    (program_of license version section kind s)
     else programs
 
 -- the functions with one more: it takes the place of an earlier one of its key
-abbrev pub with_function : SectionInfo → Section → List ((ℕ × ℕ) × FunctionContent) → Symbol → List ((ℕ × ℕ) × FunctionContent)
+abbrev pub with_function : SectionInfo
+    → Section
+    → List ((ℕ × ℕ) × FunctionContent)
+    → Symbol
+    → List ((ℕ × ℕ) × FunctionContent)
 with_function info section functions s =
-    if is_function s then insert_entry key_cmp functions (section.index, s.address) (function_of info section s) else functions
+    if is_function s
+    then insert_entry key_cmp functions (section.index, s.address) (function_of info section s)
+    else functions
 
 -- the programs and the functions with those of one more program section, in order of symbol
-abbrev pub with_programs : List ℕ → Option ℕ → List Symbol → List (List ℕ × ProgramContent) → Section → List (List ℕ × ProgramContent)
+abbrev pub with_programs : List ℕ
+    → Option ℕ
+    → List Symbol
+    → List (List ℕ × ProgramContent)
+    → Section
+    → List (List ℕ × ProgramContent)
 with_programs license version symbols programs section =
-    option_map_or (λ kind. fold (with_program license version section kind) programs (symbols_in symbols section.index)) (program_kind section) programs
+    option_map_or (λ kind.
+    fold (with_program license version section kind) programs (symbols_in symbols section.index))
+    (program_kind section) programs
 
-abbrev pub with_program_functions : SectionInfo → List Symbol → List ((ℕ × ℕ) × FunctionContent) → Section → List ((ℕ × ℕ) × FunctionContent)
-with_program_functions info symbols functions section = fold (with_function info section) functions (symbols_in symbols section.index)
+abbrev pub with_program_functions : SectionInfo
+    → List Symbol
+    → List ((ℕ × ℕ) × FunctionContent)
+    → Section
+    → List ((ℕ × ℕ) × FunctionContent)
+with_program_functions info symbols functions section =
+    fold (with_function info section) functions (symbols_in symbols section.index)

@@ -25,5 +25,9 @@ named_info name extension = record {
   line_size = extension.line_size;
 }
 
+-- of sections of a name
+abbrev pub info_named : Option Extension → List ℕ → SectionInfo
+info_named extension name = option_map_or (named_info name) extension no_info
+
 abbrev pub info_of : Option Extension → Section → SectionInfo
-info_of extension section = option_map_or (named_info (unwrap_or section.name [])) extension no_info
+info_of extension section = info_named extension (unwrap_or section.name [])

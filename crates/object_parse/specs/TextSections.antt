@@ -1,4 +1,5 @@
--- The functions of `.text` sections: from the section's beginning on, each begins where the one before ends.
+-- The functions of `.text` sections: from the section's beginning on, each begins where the one
+-- before ends.
 use Rattle.std.specs.Prelude.{ℕ, zero, suc, ◌+◌, ◌/◌, ◌%◌, ◌^◌, ◌==◌, ◌&&◌, not, nat_le, nat_lt, Bool, true, false, List, [], ◌∷◌, length, map, filter, find, take, drop, fold, Option, None, unwrap_or, is_some, if◌then◌else◌}
 use Rattle.std.specs.BTreeMap.{insert_entry}
 use Rattle.std.specs.List.{list_any}
@@ -45,7 +46,10 @@ pub record Place : Type 0 where
   pub symbol : Option Symbol
 
 abbrev pub place_at : List Symbol → ℕ → ℕ → Place
-place_at symbols address offset = record { offset = offset; symbol = defined_at symbols (address + offset) }
+place_at symbols address offset = record {
+  offset = offset;
+  symbol = defined_at symbols (address + offset);
+}
 
 -- whether a symbol's bytes from an offset on are some of these, and whole slots
 abbrev pub has_code_at : ℕ → ℕ → Symbol → Bool
@@ -55,26 +59,32 @@ has_code_at len offset s = nat_le (offset + s.size) len && (s.size % 8 == 0)
 abbrev pub is_sound_at : ℕ → ℕ → Symbol → Bool
 is_sound_at len offset s = not (s.size == 0) && has_code_at len offset s
 
--- The places at which functions are to begin in so many bytes, from an offset on: there, where any bytes are left, and
--- behind each function. `steps` is as many at least as places.
+-- The places at which functions are to begin in a number of bytes, from an offset on: there, where any
+-- bytes are left, and after each function. `steps` is as many at least as places.
 unfoldable pub places_from : ℕ → List Symbol → ℕ → ℕ → ℕ → List Place
 places_from zero symbols address len offset = []
 places_from (suc steps) symbols address len offset =
     if nat_lt offset len
-    then place_at symbols address offset ∷ option_map_or (λ s. if is_sound_at len offset s then places_from steps symbols address len (offset + s.size) else []) (defined_at symbols (address + offset)) []
+    then place_at symbols address offset
+    ∷ option_map_or (λ s.
+    if is_sound_at len offset s
+    then places_from steps symbols address len (offset + s.size)
+    else []) (defined_at symbols (address + offset)) []
     else []
 
 -- those of a section
 abbrev pub places_of : List Symbol → Section → List Place
 places_of symbols section =
-    places_from (length (unwrap_or section.contents [])) (symbols_in symbols section.index) section.address (length (unwrap_or section.contents [])) 0
+    places_from (length (unwrap_or section.contents [])) (symbols_in symbols section.index)
+    section.address (length (unwrap_or section.contents [])) 0
 
 -- a place at which no function begins that has code
 abbrev pub is_unsound : ℕ → Place → Bool
 is_unsound len place = not (option_map_or (is_sound_at len place.offset) place.symbol false)
 
 abbrev pub has_unsound_place : List Symbol → Section → Bool
-has_unsound_place symbols section = list_any (is_unsound (length (unwrap_or section.contents []))) (places_of symbols section)
+has_unsound_place symbols section =
+    list_any (is_unsound (length (unwrap_or section.contents []))) (places_of symbols section)
 
 -- what is entered for a function; its records are counted from the section's first slot
 abbrev pub text_function_of : SectionInfo → Section → ℕ → Symbol → FunctionContent
@@ -92,10 +102,21 @@ text_function_of info section offset s = record {
 }
 
 -- the functions with that of one more place: it takes the place of an earlier one of its key
-abbrev pub with_text_function : SectionInfo → Section → List ((ℕ × ℕ) × FunctionContent) → Place → List ((ℕ × ℕ) × FunctionContent)
+abbrev pub with_text_function : SectionInfo
+    → Section
+    → List ((ℕ × ℕ) × FunctionContent)
+    → Place
+    → List ((ℕ × ℕ) × FunctionContent)
 with_text_function info section functions place =
-    option_map_or (λ s. insert_entry key_cmp functions (section.index, s.address) (text_function_of info section place.offset s)) place.symbol functions
+    option_map_or (λ s.
+    insert_entry key_cmp functions (section.index, s.address)
+    (text_function_of info section place.offset s)) place.symbol functions
 
 -- the functions with those of one more `.text` section
-abbrev pub with_text_functions : SectionInfo → List Symbol → List ((ℕ × ℕ) × FunctionContent) → Section → List ((ℕ × ℕ) × FunctionContent)
-with_text_functions info symbols functions section = fold (with_text_function info section) functions (places_of symbols section)
+abbrev pub with_text_functions : SectionInfo
+    → List Symbol
+    → List ((ℕ × ℕ) × FunctionContent)
+    → Section
+    → List ((ℕ × ℕ) × FunctionContent)
+with_text_functions info symbols functions section =
+    fold (with_text_function info section) functions (places_of symbols section)

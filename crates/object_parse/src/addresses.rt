@@ -33,7 +33,8 @@ pub(crate) fn repeated_address(
     alloc: Global,
     symbols: &[ReadSymbol<'_>],
 ) -> Result<Option<u64>, AllocError>
-    ensures found { IfOk result (λ r. IfSome r (λ address. repeats address (function_addresses symbols.now) ≡ true)) }
+    ensures found { IfOk result (λ r.
+        IfSome r (λ address. repeats address (function_addresses symbols.now) ≡ true)) }
     ensures none { IfOk result (λ r. IfNone r (AreDistinct (function_addresses symbols.now))) }
 {
     let mut addresses = BTreeSet::new(alloc);

@@ -28,7 +28,8 @@ fn function<'a>(
     requires name { symbol.now.name ≡ Some name.now }
     ensures value { IfOk result (λ f. f ≡ function_of info.now section.now symbol.now) }
     ensures accepted { OnOk result (has_no_code section.now symbol.now ≡ false) }
-    ensures refused { IfErr result (λ e. e ≢ OutOfMemory → (e ≡ InvalidProgramCode) × (has_no_code section.now symbol.now ≡ true)) }
+    ensures refused { IfErr result (λ e.
+        e ≢ OutOfMemory → (e ≡ InvalidProgramCode) × (has_no_code section.now symbol.now ≡ true)) }
 {
     let Some(code) = code_of(section, symbol) else {
         return Err(ParseError::InvalidProgramCode);
@@ -59,7 +60,9 @@ fn program<'a>(
     kind: &ProgramSection,
     symbol: &ReadSymbol<'a>,
 ) -> Result<Program<'a>, AllocError>
-    ensures { IfOk result (λ p. p ≡ program_of (license_of file.now) (version_of file.now) section.now kind.now symbol.now) }
+    ensures { IfOk result (λ p.
+        p
+        ≡ program_of (license_of file.now) (version_of file.now) section.now kind.now symbol.now) }
 {
     Ok(Program {
         license: file.license(),
@@ -80,10 +83,15 @@ fn add_symbol<'a>(
     symbol: &ReadSymbol<'a>,
     code: &mut Code<'a>,
 ) -> Result<(), ParseError>
-    ensures programs { OnOk result (code.new.programs ≡ with_program (license_of file.now) (version_of file.now) section.now kind.now code.old.programs symbol.now) }
-    ensures functions { OnOk result (code.new.functions ≡ with_function info.now section.now code.old.functions symbol.now) }
+    ensures programs { OnOk result
+        (code.new.programs
+        ≡ with_program (license_of file.now) (version_of file.now) section.now kind.now
+        code.old.programs symbol.now) }
+    ensures functions { OnOk result
+        (code.new.functions ≡ with_function info.now section.now code.old.functions symbol.now) }
     ensures accepted { OnOk result (has_no_code section.now symbol.now ≡ false) }
-    ensures refused { IfErr result (λ e. e ≢ OutOfMemory → (e ≡ InvalidProgramCode) × (has_no_code section.now symbol.now ≡ true)) }
+    ensures refused { IfErr result (λ e.
+        e ≢ OutOfMemory → (e ≡ InvalidProgramCode) × (has_no_code section.now symbol.now ≡ true)) }
 {
     let Some(name) = function_name(symbol) else {
         return Ok(());
@@ -105,10 +113,17 @@ fn add_symbols<'a>(
     symbols: &[ReadSymbol<'a>],
     code: &mut Code<'a>,
 ) -> Result<(), ParseError>
-    ensures programs { OnOk result (code.new.programs ≡ fold (with_program (license_of file.now) (version_of file.now) section.now kind.now) code.old.programs symbols.now) }
-    ensures functions { OnOk result (code.new.functions ≡ fold (with_function info.now section.now) code.old.functions symbols.now) }
+    ensures programs { OnOk result
+        (code.new.programs
+        ≡ fold (with_program (license_of file.now) (version_of file.now) section.now kind.now)
+        code.old.programs symbols.now) }
+    ensures functions { OnOk result
+        (code.new.functions
+        ≡ fold (with_function info.now section.now) code.old.functions symbols.now) }
     ensures accepted { OnOk result (list_any (has_no_code section.now) symbols.now ≡ false) }
-    ensures refused { IfErr result (λ e. e ≢ OutOfMemory → (e ≡ InvalidProgramCode) × (list_any (has_no_code section.now) symbols.now ≡ true)) }
+    ensures refused { IfErr result (λ e.
+        e ≢ OutOfMemory
+        → (e ≡ InvalidProgramCode) × (list_any (has_no_code section.now) symbols.now ≡ true)) }
 {
     for symbol in symbols {
         add_symbol(alloc, file, section, info, kind, symbol, code)?;
@@ -125,10 +140,16 @@ pub(crate) fn add_programs<'a>(
     code: &mut Code<'a>,
 ) -> Result<(), ParseError>
     requires { is_program section.now ≡ true }
-    ensures programs { OnOk result (code.new.programs ≡ with_programs (license_of file.now) (version_of file.now) (symbols_of file.now) code.old.programs section.now) }
-    ensures functions { OnOk result (code.new.functions ≡ with_program_functions info.now (symbols_of file.now) code.old.functions section.now) }
+    ensures programs { OnOk result
+        (code.new.programs
+        ≡ with_programs (license_of file.now) (version_of file.now) (symbols_of file.now)
+        code.old.programs section.now) }
+    ensures functions { OnOk result
+        (code.new.functions
+        ≡ with_program_functions info.now (symbols_of file.now) code.old.functions section.now) }
     ensures accepted { OnOk result (AreSound (symbols_of file.now) (section.now ∷ [])) }
-    ensures refused { IfErr result (λ e. e ≢ OutOfMemory → HasSectionFault (symbols_of file.now) (section.now ∷ []) e) }
+    ensures refused { IfErr result (λ e.
+        e ≢ OutOfMemory → HasSectionFault (symbols_of file.now) (section.now ∷ []) e) }
 {
     let name = section.name();
     let Ok(kind) = name.parse::<ProgramSection>() else {

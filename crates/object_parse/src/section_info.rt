@@ -8,6 +8,7 @@ use btf_extension::BtfExt;
 use function_records::SectionRecords;
 use object_file::ReadSection;
 use std::alloc::{AllocError, Global};
+use std::collections::BTreeMap;
 use std::marker::Model;
 
 /// The records of a section, and their sizes in bytes.
@@ -23,7 +24,13 @@ impl<'e> Model for SectionInfo<'e> {
 
     ghost Value = { Info };
 
-    ghost view = { λ s. record { functions = s.records.functions; lines = s.records.lines; func_size = s.func_info_rec_size; line_size = s.line_info_rec_size } };
+    ghost view = { λ s.
+        record {
+          functions = s.records.functions;
+          lines = s.records.lines;
+          func_size = s.func_info_rec_size;
+          line_size = s.line_info_rec_size;
+        } };
 }
 
 impl<'e> SectionInfo<'e> {
@@ -47,5 +54,80 @@ impl<'e> SectionInfo<'e> {
                 line_info_rec_size: 0,
             }),
         }
+    }
+}
+
+/// What an extension says of sections of a name.
+#[derive(Debug, Drop)]
+pub(crate) struct KnownInfo<'a, 'e> {
+    pub(crate) name: &'a str,
+    pub(crate) info: SectionInfo<'e>,
+}
+
+/// What an extension says of sections, read once for each name. Names are told apart by their
+/// lengths first: those that are ends of one long text are costly to compare.
+#[derive(Debug, Drop)]
+pub(crate) struct SectionInfos<'a, 'e> {
+    extension: Option<&'e BtfExt<'e>>,
+    known: BTreeMap<(usize, &'a str), KnownInfo<'a, 'e>>,
+}
+
+impl<'a, 'e> Model for SectionInfos<'a, 'e> {
+    ghost use Rattle.std.specs.Prelude.{Option};
+    ghost use Rattle.std.specs.Map.{values_of};
+    ghost use Rattle.std.specs.Option.{option_copied};
+    ghost use Rattle.btf_extension.specs.Extensions.{Extension};
+    ghost use Rattle.object_parse.specs.KnownInfos.{AreKnown};
+
+    ghost Value = { Option Extension };
+
+    ghost view = { λ s. option_copied s.extension };
+
+    ghost invariant = { λ s. AreKnown (option_copied s.extension) (values_of s.known.entries) };
+}
+
+impl<'a, 'e> SectionInfos<'a, 'e> {
+    #[tactic(auto, using(crate::proofs::KnownInfos::none_known))]
+    pub(crate) fn new(alloc: Global, extension: Option<&'e BtfExt<'e>>) -> SectionInfos<'a, 'e>
+        ensures { result ≡ option_copied extension.entry }
+    {
+        SectionInfos {
+            extension,
+            known: BTreeMap::new(alloc),
+        }
+    }
+
+    /// What the extension says of a section: what is kept for its name, which no longer is then, or
+    /// else read anew.
+    pub(crate) fn take(
+        &mut self,
+        alloc: Global,
+        section: &ReadSection<'a>,
+    ) -> Result<SectionInfo<'e>, AllocError>
+        ensures value { IfOk result (λ info. info ≡ info_of self.old section.now) }
+        ensures same { self.new ≡ self.old }
+    {
+        let name = section.name();
+        if let Some(known) = self.known.remove(&(name.len(), name)) {
+            if known.name == name {
+                return Ok(known.info);
+            }
+        }
+        SectionInfo::of_section(alloc, self.extension, section)
+    }
+
+    /// Keeps what the extension says of a section for those of its name.
+    pub(crate) fn keep(
+        &mut self,
+        section: &ReadSection<'a>,
+        info: SectionInfo<'e>,
+    ) -> Result<(), AllocError>
+        requires { info ≡ info_of self.old section.now }
+        ensures { self.new ≡ self.old }
+    {
+        let name = section.name();
+        let known = KnownInfo { name, info };
+        self.known.insert((name.len(), name), known)?;
+        Ok(())
     }
 }

@@ -11,7 +11,7 @@ ghost use Rattle.object_parse.specs.Faults.{AreSound, HasFunctionFault, HasSecti
 ghost use Rattle.object_parse.specs.Functions.{functions_of, programs_of, with_functions, with_section_programs};
 
 use crate::program_sections::add_programs;
-use crate::section_info::SectionInfo;
+use crate::section_info::SectionInfos;
 use crate::text_sections::add_text;
 use btf_extension::BtfExt;
 use ebpf_items::{EbpfSectionKind, ParseError};
@@ -20,46 +20,65 @@ use object_parts::{Code, Functions, Programs};
 use std::alloc::Global;
 
 /// Enters the programs and functions of a section.
-fn add_section<'a, 'e>(
+fn add_section<'a>(
     alloc: Global,
     file: &ObjectFile<'a>,
-    extension: Option<&'e BtfExt<'e>>,
+    infos: &mut SectionInfos<'a, '_>,
     section: &ReadSection<'a>,
     code: &mut Code<'a>,
 ) -> Result<(), ParseError>
-    ensures programs { OnOk result (code.new.programs ≡ with_section_programs (license_of file.now) (version_of file.now) (symbols_of file.now) code.old.programs section.now) }
-    ensures functions { OnOk result (code.new.functions ≡ with_functions (option_copied extension.entry) (symbols_of file.now) code.old.functions section.now) }
+    ensures programs { OnOk result
+        (code.new.programs
+        ≡ with_section_programs (license_of file.now) (version_of file.now) (symbols_of file.now)
+        code.old.programs section.now) }
+    ensures functions { OnOk result
+        (code.new.functions
+        ≡ with_functions infos.old (symbols_of file.now) code.old.functions section.now) }
     ensures accepted { OnOk result (AreSound (symbols_of file.now) (section.now ∷ [])) }
-    ensures refused { IfErr result (λ e. e ≢ OutOfMemory → HasSectionFault (symbols_of file.now) (section.now ∷ []) e) }
+    ensures refused { IfErr result (λ e.
+        e ≢ OutOfMemory → HasSectionFault (symbols_of file.now) (section.now ∷ []) e) }
+    ensures same { infos.new ≡ infos.old }
 {
     match section.kind() {
         EbpfSectionKind::Program => {
-            let info = SectionInfo::of_section(alloc, extension, section)?;
-            add_programs(alloc, file, section, &info, code)
+            let info = infos.take(alloc, section)?;
+            add_programs(alloc, file, section, &info, code)?;
+            infos.keep(section, info)?;
+            Ok(())
         }
         EbpfSectionKind::Text => {
-            let info = SectionInfo::of_section(alloc, extension, section)?;
-            add_text(alloc, file, section, &info, code)
+            let info = infos.take(alloc, section)?;
+            add_text(alloc, file, section, &info, code)?;
+            infos.keep(section, info)?;
+            Ok(())
         }
         _ => Ok(()),
     }
 }
 
 /// Enters the programs and functions of some sections.
-fn add_sections<'a, 'e>(
+fn add_sections<'a>(
     alloc: Global,
     file: &ObjectFile<'a>,
-    extension: Option<&'e BtfExt<'e>>,
+    infos: &mut SectionInfos<'a, '_>,
     sections: &[ReadSection<'a>],
     code: &mut Code<'a>,
 ) -> Result<(), ParseError>
-    ensures programs { OnOk result (code.new.programs ≡ fold (with_section_programs (license_of file.now) (version_of file.now) (symbols_of file.now)) code.old.programs sections.now) }
-    ensures functions { OnOk result (code.new.functions ≡ fold (with_functions (option_copied extension.entry) (symbols_of file.now)) code.old.functions sections.now) }
+    ensures programs { OnOk result
+        (code.new.programs
+        ≡ fold
+        (with_section_programs (license_of file.now) (version_of file.now) (symbols_of file.now))
+        code.old.programs sections.now) }
+    ensures functions { OnOk result
+        (code.new.functions
+        ≡ fold (with_functions infos.old (symbols_of file.now)) code.old.functions sections.now) }
     ensures accepted { OnOk result (AreSound (symbols_of file.now) sections.now) }
-    ensures refused { IfErr result (λ e. e ≢ OutOfMemory → HasSectionFault (symbols_of file.now) sections.now e) }
+    ensures refused { IfErr result (λ e.
+        e ≢ OutOfMemory → HasSectionFault (symbols_of file.now) sections.now e) }
+    ensures same { infos.new ≡ infos.old }
 {
     for section in sections {
-        add_section(alloc, file, extension, section, code)?;
+        add_section(alloc, file, infos, section, code)?;
     }
     Ok(())
 }
@@ -72,7 +91,7 @@ fn add_sections<'a, 'e>(
 /// `InvalidProgramSection` for a program section of an unknown kind, `NoSymbolsForSection` for
 /// one in which no symbol lies, `InvalidProgramCode` for a function whose bytes aren't whole
 /// slots of its section, `SymbolTableConflict` for two functions of a `.text` section at one
-/// address, `UnknownSymbol` where no symbol defines the function at its beginning or behind one
+/// address, `UnknownSymbol` where no symbol defines the function at its beginning or after one
 /// of its functions, `InvalidSymbol` where that function's size is 0, and `OutOfMemory`.
 #[tactic(auto, using(crate::proofs::Complete::complete_with))]
 pub fn read_code<'a, 'e>(
@@ -81,7 +100,8 @@ pub fn read_code<'a, 'e>(
     extension: Option<&'e BtfExt<'e>>,
 ) -> Result<Code<'a>, ParseError>
     ensures programs { IfOk result (λ code. code.programs ≡ programs_of file.now) }
-    ensures functions { IfOk result (λ code. code.functions ≡ functions_of file.now (option_copied extension.entry)) }
+    ensures functions { IfOk result (λ code.
+        code.functions ≡ functions_of file.now (option_copied extension.entry)) }
     ensures complete { IfOk result (λ code. HaveFunctions code.programs code.functions) }
     ensures accepted { OnOk result (HasSoundFunctions file.now) }
     ensures refused { IfErr result (λ e. e ≢ OutOfMemory → HasFunctionFault file.now e) }
@@ -90,6 +110,7 @@ pub fn read_code<'a, 'e>(
         programs: Programs::new(alloc),
         functions: Functions::new(alloc),
     };
-    add_sections(alloc, file, extension, file.sections(), &mut code)?;
+    let mut infos = SectionInfos::new(alloc, extension);
+    add_sections(alloc, file, &mut infos, file.sections(), &mut code)?;
     Ok(code)
 }

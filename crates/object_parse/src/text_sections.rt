@@ -25,7 +25,8 @@ fn definition_at<'s, 'a>(
     definitions: &'s BTreeMap<u64, ReadSymbol<'a>>,
     offset: usize,
 ) -> Option<&'s ReadSymbol<'a>>
-    ensures { option_copied result ≡ defined_in definitions.entry.now (section.now.address + offset) }
+    ensures { option_copied result
+        ≡ defined_in definitions.entry.now (section.now.address + offset) }
 {
     let address = section.address().checked_add(offset as u64)?;
     definitions.get(&address)
@@ -38,8 +39,12 @@ fn symbol_at<'s, 'a>(
     definitions: &'s BTreeMap<u64, ReadSymbol<'a>>,
     offset: usize,
 ) -> Result<&'s ReadSymbol<'a>, ParseError>
-    ensures found { IfOk result (λ s. (defined_in definitions.entry.now (section.now.address + offset) ≡ Some s.now) × (s.now.size ≢ 0)) }
-    ensures refused { IfErr result (λ e. e ≢ OutOfMemory → PlaceFault section.now (place_in definitions.entry.now section.now.address offset) e) }
+    ensures found { IfOk result (λ s.
+        (defined_in definitions.entry.now (section.now.address + offset) ≡ Some s.now)
+        × (s.now.size ≢ 0)) }
+    ensures refused { IfErr result (λ e.
+        e ≢ OutOfMemory
+        → PlaceFault section.now (place_in definitions.entry.now section.now.address offset) e) }
 {
     let Some(symbol) = definition_at(section, definitions, offset) else {
         return Err(ParseError::UnknownSymbol {
@@ -63,7 +68,8 @@ fn code_at<'a>(
     symbol: &ReadSymbol<'_>,
 ) -> Option<&'a [u8]>
     ensures found { is_some result ≡ has_code_at (byte_count section.now) offset symbol.now }
-    ensures value { IfSome result (λ code. code.now ≡ take symbol.now.size (drop offset (unwrap_or section.now.contents []))) }
+    ensures value { IfSome result (λ code.
+        code.now ≡ take symbol.now.size (drop offset (unwrap_or section.now.contents []))) }
     ensures whole { IfSome result (λ code. length code.now % 8 ≡ 0) }
     ensures bounded { IfSome result (λ _. offset + symbol.now.size < 2 ^ 64) }
 {
@@ -88,7 +94,10 @@ fn function<'a>(
     ensures value { IfOk result (λ f. f ≡ text_function_of info.now section.now offset symbol.now) }
     ensures accepted { OnOk result (has_code_at (byte_count section.now) offset symbol.now ≡ true) }
     ensures bounded { OnOk result (offset + symbol.now.size < 2 ^ 64) }
-    ensures refused { IfErr result (λ e. e ≢ OutOfMemory → (e ≡ InvalidProgramCode) × (has_code_at (byte_count section.now) offset symbol.now ≡ false)) }
+    ensures refused { IfErr result (λ e.
+        e ≢ OutOfMemory
+        → (e ≡ InvalidProgramCode)
+        × (has_code_at (byte_count section.now) offset symbol.now ≡ false)) }
 {
     let Some(code) = code_at(section, offset, symbol) else {
         return Err(ParseError::InvalidProgramCode);
@@ -122,8 +131,16 @@ fn add_function<'a>(
     code: &mut Code<'a>,
 ) -> Result<usize, ParseError>
     ensures programs { OnOk result (code.new.programs ≡ code.old.programs) }
-    ensures entered { IfOk result (λ end. IsSomeAnd (defined_in definitions.now (section.now.address + offset)) (λ s. (is_sound_at (byte_count section.now) offset s ≡ true) × (end ≡ offset + s.size) × (code.new.functions ≡ insert_entry key_cmp code.old.functions (section.now.index, s.address) (text_function_of info.now section.now offset s)))) }
-    ensures refused { IfErr result (λ e. e ≢ OutOfMemory → PlaceFault section.now (place_in definitions.now section.now.address offset) e) }
+    ensures entered { IfOk result (λ end.
+        IsSomeAnd (defined_in definitions.now (section.now.address + offset)) (λ s.
+        (is_sound_at (byte_count section.now) offset s ≡ true)
+        × (end ≡ offset + s.size)
+        × (code.new.functions
+        ≡ insert_entry key_cmp code.old.functions (section.now.index, s.address)
+        (text_function_of info.now section.now offset s)))) }
+    ensures refused { IfErr result (λ e.
+        e ≢ OutOfMemory
+        → PlaceFault section.now (place_in definitions.now section.now.address offset) e) }
 {
     let symbol = symbol_at(alloc, section, definitions, offset)?;
     let function = function(alloc, section, info, symbol, offset)?;
@@ -140,11 +157,15 @@ fn add_each<'a>(
     definitions: &BTreeMap<u64, ReadSymbol<'a>>,
     code: &mut Code<'a>,
 ) -> Result<(), ParseError>
-    requires { AreDefinitionsOf definitions.now (symbols_in (symbols_of file.now) section.now.index) }
+    requires { AreDefinitionsOf definitions.now
+        (symbols_in (symbols_of file.now) section.now.index) }
     ensures programs { OnOk result (code.new.programs ≡ code.old.programs) }
-    ensures functions { OnOk result (code.new.functions ≡ with_text_functions info.now (symbols_of file.now) code.old.functions section.now) }
+    ensures functions { OnOk result
+        (code.new.functions
+        ≡ with_text_functions info.now (symbols_of file.now) code.old.functions section.now) }
     ensures accepted { OnOk result (has_unsound_place (symbols_of file.now) section.now ≡ false) }
-    ensures refused { IfErr result (λ e. e ≢ OutOfMemory → HasPlaceFault (symbols_of file.now) section.now e) }
+    ensures refused { IfErr result (λ e.
+        e ≢ OutOfMemory → HasPlaceFault (symbols_of file.now) section.now e) }
 {
     let mut offset = 0;
     while offset < section.bytes().len() {
@@ -163,9 +184,12 @@ pub(crate) fn add_text<'a>(
 ) -> Result<(), ParseError>
     requires { is_text_section section.now ≡ true }
     ensures programs { OnOk result (code.new.programs ≡ code.old.programs) }
-    ensures functions { OnOk result (code.new.functions ≡ with_text_functions info.now (symbols_of file.now) code.old.functions section.now) }
+    ensures functions { OnOk result
+        (code.new.functions
+        ≡ with_text_functions info.now (symbols_of file.now) code.old.functions section.now) }
     ensures accepted { OnOk result (AreSound (symbols_of file.now) (section.now ∷ [])) }
-    ensures refused { IfErr result (λ e. e ≢ OutOfMemory → HasSectionFault (symbols_of file.now) (section.now ∷ []) e) }
+    ensures refused { IfErr result (λ e.
+        e ≢ OutOfMemory → HasSectionFault (symbols_of file.now) (section.now ∷ []) e) }
 {
     let symbols = file.symbols_in(section.index());
     if let Some(address) = repeated_address(alloc, symbols)? {

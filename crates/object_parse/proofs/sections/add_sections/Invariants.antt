@@ -1,5 +1,4 @@
 use Rattle.std.proofs.Common.{◌≡◌, take}
-use Rattle.std.specs.Option.{option_copied}
 use Rattle.std.specs.Prelude.{fold}
 use Rattle.elf64.specs.Symbols.{symbols_of}
 use Rattle.object_file.specs.License.{license_of}
@@ -11,6 +10,7 @@ use Rattle.object_parse.proofs.sections.add_sections.Given as goal
 abbrev pub invariant-loop-section : goal.invariant-loop-section
 invariant-loop-section l = record {
   programs : l.code.programs ≡ fold (with_section_programs (license_of l.file) (version_of l.file) (symbols_of l.file)) l.fn.code.programs (take l.section-index l.sections);
-  functions : l.code.functions ≡ fold (with_functions (option_copied l.extension) (symbols_of l.file)) l.fn.code.functions (take l.section-index l.sections);
+  functions : l.code.functions ≡ fold (with_functions l.fn.infos (symbols_of l.file)) l.fn.code.functions (take l.section-index l.sections);
   accepted : AreSound (symbols_of l.file) (take l.section-index l.sections);
+  same : l.infos ≡ l.fn.infos;
 }

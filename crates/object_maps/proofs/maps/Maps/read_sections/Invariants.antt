@@ -1,5 +1,4 @@
 use Rattle.std.proofs.Common.{◌≡◌, take, [], flat_map}
-use Rattle.std.specs.Option.{option_copied}
 use Rattle.elf64.specs.Symbols.{symbols_of}
 use Rattle.object_maps.specs.Maps.{section_faults, section_maps}
 use Rattle.object_maps.specs.Found.{entered}
@@ -7,6 +6,7 @@ use Rattle.object_maps.proofs.maps.Maps.read_sections.Given as goal
 
 abbrev pub invariant-loop-section : goal.invariant-loop-section
 invariant-loop-section l = record {
-  value : l.self ≡ entered l.fn.self (flat_map (section_maps (option_copied l.types) (symbols_of l.file)) (take l.section-index l.sections));
-  accepted : flat_map (section_faults (option_copied l.types) (symbols_of l.file)) (take l.section-index l.sections) ≡ [];
+  value : l.self ≡ entered l.fn.self (flat_map (section_maps l.fn.types (symbols_of l.file)) (take l.section-index l.sections));
+  accepted : flat_map (section_faults l.fn.types (symbols_of l.file)) (take l.section-index l.sections) ≡ [];
+  same : l.types ≡ l.fn.types;
 }
