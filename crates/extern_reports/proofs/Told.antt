@@ -4,6 +4,7 @@ use Rattle.std.specs.Prelude.{◌&&◌, not, if◌then◌else◌, is_none, IfSom
 use Rattle.std.specs.List.{AllZip}
 use Rattle.std.specs.Option.{IsSomeAnd, MatchOption}
 use Rattle.btf_tables.specs.Tables.{Table}
+use Rattle.extern_resolution.specs.Faults.{ResolutionFault}
 use Rattle.extern_resolution.specs.Outcomes.{EntryBecomes, IsFoundIn, left_weak, sought_address, with_address, with_kernel_id}
 use Rattle.extern_resolution.specs.Resolution.{AreResolved, CannotResolve}
 use Rattle.extern_resolution.specs.declared.error.KsymsError.{KsymsError}
@@ -21,9 +22,9 @@ found_for table (Some kernel) name e type_id found h = record { kind = h.kind; d
 
 -- what is said by the type that an extern has, and what is told then
 abbrev pub says_by : Table → Option Table → List ℕ → Bool → List ℕ → ExternContent → Option ℕ → Presence → Type 0
-says_by table kernel text has_symbols name e type Found = MatchOption type ((address : ℕ) × (address_of name text ≡ Some address)) (λ type_id. (id : ℕ) × IsFoundIn table kernel name e type_id (Some id))
-says_by table kernel text has_symbols name e type Missing = MatchOption type (address_of name text ≡ None) (λ type_id. IsFoundIn table kernel name e type_id None)
-says_by table kernel text has_symbols name e type Unknown = (type ≡ None) × (has_symbols ≡ false)
+says_by table kernel text has_symbols name e type Found = ((is_none type && not has_symbols) ≡ false) × MatchOption type ((address : ℕ) × (address_of name text ≡ Some address)) (λ type_id. (id : ℕ) × IsFoundIn table kernel name e type_id (Some id))
+says_by table kernel text has_symbols name e type Missing = ((is_none type && not has_symbols) ≡ false) × MatchOption type (address_of name text ≡ None) (λ type_id. IsFoundIn table kernel name e type_id None)
+says_by table kernel text has_symbols name e type Unknown = (is_none type && not has_symbols) ≡ true
 
 abbrev pub presence_by : Bool → Option ℕ → Bool → Presence
 presence_by has_symbols type is_resolved = if is_none type && not has_symbols then Unknown else if is_resolved then Found else Missing
@@ -41,17 +42,17 @@ shown table kernel text has_symbols name e is_resolved type is h =
 
 -- one with a type
 typed : (table : Table) (kernel : Option Table) (text : List ℕ) (has_symbols : Bool) (name : List ℕ) (e : ExternContent) (type_id : ℕ) (is : e.type_id ≡ Some type_id) (found : Option ℕ) → IsFoundIn table kernel name e type_id found → SaysOfExtern table kernel text has_symbols (name, e) (presence_of has_symbols (left_weak (with_kernel_id found (as_weak e))))
-typed table kernel text has_symbols name e type_id is (Some id) h = shown table kernel text has_symbols name e true (Some type_id) is (id, h)
-typed table kernel text has_symbols name e type_id is None h = shown table kernel text has_symbols name e false (Some type_id) is h
+typed table kernel text has_symbols name e type_id is (Some id) h = shown table kernel text has_symbols name e true (Some type_id) is (refl, (id, h))
+typed table kernel text has_symbols name e type_id is None h = shown table kernel text has_symbols name e false (Some type_id) is (refl, h)
 
 -- one without a type, of which no symbols are given, and of which they are
 untold : (table : Table) (kernel : Option Table) (text : List ℕ) (name : List ℕ) (e : ExternContent) (is : e.type_id ≡ None) (found : Option ℕ) → SaysOfExtern table kernel text false (name, e) (presence_of false (left_weak (with_address found (as_weak e))))
-untold table kernel text name e is (Some address) = shown table kernel text false name e true None is (refl, refl)
-untold table kernel text name e is None = shown table kernel text false name e false None is (refl, refl)
+untold table kernel text name e is (Some address) = shown table kernel text false name e true None is refl
+untold table kernel text name e is None = shown table kernel text false name e false None is refl
 
 named : (table : Table) (kernel : Option Table) (text : List ℕ) (name : List ℕ) (e : ExternContent) (is : e.type_id ≡ None) (found : Option ℕ) → address_of name text ≡ found → SaysOfExtern table kernel text true (name, e) (presence_of true (left_weak (with_address found (as_weak e))))
-named table kernel text name e is (Some address) h = shown table kernel text true name e true None is (address, h)
-named table kernel text name e is None h = shown table kernel text true name e false None is h
+named table kernel text name e is (Some address) h = shown table kernel text true name e true None is (refl, (address, h))
+named table kernel text name e is None h = shown table kernel text true name e false None is (refl, h)
 
 by_type : (table : Table) (kernel : Option Table) (text : List ℕ) (has_symbols : Bool) (name : List ℕ) (e new : ExternContent) (type : Option ℕ) → e.type_id ≡ type
     → MatchOption type (new ≡ left_weak (with_address (sought_address text name (as_weak e)) (as_weak e))) (λ type_id. (found : Option ℕ) × IsFoundIn table kernel name (as_weak e) type_id found × (new ≡ left_weak (with_kernel_id found (as_weak e))))
@@ -75,7 +76,12 @@ told table kernel text has_symbols (x ∷ xs) (y ∷ ys) h = (by_type table kern
 resolved_told : (table : Table) (kernel : Option Table) (bytes : List ℕ) (failed has_symbols : Bool) (externs weak new : ExternsContent) (said : List Presence) → weak ≡ all_weak externs → AreResolved table kernel (Some bytes) failed weak new → said ≡ map (λ e. presence_of has_symbols e.1) new.by_name → SaysOfExterns table kernel bytes has_symbols externs said
 resolved_told table kernel bytes failed has_symbols externs weak new said all resolved is =
     let each : AllZip (EntryBecomes table kernel resolved.text) (map weak_entry externs.by_name) new.by_name = subst (λ (w : ExternsContent). AllZip (EntryBecomes table kernel resolved.text) w.by_name new.by_name) all resolved.each in
-    inl (rw (is, resolved.given) (told table kernel resolved.text has_symbols externs.by_name new.by_name each))
+    let sound : (f : KsymsError) → ResolutionFault table kernel failed resolved.text (all_weak externs).by_name f → ⊥ = subst (λ (w : ExternsContent). (f : KsymsError) → ResolutionFault table kernel failed resolved.text w.by_name f → ⊥) all resolved.faultless in
+    inl (rw (is, resolved.given) (record {
+      failed = failed;
+      faultless = sound;
+      each = told table kernel resolved.text has_symbols externs.by_name new.by_name each;
+    }))
 
 pub told_of : (table : Option Table) (kernel : Option Table) (known : Option (List ℕ)) (bytes : List ℕ) (failed has_symbols : Bool) (externs weak new : ExternsContent) (said : List Presence) → known ≡ Some bytes → weak ≡ all_weak externs → IfSome table (λ t. AreResolved t kernel known failed weak new) → said ≡ map (λ e. presence_of has_symbols e.1) new.by_name → IfSome table (λ t. SaysOfExterns t kernel bytes has_symbols externs said)
 told_of None kernel known bytes failed has_symbols externs weak new said whole all resolved is = tt

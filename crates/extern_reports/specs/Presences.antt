@@ -3,6 +3,7 @@ use Rattle.std.specs.Prelude.{◌≡◌, ◌⊎◌, ◌&&◌, not, ℕ, List, ma
 use Rattle.std.specs.List.{AllZip}
 use Rattle.std.specs.Option.{MatchOption}
 use Rattle.btf_tables.specs.Tables.{Table}
+use Rattle.extern_resolution.specs.Faults.{ResolutionFault}
 use Rattle.extern_resolution.specs.Outcomes.{IsFoundIn}
 use Rattle.extern_resolution.specs.Resolution.{CannotResolve}
 use Rattle.extern_resolution.specs.declared.error.KsymsError.{KsymsError}
@@ -18,24 +19,44 @@ as_weak e = record e { is_weak = true; is_resolved = false; kernel_btf_id = None
 abbrev pub all_weak : ExternsContent → ExternsContent
 all_weak externs = record externs { by_name = map (λ e. (e.0, as_weak e.1)) externs.by_name }
 
--- what the object's table, the kernel's first and the text of symbols have of an extern: one with a type is found by that, another
--- by its name among the symbols
+-- what the object's table, the kernel's first and the text of symbols have of an extern: one with a
+-- type is found by that, another by its name among the symbols
 abbrev pub IsThere : Table → Option Table → List ℕ → List ℕ → ExternContent → Type 0
-IsThere table kernel text name e = MatchOption e.type_id ((address : ℕ) × (address_of name text ≡ Some address)) (λ type_id. (id : ℕ) × IsFoundIn table kernel name e type_id (Some id))
+IsThere table kernel text name e =
+    MatchOption e.type_id ((address : ℕ) × (address_of name text ≡ Some address)) (λ type_id.
+    (id : ℕ) × IsFoundIn table kernel name e type_id (Some id))
 
 abbrev pub IsNotThere : Table → Option Table → List ℕ → List ℕ → ExternContent → Type 0
-IsNotThere table kernel text name e = MatchOption e.type_id (address_of name text ≡ None) (λ type_id. IsFoundIn table kernel name e type_id None)
+IsNotThere table kernel text name e =
+    MatchOption e.type_id (address_of name text ≡ None) (λ type_id.
+    IsFoundIn table kernel name e type_id None)
 
 -- no symbols are given for one without a type
-abbrev pub IsUntold : Bool → ExternContent → Type 0
-IsUntold has_symbols e = (e.type_id ≡ None) × (has_symbols ≡ false)
+abbrev pub is_untold : Bool → ExternContent → Bool
+is_untold has_symbols e = is_none e.type_id && not has_symbols
 
-abbrev pub SaysOfExtern : Table → Option Table → List ℕ → Bool → (List ℕ × ExternContent) → Presence → Type 0
-SaysOfExtern table kernel text has_symbols e Found = IsThere table kernel text e.0 e.1
-SaysOfExtern table kernel text has_symbols e Missing = IsNotThere table kernel text e.0 e.1
-SaysOfExtern table kernel text has_symbols e Unknown = IsUntold has_symbols e.1
+abbrev pub SaysOfExtern : Table
+    → Option Table
+    → List ℕ
+    → Bool
+    → (List ℕ × ExternContent)
+    → Presence
+    → Type 0
+SaysOfExtern table kernel text has_symbols e Found =
+    (is_untold has_symbols e.1 ≡ false) × IsThere table kernel text e.0 e.1
+SaysOfExtern table kernel text has_symbols e Missing =
+    (is_untold has_symbols e.1 ≡ false) × IsNotThere table kernel text e.0 e.1
+SaysOfExtern table kernel text has_symbols e Unknown = is_untold has_symbols e.1 ≡ true
 
--- nothing is said of any where the externs can't be resolved though all of them may be missing
+-- each is told where the externs can be resolved, all of which may be missing
+pub record SaysEach (table : Table) (kernel : Option Table) (text : List ℕ) (has_symbols : Bool) (externs : ExternsContent) (said : List Presence) : Type 0 where
+  pub failed : Bool
+  pub faultless : (f : KsymsError)
+      → ResolutionFault table kernel failed text (all_weak externs).by_name f
+      → ⊥
+  pub each : AllZip (SaysOfExtern table kernel text has_symbols) externs.by_name said
+
+-- nothing is said of any where they can't
 pub record SaysNothing (table : Table) (kernel : Option Table) (text : List ℕ) (externs : ExternsContent) (said : List Presence) : Type 0 where
   pub failed : Bool
   pub fault : KsymsError
@@ -43,10 +64,18 @@ pub record SaysNothing (table : Table) (kernel : Option Table) (text : List ℕ)
   pub nothing : said ≡ map (λ e. Unknown) externs.by_name
 
 -- what is said of the externs of an object, by name
-abbrev pub SaysOfExterns : Table → Option Table → List ℕ → Bool → ExternsContent → List Presence → Type 0
+abbrev pub SaysOfExterns : Table
+    → Option Table
+    → List ℕ
+    → Bool
+    → ExternsContent
+    → List Presence
+    → Type 0
 SaysOfExterns table kernel text has_symbols externs said =
-    AllZip (SaysOfExtern table kernel text has_symbols) externs.by_name said ⊎ SaysNothing table kernel text externs said
+    SaysEach table kernel text has_symbols externs said
+    ⊎ SaysNothing table kernel text externs said
 
 -- what is said of a resolved one
 abbrev pub presence_of : Bool → ExternContent → Presence
-presence_of has_symbols e = if is_none e.type_id && not has_symbols then Unknown else if e.is_resolved then Found else Missing
+presence_of has_symbols e =
+    if is_untold has_symbols e then Unknown else if e.is_resolved then Found else Missing

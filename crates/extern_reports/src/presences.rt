@@ -66,7 +66,8 @@ fn all_told(
     externs: &Externs<'_>,
     has_symbols: bool,
 ) -> Result<Vec<Presence>, AllocError>
-    ensures { IfOk result (λ told. told.items ≡ map (λ e. presence_of has_symbols e.1) externs.now.by_name) }
+    ensures { IfOk result (λ told.
+        told.items ≡ map (λ e. presence_of has_symbols e.1) externs.now.by_name) }
 {
     let mut told = Vec::new(alloc);
     for (_, desc) in externs.iter() {
@@ -106,7 +107,10 @@ pub fn presences_of(
     symbols: &[u8],
     has_symbols: bool,
 ) -> Result<Vec<Presence>, AllocError>
-    ensures { IfOk result (λ said. IfSome (option_copied table.entry) (λ t. SaysOfExterns t (slice_get kernel_types.now 0) symbols.now has_symbols externs.now said.items)) }
+    ensures { IfOk result (λ said.
+        IfSome (option_copied table.entry) (λ t.
+        SaysOfExterns t (slice_get kernel_types.now 0) symbols.now has_symbols externs.now
+        said.items)) }
 {
     let mut weak = all_weak(alloc, externs)?;
     let mut symbols = Watched::new(symbols);

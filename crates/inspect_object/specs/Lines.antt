@@ -42,14 +42,41 @@ pinning_name pinning.ByName = codes "ByName"
 
 abbrev pub section_line : Section → List ℕ
 section_line s =
-    line (codes "section" ∷ decimal s.index ∷ kind_name (kind_of s) ∷ text_word s.name ∷ codes "address" ∷ decimal s.address ∷ codes "size" ∷ decimal s.size ∷ [])
+    line
+    (codes "section"
+    ∷ decimal s.index
+    ∷ kind_name (kind_of s)
+    ∷ text_word s.name
+    ∷ codes "address"
+    ∷ decimal s.address
+    ∷ codes "size"
+    ∷ decimal s.size
+    ∷ [])
 
 -- a relocation of the section of an index
 abbrev pub relocation_line : ℕ → Relocation → List ℕ
 relocation_line section r =
-    line (codes "relocation" ∷ decimal section ∷ codes "offset" ∷ decimal r.offset ∷ codes "symbol" ∷ number_word r.symbol ∷ codes "width" ∷ decimal r.width ∷ [])
+    line
+    (codes "relocation"
+    ∷ decimal section
+    ∷ codes "offset"
+    ∷ decimal r.offset
+    ∷ codes "symbol"
+    ∷ number_word r.symbol
+    ∷ codes "width"
+    ∷ decimal r.width
+    ∷ [])
 
 -- what a loader passes for the program of a name
 abbrev pub load_line : List ℕ → LoadAttributes → List ℕ
 load_line name a =
-    line (codes "load" ∷ text_word (Some name) ∷ codes "type" ∷ decimal (prog_type_number a.prog_type) ∷ codes "attach-type" ∷ number_word a.expected_attach_type ∷ codes "flags" ∷ decimal a.flags ∷ [])
+    line
+    (codes "load"
+    ∷ text_word (Some name)
+    ∷ codes "type"
+    ∷ decimal (prog_type_number a.prog_type)
+    ∷ codes "attach-type"
+    ∷ number_word a.expected_attach_type
+    ∷ codes "flags"
+    ∷ decimal a.flags
+    ∷ [])

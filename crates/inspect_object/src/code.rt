@@ -24,7 +24,9 @@ fn write_program<W: Write>(name: &str, program: &Program<'_>, out: &mut W) -> io
 
 /// Writes what a loader passes to the kernel for a program's kind.
 fn write_load<W: Write>(name: &str, kind: &ProgramSection, out: &mut W) -> io::Result<()>
-    ensures { OnOk result (Appends (W.contents out.old) (W.contents out.new) (load_line name.now (attributes_of kind.now))) }
+    ensures { OnOk result
+        (Appends (W.contents out.old) (W.contents out.new)
+        (load_line name.now (attributes_of kind.now))) }
 {
     let attributes = load_attributes(kind);
     writeln!(

@@ -12,7 +12,8 @@ use std::io;
 use std::io::Write;
 
 fn write_section<W: Write>(section: &ReadSection<'_>, out: &mut W) -> io::Result<()>
-    ensures { OnOk result (Appends (W.contents out.old) (W.contents out.new) (section_line section.now)) }
+    ensures { OnOk result
+        (Appends (W.contents out.old) (W.contents out.new) (section_line section.now)) }
 {
     writeln!(
         out,
@@ -34,7 +35,9 @@ pub fn write_sections<W: Write>(file: &ObjectFile<'_>, out: &mut W) -> io::Resul
 }
 
 fn write_relocation<W: Write>(section: usize, relocation: &RelocView, out: &mut W) -> io::Result<()>
-    ensures { OnOk result (Appends (W.contents out.old) (W.contents out.new) (relocation_line section relocation.now)) }
+    ensures { OnOk result
+        (Appends (W.contents out.old) (W.contents out.new)
+        (relocation_line section relocation.now)) }
 {
     writeln!(
         out,

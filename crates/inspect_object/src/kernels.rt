@@ -5,10 +5,12 @@ use crate::refused;
 use command_line::InspectArguments;
 use ebpf_object::Object;
 use extern_reports::assumed_symbols;
-use kernel_reports::{KernelReport, PlanAnswer, Reported, every_map_numbered, report_on};
+use kernel_reports::{
+    KernelReport, PlanAnswer, Reported, every_map_numbered, relocations_in, report_on,
+};
 use program_io::{kernel_table, print_text, read};
 use refusal_texts::{KernelFiles, prepare_text};
-use relocation_reports::{RelocationAt, relocations_of};
+use relocation_reports::RelocationAt;
 use report_texts::{Column, Rows, report_lines, rows_of, summary_text};
 use std::alloc::{AllocError, Global};
 use std::io::IsTerminal;
@@ -126,17 +128,6 @@ fn names_of<'r>(
         object.btf(),
         relocations,
     )
-}
-
-/// The type relocations of an object.
-fn relocations_in(alloc: Global, object: &Object<'_>) -> Result<Vec<RelocationAt>, AllocError> {
-    let Some(local) = object.btf() else {
-        return Ok(Vec::new(alloc));
-    };
-    let Some(extension) = object.btf_ext() else {
-        return Ok(Vec::new(alloc));
-    };
-    relocations_of(alloc, object.file(), object.functions(), local, extension)
 }
 
 /// The text of all reports on an object, of which the symbols are those of a file, or taken for

@@ -45,8 +45,8 @@ fn print_bytes(rt: &HostRuntime, object: &[u8]) -> Result<(), ProgramError> {
     }
 }
 
-/// Prints what becomes of an object on the kernels that a line names, or what it holds where the line
-/// names none.
+/// Prints what becomes of an object on the kernels that a line names, or what it holds where the
+/// line names none.
 fn print_named(rt: &HostRuntime, line: &InspectArguments<'_>) -> Result<(), ProgramError> {
     if !line.types.is_empty() {
         return print_reports(rt, line);

@@ -1,4 +1,5 @@
--- Whether an object gets a plan for a kernel that takes all features of types and has the newer helpers.
+-- Whether an object gets a plan for a kernel that takes all features of types and has the newer
+-- helpers.
 use Rattle.std.specs.Prelude.{◌≢◌, ℕ, List, Bool, true, Some}
 use Rattle.load_plan.specs.Content.{PlanContent}
 use Rattle.load_plan.specs.Inputs.{BtfFeature, Inputs, SettingsContent, Table, inputs, symbols_given}
@@ -13,7 +14,8 @@ takes_all feature = true
 
 -- the inputs with this text of symbols, and whether reading it failed
 abbrev pub inputs_of : List ℕ → List Table → List ℕ → Bool → SettingsContent → Inputs
-inputs_of file kernel text failed settings = inputs file kernel (symbols_given (Some text) failed) settings RelocateFirst
+inputs_of file kernel text failed settings =
+    inputs file kernel (symbols_given (Some text) failed) settings RelocateFirst
 
 -- a plan is there, or a stated fault stands
 abbrev pub SaysOfPlan : Inputs → PlanAnswer → Type 0

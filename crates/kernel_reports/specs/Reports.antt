@@ -1,15 +1,23 @@
 -- What is reported of an object and a kernel.
-use Rattle.std.specs.Prelude.{◌≡◌, ℕ, List, Bool, IfSome, slice_get}
+use Rattle.std.specs.Prelude.{◌≡◌, ℕ, List, [], Bool, IfSome, slice_get}
 use Rattle.ebpf_object.specs.ParsedObject.{ObjectContent}
+use Rattle.ebpf_object.specs.TypeRelocations.{type_groups, types_of}
 use Rattle.load_plan.specs.Inputs.{SettingsContent, Table}
 use Rattle.relocation_reports.specs.Answers.{answers_to}
+use Rattle.relocation_reports.specs.Relocations.{relocations_of}
 use Rattle.kernel_reports.specs.Plans.{IsPlanAnswer}
 use Rattle.extern_reports.specs.Presences.{SaysOfExterns}
 use Rattle.relocation_reports.specs.declared.relocations.RelocationAt.{RelocationAt}
 use Rattle.kernel_reports.specs.declared.report.KernelReport.{KernelReport}
 
--- whether the object of a file gets a plan, what each of some relocations of it comes to, and whether the kernel has its externs
+-- the type relocations that stand beside an object's own types
+abbrev pub relocations_in : ObjectContent → List RelocationAt
+relocations_in o = relocations_of (types_of o []) (type_groups o)
+
+-- whether the object of a file gets a plan, what each of some relocations of it comes to, and
+-- whether the kernel has its externs
 pub record IsReport (file : List ℕ) (o : ObjectContent) (relocations : List RelocationAt) (kernel : List Table) (text : List ℕ) (has_symbols : Bool) (settings : SettingsContent) (r : KernelReport) : Type 0 where
   pub plan : IsPlanAnswer file kernel text settings r.plan
   pub answers : r.relocations.items ≡ answers_to o.types kernel relocations
-  pub externs : IfSome o.types (λ table. SaysOfExterns table (slice_get kernel 0) text has_symbols o.externs r.externs.items)
+  pub externs : IfSome o.types (λ table.
+      SaysOfExterns table (slice_get kernel 0) text has_symbols o.externs r.externs.items)

@@ -4,7 +4,8 @@ use ebpf_object::Maps;
 use load_plan::Settings;
 use std::alloc::{AllocError, Global};
 
-/// Settings in which each map of an object has a number, as it would have where a loader has made it.
+/// Settings in which each map of an object has a number, as it would have where a loader has made
+/// it.
 pub fn every_map_numbered(alloc: Global, maps: &Maps<'_>) -> Result<Settings, AllocError> {
     let mut settings = Settings::new(alloc);
     let mut number = 0;

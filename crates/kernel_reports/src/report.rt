@@ -37,15 +37,18 @@ pub struct KernelReport {
     pub externs: Vec<Presence>,
 }
 
-/// What becomes of an object on a kernel of these types, in no more than 2^32 tables: whether it gets a
-/// plan, and what each relocation and each extern comes to by itself.
+/// What becomes of an object on a kernel of these types, in no more than 2^32 tables: whether it
+/// gets a plan, and what each relocation and each extern comes to by itself.
 pub fn report_on(
     alloc: Global,
     reported: &Reported<'_, '_>,
     kernel_types: &[Btf<'_>],
 ) -> Result<KernelReport, AllocError>
     requires { length kernel_types.now ≤ 2 ^ 32 }
-    ensures { IfOk result (IsReport reported.now.file.now reported.now.object.now reported.now.relocations.now kernel_types.now reported.now.symbols.now reported.now.has_symbols reported.now.settings.now) }
+    ensures { IfOk result
+        (IsReport reported.now.file.now reported.now.object.now reported.now.relocations.now
+        kernel_types.now reported.now.symbols.now reported.now.has_symbols
+        reported.now.settings.now) }
 {
     let object = reported.object;
     let plan = plan_answer(

@@ -1,6 +1,6 @@
-use Rattle.std.proofs.Common.{◌≡◌, [], ◌∷◌, ap, rules}
+use Rattle.std.proofs.Common.{◌≡◌, ◌∷◌, rules}
 use Rattle.object_externs.specs.Names.{by_bytes}
-use Rattle.extern_reports.proofs.Growing.{all_entered, none_entered, one_more}
+use Rattle.extern_reports.proofs.Growing.{none_entered, one_more}
 use Rattle.extern_reports.proofs.presences.all_weak.Goals as goal
 
 pub loop-name-init : goal.loop-name-init

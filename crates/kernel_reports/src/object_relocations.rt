@@ -1,0 +1,22 @@
+//! The type relocations of an object.
+
+ghost use Rattle.std.specs.Prelude.{◌≡◌, IfOk};
+ghost use Rattle.kernel_reports.specs.Reports.{relocations_in};
+
+use ebpf_object::Object;
+use relocation_reports::{RelocationAt, relocations_of};
+use std::alloc::{AllocError, Global};
+
+/// The type relocations of an object, group by group; none where it has no types, or nothing stands
+/// beside them.
+pub fn relocations_in(alloc: Global, object: &Object<'_>) -> Result<Vec<RelocationAt>, AllocError>
+    ensures { IfOk result (λ list. list.items ≡ relocations_in object.now) }
+{
+    let Some(local) = object.btf() else {
+        return Ok(Vec::new(alloc));
+    };
+    let Some(extension) = object.btf_ext() else {
+        return Ok(Vec::new(alloc));
+    };
+    relocations_of(alloc, object.file(), object.functions(), local, extension)
+}
