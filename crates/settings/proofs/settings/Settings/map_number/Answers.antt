@@ -1,5 +1,5 @@
 use Rattle.std.proofs.Common.{◌∙◌}
-use Rattle.global_values.proofs.ByBytes.{by_bytes-lookup}
+use Rattle.settings.proofs.ByBytes.{by_bytes-lookup}
 use Rattle.settings.proofs.settings.Settings.map_number.Goals as goal
 
 pub returns-clause-value : goal.returns-clause-value

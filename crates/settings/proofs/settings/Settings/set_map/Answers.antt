@@ -1,6 +1,6 @@
 use Rattle.std.proofs.Common.{ap, ◌<◌, ◌^◌}
 use Rattle.settings.specs.Content.{SettingsContent}
-use Rattle.global_values.proofs.ByBytes.{by_bytes-insert}
+use Rattle.settings.proofs.ByBytes.{by_bytes-insert}
 use Rattle.std.proofs.lemmas.Map.Views.{All-values-insert_entry}
 use Rattle.std.specs.String.{string_cmp}
 use Rattle.settings.proofs.settings.Settings.set_map.Goals as goal
