@@ -1,5 +1,5 @@
--- Paths to fields (`bpf_core_parse_spec`, tools/lib/bpf/relo_core.c): the first number counts elements of the type
--- itself, each other one is the index of a member or an element.
+-- Paths to fields (`bpf_core_parse_spec`, tools/lib/bpf/relo_core.c): the first number counts
+-- elements of the type itself, each other one is the index of a member or an element.
 use Rattle.std.specs.Prelude.{ℕ, ◌+◌, ◌*◌, ◌^◌, ◌==◌, ◌&&◌, ◌||◌, Bool, false, List, [], ◌∷◌, ◌++◌, length, slice_get, Option, None, Some, Result, Ok, Err, if◌then◌else◌, nat_lt}
 use Rattle.std.specs.Option.{option_map_or, option_to_list, unwrap_or}
 use Rattle.access_paths.specs.Lookups.{and_then, with_found, with_text, with_type}
@@ -42,9 +42,12 @@ abbrev pub ends_with : BtfType → ℕ → Bool
 ends_with (types.Struct t) index = length t.members == index + 1
 ends_with _ index = false
 
--- an array without elements that is the last member of a struct has as many as there is room for; `last` is the step before
+-- an array without elements that is the last member of a struct has as many as there is room for;
+-- `last` is the step before
 abbrev pub is_flexible : Table → ℕ → Place → Bool
-is_flexible table len place = (len == 0) && option_map_or (λ t. ends_with t place.index) (type_by_id table place.type_id) false
+is_flexible table len place =
+    (len == 0)
+    && option_map_or (λ t. ends_with t place.index) (type_by_id table place.type_id) false
 
 abbrev pub is_in_array : Table → ℕ → Step → ℕ → Bool
 is_in_array table len last index = nat_lt index len || is_flexible table len (place_of last)
@@ -61,7 +64,9 @@ begun table root index =
 -- a member makes a step unless its name's offset is 0
 abbrev pub member_step : Table → Place → BtfMember → Result (Option Step) AccessError
 member_step table place m =
-    if m.name_offset == 0 then Ok None else with_text table m.name_offset (λ _. Ok (Some (Member place)))
+    if m.name_offset == 0
+    then Ok None
+    else with_text table m.name_offset (λ _. Ok (Some (Member place)))
 
 abbrev pub at_member : Table → Reached → BtfType → Place → BtfMember → Result Advance AccessError
 at_member table from t place m = and_then (member_step table place m) (λ step. Ok (record {
@@ -93,7 +98,8 @@ at_element table from element index = with_found (type_size_in_32_bits table ele
 abbrev pub to_element : Table → Reached → BtfArray → Place → Result Advance AccessError
 to_element table from array place =
     with_found (resolved_type table array.element_type) (λ element.
-    if is_in_array table array.len from.last place.index then at_element table from element place.index
+    if is_in_array table array.len from.last place.index then at_element table from element
+    place.index
     else Err (errors.InvalidAccessIndex place array.len))
 
 -- on by a number from a record without modifiers

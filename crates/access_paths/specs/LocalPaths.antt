@@ -18,7 +18,10 @@ use Rattle.ebpf_items.specs.declared.relocation_kind.RelocationKind.{RelocationK
 
 -- to a whole type: the one number 0
 abbrev pub type_path : ℕ → List ℕ → Result AccessPath AccessError
-type_path asked (n ∷ []) = if n == 0 then Ok (record { type_id = asked; steps = []; bit_offset = 0 }) else Err InvalidAccessString
+type_path asked (n ∷ []) =
+    if n == 0
+    then Ok (record { type_id = asked; steps = []; bit_offset = 0 })
+    else Err InvalidAccessString
 type_path asked _ = Err InvalidAccessString
 
 -- along these numbers from a type whose id behind modifiers is `root`
@@ -29,11 +32,15 @@ path_of subjects.Variant table asked root numbers =
     and_then (variant_place table root numbers) (λ place.
     Ok (record { type_id = asked; steps = Variant place ∷ []; bit_offset = 0 }))
 
-abbrev pub with_numbers : {U : Type 0} → Option (List ℕ) → (List ℕ → Result U AccessError) → Result U AccessError
+abbrev pub with_numbers : {U : Type 0}
+    → Option (List ℕ)
+    → (List ℕ → Result U AccessError)
+    → Result U AccessError
 with_numbers None go = Err InvalidAccessString
 with_numbers (Some numbers) go = go numbers
 
--- the type's name and the access string can be read, and the type can be looked up behind its modifiers
+-- the type's name and the access string can be read, and the type can be looked up behind its
+-- modifiers
 abbrev pub subject_path : Table → Subject → ℕ → ℕ → Result AccessPath AccessError
 subject_path table subject id access_str_off =
     with_type table id (λ t.

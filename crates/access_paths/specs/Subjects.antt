@@ -1,4 +1,5 @@
--- What each kind of type relocations is about (`enum bpf_core_relo_kind`, include/uapi/linux/bpf.h).
+-- What each kind of type relocations is about (`enum bpf_core_relo_kind`,
+-- include/uapi/linux/bpf.h).
 use Rattle.access_paths.specs.declared.subject.Subject.{Subject}
 use Rattle.access_paths.specs.declared.subject.Subject.TheVariants as subjects
 use Rattle.ebpf_items.specs.declared.relocation_kind.RelocationKind.{RelocationKind}

@@ -19,7 +19,8 @@ variant_count _ = None
 abbrev pub variant_name : BtfType → ℕ → Option ℕ
 variant_name (types.Enum t) index = option_map (λ v. v.name_offset) (slice_get t.variants index)
 variant_name (types.Enum64 t) index = option_map (λ v. v.name_offset) (slice_get t.variants index)
-variant_name (types.Union t) index = option_and_then (λ e. option_map (λ v. v.name_offset) (slice_get e.variants index)) t.fallback
+variant_name (types.Union t) index =
+    option_and_then (λ e. option_map (λ v. v.name_offset) (slice_get e.variants index)) t.fallback
 variant_name _ index = None
 
 -- the variant of an enum that has so many, where its name can be read
@@ -36,4 +37,5 @@ one_variant table id t len _ = Err InvalidAccessString
 abbrev pub variant_place : Table → ℕ → List ℕ → Result Place AccessError
 variant_place table id numbers =
     with_type table id (λ t.
-    option_map_or (λ len. one_variant table id t len numbers) (variant_count t) (Err (InvalidRelocationKindForType id)))
+    option_map_or (λ len. one_variant table id t len numbers) (variant_count t)
+    (Err (InvalidRelocationKindForType id)))

@@ -188,7 +188,8 @@ fn go_on(
 ) -> Result<Advance, AccessError>
     ensures value { IfOk result (λ next. advanced table.now from index ≡ Ok next) }
     ensures steps { IfOk result (λ next. steps.new ≡ steps.old ++ option_to_list next.step) }
-    ensures refused { IfErr result (λ e. e ≢ TypeError OutOfMemory → advanced table.now from index ≡ Err e) }
+    ensures refused { IfErr result (λ e.
+        e ≢ TypeError OutOfMemory → advanced table.now from index ≡ Err e) }
 {
     let next = advanced(table, from, index)?;
     if let Some(step) = next.step {
@@ -219,8 +220,11 @@ fn path_from(
     first: Reached,
     numbers: &[u64],
 ) -> Result<AccessPath, AccessError>
-    ensures value { IfOk result (λ path. path_from table.now type_id (first.last ∷ []) first numbers.now ≡ Ok path) }
-    ensures refused { IfErr result (λ e. e ≢ TypeError OutOfMemory → path_from table.now type_id (first.last ∷ []) first numbers.now ≡ Err e) }
+    ensures value { IfOk result (λ path.
+        path_from table.now type_id (first.last ∷ []) first numbers.now ≡ Ok path) }
+    ensures refused { IfErr result (λ e.
+        e ≢ TypeError OutOfMemory
+        → path_from table.now type_id (first.last ∷ []) first numbers.now ≡ Err e) }
 {
     let mut reached = first;
     let mut steps = Steps::new(table.allocator());
@@ -245,7 +249,8 @@ pub(crate) fn field_path(
     numbers: &[u64],
 ) -> Result<AccessPath, AccessError>
     ensures value { IfOk result (λ path. field_path table.now type_id root numbers.now ≡ Ok path) }
-    ensures refused { IfErr result (λ e. e ≢ TypeError OutOfMemory → field_path table.now type_id root numbers.now ≡ Err e) }
+    ensures refused { IfErr result (λ e.
+        e ≢ TypeError OutOfMemory → field_path table.now type_id root numbers.now ≡ Err e) }
 {
     let [first, others @ ..] = numbers else {
         return Err(AccessError::InvalidAccessString);

@@ -7,8 +7,8 @@ pub fn lookups_rest()
     ensures { LookupsRest }
 {}
 
-/// The path of an access rests on the records that are reached from its type, on their texts, and on
-/// the access string.
+/// The path of an access rests on the records that are reached from its type, on their texts, and
+/// on the access string.
 pub fn paths_rest()
     ensures { PathsRest }
 {}

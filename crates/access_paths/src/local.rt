@@ -35,8 +35,11 @@ fn variant_path(
     root: u32,
     numbers: &[u64],
 ) -> Result<AccessPath, AccessError>
-    ensures value { IfOk result (λ path. path_of Subject.Variant table.now type_id root numbers.now ≡ Ok path) }
-    ensures refused { IfErr result (λ e. e ≢ TypeError OutOfMemory → path_of Subject.Variant table.now type_id root numbers.now ≡ Err e) }
+    ensures value { IfOk result (λ path.
+        path_of Subject.Variant table.now type_id root numbers.now ≡ Ok path) }
+    ensures refused { IfErr result (λ e.
+        e ≢ TypeError OutOfMemory
+        → path_of Subject.Variant table.now type_id root numbers.now ≡ Err e) }
 {
     let place = variant_place(table, root, numbers)?;
     let mut steps = Steps::new(table.allocator());
@@ -56,8 +59,10 @@ fn path_of(
     root: u32,
     numbers: &[u64],
 ) -> Result<AccessPath, AccessError>
-    ensures value { IfOk result (λ path. path_of subject table.now type_id root numbers.now ≡ Ok path) }
-    ensures refused { IfErr result (λ e. e ≢ TypeError OutOfMemory → path_of subject table.now type_id root numbers.now ≡ Err e) }
+    ensures value { IfOk result (λ path.
+        path_of subject table.now type_id root numbers.now ≡ Ok path) }
+    ensures refused { IfErr result (λ e.
+        e ≢ TypeError OutOfMemory → path_of subject table.now type_id root numbers.now ≡ Err e) }
 {
     match subject {
         Subject::Field => field_path(table, type_id, root, numbers),
@@ -83,8 +88,10 @@ pub fn local_path(
     type_id: u32,
     access_str_off: u32,
 ) -> Result<AccessPath, AccessError>
-    ensures value { IfOk result (λ path. local_path table.now kind type_id access_str_off ≡ Ok path) }
-    ensures refused { IfErr result (λ e. e ≢ TypeError OutOfMemory → local_path table.now kind type_id access_str_off ≡ Err e) }
+    ensures value { IfOk result (λ path.
+        local_path table.now kind type_id access_str_off ≡ Ok path) }
+    ensures refused { IfErr result (λ e.
+        e ≢ TypeError OutOfMemory → local_path table.now kind type_id access_str_off ≡ Err e) }
 {
     let t = table.type_by_id(type_id)?;
     let _name = table.string_at(t.name_offset())?;

@@ -21,7 +21,8 @@ fn number_in(text: &str) -> Option<u64>
 /// `InvalidAccessString` where it isn't numbers of 64 bits joined by `:`.
 pub(crate) fn access_numbers(alloc: Global, text: &str) -> Result<Vec<u64>, AccessError>
     ensures value { IfOk result (λ numbers. access_numbers text.now ≡ Some numbers.items) }
-    ensures refused { IfErr result (λ e. e ≢ TypeError OutOfMemory → (e ≡ InvalidAccessString) × (access_numbers text.now ≡ None)) }
+    ensures refused { IfErr result (λ e.
+        e ≢ TypeError OutOfMemory → (e ≡ InvalidAccessString) × (access_numbers text.now ≡ None)) }
 {
     let mut numbers = Vec::new(alloc);
     let mut rest = text;

@@ -1,6 +1,6 @@
 -- Answers of closures that go by what they are asked alone.
-use Rattle.std.proofs.Common.{◌≡◌, ◌⊎◌, Bool, List, [], ◌∷◌, Option, None, Some, inl, inr, subst, sym}
-use Rattle.std.specs.Fn.{Called, Mut}
+use Rattle.std.proofs.Common.{◌≡◌, Bool, [], ◌∷◌, Option, None, Some, inl, inr, subst, sym}
+use Rattle.std.specs.Fn.{Called}
 use Rattle.std.specs.List.{FoldsTo}
 use Rattle.load_plan.specs.Content.{PlanContent}
 use Rattle.load_plan.specs.Inputs.{Answers, AreAnswered, BtfFeature, Inputs, IsSaid, Predicate}

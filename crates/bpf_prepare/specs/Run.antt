@@ -11,9 +11,11 @@ use Rattle.run_settings.specs.Features.{grants}
 use Rattle.bpf_prepare.specs.declared.error.RunError.{RunError}
 use Rattle.bpf_prepare.specs.declared.error.RunError.TheVariants.{Output, Refused}
 
--- the inputs of a run: the bytes of the symbols' reader, if they are known, and whether reading them failed
+-- the inputs of a run: the bytes of the symbols' reader, if they are known, and whether reading
+-- them failed
 abbrev pub inputs_of : List ℕ → List Table → Option (List ℕ) → Bool → RunContent → Order → Inputs
-inputs_of file kernel_types symbols failed s order = inputs file kernel_types (symbols_given symbols failed) s.settings order
+inputs_of file kernel_types symbols failed s order =
+    inputs file kernel_types (symbols_given symbols failed) s.settings order
 
 -- something holds of the text of the plan of these inputs, for a kernel as it is set
 pub record HoldsOfText (s : RunContent) (i : Inputs) (Holds : List ℕ → Type 0) : Type 0 where

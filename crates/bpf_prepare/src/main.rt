@@ -19,7 +19,8 @@ use std::io;
 use std::io::{BufRead, BufWriter, IsTerminal, Write};
 use std::process::ExitCode;
 
-/// The settings of a file's text, of nothing where there is no file, and over them those of the line.
+/// The settings of a file's text, of nothing where there is no file, and over them those of the
+/// line.
 fn settings_of(
     alloc: Global,
     line: &Arguments<'_>,

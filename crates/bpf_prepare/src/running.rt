@@ -14,9 +14,9 @@ use std::io::{BufRead, Write};
 
 /// Writes the text of an object's plan, or nothing where the object is refused. `kernel_types` are
 /// the kernel's types, in no more than 2^32 tables, `symbols` its symbols as `/proc/kallsyms` lists
-/// them; `settings` has numbers of maps and values of variables, and says which features of types the
-/// kernel grants, and whether it has the newer helpers that read memory; `order` says whether type
-/// relocations are looked up in the object's types before these are rewritten or after that.
+/// them; `settings` has numbers of maps and values of variables, and says which features of types
+/// the kernel grants, and whether it has the newer helpers that read memory; `order` says whether
+/// type relocations are looked up in the object's types before these are rewritten or after that.
 ///
 /// # Errors
 ///
@@ -35,14 +35,26 @@ pub fn run<R: BufRead, W: Write>(
 
     // Exactly the text of the plan went out, of an object in which no fault stands.
     ensures well { OnOk result (has_failed out.new ≡ false) }
-    ensures written { OnOk result (HoldsOfText settings.now (inputs_of object.now kernel_types.now (R.remaining (watched_inner symbols.old)) (has_failed symbols.new) settings.now order) (λ text. Appends (W.contents (watched_inner out.old)) (W.contents (watched_inner out.new)) text)) }
+    ensures written { OnOk result
+        (HoldsOfText settings.now
+        (inputs_of object.now kernel_types.now (R.remaining (watched_inner symbols.old))
+        (has_failed symbols.new) settings.now order) (λ text.
+        Appends (W.contents (watched_inner out.old)) (W.contents (watched_inner out.new)) text)) }
 
     // A refusal names a fault that stands, and writes nothing.
-    ensures refused { IfErr result (IsRunRefusal settings.now (inputs_of object.now kernel_types.now (R.remaining (watched_inner symbols.old)) (has_failed symbols.new) settings.now order)) }
+    ensures refused { IfErr result
+        (IsRunRefusal settings.now
+        (inputs_of object.now kernel_types.now (R.remaining (watched_inner symbols.old))
+        (has_failed symbols.new) settings.now order)) }
     ensures unwritten { IfErr result (λ e. e ≢ Output → out.new ≡ out.old) }
 
     // Of an object that isn't refused, a beginning of the text went out, and the writer failed.
-    ensures part { result ≡ Err Output → HoldsOfText settings.now (inputs_of object.now kernel_types.now (R.remaining (watched_inner symbols.old)) (has_failed symbols.new) settings.now order) (λ text. AppendsPart (W.contents (watched_inner out.old)) (W.contents (watched_inner out.new)) text) }
+    ensures part { result ≡ Err Output
+        → HoldsOfText settings.now
+        (inputs_of object.now kernel_types.now (R.remaining (watched_inner symbols.old))
+        (has_failed symbols.new) settings.now order) (λ text.
+        AppendsPart (W.contents (watched_inner out.old)) (W.contents (watched_inner out.new))
+        text) }
     ensures failed { result ≡ Err Output → has_failed out.new ≡ true }
     ensures at_once { has_failed out.old ≡ true → out.new ≡ out.old }
 {

@@ -6,8 +6,19 @@ use Rattle.btf_tables.specs.Tables.{Table}
 use Rattle.btf_compatibility.specs.FieldCompatibility.{fields_compatible}
 use Rattle.btf_compatibility.specs.TypeCompatibility.{types_compatible}
 
--- a comparison with a target's type is the same from every other local table that agrees on what is reached from the local
--- type, and whose texts there can be read alike
+-- a comparison with a target's type is the same from every other local table that agrees on what is
+-- reached from the local type, and whose texts there can be read alike
 pub record ComparisonsRest : Type 0 where
-  pub fields : (reached : ℕ → Bool) (one other : Table) → AgreeOn held_ids reached one other → AgreeOnTexts reached one other → (l : ℕ) → reached l ≡ true → (target : Table) (r : ℕ) → fields_compatible other l target r ≡ fields_compatible one l target r
-  pub types : (reached : ℕ → Bool) (one other : Table) → AgreeOn held_ids reached one other → (l : ℕ) → reached l ≡ true → (target : Table) (r : ℕ) → types_compatible other l target r ≡ types_compatible one l target r
+  pub fields : (reached : ℕ → Bool) (one other : Table)
+      → AgreeOn held_ids reached one other
+      → AgreeOnTexts reached one other
+      → (l : ℕ)
+      → reached l ≡ true
+      → (target : Table) (r : ℕ)
+      → fields_compatible other l target r ≡ fields_compatible one l target r
+  pub types : (reached : ℕ → Bool) (one other : Table)
+      → AgreeOn held_ids reached one other
+      → (l : ℕ)
+      → reached l ≡ true
+      → (target : Table) (r : ℕ)
+      → types_compatible other l target r ≡ types_compatible one l target r

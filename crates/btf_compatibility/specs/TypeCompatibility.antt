@@ -1,6 +1,7 @@
 -- When a type of one table is compatible with a type of another. libbpf has this as
--- `bpf_core_types_are_compat` (tools/lib/bpf/relo_core.c); here depth has no limit but a pair that is met
--- inside itself, ENUM and ENUM64 are two kinds, FLOATs are compatible, and other kinds are a fault.
+-- `bpf_core_types_are_compat` (tools/lib/bpf/relo_core.c); here depth has no limit but a pair that
+-- is met inside itself, ENUM and ENUM64 are two kinds, FLOATs are compatible, and other kinds are a
+-- fault.
 use Rattle.std.specs.Prelude.{◌≡◌, ◌≤◌, ℕ, zero, suc, ◌*◌, Bool, true, false, ◌&&◌, ◌==◌, List, [], ◌∷◌, ◌++◌, length, map, Option, None, Some, Result, Ok, Err, if◌then◌else◌}
 use Rattle.std.specs.List.{list_any, zip}
 use Rattle.std.specs.Option.{option_map_or, option_to_list, unwrap_or}
@@ -34,8 +35,8 @@ same_kind a b = number_of (kind_of_type a) == number_of (kind_of_type b)
 abbrev pub has_no_bit_offset : BtfType → Bool
 has_no_bit_offset t = option_map_or (λ int. offset_in int.int_word == 0) (int_of t) true
 
--- what two records of one kind, and of no modifier's, say by themselves, the local one of this id: void,
--- STRUCT, UNION, ENUM, ENUM64, FWD, FLOAT, PTR and ARRAY are compatible as far as that goes
+-- what two records of one kind, and of no modifier's, say by themselves, the local one of this id:
+-- void, STRUCT, UNION, ENUM, ENUM64, FWD, FLOAT, PTR and ARRAY are compatible as far as that goes
 abbrev pub verdict_of : BtfKind → ℕ → BtfType → BtfType → Result Bool BtfError
 verdict_of kinds.Int l a b = Ok (has_no_bit_offset a && has_no_bit_offset b)
 verdict_of kinds.FuncProto l a b = Ok (length (params_of a) == length (params_of b))
@@ -76,20 +77,35 @@ unfoldable pub is_open : List (ℕ × ℕ) → ℕ → ℕ → Bool
 is_open open_pairs l r = list_any (is_pair l r) open_pairs
 
 -- an answer for two ids where both chains of modifiers have an end: that for their ends
-abbrev pub both_ends : (ℕ → ℕ → Result Bool BtfError) → Result ℕ BtfError → Result ℕ BtfError → Result Bool BtfError
+abbrev pub both_ends : (ℕ → ℕ → Result Bool BtfError)
+    → Result ℕ BtfError
+    → Result ℕ BtfError
+    → Result Bool BtfError
 both_ends go (Err e) r = Err e
 both_ends go (Ok l) (Err e) = Err e
 both_ends go (Ok l) (Ok r) = go l r
 
-abbrev pub behind_modifiers : Table → Table → ℕ → (ℕ → ℕ → Result Bool BtfError) → (ℕ × ℕ) → Result Bool BtfError
-behind_modifiers local target asked go p = both_ends go (chain_end max_depth local asked p.0) (chain_end max_depth target asked p.1)
+abbrev pub behind_modifiers : Table
+    → Table
+    → ℕ
+    → (ℕ → ℕ → Result Bool BtfError)
+    → (ℕ × ℕ)
+    → Result Bool BtfError
+behind_modifiers local target asked go p =
+    both_ends go (chain_end max_depth local asked p.0) (chain_end max_depth target asked p.1)
 
--- the answer for two ids without modifiers: what the records say, and then their parts in order, with
--- the pair open meanwhile; a pair that is met while it is open is too deep. So many pairs at most are
--- opened one inside the other
+-- the answer for two ids without modifiers: what the records say, and then their parts in order,
+-- with the pair open meanwhile; a pair that is met while it is open is too deep. So many pairs at
+-- most are opened one inside the other
 unfoldable pub compared : ℕ → Table → Table → ℕ → List (ℕ × ℕ) → ℕ → ℕ → Result Bool BtfError
 compared zero local target asked open_pairs l r = Err (MaximumTypeDepthReached asked)
-compared (suc n) local target asked open_pairs l r = if is_open open_pairs l r then Err (MaximumTypeDepthReached asked) else and_also (pair_verdict local target l r) (all_yes (behind_modifiers local target asked (compared n local target asked (open_pairs ++ (l, r) ∷ []))) (pair_parts local target l r))
+compared (suc n) local target asked open_pairs l r =
+    if is_open open_pairs l r
+    then Err (MaximumTypeDepthReached asked)
+    else and_also (pair_verdict local target l r)
+    (all_yes
+    (behind_modifiers local target asked
+    (compared n local target asked (open_pairs ++ (l, r) ∷ []))) (pair_parts local target l r))
 
 -- a number above which no more pairs can be open: all pairs of ids are fewer
 abbrev pub pair_bound : Table → Table → ℕ
@@ -97,7 +113,8 @@ pair_bound local target = suc (suc (length local.types) * suc (length target.typ
 
 -- the answer for two ids with modifiers, with so many pairs at most opened one inside the other
 abbrev pub ends_within : ℕ → Table → Table → ℕ → (ℕ × ℕ) → Result Bool BtfError
-ends_within n local target asked p = behind_modifiers local target asked (compared n local target asked []) p
+ends_within n local target asked p =
+    behind_modifiers local target asked (compared n local target asked []) p
 
 abbrev pub ends_compatible : Table → Table → ℕ → (ℕ × ℕ) → Result Bool BtfError
 ends_compatible local target asked p = ends_within (pair_bound local target) local target asked p
@@ -111,14 +128,18 @@ first_verdict l r (Some a) (Some b) = Ok (same_kind a b)
 -- whether the local type is compatible with the target type, with so many pairs at most opened one
 -- inside the other
 abbrev pub types_within : ℕ → Table → ℕ → Table → ℕ → Result Bool BtfError
-types_within n local l target r = and_also (first_verdict l r (type_by_id local l) (type_by_id target r)) (ends_within n local target l (l, r))
+types_within n local l target r =
+    and_also (first_verdict l r (type_by_id local l) (type_by_id target r))
+    (ends_within n local target l (l, r))
 
 abbrev pub types_compatible : Table → ℕ → Table → ℕ → Result Bool BtfError
 types_compatible local l target r = types_within (pair_bound local target) local l target r
 
 -- how many pairs may be opened decides no answer, where it is at least that number
 pub record IsBoundless (local : Table) (l : ℕ) (target : Table) (r : ℕ) : Type 0 where
-  pub same : (n : ℕ) → pair_bound local target ≤ n → types_within n local l target r ≡ types_compatible local l target r
+  pub same : (n : ℕ)
+      → pair_bound local target ≤ n
+      → types_within n local l target r ≡ types_compatible local l target r
 
 -- where the comparison of two types leads on each side
 abbrev pub compared_ids : BtfType → List ℕ

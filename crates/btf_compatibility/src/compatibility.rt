@@ -23,7 +23,7 @@ pub(crate) fn record_at<'t>(table: &'t Btf<'_>, id: u32) -> TypeRef<'t>
 }
 
 /// A signature's parameters, and then what it returns.
-#[tactic(auto, using(crate::proofs::Parts::param_at, crate::proofs::Parts::returned_at, crate::proofs::Parts::past_returned))]
+#[tactic(auto, using(crate::proofs::Parts::param_at, crate::proofs::Parts::returned_at, crate::proofs::Parts::past_returned,),)]
 fn signature_part(t: &TypeRef<'_>, index: usize) -> Option<u32>
     requires { kind_of_type t.now ≡ BtfKind.FuncProto }
     ensures value { result ≡ slice_get (parts_of t.now) index }
@@ -53,9 +53,10 @@ fn part(t: &TypeRef<'_>, index: usize) -> Option<u32>
 }
 
 /// The next parts of a pair of types.
-#[tactic(auto, using(crate::proofs::Parts::both_parts, crate::proofs::Parts::no_left_part, crate::proofs::Parts::no_right_part))]
+#[tactic(auto, using(crate::proofs::Parts::both_parts, crate::proofs::Parts::no_left_part, crate::proofs::Parts::no_right_part,),)]
 fn next_parts(local: &Btf<'_>, target: &Btf<'_>, pair: OpenPair) -> Option<(u32, u32)>
-    ensures value { result ≡ slice_get (pair_parts local.now target.now pair.left pair.right) pair.next }
+    ensures value { result
+        ≡ slice_get (pair_parts local.now target.now pair.left pair.right) pair.next }
     ensures within { IfSome result (λ _. pair.next < 65536) }
 {
     let left = part(&record_at(local, pair.left), pair.next)?;
@@ -99,9 +100,15 @@ fn enter(
     pairs: &mut Pairs,
 ) -> Result<bool, BtfError>
     ensures answer { IfOk result (λ yes. pair_verdict local.now target.now left right ≡ Ok yes) }
-    ensures refused { IfErr result (λ e. e ≢ BtfError.OutOfMemory → pair_verdict local.now target.now left right ≡ Err e) }
-    ensures pushed { IfOk result (λ yes. yes ≡ true → pairs.new.open.items ≡ pairs.old.open.items ++ record { left = left; right = right; next = 0 } ∷ []) }
-    ensures state { IfOk result (λ yes. yes ≡ true → SetsState pairs.old.states.entries pairs.new.states.entries left right PairState.Open) }
+    ensures refused { IfErr result (λ e.
+        e ≢ BtfError.OutOfMemory → pair_verdict local.now target.now left right ≡ Err e) }
+    ensures pushed { IfOk result (λ yes.
+        yes ≡ true
+        → pairs.new.open.items
+        ≡ pairs.old.open.items ++ record { left = left; right = right; next = 0 } ∷ []) }
+    ensures state { IfOk result (λ yes.
+        yes ≡ true
+        → SetsState pairs.old.states.entries pairs.new.states.entries left right PairState.Open) }
 {
     let agree = verdict(left, &record_at(local, left), &record_at(target, right))?;
     if agree {
@@ -119,8 +126,11 @@ fn ends_are_compatible(
     local_id: u32,
     target_id: u32,
 ) -> Result<bool, BtfError>
-    ensures answer { IfOk result (λ yes. ends_compatible local.now target.now asked (local_id, target_id) ≡ Ok yes) }
-    ensures refused { IfErr result (λ e. e ≢ BtfError.OutOfMemory → ends_compatible local.now target.now asked (local_id, target_id) ≡ Err e) }
+    ensures answer { IfOk result (λ yes.
+        ends_compatible local.now target.now asked (local_id, target_id) ≡ Ok yes) }
+    ensures refused { IfErr result (λ e.
+        e ≢ BtfError.OutOfMemory
+        → ends_compatible local.now target.now asked (local_id, target_id) ≡ Err e) }
 {
     let first_left = local.chain_end(asked, local_id)?;
     let first_right = target.chain_end(asked, target_id)?;
@@ -169,11 +179,16 @@ pub fn types_are_compatible<'t>(
     target: &Btf<'t>,
     target_id: u32,
 ) -> Result<bool, BtfError>
-    ensures answer { IfOk result (λ yes. types_compatible local.now local_id target.now target_id ≡ Ok yes) }
-    ensures refused { IfErr result (λ e. e ≢ BtfError.OutOfMemory → types_compatible local.now local_id target.now target_id ≡ Err e) }
+    ensures answer { IfOk result (λ yes.
+        types_compatible local.now local_id target.now target_id ≡ Ok yes) }
+    ensures refused { IfErr result (λ e.
+        e ≢ BtfError.OutOfMemory
+        → types_compatible local.now local_id target.now target_id ≡ Err e) }
     ensures boundless { IsBoundless local.now local_id target.now target_id }
-    ensures exchanged { IfOk result (λ yes. types_compatible target.now target_id local.now local_id ≡ Ok yes) }
-    ensures rests { RestsOnBoth compared_ids local.now local_id target.now target_id (λ one other. types_compatible one local_id other target_id) }
+    ensures exchanged { IfOk result (λ yes.
+        types_compatible target.now target_id local.now local_id ≡ Ok yes) }
+    ensures rests { RestsOnBoth compared_ids local.now local_id target.now target_id (λ one other.
+        types_compatible one local_id other target_id) }
     ensures held { AreHeld compared_ids }
 {
     let local_kind = local.type_by_id(local_id)?.kind();

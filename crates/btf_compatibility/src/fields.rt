@@ -43,7 +43,9 @@ fn field_verdict(
     a: &TypeRef<'_>,
     b: &TypeRef<'_>,
 ) -> Result<bool, BtfError>
-    ensures { result ≡ field_answer (λ _. Err (BtfError.UnexpectedBtfType left)) local.now target.now left a.now b.now }
+    ensures { result
+        ≡ field_answer (λ _. Err (BtfError.UnexpectedBtfType left)) local.now target.now left a.now
+        b.now }
 {
     if is_composite(a) && is_composite(b) {
         return Ok(true);
@@ -61,13 +63,15 @@ fn field_verdict(
 
 /// The elements of two arrays.
 fn elements(a: &TypeRef<'_>, b: &TypeRef<'_>) -> Option<(u32, u32)>
-    ensures { result ≡ option_zip (option_map (λ array. array.element_type) (array_of a.now)) (option_map (λ array. array.element_type) (array_of b.now)) }
+    ensures { result
+        ≡ option_zip (option_map (λ array. array.element_type) (array_of a.now))
+        (option_map (λ array. array.element_type) (array_of b.now)) }
 {
     Some((a.array()?.element_type, b.array()?.element_type))
 }
 
 /// The answer for two members' types, round by round behind modifiers and then into an array.
-#[tactic(auto, using(crate::proofs::FieldRounds::rounds_over, crate::proofs::FieldRounds::round_left, crate::proofs::FieldRounds::round_right))]
+#[tactic(auto, using(crate::proofs::FieldRounds::rounds_over, crate::proofs::FieldRounds::round_left, crate::proofs::FieldRounds::round_right,),)]
 fn compare_fields(
     local: &Btf<'_>,
     local_id: u32,
@@ -110,8 +114,10 @@ pub fn fields_are_compatible<'t>(
     target_id: u32,
 ) -> Result<bool, BtfError>
     ensures value { result ≡ fields_compatible local.now local_id target.now target_id }
-    ensures exchanged { IfOk result (λ yes. fields_compatible target.now target_id local.now local_id ≡ Ok yes) }
-    ensures rests { RestsOnNames field_ids local.now local_id target.now target_id (λ one other. fields_compatible one local_id other target_id) }
+    ensures exchanged { IfOk result (λ yes.
+        fields_compatible target.now target_id local.now local_id ≡ Ok yes) }
+    ensures rests { RestsOnNames field_ids local.now local_id target.now target_id (λ one other.
+        fields_compatible one local_id other target_id) }
     ensures held { AreHeld field_ids }
 {
     compare_fields(local, local_id, target, target_id)

@@ -50,8 +50,11 @@ impl Pairs {
 
     /// Opens a pair that hasn't been met.
     pub(crate) fn open(&mut self, left: u32, right: u32) -> Result<(), AllocError>
-        ensures pushed { OnOk result (self.new.open.items ≡ self.old.open.items ++ record { left = left; right = right; next = 0 } ∷ []) }
-        ensures state { OnOk result (SetsState self.old.states.entries self.new.states.entries left right PairState.Open) }
+        ensures pushed { OnOk result
+            (self.new.open.items
+            ≡ self.old.open.items ++ record { left = left; right = right; next = 0 } ∷ []) }
+        ensures state { OnOk result
+            (SetsState self.old.states.entries self.new.states.entries left right PairState.Open) }
     {
         self.states.insert((left, right), PairState::Open)?;
         self.open.push(OpenPair {
@@ -65,7 +68,9 @@ impl Pairs {
     /// Goes on to the next part of a pair.
     pub(crate) fn advance(&mut self, pair: OpenPair) -> Result<(), AllocError>
         requires { pair.next + 1 < 2 ^ 64 }
-        ensures pushed { OnOk result (self.new.open.items ≡ self.old.open.items ++ record pair { next = pair.next + 1 } ∷ []) }
+        ensures pushed { OnOk result
+            (self.new.open.items
+            ≡ self.old.open.items ++ record pair { next = pair.next + 1 } ∷ []) }
         ensures states { self.new.states.entries ≡ self.old.states.entries }
     {
         self.open.push(OpenPair {
@@ -78,7 +83,9 @@ impl Pairs {
     /// Remembers that a pair is compatible.
     pub(crate) fn settle(&mut self, left: u32, right: u32) -> Result<(), AllocError>
         ensures open { self.new.open.items ≡ self.old.open.items }
-        ensures state { OnOk result (SetsState self.old.states.entries self.new.states.entries left right PairState.Settled) }
+        ensures state { OnOk result
+            (SetsState self.old.states.entries self.new.states.entries left right
+            PairState.Settled) }
     {
         self.states.insert((left, right), PairState::Settled)?;
         Ok(())

@@ -12,7 +12,8 @@ use Rattle.btf_extension.specs.declared.record.bpf_line_info.{bpf_line_info}
 use Rattle.btf_extension.specs.declared.region.RegionKind.{RegionKind}
 use Rattle.btf_extension.specs.declared.region.RegionKind.TheVariants.{Functions, Lines, Relocations}
 
--- sizes of records are in bytes, as the section gives them; the strings are those of the table, which name the groups
+-- sizes of records are in bytes, as the section gives them; the strings are those of the table,
+-- which name the groups
 pub record Extension : Type 0 where
   pub order : Endianness
   pub strings : List ℕ
@@ -23,8 +24,17 @@ pub record Extension : Type 0 where
   pub relocations : List (Group bpf_core_relo)
 
 -- the region says these groups
-abbrev pub Holds : {R : Type 0} → RegionKind → Endianness → (Endianness → List ℕ → R) → List ℕ → List (Group R) → Type 0
-Holds kind order read bytes groups = IsWithin (place_of kind order bytes) × AreGroups order read (size_in order (region_in kind order bytes)) (groups_bytes (region_in kind order bytes)) groups
+abbrev pub Holds : {R : Type 0}
+    → RegionKind
+    → Endianness
+    → (Endianness → List ℕ → R)
+    → List ℕ
+    → List (Group R)
+    → Type 0
+Holds kind order read bytes groups =
+    IsWithin (place_of kind order bytes)
+    × AreGroups order read (size_in order (region_in kind order bytes))
+    (groups_bytes (region_in kind order bytes)) groups
 
 -- the section says this; neither its magic nor its version is checked
 pub record IsExtension (order : Endianness) (strings bytes : List ℕ) (extension : Extension) : Type 0 where

@@ -24,7 +24,8 @@ bad_records Relocations place = InvalidRelocationInfo
 
 -- the name of the group that the bytes begin with can't be read
 abbrev pub NameFault : Endianness → List ℕ → List ℕ → BtfError → Type 0
-NameFault order strings bytes (InvalidStringOffset offset) = (offset ≡ word_at order bytes 0) × (text_at strings offset ≡ None)
+NameFault order strings bytes (InvalidStringOffset offset) =
+    (offset ≡ word_at order bytes 0) × (text_at strings offset ≡ None)
 NameFault order strings bytes _ = ⊥
 
 -- the kinds of relocations are the numbers below this
@@ -54,7 +55,9 @@ IsCut order size bytes = (8 < length bytes) × (length bytes < group_len order s
 
 -- what is wrong with the group that the bytes begin with
 abbrev pub FaultHere : RegionKind → Endianness → ℕ → List ℕ → Place → BtfError → List ℕ → Type 0
-FaultHere kind order size strings place e bytes = ((e ≡ bad_records kind place) × IsCut order size bytes) ⊎ (IsGroup order size bytes × GroupFault kind order size strings bytes e)
+FaultHere kind order size strings place e bytes =
+    ((e ≡ bad_records kind place) × IsCut order size bytes)
+    ⊎ (IsGroup order size bytes × GroupFault kind order size strings bytes e)
 
 -- the records of a region have a size, and it is long enough
 abbrev pub HasSize : RegionKind → Endianness → List ℕ → Type 0
@@ -67,7 +70,9 @@ HasBadSize kind order region = (4 ≤ length region) × (size_in order region < 
 abbrev pub RecordsFault : RegionKind → Endianness → List ℕ → Place → List ℕ → BtfError → Type 0
 RecordsFault kind order strings place region e =
     ((e ≡ bad_records kind place) × HasBadSize kind order region)
-    ⊎ (HasSize kind order region × StandsBehind order (size_in order region) (groups_bytes region) (FaultHere kind order (size_in order region) strings place e))
+    ⊎ (HasSize kind order region
+    × StandsBehind order (size_in order region) (groups_bytes region)
+    (FaultHere kind order (size_in order region) strings place e))
 
 -- the section has no room for a region, or the region none for the size of its records
 abbrev pub PlaceFault : Place → BtfError → Type 0
@@ -77,7 +82,8 @@ PlaceFault place e = (e ≡ misplaced place) × (IsPastEnd place ⊎ HasNoSize p
 abbrev pub RegionFault : RegionKind → Endianness → List ℕ → List ℕ → BtfError → Type 0
 RegionFault kind order strings bytes e =
     PlaceFault (place_of kind order bytes) e
-    ⊎ (IsWithin (place_of kind order bytes) × RecordsFault kind order strings (place_of kind order bytes) (region_in kind order bytes) e)
+    ⊎ (IsWithin (place_of kind order bytes)
+    × RecordsFault kind order strings (place_of kind order bytes) (region_in kind order bytes) e)
 
 -- what is wrong with a section
 abbrev pub ExtensionFault : Endianness → List ℕ → List ℕ → BtfError → Type 0

@@ -22,17 +22,32 @@ pub record IsGroup (order : Endianness) (size : ℕ) (bytes : List ℕ) : Type 0
 
 -- the group that the bytes begin with; of records that are longer the first words count
 abbrev pub group_in : {R : Type 0} → Endianness → (Endianness → List ℕ → R) → ℕ → List ℕ → Group R
-group_in order read size bytes = record { name_offset = word_at order bytes 0; records = items_in (read order) size (count_in order bytes) (drop 8 bytes) }
+group_in order read size bytes = record {
+  name_offset = word_at order bytes 0;
+  records = items_in (read order) size (count_in order bytes) (drop 8 bytes);
+}
 
 -- the bytes are these groups, one behind the other; a rest of at most 8 bytes ends them
-abbrev pub AreGroups : {R : Type 0} → Endianness → (Endianness → List ℕ → R) → ℕ → List ℕ → List (Group R) → Type 0
+abbrev pub AreGroups : {R : Type 0}
+    → Endianness
+    → (Endianness → List ℕ → R)
+    → ℕ
+    → List ℕ
+    → List (Group R)
+    → Type 0
 AreGroups order read size bytes [] = length bytes ≤ 8
-AreGroups order read size bytes (g ∷ gs) = IsGroup order size bytes × (g ≡ group_in order read size bytes) × AreGroups order read size (drop (group_len order size bytes) bytes) gs
+AreGroups order read size bytes (g ∷ gs) =
+    IsGroup order size bytes
+    × (g ≡ group_in order read size bytes)
+    × AreGroups order read size (drop (group_len order size bytes) bytes) gs
 
 -- whole groups at these places, one behind the other, reach from one offset to another
 abbrev pub Reach : Endianness → ℕ → List ℕ → ℕ → List ℕ → ℕ → Type 0
 Reach order size bytes from [] to = from ≡ to
-Reach order size bytes from (place ∷ places) to = (place ≡ from) × IsGroup order size (drop place bytes) × Reach order size bytes (place + group_len order size (drop place bytes)) places to
+Reach order size bytes from (place ∷ places) to =
+    (place ≡ from)
+    × IsGroup order size (drop place bytes)
+    × Reach order size bytes (place + group_len order size (drop place bytes)) places to
 
 -- something stands behind some whole groups
 pub record StandsBehind (order : Endianness) (size : ℕ) (bytes : List ℕ) (Stands : List ℕ → Type 0) : Type 0 where

@@ -15,7 +15,8 @@ use Rattle.btf_extension.specs.declared.region.RegionKind.{RegionKind}
 
 -- the groups at the places
 abbrev pub groups_at : {R : Type 0} → (Endianness → List ℕ → R) → GroupList → List (Group R)
-groups_at read g = map (λ place. group_in g.order read g.size (drop place g.bytes.now)) g.places.items
+groups_at read g =
+    map (λ place. group_in g.order read g.size (drop place g.bytes.now)) g.places.items
 
 -- a whole group begins at each place
 pub record AreWhole (g : GroupList) : Type 0 where
@@ -57,7 +58,9 @@ extension_of strings functions lines relocations = record {
 
 -- each relocation of a group is of a kind that is known
 pub record AreKindsKnown (order : Endianness) (size : ℕ) (bytes : List ℕ) : Type 0 where
-  pub known : (index : ℕ) → index < count_in order bytes → word_at order (drop (size * index) (drop 8 bytes)) 12 < kind_count
+  pub known : (index : ℕ)
+      → index < count_in order bytes
+      → word_at order (drop (size * index) (drop 8 bytes)) 12 < kind_count
 
 -- so are those of all groups
 pub record AreAllKindsKnown (g : GroupList) : Type 0 where
@@ -80,4 +83,5 @@ pub record IsRead (kind : RegionKind) (order : Endianness) (strings region : Lis
   pub size : g.size ≡ size_in order region
   pub bytes : g.bytes.now ≡ groups_bytes region
   pub sized : (length region ≡ 0) ⊎ HasSize kind order region
-  pub places : ArePlaces kind order (size_in order region) strings (groups_bytes region) g.places.items
+  pub places : ArePlaces kind order (size_in order region) strings (groups_bytes region)
+      g.places.items

@@ -13,11 +13,14 @@ next_hash hash byte = (hash * 31 % 2 ^ 32 + byte) % 2 ^ 32
 
 -- the hash of a name, by its length, its beginning and its end
 unfoldable pub name_hash : List ℕ → ℕ
-name_hash name = fold next_hash (fold next_hash (length name % 2 ^ 32) (take 64 name)) (drop (length name - 64) name)
+name_hash name =
+    fold next_hash (fold next_hash (length name % 2 ^ 32) (take 64 name))
+    (drop (length name - 64) name)
 
 -- the hash of the name of the group at a place
 abbrev pub place_hash : List ℕ → GroupList → ℕ → ℕ
-place_hash strings g place = option_map_or name_hash (text_at strings (word_at g.order (drop place g.bytes.now) 0)) 0
+place_hash strings g place =
+    option_map_or name_hash (text_at strings (word_at g.order (drop place g.bytes.now) 0)) 0
 
 abbrev pub has_hash : List ℕ → GroupList → ℕ → ℕ → Bool
 has_hash strings g hash place = place_hash strings g place == hash
@@ -33,7 +36,9 @@ pub record IsKept (old new : List (ℕ × ℕ)) (hash place : ℕ) : Type 0 wher
 
 -- the places kept are the last of each hash among the first so many groups
 pub record AreLastOf (strings : List ℕ) (g : GroupList) (count : ℕ) (entries : List (ℕ × ℕ)) : Type 0 where
-  pub last : (hash : ℕ) → place_by entries hash ≡ find (has_hash strings g hash) (reverse (take count g.places.items))
+  pub last : (hash : ℕ)
+      → place_by entries hash ≡ find (has_hash strings g hash) (reverse (take count g.places.items))
 
 pub record AreNames (strings : List ℕ) (g : GroupList) (entries : List (ℕ × ℕ)) : Type 0 where
-  pub last : (hash : ℕ) → place_by entries hash ≡ find (has_hash strings g hash) (reverse g.places.items)
+  pub last : (hash : ℕ)
+      → place_by entries hash ≡ find (has_hash strings g hash) (reverse g.places.items)

@@ -8,7 +8,8 @@ use Rattle.btf_extension.specs.declared.record.bpf_core_relo.{bpf_core_relo}
 use Rattle.btf_extension.specs.declared.record.bpf_func_info.{bpf_func_info}
 use Rattle.btf_extension.specs.declared.record.bpf_line_info.{bpf_line_info}
 
--- an instruction's offset in its section, in slots of 8 bytes; a record of a section gives it in bytes
+-- an instruction's offset in its section, in slots of 8 bytes; a record of a section gives it in
+-- bytes
 abbrev pub slot_at : Endianness → List ℕ → ℕ
 slot_at order bytes = word_at order bytes 0 / 8
 
@@ -16,13 +17,25 @@ slot_at order bytes = word_at order bytes 0 / 8
 abbrev pub func_in : Endianness → List ℕ → bpf_func_info
 func_in order bytes = record { insn_off = slot_at order bytes; type_id = word_at order bytes 4 }
 
--- a line: its first instruction, the offsets of its file's name and of its text, its number and column
+-- a line: its first instruction, the offsets of its file's name and of its text, its number and
+-- column
 abbrev pub line_in : Endianness → List ℕ → bpf_line_info
-line_in order bytes = record { insn_off = slot_at order bytes; file_name_off = word_at order bytes 4; line_off = word_at order bytes 8; line_col = word_at order bytes 12 }
+line_in order bytes = record {
+  insn_off = slot_at order bytes;
+  file_name_off = word_at order bytes 4;
+  line_off = word_at order bytes 8;
+  line_col = word_at order bytes 12;
+}
 
--- a relocation: the instruction's offset in bytes, the type, the offset of the access string, the kind
+-- a relocation: the instruction's offset in bytes, the type, the offset of the access string, the
+-- kind
 abbrev pub relocation_in : Endianness → List ℕ → bpf_core_relo
-relocation_in order bytes = record { insn_off = word_at order bytes 0; type_id = word_at order bytes 4; access_str_off = word_at order bytes 8; kind = word_at order bytes 12 }
+relocation_in order bytes = record {
+  insn_off = word_at order bytes 0;
+  type_id = word_at order bytes 4;
+  access_str_off = word_at order bytes 8;
+  kind = word_at order bytes 12;
+}
 
 -- the words of a record
 abbrev pub func_words : bpf_func_info → List ℕ

@@ -1,4 +1,5 @@
--- The header of the section, and the regions of functions, lines and relocations that it names ("BTF.ext section").
+-- The header of the section, and the regions of functions, lines and relocations that it names
+-- ("BTF.ext section").
 use Rattle.std.specs.Prelude.{ℕ, ◌+◌, ◌<◌, ◌≤◌, ◌⊎◌, ◌==◌, if◌then◌else◌, List, [], ◌∷◌, length, take, drop, slice_index_or}
 use Rattle.btf_records.specs.Words.{word_at}
 use Rattle.btf_records.specs.declared.words.Endianness.{Endianness}
@@ -6,7 +7,8 @@ use Rattle.btf_extension.specs.declared.region.Place.{Place}
 use Rattle.btf_extension.specs.declared.region.RegionKind.{RegionKind}
 use Rattle.btf_extension.specs.declared.region.RegionKind.TheVariants.{Functions, Lines, Relocations}
 
--- the header: magic, version, flags, its own length, and then for each region its offset and its length
+-- the header: magic, version, flags, its own length, and then for each region its offset and its
+-- length
 abbrev pub header_len : Endianness → List ℕ → ℕ
 header_len order bytes = word_at order bytes 4
 
@@ -16,14 +18,23 @@ pub record HasHeader (order : Endianness) (bytes : List ℕ) : Type 0 where
   pub within : header_len order bytes ≤ length bytes
 
 abbrev pub IsHeaderCut : Endianness → List ℕ → Type 0
-IsHeaderCut order bytes = (length bytes < 8) ⊎ ((8 ≤ length bytes) × ((header_len order bytes < 8) ⊎ (length bytes < header_len order bytes)))
+IsHeaderCut order bytes =
+    (length bytes < 8)
+    ⊎ ((8 ≤ length bytes)
+    × ((header_len order bytes < 8) ⊎ (length bytes < header_len order bytes)))
 
 abbrev pub header_in : Endianness → List ℕ → List ℕ
 header_in order bytes = take (header_len order bytes) bytes
 
 -- the word at an offset of the header; bytes past the header's end count as 0
 abbrev pub padded_word : Endianness → List ℕ → ℕ → ℕ
-padded_word order header at = word_at order (slice_index_or header at 0 ∷ slice_index_or header (at + 1) 0 ∷ slice_index_or header (at + 2) 0 ∷ slice_index_or header (at + 3) 0 ∷ []) 0
+padded_word order header at =
+    word_at order
+    (slice_index_or header at 0
+    ∷ slice_index_or header (at + 1) 0
+    ∷ slice_index_or header (at + 2) 0
+    ∷ slice_index_or header (at + 3) 0
+    ∷ []) 0
 
 -- where the header names a region
 abbrev pub field_of : RegionKind → ℕ
@@ -50,7 +61,8 @@ abbrev pub HasNoSize : Place → Type 0
 HasNoSize place = (0 < place.len) × (place.len < 4)
 
 abbrev pub region_in : RegionKind → Endianness → List ℕ → List ℕ
-region_in kind order bytes = take (place_of kind order bytes).len (drop (place_of kind order bytes).offset bytes)
+region_in kind order bytes =
+    take (place_of kind order bytes).len (drop (place_of kind order bytes).offset bytes)
 
 -- a region: the size of its records, and then its groups; an empty one has neither
 abbrev pub size_in : Endianness → List ℕ → ℕ

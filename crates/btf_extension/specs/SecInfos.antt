@@ -23,7 +23,9 @@ pub record AreThere (least : ℕ) (g : GroupRecords) : Type 0 where
 
 -- relocations of known kinds
 pub record AreOfKnownKinds (g : GroupRecords) : Type 0 where
-  pub known : (index : ℕ) → index < g.count → (relocation_in g.order (drop (g.size * index) g.bytes.now)).kind < kind_count
+  pub known : (index : ℕ)
+      → index < g.count
+      → (relocation_in g.order (drop (g.size * index) g.bytes.now)).kind < kind_count
 
 abbrev pub funcs_of : FuncRecords → List bpf_func_info
 funcs_of (funcs.Group g) = records_in func_in g

@@ -39,7 +39,13 @@ impl<'a> Model for BtfExt<'a> {
 
     ghost view = { λ x. extension_of x.strings x.functions x.lines x.relocations };
 
-    ghost invariant = { λ x. AreLaidOut 8 x.functions × AreLaidOut 16 x.lines × AreLaidOut 16 x.relocations × AreAllKindsKnown x.relocations × AreNames x.strings x.functions x.function_names.last.entries × AreNames x.strings x.lines x.line_names.last.entries };
+    ghost invariant = { λ x.
+        AreLaidOut 8 x.functions
+        × AreLaidOut 16 x.lines
+        × AreLaidOut 16 x.relocations
+        × AreAllKindsKnown x.relocations
+        × AreNames x.strings x.functions x.function_names.last.entries
+        × AreNames x.strings x.lines x.line_names.last.entries };
 }
 
 impl<'a> BtfExt<'a> {
@@ -49,17 +55,19 @@ impl<'a> BtfExt<'a> {
     /// `InvalidHeader` where the header is shorter than 8 bytes, or cut off; `InvalidInfo` where a
     /// region goes past the end or has no room for the size of its records; `InvalidInfo`,
     /// `InvalidLineInfo` and `InvalidRelocationInfo` where records of functions, lines or
-    /// relocations are too short or a group of them is cut off; `InvalidStringOffset` where the name
-    /// of a group of functions or lines can't be read; `InvalidRelocationKind` where a relocation's
-    /// kind is above 11.
+    /// relocations are too short or a group of them is cut off; `InvalidStringOffset` where the
+    /// name of a group of functions or lines can't be read; `InvalidRelocationKind` where a
+    /// relocation's kind is above 11.
     pub fn parse(
         alloc: Global,
         section: &'a [u8],
         order: Endianness,
         table: &Btf<'a>,
     ) -> Result<BtfExt<'a>, BtfError>
-        ensures holds { IfOk result (λ extension. HoldsExtension order table.now.strings section.now extension) }
-        ensures refused { IfErr result (λ e. e ≢ OutOfMemory → ExtensionFault order table.now.strings section.now e) }
+        ensures holds { IfOk result (λ extension.
+            HoldsExtension order table.now.strings section.now extension) }
+        ensures refused { IfErr result (λ e.
+            e ≢ OutOfMemory → ExtensionFault order table.now.strings section.now e) }
     {
         let header = header(order, section)?;
         let function_region = region_of(RegionKind::Functions, order, section, header)?;
@@ -112,8 +120,8 @@ impl<'a> BtfExt<'a> {
         }
     }
 
-    /// The records of the lines of a section of instructions; of several groups of its name the last
-    /// counts.
+    /// The records of the lines of a section of instructions; of several groups of its name the
+    /// last counts.
     pub fn line_info(&self, name: &str) -> Option<LineSecInfo<'_>>
         ensures { result ≡ records_of self.now.strings name.now self.now.lines }
     {

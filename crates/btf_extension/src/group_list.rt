@@ -39,7 +39,8 @@ const KIND_COUNT: u32 = 12;
 fn group_len(order: Endianness, size: usize, bytes: &[u8]) -> Option<usize>
     requires head { 8 < length bytes.now }
     requires few { size < 2 ^ 32 }
-    ensures { MatchOption result (length bytes.now < group_len order size bytes.now) (λ len. (len ≡ group_len order size bytes.now) × IsGroup order size bytes.now) }
+    ensures { MatchOption result (length bytes.now < group_len order size bytes.now) (λ len.
+        (len ≡ group_len order size bytes.now) × IsGroup order size bytes.now) }
 {
     let len = 8 + size * word(order, bytes, 4) as usize;
     if len <= bytes.len() { Some(len) } else { None }
@@ -84,7 +85,7 @@ fn check_name(order: Endianness, table: &Btf<'_>, group: &[u8]) -> Result<(), Bt
 }
 
 /// Looks for what is wrong with a whole group.
-#[tactic(auto, using(crate::proofs::Faults::named_function, crate::proofs::Faults::named_line, crate::proofs::Faults::known_kinds))]
+#[tactic(auto, using(crate::proofs::Faults::named_function, crate::proofs::Faults::named_line, crate::proofs::Faults::known_kinds,),)]
 fn check_group(
     kind: RegionKind,
     order: Endianness,
@@ -117,8 +118,10 @@ fn checked_len(
     requires few { size < 2 ^ 32 }
     ensures len { IfOk result (λ len. len ≡ group_len order size bytes.now) }
     ensures whole { OnOk result (IsGroup order size bytes.now) }
-    ensures good { OnOk result (IsFaultless region.entry.kind order size table.now.strings bytes.now) }
-    ensures refused { IfErr result (λ e. FaultHere region.entry.kind order size table.now.strings region.entry.place e bytes.now) }
+    ensures good { OnOk result
+        (IsFaultless region.entry.kind order size table.now.strings bytes.now) }
+    ensures refused { IfErr result (λ e.
+        FaultHere region.entry.kind order size table.now.strings region.entry.place e bytes.now) }
 {
     let Some(len) = group_len(order, size, bytes) else {
         return Err(region.place.bad_records(region.kind));
@@ -140,9 +143,14 @@ fn places(
     requires few { length bytes.now < 2 ^ 32 }
     requires sized { least_size region.kind ≤ size }
     requires few_bytes { size < 2 ^ 32 }
-    ensures ok { IfOk result (λ places. ArePlaces region.entry.kind order size table.now.strings bytes.now places.items) }
-    ensures stand { IfOk result (λ places. All (λ place. IsGroup order size (drop place bytes.now)) places.items) }
-    ensures refused { IfErr result (λ e. e ≢ OutOfMemory → StandsBehind order size bytes.now (FaultHere region.entry.kind order size table.now.strings region.entry.place e)) }
+    ensures ok { IfOk result (λ places.
+        ArePlaces region.entry.kind order size table.now.strings bytes.now places.items) }
+    ensures stand { IfOk result (λ places.
+        All (λ place. IsGroup order size (drop place bytes.now)) places.items) }
+    ensures refused { IfErr result (λ e.
+        e ≢ OutOfMemory
+        → StandsBehind order size bytes.now
+        (FaultHere region.entry.kind order size table.now.strings region.entry.place e)) }
 {
     let mut places = Vec::new(alloc);
     let mut at = 0;
@@ -160,7 +168,8 @@ impl<'a> GroupList<'a> {
         requires { AreWhole self.now }
         ensures value { result ≡ slice_get self.now.places.items index }
         ensures within { IfSome result (λ _. index < length self.now.places.items) }
-        ensures stands { IfSome result (λ place. IsGroup self.now.order self.now.size (drop place self.now.bytes.now)) }
+        ensures stands { IfSome result (λ place.
+            IsGroup self.now.order self.now.size (drop place self.now.bytes.now)) }
     {
         self.places.get(index).copied()
     }
@@ -186,7 +195,7 @@ impl<'a> GroupList<'a> {
     }
 
     /// The records of the group at a place.
-    #[tactic(auto, using(crate::proofs::Groups::place_within, crate::proofs::Groups::records_there))]
+    #[tactic(auto, using(crate::proofs::Groups::place_within, crate::proofs::Groups::records_there),)]
     pub(crate) fn records(&self, place: u32) -> GroupRecords<'a>
         requires { IsGroup self.now.order self.now.size (drop place self.now.bytes.now) }
         ensures value { AreRecordsOf self.now place result }
@@ -204,8 +213,10 @@ impl<'a> GroupList<'a> {
     /// The place of the last group of a name, by a look at each.
     pub(crate) fn last_named(&self, strings: &Strings<'_>, name: &str) -> Option<u32>
         requires { AreWhole self.now }
-        ensures value { result ≡ find (is_named strings.now name.now self.now) (reverse self.now.places.items) }
-        ensures stands { IfSome result (λ place. IsGroup self.now.order self.now.size (drop place self.now.bytes.now)) }
+        ensures value { result
+            ≡ find (is_named strings.now name.now self.now) (reverse self.now.places.items) }
+        ensures stands { IfSome result (λ place.
+            IsGroup self.now.order self.now.size (drop place self.now.bytes.now)) }
     {
         let mut index = self.places.len();
         while index > 0 {
@@ -244,9 +255,13 @@ impl<'a> GroupList<'a> {
     ) -> Result<GroupList<'a>, BtfError>
         requires sized { (length region.bytes.now ≡ 0) ⊎ (4 ≤ length region.bytes.now) }
         requires few { length region.bytes.now < 2 ^ 32 }
-        ensures read { IfOk result (IsRead region.entry.kind order table.now.strings region.entry.bytes.now) }
+        ensures read { IfOk result
+            (IsRead region.entry.kind order table.now.strings region.entry.bytes.now) }
         ensures laid_out { IfOk result (AreLaidOut (least_size region.entry.kind)) }
-        ensures refused { IfErr result (λ e. e ≢ OutOfMemory → RecordsFault region.entry.kind order table.now.strings region.entry.place region.entry.bytes.now e) }
+        ensures refused { IfErr result (λ e.
+            e ≢ OutOfMemory
+            → RecordsFault region.entry.kind order table.now.strings region.entry.place
+            region.entry.bytes.now e) }
     {
         if region.bytes.is_empty() {
             return Ok(GroupList {

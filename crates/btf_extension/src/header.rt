@@ -45,7 +45,9 @@ fn padded_word(order: Endianness, header: &[u8], at: usize) -> u32
 
 /// The header that the section begins with.
 pub(crate) fn header(order: Endianness, section: &[u8]) -> Result<&[u8], BtfError>
-    ensures { MatchResult result (λ h. (h.now ≡ header_in order section.now) × HasHeader order section.now) (λ e. (e ≡ InvalidHeader) × IsHeaderCut order section.now) }
+    ensures { MatchResult result (λ h.
+        (h.now ≡ header_in order section.now) × HasHeader order section.now) (λ e.
+        (e ≡ InvalidHeader) × IsHeaderCut order section.now) }
 {
     if section.len() < LEAST_LEN {
         return Err(BtfError::InvalidHeader);

@@ -86,7 +86,7 @@ fn place_by(last: &BTreeMap<u32, u32>, hash: u32) -> Option<u32>
 
 impl GroupNames {
     /// The names of these groups.
-    #[tactic(auto, using(crate::proofs::NameHashes::none_kept, crate::proofs::NameHashes::one_more_kept, crate::proofs::NameHashes::all_kept))]
+    #[tactic(auto, using(crate::proofs::NameHashes::none_kept, crate::proofs::NameHashes::one_more_kept, crate::proofs::NameHashes::all_kept,),)]
     pub(crate) fn new(
         alloc: Global,
         strings: &Strings<'_>,
@@ -106,7 +106,7 @@ impl GroupNames {
 
     /// The place of the last group of a name. Looks at one group, unless a later one has another
     /// name of the same hash.
-    #[tactic(auto, using(crate::proofs::NameHashes::last_of_hash, crate::proofs::NameHashes::none_of_hash))]
+    #[tactic(auto, using(crate::proofs::NameHashes::last_of_hash, crate::proofs::NameHashes::none_of_hash),)]
     pub(crate) fn last_named(
         &self,
         strings: &Strings<'_>,
@@ -115,8 +115,10 @@ impl GroupNames {
     ) -> Option<u32>
         requires whole { AreWhole groups.now }
         requires names { AreNames strings.now groups.now self.now.last.entries }
-        ensures value { result ≡ find (is_named strings.now name.now groups.now) (reverse groups.now.places.items) }
-        ensures stands { IfSome result (λ place. IsGroup groups.now.order groups.now.size (drop place groups.now.bytes.now)) }
+        ensures value { result
+            ≡ find (is_named strings.now name.now groups.now) (reverse groups.now.places.items) }
+        ensures stands { IfSome result (λ place.
+            IsGroup groups.now.order groups.now.size (drop place groups.now.bytes.now)) }
     {
         let place = place_by(&self.last, name_hash(name))?;
         if groups.is_named(strings, place, name) {

@@ -118,7 +118,8 @@ impl Record for bpf_core_relo {
 impl bpf_func_info {
     /// Writes its words behind what is there, the low byte of each first.
     pub(crate) fn write(self, out: &mut Vec<u8>) -> Result<(), AllocError>
-        ensures { OnOk result (out.new.items ≡ out.old.items ++ words_bytes Little (func_words self)) }
+        ensures { OnOk result
+            (out.new.items ≡ out.old.items ++ words_bytes Little (func_words self)) }
     {
         push_word(out, Endianness::Little, self.insn_off)?;
         push_word(out, Endianness::Little, self.type_id)
@@ -128,7 +129,8 @@ impl bpf_func_info {
 impl bpf_line_info {
     /// Writes its words behind what is there, the low byte of each first.
     pub(crate) fn write(self, out: &mut Vec<u8>) -> Result<(), AllocError>
-        ensures { OnOk result (out.new.items ≡ out.old.items ++ words_bytes Little (line_words self)) }
+        ensures { OnOk result
+            (out.new.items ≡ out.old.items ++ words_bytes Little (line_words self)) }
     {
         push_word(out, Endianness::Little, self.insn_off)?;
         push_word(out, Endianness::Little, self.file_name_off)?;

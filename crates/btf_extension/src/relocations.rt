@@ -26,7 +26,8 @@ impl<'e> Model for SecInfo<'e> {
 
     ghost Value = { Group bpf_core_relo };
 
-    ghost view = { λ s. record { name_offset = s.name_offset; records = records_in relocation_in s.records } };
+    ghost view = { λ s.
+        record { name_offset = s.name_offset; records = records_in relocation_in s.records } };
 
     ghost invariant = { λ s. AreThere 16 s.records × AreOfKnownKinds s.records };
 }
@@ -75,7 +76,10 @@ impl<'e> Model for SecInfoIter<'e> {
 
     ghost view = { λ s. drop s.next (groups_at relocation_in s.groups.now) };
 
-    ghost invariant = { λ s. AreLaidOut 16 s.groups.now × AreAllKindsKnown s.groups.now × (s.next ≤ length s.groups.now.places.items) };
+    ghost invariant = { λ s.
+        AreLaidOut 16 s.groups.now
+        × AreAllKindsKnown s.groups.now
+        × (s.next ≤ length s.groups.now.places.items) };
 }
 
 /// The group of relocations at an index.

@@ -25,7 +25,10 @@ pub(crate) struct GroupRecords<'a> {
 pub(crate) fn record_at<R: Record>(group: &GroupRecords<'_>, index: usize) -> Option<R>
     requires whole { group.now.size * group.now.count ≤ length group.now.bytes.now }
     requires sized { R.SIZE ≤ group.now.size }
-    ensures value { result ≡ slice_get (items_in (R.record_in group.now.order) group.now.size group.now.count group.now.bytes.now) index }
+    ensures value { result
+        ≡ slice_get
+        (items_in (R.record_in group.now.order) group.now.size group.now.count group.now.bytes.now)
+        index }
     ensures within { IfSome result (λ _. index < group.now.count) }
     ensures few { group.now.count < 2 ^ 32 }
 {
@@ -65,7 +68,9 @@ impl<'a> FuncSecInfo<'a> {
     pub(crate) fn of_group(group: GroupRecords<'a>) -> FuncSecInfo<'a>
         requires whole { group.size * group.count ≤ length group.bytes.now }
         requires sized { 8 ≤ group.size }
-        ensures { result ≡ items_in (func_in group.entry.order) group.entry.size group.entry.count group.entry.bytes.now }
+        ensures { result
+            ≡ items_in (func_in group.entry.order) group.entry.size group.entry.count
+            group.entry.bytes.now }
     {
         FuncSecInfo {
             records: FuncRecords::Group(group),
@@ -169,7 +174,9 @@ impl<'a> LineSecInfo<'a> {
     pub(crate) fn of_group(group: GroupRecords<'a>) -> LineSecInfo<'a>
         requires whole { group.size * group.count ≤ length group.bytes.now }
         requires sized { 16 ≤ group.size }
-        ensures { result ≡ items_in (line_in group.entry.order) group.entry.size group.entry.count group.entry.bytes.now }
+        ensures { result
+            ≡ items_in (line_in group.entry.order) group.entry.size group.entry.count
+            group.entry.bytes.now }
     {
         LineSecInfo {
             records: LineRecords::Group(group),

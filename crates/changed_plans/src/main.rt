@@ -1,12 +1,15 @@
-//! Plans of an object that is cut off or changed in one byte, and of an object for kernel types that are: how many runs of
-//! `prepare` end with a plan, whose text is read as a plan that is written alike, or with a refusal.
+//! Plans of an object that is cut off or changed in one byte, and of an object for kernel types
+//! that are: how many runs of `prepare` end with a plan, whose text is read as a plan that is
+//! written alike, or with a refusal.
 //!
-//! `changed_plans [--plans] MAP[,MAP].. OBJECT little|big [TYPES..]`: maps that get a number, the object's file, the byte order of the
-//! kernel's types and their files. With `--plans` it also prints how many plans there are.
+//! `changed_plans [--plans] MAP[,MAP].. OBJECT little|big [TYPES..]`: maps that get a number, the
+//! object's file, the byte order of the kernel's types and their files. With `--plans` it also
+//! prints how many plans there are.
 //!
 //! `changed_plans --text PLAN`: the text of a plan that is cut off or changed in one byte, read.
 //!
-//! `changed_plans --lines PLAN`: for each byte of a plan's text the lines at which it is refused with each other value of it.
+//! `changed_plans --lines PLAN`: for each byte of a plan's text the lines at which it is refused
+//! with each other value of it.
 #![tactic(auto)]
 
 mod changes;
@@ -72,8 +75,8 @@ fn read_files(rt: &HostRuntime, words: &mut Args) -> Result<Vec<Vec<u8>>, Change
     Ok(files)
 }
 
-/// Counts over the object that the words name behind the names of maps, the first word, and over each
-/// file of kernel types that they name behind the byte order of these.
+/// Counts over the object that the words name after the names of maps, the first word, and over
+/// each file of kernel types that they name after the byte order of these.
 fn count_all(
     rt: &HostRuntime,
     maps: &str,

@@ -1,4 +1,5 @@
-//! Plans of changed objects, and of an object for changed kernel types, for a kernel without symbols.
+//! Plans of changed objects, and of an object for changed kernel types, for a kernel without
+//! symbols.
 
 use crate::changes::{Run, counts_of};
 use crate::counts::{Answer, Counts};
@@ -78,8 +79,8 @@ fn answer_of(
     answer_in(alloc, planned)
 }
 
-/// Whether an object has a section of more zeros than a plan is made with here: 4 GiB of them would be
-/// written.
+/// Whether an object has a section of more zeros than a plan is made with here: 4 GiB of them would
+/// be written.
 fn has_many_zeros(file: &[u8]) -> bool {
     let Ok(elf) = ElfFile::parse(file) else {
         return false;
@@ -136,8 +137,8 @@ fn numbered(alloc: Global, maps: &str) -> Result<Settings, AllocError> {
     Ok(settings)
 }
 
-/// What comes of changed objects for kernel types, with numbers for maps of names that are parted by
-/// commas.
+/// What comes of changed objects for kernel types, with numbers for maps of names that are parted
+/// by commas.
 ///
 /// # Errors
 ///

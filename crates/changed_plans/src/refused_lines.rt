@@ -75,8 +75,8 @@ fn lines_at(alloc: Global, text: &mut [u8], at: usize) -> Result<String, AllocEr
     runs.into_text()
 }
 
-/// Prints for each byte of a text a line: the lines at which it is refused with each other value of that
-/// byte, the values rising, 0 where it is a plan's text.
+/// Prints for each byte of a text a line: the lines at which it is refused with each other value of
+/// that byte, the values rising, 0 where it is a plan's text.
 pub(crate) fn print_refused_lines(rt: &HostRuntime, text: &mut [u8]) -> Result<(), ChangesError> {
     for at in 0..text.len() {
         let lines = lines_at(rt.alloc(), text, at)?;

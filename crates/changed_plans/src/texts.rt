@@ -6,9 +6,9 @@ use std::alloc::Global;
 /// How many answers to changed texts were as they must be.
 #[derive(Clone, Copy)]
 pub(crate) struct TextCounts {
-    /// So many texts were read, and written as they were read.
+    /// How many texts were read, and written as they were read.
     pub(crate) read: u64,
-    /// So many were refused at the line of the change or a later one that is there.
+    /// How many were refused at the line of the change or a later one that is there.
     pub(crate) refused: u64,
     /// All.
     pub(crate) all: u64,
@@ -35,7 +35,7 @@ fn is_written_as(alloc: Global, plan: &Plan<'_>, text: &[u8]) -> bool {
     plan.write(&mut out).is_ok() && out.into_inner().as_slice() == text
 }
 
-/// How many of the proper fronts of a text are refused at the line behind their last whole one.
+/// How many of the proper fronts of a text are refused at the line after their last whole one.
 pub(crate) fn count_refused_texts(alloc: Global, text: &[u8]) -> usize {
     let mut count: usize = 0;
     for len in 0..text.len() {

@@ -1,5 +1,5 @@
-//! Random tables of types: what type relocations over them come to, and which members are found by name,
-//! beside what the plain definitions say. For tests.
+//! Random tables of types: what type relocations over them come to, and which members are found by
+//! name, beside what the plain definitions say. For tests.
 #![tactic(auto)]
 
 mod random_tables;

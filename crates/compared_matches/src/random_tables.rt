@@ -1,5 +1,5 @@
-//! Random tables of types: what type relocations over them come to, and which members are found by name,
-//! beside what the plain definitions say.
+//! Random tables of types: what type relocations over them come to, and which members are found by
+//! name, beside what the plain definitions say.
 
 use crate::tally::Tally;
 use access_paths::{Subject, subject_of};
@@ -14,7 +14,7 @@ use type_match::{
     RelocationOutcome, TypeMatcher, TypeRelocation, TypeRelocationError, relocation_outcome,
 };
 
-/// So many relocations of each object, and as many searches for members.
+/// How many relocations each object has, and how many searches for members.
 const ASKED: u32 = 32;
 
 /// The least number of types of a table, and how many more there may be.
@@ -25,8 +25,8 @@ const MORE: u32 = 14;
 /// How often a type is looked for that is fit.
 const TRIES: u32 = 4;
 
-/// What type relocations come to, with faults of the object's types and of a kernel's, and what searches
-/// for members give.
+/// What type relocations come to, with faults of the object's types and of a kernel's, and what
+/// searches for members give.
 pub const SORTS: [&str; 22] = [
     "value",
     "field",
@@ -99,8 +99,8 @@ fn details(
     }
 }
 
-/// Compares what relocations come to with what the definition says, one by one, all at once, and each
-/// a second time.
+/// Compares what relocations come to with what the definition says, one by one, all at once, and
+/// each a second time.
 fn compare_outcomes<'m>(
     local: &'m Btf<'m>,
     relocations: &[TypeRelocation],
@@ -281,7 +281,8 @@ fn random_section(
     )
 }
 
-/// The sections of up to three tables of a kernel, of which most are much like the object's, and then of an object.
+/// The sections of up to three tables of a kernel, of which most are much like the object's, and
+/// then of an object.
 fn random_sections(alloc: Global, texts: &Texts, round: u64) -> Result<Vec<Vec<u8>>, AllocError> {
     let mut sections = Vec::new(alloc);
     let others = round % 4;
@@ -323,7 +324,7 @@ fn compare_round(
     Ok(())
 }
 
-/// Compares over so many random objects and kernels.
+/// Compares over a number of random objects and kernels.
 ///
 /// # Errors
 ///

@@ -25,12 +25,12 @@ keys-stay [] old new same have = have
 keys-stay (p ∷ ps) old new same have =
     (by-keys old new (p.1.section_index, p.1.address) same have.0, keys-stay ps old new same have.1)
 
--- each program's function is there behind an attempt to link
+-- each program's function is there after an attempt to link
 pub functions_stay : {T E : Type 0} (r : Result T E) (programs : List (List ℕ × ProgramContent)) (u : Unlinked) (keys : List (ℕ × ℕ)) (old new : Keyed) → u.functions ≡ old → OnOk r (AreLinked u keys new) → OnErr r (new ≡ old) → HaveFunctions programs old → HaveFunctions programs new
 functions_stay (Ok x) programs u keys old new is linked same have = keys-stay programs old new (linked.stay ∙ ap keys_of is) have
 functions_stay (Err e) programs u keys old new is linked same have = rw same have
 
--- so it is behind an attempt to change them
+-- so it is after an attempt to change them
 pub functions_stay_changed : {T E : Type 0} (r : Result T E) (programs : List (List ℕ × ProgramContent)) (change : FunctionContent → FunctionContent) (old new : Keyed) → OnOk r (AreChanged change old new) → OnErr r (new ≡ old) → HaveFunctions programs old → HaveFunctions programs new
 functions_stay_changed (Ok x) programs change old new is same have = keys-stay programs old new is.keys have
 functions_stay_changed (Err e) programs change old new is same have = rw same have
@@ -40,7 +40,7 @@ pub functions_stay_relocated : {T E : Type 0} (r : Result T E) (programs : List 
 functions_stay_relocated (Ok x) programs rule file old new is same have = keys-stay programs old new is.keys have
 functions_stay_relocated (Err e) programs rule file old new is same have = rw same have
 
--- and behind the renaming of helpers
+-- and after the renaming of helpers
 keys_renamed : (functions : Keyed) → keys_of (map (λ e. (e.0, with_older_helpers e.1)) functions) ≡ keys_of functions
 keys_renamed [] = refl
 keys_renamed (e ∷ es) = ap (λ (ks : List (ℕ × ℕ)). e.0 ∷ ks) (keys_renamed es)

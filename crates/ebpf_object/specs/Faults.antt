@@ -35,7 +35,11 @@ HasMapFault file table e = HoldsTypes file table × HasMapsFault file (option_ma
 
 -- a fault of what a file holds besides its headers, names, license and version
 abbrev pub HasObjectFault : List ℕ → ParseError → Type 0
-HasObjectFault file e = HasTypesFault file e ⊎ ((table : Table) × HasTableFault file table e) ⊎ ((table : Option Table) × HasMapFault file table e) ⊎ HasFunctionFault file e
+HasObjectFault file e =
+    HasTypesFault file e
+    ⊎ ((table : Table) × HasTableFault file table e)
+    ⊎ ((table : Option Table) × HasMapFault file table e)
+    ⊎ HasFunctionFault file e
 
 -- no such fault stands
 pub record IsSound (file : List ℕ) : Type 0 where

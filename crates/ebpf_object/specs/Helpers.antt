@@ -13,10 +13,17 @@ pub record IsAnswered (Says : Bool → Type 0) (old new : List ((ℕ × ℕ) × 
   pub said : Says answer
   pub is : new ≡ for_kernel answer old
 
-abbrev pub IsSanitizedIf : Bool → (Bool → Type 0) → List ((ℕ × ℕ) × FunctionContent) → List ((ℕ × ℕ) × FunctionContent) → Type 0
+abbrev pub IsSanitizedIf : Bool
+    → (Bool → Type 0)
+    → List ((ℕ × ℕ) × FunctionContent)
+    → List ((ℕ × ℕ) × FunctionContent)
+    → Type 0
 IsSanitizedIf false Says old new = new ≡ old
 IsSanitizedIf true Says old new = IsAnswered Says old new
 
 -- the question is asked where, and only where, a slot calls a newer helper
-abbrev pub IsSanitized : (Bool → Type 0) → List ((ℕ × ℕ) × FunctionContent) → List ((ℕ × ℕ) × FunctionContent) → Type 0
+abbrev pub IsSanitized : (Bool → Type 0)
+    → List ((ℕ × ℕ) × FunctionContent)
+    → List ((ℕ × ℕ) × FunctionContent)
+    → Type 0
 IsSanitized Says old new = IsSanitizedIf (has_newer_helper old) Says old new

@@ -12,8 +12,9 @@ use Rattle.object_parse.specs.Functions.{functions_of, programs_of}
 use Rattle.object_parts.specs.Content.{FunctionContent, ProgramContent}
 use Rattle.ebpf_object.specs.Types.{HoldsRecords, HoldsTypes}
 
--- An object: the file, whose sections, symbols and relocations it has; its types and what stands beside them; maps, programs
--- and externs by name, and functions by section index and address, all in order.
+-- An object: the file, whose sections, symbols and relocations it has; its types and what stands
+-- beside them; maps, programs and externs by name, and functions by section index and address, all
+-- in order.
 pub record ObjectContent : Type 0 where
   pub file : List ℕ
   pub types : Option Table
@@ -30,8 +31,9 @@ no_externs = record { by_name = []; ksyms = None }
 abbrev pub completed : Table → Table
 completed table = if has_function table then with_placeholder table else table
 
--- The object that a file holds: its types are those of the section, completed. What stands beside them, the records of functions and
--- the externs are of the types as they were read, the maps of those of the object.
+-- The object that a file holds: its types are those of the section, completed. What stands beside
+-- them, the records of functions and the externs are of the types as they were read, the maps of
+-- those of the object.
 pub record IsParsed (file : List ℕ) (object : ObjectContent) : Type 0 where
   pub table : Option Table
   pub holds : HoldsTypes file table

@@ -13,13 +13,17 @@ abbrev pub section_without_code : List ℕ → Option Section
 section_without_code file = find (has_function_without_code (symbols_of file)) (read_sections file)
 
 abbrev pub function_without_code_in : List ℕ → Section → Option Symbol
-function_without_code_in file section = find (has_no_code section) (symbols_in (symbols_of file) section.index)
+function_without_code_in file section =
+    find (has_no_code section) (symbols_in (symbols_of file) section.index)
 
 -- that section's index, and that function's name
 abbrev pub place_without_code : List ℕ → Option (ℕ × List ℕ)
 place_without_code file =
-    option_and_then (λ section. option_map (λ s. (section.index, unwrap_or s.name [])) (function_without_code_in file section)) (section_without_code file)
+    option_and_then (λ section.
+    option_map (λ s. (section.index, unwrap_or s.name [])) (function_without_code_in file section))
+    (section_without_code file)
 
 -- the name of the section of an index that is read, empty where there is none
 abbrev pub name_at : List ℕ → ℕ → List ℕ
-name_at file index = unwrap_or (option_and_then (λ s. s.name) (find (λ s. s.index == index) (read_sections file))) []
+name_at file index =
+    unwrap_or (option_and_then (λ s. s.name) (find (λ s. s.index == index) (read_sections file))) []

@@ -19,8 +19,10 @@ use Rattle.object_names.specs.Named.{last_section, last_symbol}
 
 -- the sizes of sections and the offsets of symbols by name, as a file has them
 pub record AreNumbersOf (file : List ℕ) (sizes offsets : List ℕ → Option ℕ) : Type 0 where
-  pub size_at : (name : List ℕ) → sizes name ≡ option_map (λ s. s.size) (last_section (read_sections file) name)
-  pub offset_at : (name : List ℕ) → offsets name ≡ option_map (λ s. s.address) (last_symbol (symbols_of file) name)
+  pub size_at : (name : List ℕ)
+      → sizes name ≡ option_map (λ s. s.size) (last_section (read_sections file) name)
+  pub offset_at : (name : List ℕ)
+      → offsets name ≡ option_map (λ s. s.address) (last_symbol (symbols_of file) name)
 
 -- calls of the predicate gave these answers, in this order
 pub record AreAnswered {F : Type 0} (predicate : Mut F (BtfFeature × Unit {0}) Bool) (before : F) (answers : Answers) : Type 0 where
@@ -33,15 +35,24 @@ pub record AreAsked (table : Table) (answers : Answers) : Type 0 where
   pub once : AreDistinct (features answers)
 
 -- under answers a record of a table can't be rewritten
-abbrev pub IsRefusedUnder : Answers → (List ℕ → Option ℕ) → (List ℕ → Option ℕ) → Table → BtfError → Type 0
-IsRefusedUnder answers sizes offsets table e = AreAsked table answers × SanitizingFault table.order (facts_in answers sizes offsets table) e
+abbrev pub IsRefusedUnder : Answers
+    → (List ℕ → Option ℕ)
+    → (List ℕ → Option ℕ)
+    → Table
+    → BtfError
+    → Type 0
+IsRefusedUnder answers sizes offsets table e =
+    AreAsked table answers × SanitizingFault table.order (facts_in answers sizes offsets table) e
 
--- what refuses to rewrite a table under answers: a fault of the step on `.ksyms`, or of a record after it
+-- what refuses to rewrite a table under answers: a fault of the step on `.ksyms`, or of a record
+-- after it
 pub record TableFault (answers : Answers) (file : List ℕ) (ksyms : Option (ℕ × Option ℕ)) (table : Table) (e : BtfError) : Type 0 where
   pub sizes : List ℕ → Option ℕ
   pub offsets : List ℕ → Option ℕ
   pub numbers : AreNumbersOf file sizes offsets
-  pub fault : StepFault ksyms table e ⊎ (IsFaultless (StepFault ksyms table) × IsRefusedUnder answers sizes offsets (stepped ksyms table) e)
+  pub fault : StepFault ksyms table e
+      ⊎ (IsFaultless (StepFault ksyms table)
+      × IsRefusedUnder answers sizes offsets (stepped ksyms table) e)
 
 -- a table can't be rewritten under answers that a predicate gave
 pub record IsRefusedTable {F : Type 0} (predicate : Mut F (BtfFeature × Unit {0}) Bool) (before : F) (file : List ℕ) (ksyms : Option (ℕ × Option ℕ)) (table : Table) (e : BtfError) : Type 0 where
@@ -50,8 +61,15 @@ pub record IsRefusedTable {F : Type 0} (predicate : Mut F (BtfFeature × Unit {0
   pub fault : TableFault answers file ksyms table e
 
 -- a table without a type isn't looked at
-abbrev pub CannotRewrite : Answers → List ℕ → Option (ℕ × Option ℕ) → Option Table → BtfError → Type 0
-CannotRewrite answers file ksyms types e = IsSomeAnd types (λ table. ((length table.types == 0) ≡ false) × TableFault answers file ksyms table e)
+abbrev pub CannotRewrite : Answers
+    → List ℕ
+    → Option (ℕ × Option ℕ)
+    → Option Table
+    → BtfError
+    → Type 0
+CannotRewrite answers file ksyms types e =
+    IsSomeAnd types (λ table.
+    ((length table.types == 0) ≡ false) × TableFault answers file ksyms table e)
 
 -- the types of an object can't be rewritten under answers that a predicate gave
 pub record IsRefused {F : Type 0} (predicate : Mut F (BtfFeature × Unit {0}) Bool) (before : F) (file : List ℕ) (ksyms : Option (ℕ × Option ℕ)) (types : Option Table) (e : BtfError) : Type 0 where
@@ -72,7 +90,8 @@ pub record IsRewrittenTable (answers : Answers) (file : List ℕ) (ksyms : Optio
   pub step : StepStays ksyms table
   pub keeps : Keeps (facts_in answers sizes offsets (stepped ksyms table)) new.types
   pub texts : TextsStay table new
-  pub carries : Carries (stays_in ksyms table (facts_in answers sizes offsets (stepped ksyms table))) table new
+  pub carries : Carries
+      (stays_in ksyms table (facts_in answers sizes offsets (stepped ksyms table))) table new
 
 -- nothing is asked and nothing changes
 pub record IsLeft (types : Option Table) (answers : Answers) (new : Option Table) : Type 0 where
@@ -85,7 +104,13 @@ IsRewrittenIf true answers file ksyms table new = IsLeft (Some table) answers (S
 IsRewrittenIf false answers file ksyms table new = IsRewrittenTable answers file ksyms table new
 
 -- the types of an object, rewritten under answers
-abbrev pub IsRewritten : Answers → List ℕ → Option (ℕ × Option ℕ) → Option Table → Option Table → Type 0
-IsRewritten answers file ksyms (Some table) (Some new) = IsRewrittenIf (length table.types == 0) answers file ksyms table new
+abbrev pub IsRewritten : Answers
+    → List ℕ
+    → Option (ℕ × Option ℕ)
+    → Option Table
+    → Option Table
+    → Type 0
+IsRewritten answers file ksyms (Some table) (Some new) =
+    IsRewrittenIf (length table.types == 0) answers file ksyms table new
 IsRewritten answers file ksyms None None = IsLeft None answers None
 IsRewritten answers file ksyms _ _ = ⊥

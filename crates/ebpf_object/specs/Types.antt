@@ -1,4 +1,5 @@
--- The types of an object: the table of its section `.BTF`, and what its section `.BTF.ext` says beside it.
+-- The types of an object: the table of its section `.BTF`, and what its section `.BTF.ext` says
+-- beside it.
 use Rattle.std.specs.Prelude.{ℕ, List, codes, ⊤, Option, Some, None}
 use Rattle.std.specs.Option.{IsSomeAnd}
 use Rattle.btf_extension.specs.Extensions.{Extension, HoldsExtension}
@@ -17,22 +18,29 @@ HoldsTypesIn order (Some bytes) (Some table) = HoldsTable order bytes table
 HoldsTypesIn order _ _ = ⊥
 
 abbrev pub HoldsTypes : List ℕ → Option Table → Type 0
-HoldsTypes file table = HoldsTypesIn (file_endianness file) (contents_named file (codes ".BTF")) table
+HoldsTypes file table =
+    HoldsTypesIn (file_endianness file) (contents_named file (codes ".BTF")) table
 
 -- the bytes of the extension's section hold it, beside a table; without either there is none
 abbrev pub HoldsRecordsIn : Endianness → Option Table → Option (List ℕ) → Option Extension → Type 0
-HoldsRecordsIn order (Some table) (Some bytes) (Some extension) = HoldsExtension order table.strings bytes extension
+HoldsRecordsIn order (Some table) (Some bytes) (Some extension) =
+    HoldsExtension order table.strings bytes extension
 HoldsRecordsIn order (Some table) None None = ⊤
 HoldsRecordsIn order None _ None = ⊤
 HoldsRecordsIn order _ _ _ = ⊥
 
 abbrev pub HoldsRecords : List ℕ → Option Table → Option Extension → Type 0
-HoldsRecords file table extension = HoldsRecordsIn (file_endianness file) table (contents_named file (codes ".BTF.ext")) extension
+HoldsRecords file table extension =
+    HoldsRecordsIn (file_endianness file) table (contents_named file (codes ".BTF.ext")) extension
 
 -- why no table is read
 abbrev pub TypesFault : List ℕ → BtfError → Type 0
-TypesFault file e = IsSomeAnd (contents_named file (codes ".BTF")) (λ bytes. TableFault (file_endianness file) bytes e)
+TypesFault file e =
+    IsSomeAnd (contents_named file (codes ".BTF")) (λ bytes.
+    TableFault (file_endianness file) bytes e)
 
 -- why no extension is read beside a table
 abbrev pub RecordsFault : List ℕ → Table → BtfError → Type 0
-RecordsFault file table e = IsSomeAnd (contents_named file (codes ".BTF.ext")) (λ bytes. ExtensionFault (file_endianness file) table.strings bytes e)
+RecordsFault file table e =
+    IsSomeAnd (contents_named file (codes ".BTF.ext")) (λ bytes.
+    ExtensionFault (file_endianness file) table.strings bytes e)

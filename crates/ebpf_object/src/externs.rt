@@ -17,18 +17,28 @@ impl Object<'_> {
     /// Resolves the externs: those with a type by the first table of the kernel's types, the others
     /// by the kernel's symbols, a text as /proc/kallsyms has it. A weak one that isn't there gets
     /// address 0. Without a table of types, nothing is done; where no extern without a type is left
-    /// to resolve, nothing is read. Everything else of the object stays, and on a refusal all of it.
+    /// to resolve, nothing is read. Everything else of the object stays, and on a refusal all of
+    /// it.
     pub fn resolve_externs<R: BufRead>(
         &mut self,
         kernel_types: &[Btf<'_>],
         symbols: &mut Watched<R>,
     ) -> Result<(), KsymsError>
-        ensures externs { OnOk result (IfSome self.old.types (λ t. AreResolved t (slice_get kernel_types.now 0) (R.remaining (watched_inner symbols.old)) (has_failed symbols.new) self.old.externs self.new.externs)) }
+        ensures externs { OnOk result
+            (IfSome self.old.types (λ t.
+            AreResolved t (slice_get kernel_types.now 0) (R.remaining (watched_inner symbols.old))
+            (has_failed symbols.new) self.old.externs self.new.externs)) }
         ensures others { self.new ≡ record self.old { externs = self.new.externs } }
-        ensures refused { IfErr result (λ f. f ≢ OutOfMemory → IsSomeAnd self.old.types (λ t. CannotResolve t (slice_get kernel_types.now 0) (R.remaining (watched_inner symbols.old)) (has_failed symbols.new) self.old.externs f)) }
-        ensures no_table { self.old.types ≡ None → (IsOk result) × (self.new ≡ self.old) × (symbols.new ≡ symbols.old) }
+        ensures refused { IfErr result (λ f.
+            f ≢ OutOfMemory
+            → IsSomeAnd self.old.types (λ t.
+            CannotResolve t (slice_get kernel_types.now 0) (R.remaining (watched_inner symbols.old))
+            (has_failed symbols.new) self.old.externs f)) }
+        ensures no_table { self.old.types ≡ None
+            → (IsOk result) × (self.new ≡ self.old) × (symbols.new ≡ symbols.old) }
         ensures err { OnErr result (self.new ≡ self.old) }
-        ensures unread { is_any_sought self.old.externs.by_name ≡ false → symbols.new ≡ symbols.old }
+        ensures unread { is_any_sought self.old.externs.by_name ≡ false
+            → symbols.new ≡ symbols.old }
     {
         resolve_externs(
             self.alloc,

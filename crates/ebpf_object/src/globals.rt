@@ -16,11 +16,13 @@ impl<'a> Object<'a> {
     ///
     /// Those of [`patch_map_data`]; the object is as before then.
     pub fn put_values(&mut self, values: &GlobalValues) -> Result<(), ParseError>
-        ensures patched { OnOk result (self.new.maps ≡ patched self.old.file self.old.maps values.now) }
+        ensures patched { OnOk result
+            (self.new.maps ≡ patched self.old.file self.old.maps values.now) }
         ensures sound { OnOk result (first_fault self.old.file self.old.maps values.now ≡ None) }
         ensures lengths { extents self.new.maps ≡ extents self.old.maps }
         ensures others { self.new ≡ record self.old { maps = self.new.maps } }
-        ensures fault { IfErr result (λ e. e ≢ OutOfMemory → Says (first_fault self.old.file self.old.maps values.now) e) }
+        ensures fault { IfErr result (λ e.
+            e ≢ OutOfMemory → Says (first_fault self.old.file self.old.maps values.now) e) }
         ensures unchanged { OnErr result (self.new ≡ self.old) }
     {
         patch_map_data(self.alloc, &self.file, &mut self.maps, values)

@@ -1,4 +1,5 @@
-//! Passes over std's hashed collections, whose order is left open: what they hold is put in order first.
+//! Passes over std's hashed collections, whose order is left open: what they hold is put in order
+//! first.
 
 ghost use Rattle.std.specs.Prelude.{◌≡◌, ◌≢◌, None, map, IfErr, IfOk, OnErr, OnOk};
 ghost use Rattle.std.specs.Iterator.{IsFinite};
@@ -58,8 +59,9 @@ fn numbered<'m>(
 }
 
 impl<'a> Object<'a> {
-    /// Puts the values of global variables into the maps: [`Object::put_values`] over a map from names
-    /// to values, and whether the object must have the variable. Values are put in order of names.
+    /// Puts the values of global variables into the maps: [`Object::put_values`] over a map from
+    /// names to values, and whether the object must have the variable. Values are put in order of
+    /// names.
     ///
     /// # Errors
     ///
@@ -68,10 +70,14 @@ impl<'a> Object<'a> {
         &mut self,
         globals: HashMap<&str, (&[u8], bool)>,
     ) -> Result<(), ParseError>
-        ensures patched { OnOk result (self.new.maps ≡ patched self.old.file self.old.maps (by_name globals.entry.entries)) }
-        ensures sound { OnOk result (first_fault self.old.file self.old.maps (by_name globals.entry.entries) ≡ None) }
+        ensures patched { OnOk result
+            (self.new.maps ≡ patched self.old.file self.old.maps (by_name globals.entry.entries)) }
+        ensures sound { OnOk result
+            (first_fault self.old.file self.old.maps (by_name globals.entry.entries) ≡ None) }
         ensures others { self.new ≡ record self.old { maps = self.new.maps } }
-        ensures fault { IfErr result (λ e. e ≢ ParseError.OutOfMemory → Says (first_fault self.old.file self.old.maps (by_name globals.entry.entries)) e) }
+        ensures fault { IfErr result (λ e.
+            e ≢ ParseError.OutOfMemory
+            → Says (first_fault self.old.file self.old.maps (by_name globals.entry.entries)) e) }
         ensures unchanged { OnErr result (self.new ≡ self.old) }
     {
         let values = by_name(self.alloc, &globals)?;
@@ -79,8 +85,8 @@ impl<'a> Object<'a> {
     }
 
     /// Writes the numbers of maps into the slots at which relocations by maps and variables stand:
-    /// [`Object::write_map_numbers`] over maps with names and numbers, as they come. `text_sections` are
-    /// the indexes of the sections with functions.
+    /// [`Object::write_map_numbers`] over maps with names and numbers, as they come.
+    /// `text_sections` are the indexes of the sections with functions.
     ///
     /// # Errors
     ///
@@ -92,10 +98,20 @@ impl<'a> Object<'a> {
     ) -> Result<(), EbpfRelocationError>
         requires can { I.can_next maps }
         requires ends { IsFinite (I.remaining maps) }
-        ensures relocated { OnOk result (HandsOver I.next_gives maps (λ handed. AreRelocated (map_rule (given self.old.file (in_order text_sections.now.keys) handed)) self.old.file self.old.functions self.new.functions)) }
-        ensures sound { OnOk result (HandsOver I.next_gives maps (λ handed. CanBeRelocated (map_rule (given self.old.file (in_order text_sections.now.keys) handed)) self.old.file self.old.functions)) }
+        ensures relocated { OnOk result
+            (HandsOver I.next_gives maps (λ handed.
+            AreRelocated (map_rule (given self.old.file (in_order text_sections.now.keys) handed))
+            self.old.file self.old.functions self.new.functions)) }
+        ensures sound { OnOk result
+            (HandsOver I.next_gives maps (λ handed.
+            CanBeRelocated (map_rule (given self.old.file (in_order text_sections.now.keys) handed))
+            self.old.file self.old.functions)) }
         ensures others { self.new ≡ record self.old { functions = self.new.functions } }
-        ensures fault { IfErr result (λ e. e.error ≢ RelocationError.OutOfMemory → HandsOver I.next_gives maps (λ handed. HasErrorIn (map_rule (given self.old.file (in_order text_sections.now.keys) handed)) self.old.file self.old.functions (option_map string_bytes e.function) e.error)) }
+        ensures fault { IfErr result (λ e.
+            e.error ≢ RelocationError.OutOfMemory
+            → HandsOver I.next_gives maps (λ handed.
+            HasErrorIn (map_rule (given self.old.file (in_order text_sections.now.keys) handed))
+            self.old.file self.old.functions (option_map string_bytes e.function) e.error)) }
         ensures unchanged { OnErr result (self.new ≡ self.old) }
     {
         let maps: Vec<(&str, i32, &Map)> = maps.collect(self.alloc)?;
@@ -115,10 +131,19 @@ impl<'a> Object<'a> {
         &mut self,
         text_sections: &HashSet<usize>,
     ) -> Result<(), EbpfRelocationError>
-        ensures linked { OnOk result (AreLinked (unlinked self.old.file (in_order text_sections.now.keys) self.old.functions) (program_keys self.old.programs) self.new.functions) }
-        ensures sound { OnOk result (AllCanBeLinked (unlinked self.old.file (in_order text_sections.now.keys) self.old.functions) (program_keys self.old.programs)) }
+        ensures linked { OnOk result
+            (AreLinked (unlinked self.old.file (in_order text_sections.now.keys) self.old.functions)
+            (program_keys self.old.programs) self.new.functions) }
+        ensures sound { OnOk result
+            (AllCanBeLinked
+            (unlinked self.old.file (in_order text_sections.now.keys) self.old.functions)
+            (program_keys self.old.programs)) }
         ensures others { self.new ≡ record self.old { functions = self.new.functions } }
-        ensures fault { IfErr result (λ e. e.error ≢ RelocationError.OutOfMemory → HasFaultOf (unlinked self.old.file (in_order text_sections.now.keys) self.old.functions) self.old.programs (option_map string_bytes e.function) e.error) }
+        ensures fault { IfErr result (λ e.
+            e.error ≢ RelocationError.OutOfMemory
+            → HasFaultOf
+            (unlinked self.old.file (in_order text_sections.now.keys) self.old.functions)
+            self.old.programs (option_map string_bytes e.function) e.error) }
         ensures unchanged { OnErr result (self.new ≡ self.old) }
     {
         let sections = in_order(self.alloc, text_sections)?;

@@ -65,7 +65,16 @@ impl<'a> Model for Object<'a> {
 
     ghost Value = { ObjectContent };
 
-    ghost view = { λ o. record { file = o.file; types = o.btf; extension = o.btf_ext; maps = o.maps; programs = o.programs; functions = o.functions; externs = o.externs } };
+    ghost view = { λ o.
+        record {
+          file = o.file;
+          types = o.btf;
+          extension = o.btf_ext;
+          maps = o.maps;
+          programs = o.programs;
+          functions = o.functions;
+          externs = o.externs;
+        } };
 
     ghost invariant = { λ o. HaveFunctions o.programs o.functions };
 }
@@ -92,7 +101,8 @@ fn externs_of<'a>(
     ensures value { IfOk result (λ externs. externs ≡ externs_of symbols.now table.old) }
     ensures completed { OnOk result (table.new ≡ completed table.old) }
     ensures accepted { OnOk result (AreFaultless (ExternsFault symbols.now table.old)) }
-    ensures refused { IfErr result (λ e. e ≢ OutOfMemory → SaysOfTypes (ExternsFault symbols.now table.old) e) }
+    ensures refused { IfErr result (λ e.
+        e ≢ OutOfMemory → SaysOfTypes (ExternsFault symbols.now table.old) e) }
 {
     Ok(read_externs(alloc, symbols, table)?)
 }
@@ -103,10 +113,13 @@ fn externs<'a>(
     symbols: &[ReadSymbol<'a>],
     table: &mut Option<Btf<'a>>,
 ) -> Result<Externs<'a>, ParseError>
-    ensures value { IfOk result (λ externs. externs ≡ option_map_or (externs_of symbols.now) table.old no_externs) }
+    ensures value { IfOk result (λ externs.
+        externs ≡ option_map_or (externs_of symbols.now) table.old no_externs) }
     ensures completed { OnOk result (table.new ≡ option_map completed table.old) }
-    ensures accepted { OnOk result (IfSome table.old (λ t. AreFaultless (ExternsFault symbols.now t))) }
-    ensures refused { IfErr result (λ e. e ≢ OutOfMemory → IsSomeAnd table.old (λ t. SaysOfTypes (ExternsFault symbols.now t) e)) }
+    ensures accepted { OnOk result
+        (IfSome table.old (λ t. AreFaultless (ExternsFault symbols.now t))) }
+    ensures refused { IfErr result (λ e.
+        e ≢ OutOfMemory → IsSomeAnd table.old (λ t. SaysOfTypes (ExternsFault symbols.now t) e)) }
 {
     match table {
         Some(table) => externs_of(alloc, symbols, table),
@@ -191,7 +204,8 @@ impl<'a> Object<'a> {
 
     /// The extern of a name.
     pub fn extern_desc(&self, name: &str) -> Option<&ExternDesc<'a>>
-        ensures { option_copied result ≡ lookup (is_at (slice_cmp nat_cmp name.now)) self.now.externs.by_name }
+        ensures { option_copied result
+            ≡ lookup (is_at (slice_cmp nat_cmp name.now)) self.now.externs.by_name }
     {
         self.externs.get(name)
     }
@@ -212,14 +226,16 @@ impl<'a> Object<'a> {
 
     /// Whether an extern that must be found has a type.
     pub fn has_strong_typed_ksyms(&self) -> bool
-        ensures { result ≡ list_any (λ e. is_some e.1.type_id && not e.1.is_weak) self.now.externs.by_name }
+        ensures { result
+            ≡ list_any (λ e. is_some e.1.type_id && not e.1.is_weak) self.now.externs.by_name }
     {
         self.externs.has_strong_typed()
     }
 
     /// Whether the object has a group of type relocations.
     pub fn has_btf_relocations(&self) -> bool
-        ensures { result ≡ option_map_or (λ x. not (length x.relocations == 0)) self.now.extension false }
+        ensures { result
+            ≡ option_map_or (λ x. not (length x.relocations == 0)) self.now.extension false }
     {
         match &self.btf_ext {
             Some(extension) => extension.relocations().next().is_some(),
@@ -284,10 +300,14 @@ impl<'a> Object<'a> {
         predicate: F,
     ) -> Result<Answers, BtfError>
         requires { F.IsAlwaysCallable predicate }
-        ensures rewritten { IfOk result (λ answers. IsRewritten answers.items self.old.file self.old.externs.ksyms self.old.types self.new.types) }
+        ensures rewritten { IfOk result (λ answers.
+            IsRewritten answers.items self.old.file self.old.externs.ksyms self.old.types
+            self.new.types) }
         ensures answered { IfOk result (λ answers. AreAnswered F.FnMut predicate answers.items) }
         ensures others { self.new ≡ record self.old { types = self.new.types } }
-        ensures refused { IfErr result (λ e. e ≢ BtfError.OutOfMemory → IsRefused F.FnMut predicate self.old.file self.old.externs.ksyms self.old.types e) }
+        ensures refused { IfErr result (λ e.
+            e ≢ BtfError.OutOfMemory
+            → IsRefused F.FnMut predicate self.old.file self.old.externs.ksyms self.old.types e) }
         ensures err { OnErr result (self.new ≡ self.old) }
     {
         let ksyms = self.externs.ksyms();
@@ -296,8 +316,10 @@ impl<'a> Object<'a> {
 
     /// The indexes of the sections that functions lie in.
     pub fn text_sections(&self) -> Result<BTreeSet<usize>, AllocError>
-        ensures value { IfOk result (λ sections. sections.keys ≡ calls.text_sections self.now.functions) }
-        ensures at { IfOk result (λ sections. calls.AreTextSections self.now.functions sections.keys) }
+        ensures value { IfOk result (λ sections.
+            sections.keys ≡ calls.text_sections self.now.functions) }
+        ensures at { IfOk result (λ sections.
+            calls.AreTextSections self.now.functions sections.keys) }
     {
         text_sections(self.alloc, &self.functions)
     }
@@ -313,10 +335,17 @@ impl<'a> Object<'a> {
         &mut self,
         text_sections: &BTreeSet<usize>,
     ) -> Result<(), EbpfRelocationError>
-        ensures linked { OnOk result (AreLinked (unlinked self.old.file text_sections.now.keys self.old.functions) (program_keys self.old.programs) self.new.functions) }
-        ensures sound { OnOk result (AllCanBeLinked (unlinked self.old.file text_sections.now.keys self.old.functions) (program_keys self.old.programs)) }
+        ensures linked { OnOk result
+            (AreLinked (unlinked self.old.file text_sections.now.keys self.old.functions)
+            (program_keys self.old.programs) self.new.functions) }
+        ensures sound { OnOk result
+            (AllCanBeLinked (unlinked self.old.file text_sections.now.keys self.old.functions)
+            (program_keys self.old.programs)) }
         ensures others { self.new ≡ record self.old { functions = self.new.functions } }
-        ensures fault { IfErr result (λ e. e.error ≢ RelocationError.OutOfMemory → HasFaultOf (unlinked self.old.file text_sections.now.keys self.old.functions) self.old.programs (option_map string_bytes e.function) e.error) }
+        ensures fault { IfErr result (λ e.
+            e.error ≢ RelocationError.OutOfMemory
+            → HasFaultOf (unlinked self.old.file text_sections.now.keys self.old.functions)
+            self.old.programs (option_map string_bytes e.function) e.error) }
         ensures unchanged { OnErr result (self.new ≡ self.old) }
     {
         relocate_calls(

@@ -20,9 +20,11 @@ fn rewrite_table<'a, F: FnMut(BtfFeature) -> bool>(
     predicate: F,
 ) -> Result<Answers, BtfError>
     requires { F.IsAlwaysCallable predicate }
-    ensures rewritten { IfOk result (λ answers. IsRewrittenTable answers.items file.now ksyms table.old table.new) }
+    ensures rewritten { IfOk result (λ answers.
+        IsRewrittenTable answers.items file.now ksyms table.old table.new) }
     ensures answered { IfOk result (λ answers. AreAnswered F.FnMut predicate answers.items) }
-    ensures refused { IfErr result (λ e. e ≢ OutOfMemory → IsRefusedTable F.FnMut predicate file.now ksyms table.old e) }
+    ensures refused { IfErr result (λ e.
+        e ≢ OutOfMemory → IsRefusedTable F.FnMut predicate file.now ksyms table.old e) }
     ensures err { OnErr result (table.new ≡ table.old) }
 {
     let sizes = section_sizes(alloc, file)?;
@@ -39,9 +41,11 @@ pub(crate) fn rewrite<'a, F: FnMut(BtfFeature) -> bool>(
     predicate: F,
 ) -> Result<Answers, BtfError>
     requires { F.IsAlwaysCallable predicate }
-    ensures rewritten { IfOk result (λ answers. IsRewritten answers.items file.now ksyms types.old types.new) }
+    ensures rewritten { IfOk result (λ answers.
+        IsRewritten answers.items file.now ksyms types.old types.new) }
     ensures answered { IfOk result (λ answers. AreAnswered F.FnMut predicate answers.items) }
-    ensures refused { IfErr result (λ e. e ≢ OutOfMemory → IsRefused F.FnMut predicate file.now ksyms types.old e) }
+    ensures refused { IfErr result (λ e.
+        e ≢ OutOfMemory → IsRefused F.FnMut predicate file.now ksyms types.old e) }
     ensures err { OnErr result (types.new ≡ types.old) }
 {
     match types {

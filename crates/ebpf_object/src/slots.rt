@@ -29,10 +29,17 @@ impl<'a> Object<'a> {
         maps: &[NumberedMap<'_>],
         text_sections: &BTreeSet<usize>,
     ) -> Result<(), EbpfRelocationError>
-        ensures relocated { OnOk result (AreRelocated (map_rule (given self.old.file text_sections.now.keys maps.now)) self.old.file self.old.functions self.new.functions) }
-        ensures sound { OnOk result (CanBeRelocated (map_rule (given self.old.file text_sections.now.keys maps.now)) self.old.file self.old.functions) }
+        ensures relocated { OnOk result
+            (AreRelocated (map_rule (given self.old.file text_sections.now.keys maps.now))
+            self.old.file self.old.functions self.new.functions) }
+        ensures sound { OnOk result
+            (CanBeRelocated (map_rule (given self.old.file text_sections.now.keys maps.now))
+            self.old.file self.old.functions) }
         ensures others { self.new ≡ record self.old { functions = self.new.functions } }
-        ensures fault { IfErr result (λ e. e.error ≢ RelocationError.OutOfMemory → HasErrorIn (map_rule (given self.old.file text_sections.now.keys maps.now)) self.old.file self.old.functions (option_map string_bytes e.function) e.error) }
+        ensures fault { IfErr result (λ e.
+            e.error ≢ RelocationError.OutOfMemory
+            → HasErrorIn (map_rule (given self.old.file text_sections.now.keys maps.now))
+            self.old.file self.old.functions (option_map string_bytes e.function) e.error) }
         ensures unchanged { OnErr result (self.new ≡ self.old) }
     {
         relocate_maps(
@@ -44,26 +51,33 @@ impl<'a> Object<'a> {
         )
     }
 
-    /// Writes what is known of the kernel's functions and variables into the slots at which relocations
-    /// by externs stand: [`relocate_externs`].
+    /// Writes what is known of the kernel's functions and variables into the slots at which
+    /// relocations by externs stand: [`relocate_externs`].
     ///
     /// # Errors
     ///
     /// Those of [`relocate_externs`], with the function's name; the object is as before then.
     #[tactic(auto, using(crate::proofs::Linked::functions_stay_relocated))]
     pub fn relocate_externs(&mut self) -> Result<(), EbpfRelocationError>
-        ensures relocated { OnOk result (AreRelocated (extern_rule self.old.file self.old.externs.by_name) self.old.file self.old.functions self.new.functions) }
-        ensures sound { OnOk result (CanBeRelocated (extern_rule self.old.file self.old.externs.by_name) self.old.file self.old.functions) }
+        ensures relocated { OnOk result
+            (AreRelocated (extern_rule self.old.file self.old.externs.by_name) self.old.file
+            self.old.functions self.new.functions) }
+        ensures sound { OnOk result
+            (CanBeRelocated (extern_rule self.old.file self.old.externs.by_name) self.old.file
+            self.old.functions) }
         ensures others { self.new ≡ record self.old { functions = self.new.functions } }
-        ensures fault { IfErr result (λ e. e.error ≢ RelocationError.OutOfMemory → HasErrorIn (extern_rule self.old.file self.old.externs.by_name) self.old.file self.old.functions (option_map string_bytes e.function) e.error) }
+        ensures fault { IfErr result (λ e.
+            e.error ≢ RelocationError.OutOfMemory
+            → HasErrorIn (extern_rule self.old.file self.old.externs.by_name) self.old.file
+            self.old.functions (option_map string_bytes e.function) e.error) }
         ensures unchanged { OnErr result (self.new ≡ self.old) }
     {
         relocate_externs(self.alloc, &self.file, &mut self.functions, &self.externs)
     }
 
-    /// Calls older helpers in place of newer ones where the kernel lacks these: 4 in place of 112 and
-    /// 113, 45 in place of 114 and 115. The probe says whether it has them, and is asked only where a
-    /// slot calls one. Takes no memory.
+    /// Calls older helpers in place of newer ones where the kernel lacks these: 4 in place of 112
+    /// and 113, 45 in place of 114 and 115. The probe says whether it has them, and is asked only
+    /// where a slot calls one. Takes no memory.
     #[tactic(auto, using(crate::proofs::Linked::functions_stay_renamed))]
     pub fn sanitize_functions<P: FnOnce() -> bool>(&mut self, probe: P)
         requires { has_newer_helper self.old.functions ≡ true → P.pre probe }

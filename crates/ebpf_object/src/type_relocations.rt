@@ -11,9 +11,9 @@ use btf_tables::Btf;
 use type_relocation::{BtfRelocationError, relocate_types};
 
 impl<'a> Object<'a> {
-    /// Writes what the object's type relocations come to in a kernel's tables into the slots at which
-    /// they stand: [`relocate_types`]. They are looked up in the object's types as these stand, which
-    /// it doesn't change. There are no more than 2^32 tables.
+    /// Writes what the object's type relocations come to in a kernel's tables into the slots at
+    /// which they stand: [`relocate_types`]. They are looked up in the object's types as these
+    /// stand, which it doesn't change. There are no more than 2^32 tables.
     ///
     /// # Errors
     ///
@@ -21,10 +21,15 @@ impl<'a> Object<'a> {
     #[tactic(auto, using(crate::proofs::Linked::functions_stay_changed, crate::proofs::NoTypeRelocations::none_written, crate::proofs::NoTypeRelocations::none_refused))]
     pub fn relocate_btf(&mut self, kernel_types: &[Btf<'_>]) -> Result<(), BtfRelocationError>
         requires { length kernel_types.now ≤ 2 ^ 32 }
-        ensures relocated { OnOk result (AreRelocated (types_of self.old kernel_types.now) (type_groups self.old) self.new.functions) }
-        ensures sound { OnOk result (CanBeRelocated (types_of self.old kernel_types.now) (type_groups self.old)) }
+        ensures relocated { OnOk result
+            (AreRelocated (types_of self.old kernel_types.now) (type_groups self.old)
+            self.new.functions) }
+        ensures sound { OnOk result
+            (CanBeRelocated (types_of self.old kernel_types.now) (type_groups self.old)) }
         ensures others { self.new ≡ record self.old { functions = self.new.functions } }
-        ensures fault { IfErr result (λ e. e.error ≢ OutOfMemory → HasTypesFault (types_of self.old kernel_types.now) (type_groups self.old) e.error) }
+        ensures fault { IfErr result (λ e.
+            e.error ≢ OutOfMemory
+            → HasTypesFault (types_of self.old kernel_types.now) (type_groups self.old) e.error) }
         ensures unchanged { OnErr result (self.new ≡ self.old) }
     {
         if !self.has_btf_relocations() {

@@ -37,7 +37,8 @@ fn extension_of<'a>(
     table: &Btf<'a>,
 ) -> Result<Option<BtfExt<'a>>, ParseError>
     ensures holds { IfOk result (λ extension. HoldsRecords file.now (Some table.now) extension) }
-    ensures refused { IfErr result (λ e. e ≢ OutOfMemory → SaysOfTypes (RecordsFault file.now table.now) e) }
+    ensures refused { IfErr result (λ e.
+        e ≢ OutOfMemory → SaysOfTypes (RecordsFault file.now table.now) e) }
 {
     match file.contents_of(".BTF.ext") {
         Some(bytes) => {
@@ -55,7 +56,8 @@ fn read_extension<'a>(
     table: &Option<Btf<'a>>,
 ) -> Result<Option<BtfExt<'a>>, ParseError>
     ensures holds { IfOk result (λ extension. HoldsRecords file.now table.now extension) }
-    ensures refused { IfErr result (λ e. e ≢ OutOfMemory → IsSomeAnd table.now (λ t. SaysOfTypes (RecordsFault file.now t) e)) }
+    ensures refused { IfErr result (λ e.
+        e ≢ OutOfMemory → IsSomeAnd table.now (λ t. SaysOfTypes (RecordsFault file.now t) e)) }
 {
     match table {
         Some(table) => extension_of(alloc, file, table),

@@ -1,5 +1,5 @@
-//! Each front of an object, and the object with each byte set to 0 and to 255 in turn: how many answers
-//! are as they must be.
+//! Each front of an object, and the object with each byte set to 0 and to 255 in turn: how many
+//! answers are as they must be.
 
 use crate::error::ExerciseError;
 use ebpf_object::{Object, ParseError};

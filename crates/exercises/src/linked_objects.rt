@@ -1,5 +1,5 @@
-//! Linked programs of objects beside those that the plain linker makes: how many programs and slots are
-//! alike.
+//! Linked programs of objects beside those that the plain linker makes: how many programs and slots
+//! are alike.
 
 use crate::error::ExerciseError;
 use ebpf_object::{Object, bpf_insn};

@@ -3,11 +3,12 @@
 //! - `memory-calls`: the calls that take memory;
 //! - `changed-bytes OBJECT`: each front of an object, and the object with each byte changed;
 //! - `linkers OBJECT..`: linked programs beside those of the plain linker;
-//! - `matchings COUNT [counts]`: type relocations over random tables of types, beside the plain definitions;
-//! - `refused-objects TYPES SYMBOLS OBJECT..`, `refused-structs`, `refused-tables`: steps, one of whose requests for memory
-//!   may be refused;
-//! - `measure-types FILE [STRUCT..]`, `measure-matching FILE STRUCT..`, `measure-symbols FILE [NAME..]`,
-//!   `measure-object OBJECT [COUNT]`: how long calls take.
+//! - `matchings COUNT [counts]`: type relocations over random tables of types, beside the plain
+//!   definitions;
+//! - `refused-objects TYPES SYMBOLS OBJECT..`, `refused-structs`, `refused-tables`: steps, one of
+//!   whose requests for memory may be refused;
+//! - `measure-types FILE [STRUCT..]`, `measure-matching FILE STRUCT..`, `measure-symbols FILE
+//!   [NAME..]`, `measure-object OBJECT [COUNT]`: how long calls take.
 #![tactic(auto)]
 
 mod changed_objects;

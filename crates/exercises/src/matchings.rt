@@ -17,8 +17,8 @@ fn print_sorts(rt: &HostRuntime, tally: &Tally, shows_counts: bool) -> Result<()
     Ok(())
 }
 
-/// Compares over so many random objects as the first word says. A second word, `counts`, asks how often
-/// each sort of answers came.
+/// Compares over as many random objects as the first word says. A second word, `counts`, asks how
+/// often each sort of answers came.
 pub(crate) fn run(rt: &HostRuntime, words: &mut Args) -> Result<(), ExerciseError> {
     let Some(word) = words.next() else {
         return Err(ExerciseError::Usage);

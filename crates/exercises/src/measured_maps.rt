@@ -1,4 +1,5 @@
-//! Measures how long it takes to put values into an object's maps, and their numbers into its slots.
+//! Measures how long it takes to put values into an object's maps, and their numbers into its
+//! slots.
 
 use crate::error::ExerciseError;
 use crate::measured_objects::ROUNDS;
@@ -49,8 +50,8 @@ fn holds_variables(kind: EbpfSectionKind) -> bool {
     }
 }
 
-/// Sets at most so many variables to the bytes with which the file begins, and answers how many more
-/// may be set.
+/// Sets at most this number of variables to the bytes with which the file begins, and answers how
+/// many more may be set.
 fn set_variables<'a>(
     values: &mut GlobalValues,
     symbols: &[ReadSymbol<'a>],
@@ -69,7 +70,7 @@ fn set_variables<'a>(
     Ok(rest)
 }
 
-/// Values of at most so many variables of an object.
+/// Values of at most this number of an object's variables.
 fn values_for(alloc: Global, bytes: &[u8], most: usize) -> Result<GlobalValues, ParseError> {
     let file = ObjectFile::parse(alloc, bytes)?;
     let mut values = GlobalValues::new(alloc);
@@ -94,7 +95,7 @@ fn put_values(
     Ok(micros(rt, start)?)
 }
 
-/// Puts values of at most so many variables into the maps of objects that are parsed anew.
+/// Puts values of at most this number of variables into the maps of objects that are parsed anew.
 pub(crate) fn measure_values(
     rt: &HostRuntime,
     bytes: &[u8],

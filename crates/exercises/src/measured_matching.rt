@@ -1,5 +1,6 @@
-//! How long it takes to find what type relocations come to in tables of a kernel's types. The object's own types are these types
-//! too, with the access strings added, so that each relocation is for a type or a member that is there.
+//! How long it takes to find what type relocations come to in tables of a kernel's types. The
+//! object's own types are these types too, with the access strings added, so that each relocation
+//! is for a type or a member that is there.
 
 use crate::error::ExerciseError;
 use crate::times::{micros, print_times};
@@ -11,7 +12,7 @@ use std::fs;
 use std::time::Instant;
 use type_match::{TypeMatcher, TypeRelocation};
 
-/// So many times each is measured.
+/// How many times each is measured.
 const ROUNDS: u32 = 11;
 
 /// How many relocations there are.
@@ -20,7 +21,7 @@ const COUNTS: [usize; 5] = [0, 1, 100, 1000, 10_000];
 /// How many tables of the kernel's there are.
 const TABLES: [usize; 2] = [1, 40];
 
-/// So many members of a struct at most are asked for.
+/// How many members of a struct are asked for at most.
 const MEMBERS: usize = 4;
 
 /// What is asked of each member, and of each type.
@@ -103,7 +104,7 @@ fn relocations_for(
     Ok(relocations)
 }
 
-/// So many relocations, of these one after the other, again and again.
+/// A number of relocations: these one after the other, again and again.
 fn repeated(
     rt: &HostRuntime,
     relocations: &[TypeRelocation],
@@ -132,7 +133,7 @@ fn matched(
     Ok(count)
 }
 
-/// Measures so many relocations.
+/// Measures a number of relocations.
 fn measure_count(
     rt: &HostRuntime,
     local: &Btf<'_>,
@@ -153,7 +154,7 @@ fn measure_count(
     print_times(rt, "matched", times)
 }
 
-/// So many tables of these types.
+/// A number of tables of these types.
 fn tables_of<'s>(
     rt: &HostRuntime,
     section: &'s [u8],
@@ -166,7 +167,7 @@ fn tables_of<'s>(
     Ok(tables)
 }
 
-/// Measures relocations, so many of these, over so many tables.
+/// Measures each number of relocations over a number of tables.
 fn measure_tables(
     rt: &HostRuntime,
     local: &Btf<'_>,

@@ -1,5 +1,5 @@
-//! How long it takes to parse an object, to link to each of its programs the functions that it leads to,
-//! and to put values into its maps and their numbers into its slots.
+//! How long it takes to parse an object, to link to each of its programs the functions that it
+//! leads to, and to put values into its maps and their numbers into its slots.
 
 use crate::error::ExerciseError;
 use crate::measured_maps::{measure_numbers, measure_values};
@@ -9,7 +9,7 @@ use std::env::Args;
 use std::fs;
 use std::time::Instant;
 
-/// So many times everything but the first parse is measured.
+/// How many times everything but the first parse is measured.
 pub(crate) const ROUNDS: u32 = 5;
 
 /// The slots of all functions of an object.
@@ -75,8 +75,8 @@ fn most_variables(word: Option<String>) -> Result<usize, ExerciseError> {
     }
 }
 
-/// Measures the object of the file that the first word names; the next one says how many variables get
-/// values.
+/// Measures the object of the file that the first word names; the next one says how many variables
+/// get values.
 pub(crate) fn run(rt: &HostRuntime, words: &mut Args) -> Result<(), ExerciseError> {
     let Some(file) = words.next() else {
         return Err(ExerciseError::Usage);

@@ -1,5 +1,5 @@
-//! How long it takes to find addresses in a text of kernel symbols, beside a plain split of its lines into
-//! words.
+//! How long it takes to find addresses in a text of kernel symbols, beside a plain split of its
+//! lines into words.
 
 use crate::error::ExerciseError;
 use crate::times::{micros, print_times};
@@ -9,7 +9,7 @@ use std::fs;
 use std::time::Instant;
 use watched::Watched;
 
-/// So many times everything is measured.
+/// How many times everything is measured.
 const ROUNDS: u32 = 21;
 
 /// Splits the lines of a text into words.

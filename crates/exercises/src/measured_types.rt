@@ -1,5 +1,5 @@
-//! How long it takes to parse a file of type information, to write the table again, to rewrite it to what
-//! a kernel grants, and to find structs in it by name.
+//! How long it takes to parse a file of type information, to write the table again, to rewrite it
+//! to what a kernel grants, and to find structs in it by name.
 
 use crate::error::ExerciseError;
 use crate::times::{micros, print_times};
@@ -9,7 +9,7 @@ use std::env::Args;
 use std::fs;
 use std::time::Instant;
 
-/// So many times everything but the first parse is measured.
+/// How many times everything but the first parse is measured.
 const ROUNDS: u32 = 21;
 
 /// Parses the file for the first time in this process, and then again and again.

@@ -45,8 +45,8 @@ fn push_tables(function: &Function<'_>, bytes: &mut Vec<u8>) -> Result<(), Alloc
     Ok(())
 }
 
-/// The bytes of an object's maps and of its functions' slots, with the kernel tables that these matched,
-/// and what is known of its externs.
+/// The bytes of an object's maps and of its functions' slots, with the kernel tables that these
+/// matched, and what is known of its externs.
 fn bytes_of(alloc: Global, object: &Object<'_>) -> Result<Vec<u8>, AllocError> {
     let mut bytes = Vec::new(alloc);
     for (_name, map) in object.maps().iter() {

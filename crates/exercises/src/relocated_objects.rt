@@ -1,8 +1,9 @@
-//! Steps on objects while memory is refused. It reads a kernel's types and symbols from the files that the first two words
-//! name, parses the objects of the files that the others name, prints how much each holds, puts a value and numbers into it,
-//! resolves its externs, writes what its type relocations come to and what is known of its externs, and prints what became of it
-//! by each step. Where memory is refused to one of these steps, the object must be as it was, and the step is made again; where
-//! it is refused elsewhere, status 3 says so.
+//! Steps on objects while memory is refused. It reads a kernel's types and symbols from the files
+//! that the first two words name, parses the objects of the files that the others name, prints how
+//! much each holds, puts a value and numbers into it, resolves its externs, writes what its type
+//! relocations come to and what is known of its externs, and prints what became of it by each step.
+//! Where memory is refused to one of these steps, the object must be as it was, and the step is
+//! made again; where it is refused elsewhere, status 3 says so.
 
 use crate::error::ExerciseError;
 use crate::object_steps::{
@@ -60,8 +61,8 @@ fn make(
     }
 }
 
-/// Makes the steps on an object, and prints what becomes of it by each. One to which memory was refused is
-/// made again.
+/// Makes the steps on an object, and prints what becomes of it by each. One to which memory was
+/// refused is made again.
 fn relocate(
     rt: &HostRuntime,
     object: &mut Object<'_>,
@@ -86,7 +87,8 @@ fn relocate_file(rt: &HostRuntime, name: &str, kernel: &Kernel<'_>) -> Result<()
     relocate(rt, &mut object, kernel)
 }
 
-/// Parses the objects that the words name, and makes the steps on them, for a kernel with these types and symbols.
+/// Parses the objects that the words name, and makes the steps on them, for a kernel with these
+/// types and symbols.
 fn relocate_files(
     rt: &HostRuntime,
     words: &mut Args,

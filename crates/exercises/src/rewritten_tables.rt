@@ -1,11 +1,13 @@
-//! A table, rewritten by both calls that do: what becomes of it, where memory is refused that it is as it was.
+//! A table, rewritten by both calls that do: what becomes of it, where memory is refused that it is
+//! as it was.
 
 use btf::{Btf, BtfError, Endianness};
 use std::alloc::Global;
 use std::collections::BTreeMap;
 use std::process::ExitCode;
 
-/// An integer of 8 bytes, the extern variable `v` of it, and the section `.ksyms` with that variable.
+/// An integer of 8 bytes, the extern variable `v` of it, and the section `.ksyms` with that
+/// variable.
 const SECTION: [u8; 94] = [
     159, 235, 1, 0, 24, 0, 0, 0, 0, 0, 0, 0, 56, 0, 0, 0, 56, 0, 0, 0, 14, 0, 0, 0, 0, 0, 0, 0, 0,
     0, 0, 1, 8, 0, 0, 0, 64, 0, 0, 0, 3, 0, 0, 0, 0, 0, 0, 14, 0, 0, 0, 0, 2, 0, 0, 0, 5, 0, 0, 0,

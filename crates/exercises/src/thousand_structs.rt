@@ -1,4 +1,5 @@
-//! A table of 1,000 structs, parsed and with one more type: how many types it has and how many bytes.
+//! A table of 1,000 structs, parsed and with one more type: how many types it has and how many
+//! bytes.
 
 use btf::{Btf, BtfError, BtfType, Endianness, Int, IntEncoding};
 use std::process::ExitCode;

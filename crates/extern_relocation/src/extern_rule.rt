@@ -207,30 +207,37 @@ impl<'r, 'e> SymbolRule for ExternRule<'r, 'e> {
 
 /// Writes what is known of the kernel's functions and variables into the slots that relocations by
 /// externs name. Of each relocation inside a function, in order of their offsets, the symbol's name
-/// says which extern; symbols that aren't externs are skipped. A call gets the id of the kernel's type
-/// as its immediate, `BPF_PSEUDO_KFUNC_CALL` as its source register and the offset 0; a load of 64 bits
-/// gets the id with `BPF_PSEUDO_BTF_ID`, or the address in two words with source register 0. Where the
-/// kernel hasn't got a weak extern, a load gets 0, and a call the immediate 2,002,000,000 plus the
-/// symbol's index with all other fields 0.
+/// says which extern; symbols that aren't externs are skipped. A call gets the id of the kernel's
+/// type as its immediate, `BPF_PSEUDO_KFUNC_CALL` as its source register and the offset 0; a load
+/// of 64 bits gets the id with `BPF_PSEUDO_BTF_ID`, or the address in two words with source
+/// register 0. Where the kernel hasn't got a weak extern, a load gets 0, and a call the immediate
+/// 2,002,000,000 plus the symbol's index with all other fields 0.
 ///
 /// # Errors
 ///
-/// With the function's name: `InvalidRelocationOffset` for a relocation at no whole slot, at one that
-/// is neither a call nor a load of 64 bits with a second slot, or at a call of a missing function with
-/// an immediate past 32 signed bits; `UnknownSymbol` for a symbol that the object hasn't;
-/// `ExternNotFound` for a name that no extern has, which is so of all names where the object has no
-/// table of types; `UnresolvableSymbol` for an extern that the kernel hasn't got and that isn't weak,
-/// and for a call of one that has an address alone; and `OutOfMemory`. Of several faults the first in
-/// order of section and offset is answered. The functions then stay as they are.
+/// With the function's name: `InvalidRelocationOffset` for a relocation at no whole slot, at one
+/// that is neither a call nor a load of 64 bits with a second slot, or at a call of a missing
+/// function with an immediate past 32 signed bits; `UnknownSymbol` for a symbol that the object
+/// hasn't; `ExternNotFound` for a name that no extern has, which is so of all names where the
+/// object has no table of types; `UnresolvableSymbol` for an extern that the kernel hasn't got and
+/// that isn't weak, and for a call of one that has an address alone; and `OutOfMemory`. Of several
+/// faults the first in order of section and offset is answered. The functions then stay as they
+/// are.
 pub fn relocate_externs<'f>(
     alloc: Global,
     file: &ObjectFile<'_>,
     functions: &mut Functions<'f>,
     externs: &Externs<'_>,
 ) -> Result<(), EbpfRelocationError>
-    ensures relocated { OnOk result (AreRelocated (extern_rule file.now externs.now.by_name) file.now functions.old functions.new) }
-    ensures sound { OnOk result (CanBeRelocated (extern_rule file.now externs.now.by_name) file.now functions.old) }
-    ensures fault { IfErr result (λ e. e.error ≢ OutOfMemory → HasErrorIn (extern_rule file.now externs.now.by_name) file.now functions.old (option_map string_bytes e.function) e.error) }
+    ensures relocated { OnOk result
+        (AreRelocated (extern_rule file.now externs.now.by_name) file.now functions.old
+        functions.new) }
+    ensures sound { OnOk result
+        (CanBeRelocated (extern_rule file.now externs.now.by_name) file.now functions.old) }
+    ensures fault { IfErr result (λ e.
+        e.error ≢ OutOfMemory
+        → HasErrorIn (extern_rule file.now externs.now.by_name) file.now functions.old
+        (option_map string_bytes e.function) e.error) }
     ensures unchanged { OnErr result (functions.new ≡ functions.old) }
 {
     let rule = ExternRule { externs };

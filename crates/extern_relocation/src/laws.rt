@@ -5,9 +5,9 @@ ghost use Rattle.extern_relocation.specs.Laws.{ExternsAreWritten};
 use elf64::RelocView;
 use slot_relocation::{Fault, lengths_remain, one_writes, unwritten_stay, writes_are_kept};
 
-/// After all relocations, a slot at which one by an extern stands and writes carries what is known of
-/// that extern, whatever the others write; a slot that none writes stays as it was; a function keeps its
-/// number of slots. It computes nothing: its contract is the theorem.
+/// After all relocations, a slot at which one by an extern stands and writes carries what is known
+/// of that extern, whatever the others write; a slot that none writes stays as it was; a function
+/// keeps its number of slots. It computes nothing: its contract is the theorem.
 #[tactic(auto, using(crate::proofs::Written::externs_are_written))]
 pub fn externs_are_written()
     ensures { ExternsAreWritten }

@@ -1,5 +1,5 @@
-//! Relocations by externs: what is known of the kernel's functions and variables is written into the
-//! slots of an object's functions.
+//! Relocations by externs: what is known of the kernel's functions and variables is written into
+//! the slots of an object's functions.
 #![tactic(auto)]
 
 mod extern_rule;

@@ -19,7 +19,8 @@ IsUnreadable name _ = ⊥
 
 -- the error says that this name has two addresses
 abbrev pub IsAmbiguous : List ℕ → ℕ → ℕ → KsymsError → Type 0
-IsAmbiguous name first second (error.AmbiguousResolution n a b) = (string_bytes n ≡ name) × (a ≡ first) × (b ≡ second)
+IsAmbiguous name first second (error.AmbiguousResolution n a b) =
+    (string_bytes n ≡ name) × (a ≡ first) × (b ≡ second)
 IsAmbiguous name first second _ = ⊥
 
 abbrev pub IsAccess : KsymsError → Type 0

@@ -40,4 +40,6 @@ pub record AreWantedBefore (table : Table) (r : KernelRecords) (all rest : List 
 pub record WantsEntry (table : Table) (old new : KernelRecords) (entry : List ℕ × ExternContent) : Type 0 where
   pub begun : AreBegun old → AreBegun new
   pub wanted : IsEntryWanted table new entry
-  pub kept : (other : List ℕ × ExternContent) → IsEntryWanted table old other → IsEntryWanted table new other
+  pub kept : (other : List ℕ × ExternContent)
+      → IsEntryWanted table old other
+      → IsEntryWanted table new other

@@ -1,4 +1,5 @@
--- What becomes of an extern. libbpf has this as bpf_object__resolve_externs (tools/lib/bpf/libbpf.c).
+-- What becomes of an extern. libbpf has this as bpf_object__resolve_externs
+-- (tools/lib/bpf/libbpf.c).
 use Rattle.std.specs.Prelude.{◌≡◌, ℕ, Bool, true, false, ◌&&◌, ◌⊎◌, not, if◌then◌else◌, List, Option, None, Some, Result, Ok, is_none}
 use Rattle.std.specs.List.{list_any}
 use Rattle.std.specs.Option.{IsSomeAnd, MatchOption, option_map_or}
@@ -23,7 +24,8 @@ kernel_name _ name = name
 abbrev pub type_held_at : Table → ℕ → ℕ
 type_held_at kernel id = option_map_or held_type (type_by_id kernel id) 0
 
--- the kernel's record of a kind and a name, the least of them, and whether the local type is compatible with its type
+-- the kernel's record of a kind and a name, the least of them, and whether the local type is
+-- compatible with its type
 pub record IsKernelRecord (table kernel : Table) (type_id : ℕ) (kind : BtfKind) (name : List ℕ) (answer : Result Bool BtfError) (id : ℕ) : Type 0 where
   pub found : IsFirstNamed kernel name kind id
   pub compared : types_compatible table type_id kernel (type_held_at kernel id) ≡ answer
@@ -39,8 +41,10 @@ pub record IsIncompatible (table kernel : Table) (type_id : ℕ) (kind : BtfKind
 
 -- what was found of the kernel's for a local type: a compatible record's id, or none
 abbrev pub IsFound : Table → Table → ℕ → BtfKind → List ℕ → Option ℕ → Type 0
-IsFound table kernel type_id kind name (Some id) = IsKernelRecord table kernel type_id kind name (Ok true) id
-IsFound table kernel type_id kind name None = IsMissing kernel kind name ⊎ IsIncompatible table kernel type_id kind name
+IsFound table kernel type_id kind name (Some id) =
+    IsKernelRecord table kernel type_id kind name (Ok true) id
+IsFound table kernel type_id kind name None =
+    IsMissing kernel kind name ⊎ IsIncompatible table kernel type_id kind name
 
 -- the kind of the record that declares an extern is this
 abbrev pub IsDeclaredAs : Table → ExternContent → BtfKind → Type 0
@@ -81,11 +85,20 @@ sought_address text name e = if is_sought e then address_of name text else None
 abbrev pub Becomes : Table → Option Table → List ℕ → List ℕ → ExternContent → ExternContent → Type 0
 Becomes table kernel text name old new = MatchOption old.type_id
     (new ≡ left_weak (with_address (sought_address text name old) old))
-    (λ type_id. (found : Option ℕ) × IsFoundIn table kernel name old type_id found × (new ≡ left_weak (with_kernel_id found old)))
+    (λ type_id.
+    (found : Option ℕ)
+    × IsFoundIn table kernel name old type_id found
+    × (new ≡ left_weak (with_kernel_id found old)))
 
 -- of the externs with their names
-abbrev pub EntryBecomes : Table → Option Table → List ℕ → (List ℕ × ExternContent) → (List ℕ × ExternContent) → Type 0
-EntryBecomes table kernel text old new = (new.0 ≡ old.0) × Becomes table kernel text old.0 old.1 new.1
+abbrev pub EntryBecomes : Table
+    → Option Table
+    → List ℕ
+    → (List ℕ × ExternContent)
+    → (List ℕ × ExternContent)
+    → Type 0
+EntryBecomes table kernel text old new =
+    (new.0 ≡ old.0) × Becomes table kernel text old.0 old.1 new.1
 
 -- whether some extern is looked for among the kernel's symbols, and whether that of a name is
 abbrev pub is_any_sought : List (List ℕ × ExternContent) → Bool

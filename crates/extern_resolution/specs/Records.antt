@@ -7,6 +7,8 @@ use Rattle.extern_resolution.specs.declared.records.KernelRecord.{KernelRecord}
 use Rattle.extern_resolution.specs.declared.records.KernelRecord.TheVariants as records
 
 abbrev pub IsRecord : Table → Table → ℕ → BtfKind → List ℕ → KernelRecord → Type 0
-IsRecord table kernel type_id kind name (records.Compatible id) = IsKernelRecord table kernel type_id kind name (Ok true) id
-IsRecord table kernel type_id kind name records.Incompatible = IsIncompatible table kernel type_id kind name
+IsRecord table kernel type_id kind name (records.Compatible id) =
+    IsKernelRecord table kernel type_id kind name (Ok true) id
+IsRecord table kernel type_id kind name records.Incompatible =
+    IsIncompatible table kernel type_id kind name
 IsRecord table kernel type_id kind name records.Missing = IsMissing kernel kind name

@@ -19,9 +19,17 @@ pub record NoFault (fault : KsymsError → Type 0) : Type 0 where
 
 -- an extern after the look-up by its type
 abbrev pub TypedBecomes : Table → Option Table → List ℕ → ExternContent → ExternContent → Type 0
-TypedBecomes table kernel name old new = MatchOption old.type_id (new ≡ old) (λ type_id. (found : Option ℕ) × IsFoundIn table kernel name old type_id found × (new ≡ with_kernel_id found old))
+TypedBecomes table kernel name old new =
+    MatchOption old.type_id (new ≡ old) (λ type_id.
+    (found : Option ℕ)
+    × IsFoundIn table kernel name old type_id found
+    × (new ≡ with_kernel_id found old))
 
-abbrev pub EntryTyped : Table → Option Table → (List ℕ × ExternContent) → (List ℕ × ExternContent) → Type 0
+abbrev pub EntryTyped : Table
+    → Option Table
+    → (List ℕ × ExternContent)
+    → (List ℕ × ExternContent)
+    → Type 0
 EntryTyped table kernel old new = (new.0 ≡ old.0) × TypedBecomes table kernel old.0 old.1 new.1
 
 -- an extern after the look-up by its name
@@ -36,7 +44,11 @@ EntryAddressed addresses old new = (new.0 ≡ old.0) × (new.1 ≡ addressed add
 
 -- a strong extern has no address
 abbrev pub NoAddress : Addresses → KsymsError → (List ℕ × ExternContent) → Type 0
-NoAddress addresses (error.VariableNotFound name) entry = (string_bytes name ≡ entry.0) × (is_sought entry.1 ≡ true) × (entry.1.is_weak ≡ false) × (address_under addresses entry.0 ≡ None)
+NoAddress addresses (error.VariableNotFound name) entry =
+    (string_bytes name ≡ entry.0)
+    × (is_sought entry.1 ≡ true)
+    × (entry.1.is_weak ≡ false)
+    × (address_under addresses entry.0 ≡ None)
 NoAddress addresses _ entry = ⊥
 
 -- externs become others one by one
@@ -65,7 +77,9 @@ pub record AreSought (externs : List (List ℕ × ExternContent)) (known : Optio
   pub text : List ℕ
   pub given : IsGiven known text
   pub none : NoFault (SymbolsFault failed text externs)
-  pub value : (name : List ℕ) → is_name_sought externs name ≡ true → address_under found name ≡ address_of name text
+  pub value : (name : List ℕ)
+      → is_name_sought externs name ≡ true
+      → address_under found name ≡ address_of name text
 
 pub record CannotSeek (externs : List (List ℕ × ExternContent)) (known : Option (List ℕ)) (failed : Bool) (f : KsymsError) : Type 0 where
   pub text : List ℕ

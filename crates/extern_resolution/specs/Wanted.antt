@@ -48,7 +48,8 @@ Says kernel kind below false name None = AreNotNamed kernel name kind below
 
 -- the text at this offset is a name that isn't wanted, or one that a record was met with
 abbrev pub IsLookedUp : List ℕ → List (Bor (List ℕ) × Option ℕ) → ℕ → Type 0
-IsLookedUp strings entries offset = IsSomeAnd (text_at strings offset) (λ name. ids_under entries name ≢ Some None)
+IsLookedUp strings entries offset =
+    IsSomeAnd (text_at strings offset) (λ name. ids_under entries name ≢ Some None)
 
 -- an offset is noted, or nothing is
 abbrev pub IsNoted : List ℕ → List ℕ → ℕ → Type 0
@@ -69,7 +70,8 @@ pub record IsBegun (r : NamedRecords) : Type 0 where
 pub record Wants (old new : NamedRecords) (name : List ℕ) : Type 0 where
   pub same_kind : new.kind ≡ old.kind
   pub begun : IsBegun old → IsBegun new
-  pub wanted : (other : List ℕ) → is_some (under new other) ≡ (bytes_eq name other || is_some (under old other))
+  pub wanted : (other : List ℕ)
+      → is_some (under new other) ≡ (bytes_eq name other || is_some (under old other))
 
 -- the same names are wanted
 pub record SameNames (old new : NamedRecords) : Type 0 where
@@ -84,7 +86,9 @@ IsWantedAs r _ name = Unit {0}
 
 -- the name of an extern with a type is wanted of the kind of what declares it
 abbrev pub IsEntryWanted : Table → KernelRecords → (List ℕ × ExternContent) → Type 0
-IsEntryWanted table r entry = IfSome entry.1.type_id (λ _. IfSome (type_by_id table entry.1.btf_id) (λ t. IsWantedAs r (kind_of_type t) entry.0))
+IsEntryWanted table r entry =
+    IfSome entry.1.type_id (λ _.
+    IfSome (type_by_id table entry.1.btf_id) (λ t. IsWantedAs r (kind_of_type t) entry.0))
 
 -- the id that was found of a kind and a name
 abbrev pub id_of : KernelRecords → BtfKind → List ℕ → Option ℕ
@@ -94,7 +98,8 @@ id_of r _ name = None
 
 -- it is the first that a kernel's table has of them
 abbrev pub IsKnown : Table → KernelRecords → BtfKind → List ℕ → Type 0
-IsKnown kernel r kind name = MatchOption (id_of r kind name) (IsMissing kernel kind name) (IsFirstNamed kernel name kind)
+IsKnown kernel r kind name =
+    MatchOption (id_of r kind name) (IsMissing kernel kind name) (IsFirstNamed kernel name kind)
 
 -- of the kinds that declare externs, by the name of an extern
 abbrev pub IsKnownAs : Table → KernelRecords → BtfKind → List ℕ → Type 0
@@ -104,10 +109,12 @@ IsKnownAs kernel r _ name = Unit {0}
 
 -- of an extern with a type, by what declares it
 abbrev pub IsDeclaredKnown : Table → Table → KernelRecords → List ℕ → ExternContent → Type 0
-IsDeclaredKnown table kernel r name e = IfSome (type_by_id table e.btf_id) (λ t. IsKnownAs kernel r (kind_of_type t) name)
+IsDeclaredKnown table kernel r name e =
+    IfSome (type_by_id table e.btf_id) (λ t. IsKnownAs kernel r (kind_of_type t) name)
 
 abbrev pub IsEntryKnown : Table → Table → KernelRecords → (List ℕ × ExternContent) → Type 0
-IsEntryKnown table kernel r entry = IfSome entry.1.type_id (λ _. IsDeclaredKnown table kernel r entry.0 entry.1)
+IsEntryKnown table kernel r entry =
+    IfSome entry.1.type_id (λ _. IsDeclaredKnown table kernel r entry.0 entry.1)
 
 -- of each extern, where kernel types are given
 pub record AreKnown (table : Table) (kernel : Option Table) (r : KernelRecords) (externs : List (List ℕ × ExternContent)) : Type 0 where

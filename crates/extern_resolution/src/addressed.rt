@@ -98,8 +98,13 @@ pub(crate) fn sought_addresses<'a, R: BufRead>(
     externs: &Externs<'a>,
     symbols: &mut Watched<R>,
 ) -> Result<Addresses<'a>, KsymsError>
-    ensures found { IfOk result (AreSought externs.now.by_name (R.remaining (watched_inner symbols.old)) (has_failed symbols.new)) }
-    ensures refused { IfErr result (λ f. f ≢ OutOfMemory → CannotSeek externs.now.by_name (R.remaining (watched_inner symbols.old)) (has_failed symbols.new) f) }
+    ensures found { IfOk result
+        (AreSought externs.now.by_name (R.remaining (watched_inner symbols.old))
+        (has_failed symbols.new)) }
+    ensures refused { IfErr result (λ f.
+        f ≢ OutOfMemory
+        → CannotSeek externs.now.by_name (R.remaining (watched_inner symbols.old))
+        (has_failed symbols.new) f) }
     ensures unread { is_any_sought externs.now.by_name ≡ false → symbols.new ≡ symbols.old }
 {
     if !is_any_sought(externs) {
@@ -154,7 +159,8 @@ fn addressed_extern<'a>(
 ) -> Result<ExternDesc<'a>, KsymsError>
     ensures value { IfOk result (λ new. new ≡ addressed addresses.now name.now desc.now) }
     ensures accepted { OnOk result (NoFault (λ f. NoAddress addresses.now f (name.now, desc.now))) }
-    ensures refused { IfErr result (λ f. f ≢ OutOfMemory → NoAddress addresses.now f (name.now, desc.now)) }
+    ensures refused { IfErr result (λ f.
+        f ≢ OutOfMemory → NoAddress addresses.now f (name.now, desc.now)) }
 {
     let found = address_found(addresses, name, desc);
     if is_sought(desc) && !desc.is_weak && found.is_none() {
@@ -170,9 +176,12 @@ pub(crate) fn addressed_externs<'a>(
     externs: &Externs<'a>,
     addresses: &Addresses<'_>,
 ) -> Result<BTreeMap<&'a str, ExternDesc<'a>>, KsymsError>
-    ensures becomes { IfOk result (λ new. AllZip (EntryAddressed addresses.now) externs.now.by_name (by_bytes new.entries)) }
-    ensures accepted { OnOk result (NoFault (λ f. Any (NoAddress addresses.now f) externs.now.by_name)) }
-    ensures refused { IfErr result (λ f. f ≢ OutOfMemory → Any (NoAddress addresses.now f) externs.now.by_name) }
+    ensures becomes { IfOk result (λ new.
+        AllZip (EntryAddressed addresses.now) externs.now.by_name (by_bytes new.entries)) }
+    ensures accepted { OnOk result
+        (NoFault (λ f. Any (NoAddress addresses.now f) externs.now.by_name)) }
+    ensures refused { IfErr result (λ f.
+        f ≢ OutOfMemory → Any (NoAddress addresses.now f) externs.now.by_name) }
 {
     let mut by_name = BTreeMap::new(alloc);
     for (name, desc) in externs.iter() {

@@ -99,7 +99,8 @@ fn wanted_records<'n>(
     table: &Btf<'_>,
 ) -> Result<KernelRecords<'n>, AllocError>
     ensures begun { IfOk result AreBegun }
-    ensures wanted { IfOk result (λ records. AreEntriesWanted table.now records externs.now.by_name) }
+    ensures wanted { IfOk result (λ records.
+        AreEntriesWanted table.now records externs.now.by_name) }
 {
     let mut records = KernelRecords::new(alloc);
     for (name, desc) in externs.iter() {
@@ -108,16 +109,18 @@ fn wanted_records<'n>(
     Ok(records)
 }
 
-/// What the kernel's table, where one is given, has of the functions and variables that externs with
-/// types are declared as. It is gone through once, and not at all where there is no such extern.
-#[tactic(auto, using(crate::proofs::Entries::none_given, crate::proofs::Entries::none_typed, crate::proofs::Entries::known))]
+/// What the kernel's table, where one is given, has of the functions and variables that externs
+/// with types are declared as. It is gone through once, and not at all where there is no such
+/// extern.
+#[tactic(auto, using(crate::proofs::Entries::none_given, crate::proofs::Entries::none_typed, crate::proofs::Entries::known,),)]
 pub(crate) fn kernel_records<'n>(
     alloc: Global,
     externs: &Externs<'n>,
     table: &Btf<'_>,
     kernel: Option<&Btf<'_>>,
 ) -> Result<KernelRecords<'n>, AllocError>
-    ensures { IfOk result (λ records. AreKnown table.now (option_copied kernel.entry) records externs.now.by_name) }
+    ensures { IfOk result (λ records.
+        AreKnown table.now (option_copied kernel.entry) records externs.now.by_name) }
 {
     let Some(kernel) = kernel else {
         return Ok(KernelRecords::new(alloc));

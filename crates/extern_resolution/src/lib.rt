@@ -1,4 +1,5 @@
-//! How what a program expects of the kernel is found there (libbpf's `bpf_object__resolve_externs`).
+//! How what a program expects of the kernel is found there (libbpf's
+//! `bpf_object__resolve_externs`).
 #![tactic(auto)]
 
 mod addressed;

@@ -28,7 +28,10 @@ pub(crate) struct NamedRecords<'n> {
 
 /// Wants a name.
 fn want<'n>(ids: &mut BTreeMap<&'n str, Option<u32>>, name: &'n str) -> Result<(), AllocError>
-    ensures { OnOk result ((other : List ℕ) → ids_under ids.new.entries other ≡ (if bytes_eq name.now other then Some None else ids_under ids.old.entries other)) }
+    ensures { OnOk result
+        ((other : List ℕ)
+        → ids_under ids.new.entries other
+        ≡ (if bytes_eq name.now other then Some None else ids_under ids.old.entries other)) }
 {
     ids.insert(name, None)?;
     Ok(())
@@ -36,7 +39,11 @@ fn want<'n>(ids: &mut BTreeMap<&'n str, Option<u32>>, name: &'n str) -> Result<(
 
 /// Enters the id of a record under its name, where that is wanted and has none.
 fn enter(ids: &mut BTreeMap<&str, Option<u32>>, name: &str, id: u32)
-    ensures { (other : List ℕ) → ids_under ids.new.entries other ≡ (if bytes_eq name.now other then entered id (ids_under ids.old.entries name.now) else ids_under ids.old.entries other) }
+    ensures { (other : List ℕ)
+        → ids_under ids.new.entries other
+        ≡ (if bytes_eq name.now other
+        then entered id (ids_under ids.old.entries name.now)
+        else ids_under ids.old.entries other) }
 {
     if let Some(found) = ids.get_mut(name) {
         *found = found.or(Some(id));

@@ -43,7 +43,9 @@ pub(crate) fn kernel_record(
 ) -> Result<KernelRecord, BtfError>
     requires { IsKnown kernel.now records.now kind name.now }
     ensures value { IfOk result (IsRecord table.now kernel.now type_id kind name.now) }
-    ensures refused { IfErr result (λ e. e ≢ OutOfMemory → (id : ℕ) × IsKernelRecord table.now kernel.now type_id kind name.now (Err e) id) }
+    ensures refused { IfErr result (λ e.
+        e ≢ OutOfMemory
+        → (id : ℕ) × IsKernelRecord table.now kernel.now type_id kind name.now (Err e) id) }
 {
     let Some(id) = records.id(name, kind) else {
         return Ok(KernelRecord::Missing);

@@ -26,8 +26,14 @@ fn resolved<'a, R: BufRead>(
     kernel: Option<&Btf<'_>>,
     symbols: &mut Watched<R>,
 ) -> Result<BTreeMap<&'a str, ExternDesc<'a>>, KsymsError>
-    ensures resolved { IfOk result (λ new. AreResolved table.now (option_copied kernel.entry) (R.remaining (watched_inner symbols.old)) (has_failed symbols.new) externs.now (record externs.now { by_name = by_bytes new.entries })) }
-    ensures refused { IfErr result (λ f. f ≢ OutOfMemory → CannotResolve table.now (option_copied kernel.entry) (R.remaining (watched_inner symbols.old)) (has_failed symbols.new) externs.now f) }
+    ensures resolved { IfOk result (λ new.
+        AreResolved table.now (option_copied kernel.entry) (R.remaining (watched_inner symbols.old))
+        (has_failed symbols.new) externs.now
+        (record externs.now { by_name = by_bytes new.entries })) }
+    ensures refused { IfErr result (λ f.
+        f ≢ OutOfMemory
+        → CannotResolve table.now (option_copied kernel.entry)
+        (R.remaining (watched_inner symbols.old)) (has_failed symbols.new) externs.now f) }
     ensures unread { is_any_sought externs.now.by_name ≡ false → symbols.new ≡ symbols.old }
 {
     let typed = typed_externs(alloc, externs, table, kernel)?;
@@ -54,9 +60,17 @@ pub fn resolve_externs<'a, R: BufRead>(
     kernel_types: &[Btf<'_>],
     symbols: &mut Watched<R>,
 ) -> Result<(), KsymsError>
-    ensures resolved { OnOk result (IfSome (option_copied table.entry) (λ t. AreResolved t (slice_get kernel_types.now 0) (R.remaining (watched_inner symbols.old)) (has_failed symbols.new) externs.old externs.new)) }
-    ensures refused { IfErr result (λ f. f ≢ OutOfMemory → IsSomeAnd (option_copied table.entry) (λ t. CannotResolve t (slice_get kernel_types.now 0) (R.remaining (watched_inner symbols.old)) (has_failed symbols.new) externs.old f)) }
-    ensures no_table { option_copied table.entry ≡ None → (IsOk result) × (externs.new ≡ externs.old) × (symbols.new ≡ symbols.old) }
+    ensures resolved { OnOk result
+        (IfSome (option_copied table.entry) (λ t.
+        AreResolved t (slice_get kernel_types.now 0) (R.remaining (watched_inner symbols.old))
+        (has_failed symbols.new) externs.old externs.new)) }
+    ensures refused { IfErr result (λ f.
+        f ≢ OutOfMemory
+        → IsSomeAnd (option_copied table.entry) (λ t.
+        CannotResolve t (slice_get kernel_types.now 0) (R.remaining (watched_inner symbols.old))
+        (has_failed symbols.new) externs.old f)) }
+    ensures no_table { option_copied table.entry ≡ None
+        → (IsOk result) × (externs.new ≡ externs.old) × (symbols.new ≡ symbols.old) }
     ensures err { OnErr result (externs.new ≡ externs.old) }
     ensures unread { is_any_sought externs.old.by_name ≡ false → symbols.new ≡ symbols.old }
 {

@@ -27,9 +27,12 @@ fn find_function(
     type_id: u32,
 ) -> Result<Option<u32>, KsymsError>
     requires { IsKnown kernel.now records.now BtfKind.Func (kernel_name BtfKind.Func name.now) }
-    ensures found { IfOk result (IsFound table.now kernel.now type_id BtfKind.Func (kernel_name BtfKind.Func name.now)) }
-    ensures accepted { OnOk result (NoFault (KindFault table.now kernel.now type_id BtfKind.Func name.now desc.now)) }
-    ensures refused { IfErr result (λ f. f ≢ OutOfMemory → KindFault table.now kernel.now type_id BtfKind.Func name.now desc.now f) }
+    ensures found { IfOk result
+        (IsFound table.now kernel.now type_id BtfKind.Func (kernel_name BtfKind.Func name.now)) }
+    ensures accepted { OnOk result
+        (NoFault (KindFault table.now kernel.now type_id BtfKind.Func name.now desc.now)) }
+    ensures refused { IfErr result (λ f.
+        f ≢ OutOfMemory → KindFault table.now kernel.now type_id BtfKind.Func name.now desc.now f) }
 {
     let name = essential_name(name);
     match kernel_record(table, type_id, kernel, records, name, BtfKind::Func)? {
@@ -57,9 +60,12 @@ fn find_variable(
     type_id: u32,
 ) -> Result<Option<u32>, KsymsError>
     requires { IsKnown kernel.now records.now BtfKind.Var (kernel_name BtfKind.Var name.now) }
-    ensures found { IfOk result (IsFound table.now kernel.now type_id BtfKind.Var (kernel_name BtfKind.Var name.now)) }
-    ensures accepted { OnOk result (NoFault (KindFault table.now kernel.now type_id BtfKind.Var name.now desc.now)) }
-    ensures refused { IfErr result (λ f. f ≢ OutOfMemory → KindFault table.now kernel.now type_id BtfKind.Var name.now desc.now f) }
+    ensures found { IfOk result
+        (IsFound table.now kernel.now type_id BtfKind.Var (kernel_name BtfKind.Var name.now)) }
+    ensures accepted { OnOk result
+        (NoFault (KindFault table.now kernel.now type_id BtfKind.Var name.now desc.now)) }
+    ensures refused { IfErr result (λ f.
+        f ≢ OutOfMemory → KindFault table.now kernel.now type_id BtfKind.Var name.now desc.now f) }
 {
     match kernel_record(table, type_id, kernel, records, name, BtfKind::Var)? {
         KernelRecord::Compatible(id) => Ok(Some(id)),
@@ -87,8 +93,10 @@ fn find_declared(
 ) -> Result<Option<u32>, KsymsError>
     requires { IsDeclaredKnown table.now kernel.now records.now name.now desc.now }
     ensures found { IfOk result (IsFoundFor table.now kernel.now name.now desc.now type_id) }
-    ensures accepted { OnOk result (NoFault (RecordFault table.now kernel.now type_id name.now desc.now)) }
-    ensures refused { IfErr result (λ f. f ≢ OutOfMemory → RecordFault table.now kernel.now type_id name.now desc.now f) }
+    ensures accepted { OnOk result
+        (NoFault (RecordFault table.now kernel.now type_id name.now desc.now)) }
+    ensures refused { IfErr result (λ f.
+        f ≢ OutOfMemory → RecordFault table.now kernel.now type_id name.now desc.now f) }
 {
     let t = table.type_by_id(desc.btf_id)?;
     match t.kind() {
@@ -110,10 +118,15 @@ fn find_typed(
     desc: &ExternDesc<'_>,
     type_id: u32,
 ) -> Result<Option<u32>, KsymsError>
-    requires { IfSome (option_copied kernel) (λ types. IsDeclaredKnown table.now types records.now name.now desc.now) }
-    ensures found { IfOk result (IsFoundIn table.now (option_copied kernel.entry) name.now desc.now type_id) }
-    ensures accepted { OnOk result (NoFault (TypedFault table.now (option_copied kernel.entry) type_id name.now desc.now)) }
-    ensures refused { IfErr result (λ f. f ≢ OutOfMemory → TypedFault table.now (option_copied kernel.entry) type_id name.now desc.now f) }
+    requires { IfSome (option_copied kernel) (λ types.
+        IsDeclaredKnown table.now types records.now name.now desc.now) }
+    ensures found { IfOk result
+        (IsFoundIn table.now (option_copied kernel.entry) name.now desc.now type_id) }
+    ensures accepted { OnOk result
+        (NoFault (TypedFault table.now (option_copied kernel.entry) type_id name.now desc.now)) }
+    ensures refused { IfErr result (λ f.
+        f ≢ OutOfMemory
+        → TypedFault table.now (option_copied kernel.entry) type_id name.now desc.now f) }
 {
     match kernel {
         Some(kernel) => find_declared(alloc, table, kernel, records, name, desc, type_id),
@@ -147,10 +160,16 @@ fn typed_extern<'a>(
     name: &str,
     desc: &ExternDesc<'a>,
 ) -> Result<ExternDesc<'a>, KsymsError>
-    requires { IfSome (option_copied kernel) (λ types. IsEntryKnown table.now types records.now (name.now, desc.now)) }
-    ensures becomes { IfOk result (TypedBecomes table.now (option_copied kernel.entry) name.now desc.now) }
-    ensures accepted { OnOk result (NoFault (λ f. EntryTypedFault table.now (option_copied kernel.entry) f (name.now, desc.now))) }
-    ensures refused { IfErr result (λ f. f ≢ OutOfMemory → EntryTypedFault table.now (option_copied kernel.entry) f (name.now, desc.now)) }
+    requires { IfSome (option_copied kernel) (λ types.
+        IsEntryKnown table.now types records.now (name.now, desc.now)) }
+    ensures becomes { IfOk result
+        (TypedBecomes table.now (option_copied kernel.entry) name.now desc.now) }
+    ensures accepted { OnOk result
+        (NoFault (λ f.
+        EntryTypedFault table.now (option_copied kernel.entry) f (name.now, desc.now))) }
+    ensures refused { IfErr result (λ f.
+        f ≢ OutOfMemory
+        → EntryTypedFault table.now (option_copied kernel.entry) f (name.now, desc.now)) }
 {
     match desc.type_id {
         Some(type_id) => {
@@ -168,9 +187,14 @@ pub(crate) fn typed_externs<'a>(
     table: &Btf<'_>,
     kernel: Option<&Btf<'_>>,
 ) -> Result<Externs<'a>, KsymsError>
-    ensures becomes { IfOk result (AreSteps (EntryTyped table.now (option_copied kernel.entry)) externs.now) }
-    ensures accepted { OnOk result (NoFault (λ f. Any (EntryTypedFault table.now (option_copied kernel.entry) f) externs.now.by_name)) }
-    ensures refused { IfErr result (λ f. f ≢ OutOfMemory → Any (EntryTypedFault table.now (option_copied kernel.entry) f) externs.now.by_name) }
+    ensures becomes { IfOk result
+        (AreSteps (EntryTyped table.now (option_copied kernel.entry)) externs.now) }
+    ensures accepted { OnOk result
+        (NoFault (λ f.
+        Any (EntryTypedFault table.now (option_copied kernel.entry) f) externs.now.by_name)) }
+    ensures refused { IfErr result (λ f.
+        f ≢ OutOfMemory
+        → Any (EntryTypedFault table.now (option_copied kernel.entry) f) externs.now.by_name) }
 {
     let records = kernel_records(alloc, externs, table, kernel)?;
     let mut by_name = BTreeMap::new(alloc);

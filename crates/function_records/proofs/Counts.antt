@@ -12,7 +12,7 @@ use Rattle.function_records.specs.SlotIndexes.{AreBySlot, indexes_within, number
 use Rattle.function_records.specs.Kept.{is_within}
 use Rattle.function_records.specs.declared.slot_index.IndexedSlot.{IndexedSlot}
 
--- each number is at most those behind it
+-- each number is at most those after it
 abbrev pub Rise : List ℕ → Type 0
 Rise [] = ⊤
 Rise (x ∷ xs) = AllByRecursion (λ y. x ≤ y) xs × Rise xs

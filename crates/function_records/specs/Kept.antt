@@ -25,15 +25,25 @@ abbrev pub moved : Bool → ℕ → ℕ → ℕ
 moved relative start slot = if relative then slot - start else slot
 
 abbrev pub moved_function : Bool → ℕ → bpf_func_info → bpf_func_info
-moved_function relative start r = record { insn_off = moved relative start r.insn_off; type_id = r.type_id }
+moved_function relative start r = record {
+  insn_off = moved relative start r.insn_off;
+  type_id = r.type_id;
+}
 
 abbrev pub moved_line : Bool → ℕ → bpf_line_info → bpf_line_info
-moved_line relative start r = record { insn_off = moved relative start r.insn_off; file_name_off = r.file_name_off; line_off = r.line_off; line_col = r.line_col }
+moved_line relative start r = record {
+  insn_off = moved relative start r.insn_off;
+  file_name_off = r.file_name_off;
+  line_off = r.line_off;
+  line_col = r.line_col;
+}
 
 -- the records of functions that begin where a function does
 abbrev pub kept_functions : Bool → ℕ → List bpf_func_info → List bpf_func_info
-kept_functions relative start records = map (moved_function relative start) (filter (λ r. r.insn_off == start) records)
+kept_functions relative start records =
+    map (moved_function relative start) (filter (λ r. r.insn_off == start) records)
 
 -- the records of lines that begin at one of a function's slots
 abbrev pub kept_lines : Bool → ℕ → ℕ → List bpf_line_info → List bpf_line_info
-kept_lines relative start slots records = map (moved_line relative start) (filter (λ r. is_within start slots r.insn_off) records)
+kept_lines relative start slots records =
+    map (moved_line relative start) (filter (λ r. is_within start slots r.insn_off) records)

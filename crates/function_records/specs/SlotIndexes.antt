@@ -16,4 +16,5 @@ pub record AreBySlot (slots : List ℕ) (places : List IndexedSlot) : Type 0 whe
 
 -- the indexes of the slots of a stretch, rising
 abbrev pub indexes_within : ℕ → ℕ → List ℕ → List ℕ
-indexes_within from count slots = map (λ p. p.index) (filter (λ p. is_within from count p.slot) (numbered 0 slots))
+indexes_within from count slots =
+    map (λ p. p.index) (filter (λ p. is_within from count p.slot) (numbered 0 slots))

@@ -28,7 +28,9 @@ impl<'e> Model for SectionRecords<'e> {
 
     ghost view = { λ s. record { functions = s.functions; lines = s.lines } };
 
-    ghost invariant = { λ s. AreBySlot (map (λ r. r.insn_off) s.functions) s.function_slots.items × AreBySlot (map (λ r. r.insn_off) s.lines) s.line_slots.items };
+    ghost invariant = { λ s.
+        AreBySlot (map (λ r. r.insn_off) s.functions) s.function_slots.items
+        × AreBySlot (map (λ r. r.insn_off) s.lines) s.line_slots.items };
 }
 
 /// The slots that functions begin at.
@@ -87,7 +89,9 @@ fn functions_of(
     relative: bool,
     start: u64,
 ) -> Result<Vec<bpf_func_info>, AllocError>
-    ensures { IfOk result (λ kept. kept.items ≡ map (moved_function relative start) (filter_map (slice_get records.now) indexes.now)) }
+    ensures { IfOk result (λ kept.
+        kept.items
+        ≡ map (moved_function relative start) (filter_map (slice_get records.now) indexes.now)) }
 {
     let mut kept = Vec::with_capacity(alloc, indexes.len())?;
     for index in indexes {
@@ -109,7 +113,9 @@ fn lines_of(
     relative: bool,
     start: u64,
 ) -> Result<Vec<bpf_line_info>, AllocError>
-    ensures { IfOk result (λ kept. kept.items ≡ map (moved_line relative start) (filter_map (slice_get records.now) indexes.now)) }
+    ensures { IfOk result (λ kept.
+        kept.items
+        ≡ map (moved_line relative start) (filter_map (slice_get records.now) indexes.now)) }
 {
     let mut kept = Vec::with_capacity(alloc, indexes.len())?;
     for index in indexes {
@@ -129,7 +135,8 @@ impl<'e> SectionRecords<'e> {
         functions: FuncSecInfo<'e>,
         lines: LineSecInfo<'e>,
     ) -> Result<SectionRecords<'e>, AllocError>
-        ensures { IfOk result (λ records. records ≡ record { functions = functions.entry; lines = lines.entry }) }
+        ensures { IfOk result (λ records.
+            records ≡ record { functions = functions.entry; lines = lines.entry }) }
     {
         Ok(SectionRecords {
             function_slots: slots_of_functions(alloc, &functions)?,

@@ -16,7 +16,10 @@ pub(crate) struct IndexedSlot {
 
 /// Puts the slots of records in order.
 pub(crate) fn order_by_slot(places: &mut Vec<IndexedSlot>) -> Result<(), AllocError>
-    ensures { OnOk result ((slots : List ℕ) → places.old.items ≡ numbered 0 slots → AreBySlot slots places.new.items) }
+    ensures { OnOk result
+        ((slots : List ℕ)
+        → places.old.items ≡ numbered 0 slots
+        → AreBySlot slots places.new.items) }
 {
     places.sort_by_key(|place| place.slot)?;
     Ok(())
@@ -53,7 +56,10 @@ pub(crate) fn indexes_within(
     count: u64,
 ) -> Result<Vec<u32>, AllocError>
     requires { IsNonDecreasingBy (λ (p : IndexedSlot). p.slot) places.now }
-    ensures { IfOk result (λ indexes. (slots : List ℕ) → AreBySlot slots places.now → indexes.items ≡ indexes_within from count slots) }
+    ensures { IfOk result (λ indexes.
+        (slots : List ℕ)
+        → AreBySlot slots places.now
+        → indexes.items ≡ indexes_within from count slots) }
 {
     let mut indexes = indexes_of(alloc, stretch(places, from, count))?;
     indexes.sort()?;

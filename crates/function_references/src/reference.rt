@@ -57,7 +57,8 @@ fn reference_of<'f, 'a>(
     function: &Function<'_>,
     slot: usize,
 ) -> Option<Reference<'f, 'a>>
-    ensures { result ≡ reference_of file.now (contains nat_cmp text_sections.now) function.now slot }
+    ensures { result
+        ≡ reference_of file.now (contains nat_cmp text_sections.now) function.now slot }
 {
     let offset = u64::try_from(place_of(function, slot)).ok()?;
     let relocation = file.relocation_at(function.section_index, offset)?;
@@ -76,7 +77,8 @@ fn reference_of<'f, 'a>(
 impl<'f, 'a> Reference<'f, 'a> {
     /// The address that the reference is to, by a slot's immediate.
     fn address(&self, imm: i32) -> Option<i128>
-        ensures { result ≡ address_by self.now.symbol.kind self.now.symbol.address self.now.width imm }
+        ensures { result
+            ≡ address_by self.now.symbol.kind self.now.symbol.address self.now.width imm }
     {
         let address = self.symbol.address() as i128;
         match self.symbol.kind() {
@@ -145,7 +147,8 @@ pub fn target_of(
     index: usize,
     slot: bpf_insn,
 ) -> Target
-    ensures { result ≡ target_of file.now (contains nat_cmp text_sections.now) function.now index slot }
+    ensures { result
+        ≡ target_of file.now (contains nat_cmp text_sections.now) function.now index slot }
 {
     match reference_of(file, text_sections, function, index) {
         Some(reference) => reference.target(slot.imm),

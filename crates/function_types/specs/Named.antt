@@ -15,7 +15,8 @@ is_named_function strings _ = false
 
 -- whether an id of a table is that of such a type
 abbrev pub names_function_in : ℕ → Table → Bool
-names_function_in id table = option_map_or (is_named_function table.strings) (type_by_id table id) false
+names_function_in id table =
+    option_map_or (is_named_function table.strings) (type_by_id table id) false
 
 -- without a table no id is
 abbrev pub names_function : Option Table → ℕ → Bool

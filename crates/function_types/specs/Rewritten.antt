@@ -30,15 +30,21 @@ pub record NamesSame (one other : Table) (id : ℕ) : Type 0 where
 abbrev pub is_denied : Answers → Bool
 is_denied answers = option_map_or not (answer_to answers feature.Func) false
 
--- A table is rewritten under such answers: its records' needs were asked, each record became what its rule says, and its texts
--- stay.
+-- A table is rewritten under such answers: its records' needs were asked, each record became what
+-- its rule says, and its texts stay.
 pub record IsRewrittenUnder (answers : Answers) (sizes offsets : List ℕ → Option ℕ) (ksyms : Option (ℕ × Option ℕ)) (table new : Table) : Type 0 where
   pub asked : AreQuestions (stepped ksyms table).strings (stepped ksyms table).types answers
   pub step : StepStays ksyms table
   pub keeps : Keeps (facts_in answers sizes offsets (stepped ksyms table)) new.types
   pub texts : TextsStay table new
 
--- Where functions weren't denied, an id that is a function's is one's of the same name in the rewritten table; so it is in the
--- section that this is written as, which leaves out what has no bytes.
+-- Where functions weren't denied, an id that is a function's is one's of the same name in the
+-- rewritten table; so it is in the section that this is written as, which leaves out what has no
+-- bytes.
 pub record FunctionsStay : Type 0 where
-  pub each : (answers : Answers) (sizes offsets : List ℕ → Option ℕ) (ksyms : Option (ℕ × Option ℕ)) (table new : Table) (id : ℕ) → IsRewrittenUnder answers sizes offsets ksyms table new → is_denied answers ≡ false → names_function_in id table ≡ true → NamesSame table (without_fallbacks new) id
+  pub each : (answers : Answers) (sizes offsets : List ℕ → Option ℕ) (ksyms : Option (ℕ × Option ℕ))
+      (table new : Table) (id : ℕ)
+      → IsRewrittenUnder answers sizes offsets ksyms table new
+      → is_denied answers ≡ false
+      → names_function_in id table ≡ true
+      → NamesSame table (without_fallbacks new) id

@@ -25,7 +25,9 @@ fn names_function(table: Option<&Btf<'_>>, type_id: u32) -> bool
 
 /// The type of the first record that names no function.
 fn nameless_type(table: Option<&Btf<'_>>, records: &FuncSecInfo<'_>) -> Option<u32>
-    ensures none { is_none result ≡ not (list_any (λ r. not (names_function (option_copied table.entry) r.type_id)) records.now) }
+    ensures none { is_none result
+        ≡ not
+        (list_any (λ r. not (names_function (option_copied table.entry) r.type_id)) records.now) }
     ensures kept { IfSome result (λ id. list_any (λ r. r.type_id == id) records.now ≡ true) }
     ensures nameless { IfSome result (λ id. names_function (option_copied table.entry) id ≡ false) }
 {
@@ -58,7 +60,8 @@ pub fn nameless_record<'f, 'a>(
     functions: &'f Functions<'a>,
 ) -> Option<(&'a str, u32)>
     ensures none { is_none result ≡ all_named (option_copied table.entry) functions.now }
-    ensures nameless { IfSome result (λ r. IsNameless (option_copied table.entry) functions.now r.0.now r.1) }
+    ensures nameless { IfSome result (λ r.
+        IsNameless (option_copied table.entry) functions.now r.0.now r.1) }
 {
     for (_key, function) in functions.iter() {
         if let Some(found) = nameless_in(table, function) {

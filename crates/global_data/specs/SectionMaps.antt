@@ -18,4 +18,7 @@ pub record AreExtents (maps : List (List ℕ × MapView)) (by_section : BTreeMap
 
 -- one more map is entered, unless its section has one
 abbrev pub Enters : BTreeMap ℕ Extent → BTreeMap ℕ Extent → ℕ → Extent → Type 0
-Enters before later section extent = (index : ℕ) → get nat_cmp later index ≡ option_or (get nat_cmp before index) (if section == index then Some extent else None)
+Enters before later section extent =
+    (index : ℕ)
+    → get nat_cmp later index
+    ≡ option_or (get nat_cmp before index) (if section == index then Some extent else None)

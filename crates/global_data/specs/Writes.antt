@@ -11,7 +11,10 @@ use Rattle.global_data.specs.GlobalData.{Write, write_of}
 abbrev pub write_list : List Symbol → List (List ℕ × MapView) → List ℕ × GlobalContent → List Write
 write_list symbols maps global = option_map_or (λ w. w ∷ []) (write_of symbols maps global) []
 
-abbrev pub writes_of : List Symbol → List (List ℕ × MapView) → List (List ℕ × GlobalContent) → List Write
+abbrev pub writes_of : List Symbol
+    → List (List ℕ × MapView)
+    → List (List ℕ × GlobalContent)
+    → List Write
 writes_of symbols maps globals = flat_map (write_list symbols maps) globals
 
 -- each of them lies in its map

@@ -24,16 +24,16 @@ fn write_all(maps: &mut Maps<'_>, writes: &[MapWrite<'_, '_>])
 
 /// Puts the values of global variables into the maps of an object, as `values` has them: over the
 /// bytes of the map of the symbol's section, of several maps of a section the first by name, from
-/// the symbol's address (`st_value`) on. The symbol is the one of the variable's name, of several the
-/// one of the greatest index. All other bytes stay, and so do all maps where a value is refused.
-/// Every map keeps its name and its number of bytes, whatever the answer.
+/// the symbol's address (`st_value`) on. The symbol is the one of the variable's name, of several
+/// the one of the greatest index. All other bytes stay, and so do all maps where a value is
+/// refused. Every map keeps its name and its number of bytes, whatever the answer.
 ///
 /// # Errors
 ///
 /// That of the first variable by name: `SymbolNotFound` where no symbol has the name and one must;
-/// `InvalidGlobalData` where the value isn't as long as the symbol's size (`st_size`), or the symbol's
-/// bytes lie outside the map's; `MapNotFound` where no map is made of the symbol's section, with the
-/// section's index or 0; and `OutOfMemory`.
+/// `InvalidGlobalData` where the value isn't as long as the symbol's size (`st_size`), or the
+/// symbol's bytes lie outside the map's; `MapNotFound` where no map is made of the symbol's
+/// section, with the section's index or 0; and `OutOfMemory`.
 pub fn patch_map_data(
     alloc: Global,
     file: &ObjectFile<'_>,
@@ -42,7 +42,8 @@ pub fn patch_map_data(
 ) -> Result<(), ParseError>
     ensures patched { OnOk result (maps.new ≡ patched file.now maps.old values.now) }
     ensures sound { OnOk result (first_fault file.now maps.old values.now ≡ None) }
-    ensures fault { IfErr result (λ e. e ≢ OutOfMemory → Says (first_fault file.now maps.old values.now) e) }
+    ensures fault { IfErr result (λ e.
+        e ≢ OutOfMemory → Says (first_fault file.now maps.old values.now) e) }
     ensures unchanged { OnErr result (maps.new ≡ maps.old) }
     ensures lengths { extents maps.new ≡ extents maps.old }
 {

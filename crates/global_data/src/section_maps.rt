@@ -63,7 +63,8 @@ impl<'m, 'a> SectionMaps<'m, 'a> {
     /// Those of some maps.
     pub(crate) fn new(alloc: Global, maps: &'m Maps<'a>) -> Result<SectionMaps<'m, 'a>, AllocError>
         ensures value { IfOk result (λ found. found ≡ maps.now) }
-        ensures rising { OnOk result (IsStrictlySortedBy (slice_cmp nat_cmp) (map (λ e. e.0) maps.now)) }
+        ensures rising { OnOk result
+            (IsStrictlySortedBy (slice_cmp nat_cmp) (map (λ e. e.0) maps.now)) }
     {
         let mut by_section = BTreeMap::new(alloc);
         for (name, map) in maps.iter() {

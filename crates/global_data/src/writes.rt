@@ -37,7 +37,8 @@ impl<'a, 's> Model for MapWrite<'a, 's> {
 
 /// Says that a value doesn't fit its symbol, or the symbol its map.
 fn bad_data(alloc: Global, name: &str, value: &GlobalValue, symbol: &ReadSymbol<'_>) -> ParseError
-    ensures { result ≢ OutOfMemory → fault_of result ≡ Some (bad_data (name.now, value.now) symbol.now) }
+    ensures { result ≢ OutOfMemory
+        → fault_of result ≡ Some (bad_data (name.now, value.now) symbol.now) }
 {
     match String::from_str(alloc, name) {
         Ok(name) => ParseError::InvalidGlobalData {
@@ -58,8 +59,10 @@ fn write_over<'a, 's>(
     symbol: &ReadSymbol<'_>,
 ) -> Result<MapWrite<'a, 's>, ParseError>
     ensures value { IfOk result (λ w. write_over maps.now value.now.bytes symbol.now ≡ Some w) }
-    ensures sound { OnOk result (symbol_fault maps.now (name.now, value.now) (Some symbol.now) ≡ None) }
-    ensures fault { IfErr result (λ e. e ≢ OutOfMemory → Says (symbol_fault maps.now (name.now, value.now) (Some symbol.now)) e) }
+    ensures sound { OnOk result
+        (symbol_fault maps.now (name.now, value.now) (Some symbol.now) ≡ None) }
+    ensures fault { IfErr result (λ e.
+        e ≢ OutOfMemory → Says (symbol_fault maps.now (name.now, value.now) (Some symbol.now)) e) }
 {
     if value.bytes.len() as u64 != symbol.view().size() {
         return Err(bad_data(alloc, name, value, symbol));
@@ -90,9 +93,13 @@ fn write_of<'a, 's>(
     value: &'s GlobalValue,
     symbol: Option<&ReadSymbol<'_>>,
 ) -> Result<Option<MapWrite<'a, 's>>, ParseError>
-    ensures value { IfOk result (λ w. w ≡ option_and_then (write_over maps.now value.now.bytes) (option_copied symbol.entry)) }
-    ensures sound { OnOk result (symbol_fault maps.now (name.now, value.now) (option_copied symbol.entry) ≡ None) }
-    ensures fault { IfErr result (λ e. e ≢ OutOfMemory → Says (symbol_fault maps.now (name.now, value.now) (option_copied symbol.entry)) e) }
+    ensures value { IfOk result (λ w.
+        w ≡ option_and_then (write_over maps.now value.now.bytes) (option_copied symbol.entry)) }
+    ensures sound { OnOk result
+        (symbol_fault maps.now (name.now, value.now) (option_copied symbol.entry) ≡ None) }
+    ensures fault { IfErr result (λ e.
+        e ≢ OutOfMemory
+        → Says (symbol_fault maps.now (name.now, value.now) (option_copied symbol.entry)) e) }
 {
     let Some(symbol) = symbol else {
         if value.must_exist {
@@ -112,10 +119,13 @@ pub(crate) fn writes_of<'a, 's>(
     maps: &Maps<'a>,
     values: &'s GlobalValues,
 ) -> Result<Vec<MapWrite<'a, 's>>, ParseError>
-    ensures value { IfOk result (λ writes. writes.items ≡ writes_of (symbols_of file.now) maps.now values.now) }
-    ensures rising { OnOk result (IsStrictlySortedBy (slice_cmp nat_cmp) (map (λ e. e.0) maps.now)) }
+    ensures value { IfOk result (λ writes.
+        writes.items ≡ writes_of (symbols_of file.now) maps.now values.now) }
+    ensures rising { OnOk result
+        (IsStrictlySortedBy (slice_cmp nat_cmp) (map (λ e. e.0) maps.now)) }
     ensures sound { OnOk result (first_fault file.now maps.now values.now ≡ None) }
-    ensures fault { IfErr result (λ e. e ≢ OutOfMemory → Says (first_fault file.now maps.now values.now) e) }
+    ensures fault { IfErr result (λ e.
+        e ≢ OutOfMemory → Says (first_fault file.now maps.now values.now) e) }
 {
     let symbols = GlobalSymbols::new(alloc, file.symbols(), values)?;
     let maps = SectionMaps::new(alloc, maps)?;

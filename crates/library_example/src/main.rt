@@ -1,5 +1,5 @@
-//! What a program does with the library, by its four names alone: `elf64` for the file, `ebpf_object` for what
-//! it holds, `btf` for types, and `load_plan` for what a kernel gets of it.
+//! What a program does with the library, by its four names alone: `elf64` for the file,
+//! `ebpf_object` for what it holds, `btf` for types, and `load_plan` for what a kernel gets of it.
 //!
 //! `library_example OBJECT [KERNEL_TYPES]`
 #![tactic(auto)]

@@ -51,7 +51,8 @@ fn print_text(rt: &HostRuntime, text: &[u8]) -> Result<(), ExampleError> {
     print_contents(rt, &plan)
 }
 
-/// The text of the plan of an object's bytes, for a kernel that grants all features and has these types.
+/// The text of the plan of an object's bytes, for a kernel that grants all features and has these
+/// types.
 fn planned_text(
     alloc: Global,
     bytes: &[u8],
@@ -74,8 +75,8 @@ fn planned_text(
     text_of(alloc, &plan)
 }
 
-/// Prepares an object for a kernel that grants all features and has these types, and prints the plan as
-/// it is read from its own text.
+/// Prepares an object for a kernel that grants all features and has these types, and prints the
+/// plan as it is read from its own text.
 pub(crate) fn print_plan(
     rt: &HostRuntime,
     bytes: &[u8],

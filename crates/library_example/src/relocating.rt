@@ -63,7 +63,8 @@ fn print_lengths(rt: &HostRuntime, object: &Object<'_>) -> Result<(), ExampleErr
     Ok(())
 }
 
-/// Relocates a copy of an object as a loader does, with one value set, and prints how long its programs are.
+/// Relocates a copy of an object as a loader does, with one value set, and prints how long its
+/// programs are.
 pub(crate) fn print_relocated(rt: &HostRuntime, object: &Object<'_>) -> Result<(), ExampleError> {
     let mut relocated = object.try_clone()?;
     put_value(rt.alloc(), &mut relocated)?;

@@ -18,7 +18,8 @@ IsUnknownAt place caller (error.UnknownFunction address name) =
     (pos address ≡ int_rem_euclid place (pos (2 ^ 64))) × (string_bytes name ≡ caller)
 IsUnknownAt place caller _ = ⊥
 
--- a target that no function is: a symbol that can stand for none, or an address at which none begins
+-- a target that no function is: a symbol that can stand for none, or an address at which none
+-- begins
 abbrev pub IsTargetFault : Unlinked → FunctionContent → Target → RelocationError → Type 0
 IsTargetFault u f (target.UnknownSymbol index) (error.UnknownSymbol i) = i ≡ index
 IsTargetFault u f (target.Function section place) e =
@@ -28,11 +29,15 @@ IsTargetFault u f _ _ = ⊥
 -- some slot of a function has such a target
 abbrev pub HasTargetFault : Unlinked → FunctionContent → RelocationError → Type 0
 HasTargetFault u f e =
-    (slot : ℕ) × (s : bpf_insn) × (slice_get f.instructions slot ≡ Some s) × IsTargetFault u f (target_at u f slot s) e
+    (slot : ℕ)
+    × (s : bpf_insn)
+    × (slice_get f.instructions slot ≡ Some s)
+    × IsTargetFault u f (target_at u f slot s) e
 
 -- the function of a key has one
 abbrev pub HasTargetFaultAt : Unlinked → Key → RelocationError → Type 0
-HasTargetFaultAt u key e = (f : FunctionContent) × (function_at u.functions key ≡ Some f) × HasTargetFault u f e
+HasTargetFaultAt u key e =
+    (f : FunctionContent) × (function_at u.functions key ≡ Some f) × HasTargetFault u f e
 
 -- the records of a function of this name don't fit those of the program
 abbrev pub IsMismatchOf : List ℕ → RelocationError → Type 0
@@ -48,15 +53,22 @@ last_of own (k ∷ ks) = k
 abbrev pub HasMismatch : Unlinked → Key → List Key → RelocationError → Type 0
 HasMismatch u own [] e = ⊥
 HasMismatch u own (k ∷ ks) e =
-    (f : FunctionContent) × (g : FunctionContent) × (function_at u.functions own ≡ Some f) × (function_at u.functions k ≡ Some g) × (mismatches f g ≡ true) × IsMismatchOf g.name e
+    (f : FunctionContent)
+    × (g : FunctionContent)
+    × (function_at u.functions own ≡ Some f)
+    × (function_at u.functions k ≡ Some g)
+    × (mismatches f g ≡ true)
+    × IsMismatchOf g.name e
 
 -- a program has fewer than 2^31 slots
 abbrev pub IsTooLong : Unlinked → Key → List Key → RelocationError → Type 0
-IsTooLong u own ks e = (2147483648 ≤ end_of (table_of u) own ks) × (e ≡ error.InvalidRelocationOffset 0 0)
+IsTooLong u own ks e =
+    (2147483648 ≤ end_of (table_of u) own ks) × (e ≡ error.InvalidRelocationOffset 0 0)
 
 -- a fault of the last of some copies
 abbrev pub IsLastFault : Unlinked → Key → List Key → RelocationError → Type 0
-IsLastFault u own ks e = HasTargetFaultAt u (last_of own ks) e ⊎ (HasMismatch u own ks e ⊎ IsTooLong u own ks e)
+IsLastFault u own ks e =
+    HasTargetFaultAt u (last_of own ks) e ⊎ (HasMismatch u own ks e ⊎ IsTooLong u own ks e)
 
 -- a fault of a program: the copies so far are those that come first
 abbrev pub HasLinkFault : Unlinked → Key → RelocationError → Type 0

@@ -12,8 +12,11 @@ abbrev pub slot_total : List (Key × FunctionContent) → ℕ
 slot_total [] = 0
 slot_total (f ∷ fs) = length f.1.instructions + slot_total fs
 
--- a linked program is at most as long as its own function and all functions together, since copies of different functions are no
--- longer than these
+-- a linked program is at most as long as its own function and all functions together, since copies
+-- of different functions are no longer than these
 pub record ProgramsAreShort : Type 0 where
-  pub each : (u : Unlinked) (own : Key) (g : FunctionContent) (l : IsLinked u own g) → length g.instructions ≤ length l.function.instructions + slot_total u.functions
-  pub copies : (u : Unlinked) (keys : List Key) → AreDistinct keys → slots_of (table_of u) keys ≤ slot_total u.functions
+  pub each : (u : Unlinked) (own : Key) (g : FunctionContent) (l : IsLinked u own g)
+      → length g.instructions ≤ length l.function.instructions + slot_total u.functions
+  pub copies : (u : Unlinked) (keys : List Key)
+      → AreDistinct keys
+      → slots_of (table_of u) keys ≤ slot_total u.functions

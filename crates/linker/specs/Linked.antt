@@ -14,15 +14,27 @@ use Rattle.linker.specs.Records.{functions_of, lines_of, tables_of}
 use Rattle.linker.specs.Faults.{CanBeLinked, HasLinkFault}
 
 -- a function with these slots, records and kernel tables in place of its own
-abbrev pub with_copies : FunctionContent → List bpf_insn → List bpf_func_info → List bpf_line_info → List ℕ → FunctionContent
-with_copies f slots functions lines tables = record f { instructions = slots; func_info = functions; line_info = lines; matched_tables = tables }
+abbrev pub with_copies : FunctionContent
+    → List bpf_insn
+    → List bpf_func_info
+    → List bpf_line_info
+    → List ℕ
+    → FunctionContent
+with_copies f slots functions lines tables = record f {
+  instructions = slots;
+  func_info = functions;
+  line_info = lines;
+  matched_tables = tables;
+}
 
 -- a program's function with its copies appended
 abbrev pub linked_function : Unlinked → Key → List Key → FunctionContent → FunctionContent
-linked_function u own ks f = with_copies f (linked (table_of u) own ks) (functions_of u own ks) (lines_of u own ks) (tables_of u own ks)
+linked_function u own ks f =
+    with_copies f (linked (table_of u) own ks) (functions_of u own ks) (lines_of u own ks)
+    (tables_of u own ks)
 
--- The function of a key is linked: by its layout, whose appended copies are those of the functions that it leads to, and the
--- linked slots are visited as its functions are.
+-- The function of a key is linked: by its layout, whose appended copies are those of the functions
+-- that it leads to, and the linked slots are visited as its functions are.
 pub record IsLinked (u : Unlinked) (own : Key) (g : FunctionContent) : Type 0 where
   pub keys : List Key
   pub layout : IsLayout (table_of u) own keys
@@ -41,11 +53,14 @@ program_keys programs = map (λ e. (e.1.section_index, e.1.address)) programs
 abbrev pub IsLinkedIn : Unlinked → List (Key × FunctionContent) → Key → Type 0
 IsLinkedIn u new key = (g : FunctionContent) × ((function_at new key ≡ Some g) × IsLinked u key g)
 
--- the functions of some keys are linked, from the functions as they stood before; all others, and the keys, are as before
+-- the functions of some keys are linked, from the functions as they stood before; all others, and
+-- the keys, are as before
 pub record AreLinked (u : Unlinked) (keys : List Key) (new : List (Key × FunctionContent)) : Type 0 where
   pub stay : keys_of new ≡ keys_of u.functions
   pub programs : (key : Key) → has keys key ≡ true → IsLinkedIn u new key
-  pub others : (key : Key) → has keys key ≡ false → function_at new key ≡ function_at u.functions key
+  pub others : (key : Key)
+      → has keys key ≡ false
+      → function_at new key ≡ function_at u.functions key
 
 -- each program can be linked
 abbrev pub AllCanBeLinked : Unlinked → List Key → Type 0
@@ -53,10 +68,19 @@ AllCanBeLinked u [] = Unit {0}
 AllCanBeLinked u (k ∷ ks) = CanBeLinked u k × AllCanBeLinked u ks
 
 -- a fault of a program, by the program's name
-abbrev pub HasFaultOf : Unlinked → List (List ℕ × ProgramContent) → Option (List ℕ) → RelocationError → Type 0
+abbrev pub HasFaultOf : Unlinked
+    → List (List ℕ × ProgramContent)
+    → Option (List ℕ)
+    → RelocationError
+    → Type 0
 HasFaultOf u [] name e = ⊥
-HasFaultOf u (p ∷ ps) name e = ((name ≡ Some p.0) × HasLinkFault u (p.1.section_index, p.1.address) e) ⊎ HasFaultOf u ps name e
+HasFaultOf u (p ∷ ps) name e =
+    ((name ≡ Some p.0) × HasLinkFault u (p.1.section_index, p.1.address) e) ⊎ HasFaultOf u ps name e
 
 -- what the programs of an object are linked from
 abbrev pub unlinked : List ℕ → List ℕ → List (Key × FunctionContent) → Unlinked
-unlinked file text_sections functions = record { file = file; text_sections = text_sections; functions = functions }
+unlinked file text_sections functions = record {
+  file = file;
+  text_sections = text_sections;
+  functions = functions;
+}

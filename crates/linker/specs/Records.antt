@@ -1,4 +1,5 @@
--- The records of a linked program: those of its copies, moved with them; and the kernel tables that its copies' relocations matched.
+-- The records of a linked program: those of its copies, moved with them; and the kernel tables that
+-- its copies' relocations matched.
 use Rattle.std.specs.Prelude.{ℕ, ◌+◌, ◌-◌, ◌==◌, ◌||◌, not, nat_lt, Bool, false, if◌then◌else◌, List, [], ◌∷◌, ◌++◌, length, map, Option, Some, None}
 use Rattle.std.specs.List.{list_any}
 use Rattle.btf_extension.specs.declared.record.bpf_func_info.{bpf_func_info}
@@ -32,19 +33,22 @@ lines_in (Some f) = f.line_info
 abbrev pub functions_of : Unlinked → Key → List Key → List bpf_func_info
 functions_of u own [] = map (moved_function 0) (functions_in (function_at u.functions own))
 functions_of u own (k ∷ ks) =
-    functions_of u own ks ++ map (moved_function (end_of (table_of u) own ks)) (functions_in (function_at u.functions k))
+    functions_of u own ks
+    ++ map (moved_function (end_of (table_of u) own ks)) (functions_in (function_at u.functions k))
 
 -- the program's own records of lines as they are, and those of the appended copies moved
 abbrev pub lines_of : Unlinked → Key → List Key → List bpf_line_info
 lines_of u own [] = lines_in (function_at u.functions own)
 lines_of u own (k ∷ ks) =
-    lines_of u own ks ++ moved_lines (end_of (table_of u) own ks) (lines_in (function_at u.functions k))
+    lines_of u own ks
+    ++ moved_lines (end_of (table_of u) own ks) (lines_in (function_at u.functions k))
 
 abbrev pub tables_in : Option FunctionContent → List ℕ
 tables_in None = []
 tables_in (Some f) = f.matched_tables
 
--- the kernel tables that the relocations in these functions matched, those of the program's own entered first
+-- the kernel tables that the relocations in these functions matched, those of the program's own
+-- entered first
 abbrev pub with_matched : Unlinked → List ℕ → Key → List ℕ
 with_matched u tables key = with_tables tables (tables_in (function_at u.functions key))
 

@@ -27,7 +27,8 @@ if_there functions key = if has_function functions key then Some key else None
 
 -- the function that begins at an address of a section
 abbrev pub function_in : List (Key × FunctionContent) → ℕ → ℤ → Option Key
-function_in functions section address = option_and_then (if_there functions) (key_at section address)
+function_in functions section address =
+    option_and_then (if_there functions) (key_at section address)
 
 -- the function that a target is
 abbrev pub found : List (Key × FunctionContent) → Target → Option Key
@@ -65,4 +66,7 @@ refs_in u (Some f) = refs_of u f
 
 -- the functions by key
 unfoldable pub table_of : Unlinked → Table
-table_of u = record { slots = λ key. slots_in (function_at u.functions key); refs = λ key. refs_in u (function_at u.functions key) }
+table_of u = record {
+  slots = λ key. slots_in (function_at u.functions key);
+  refs = λ key. refs_in u (function_at u.functions key);
+}

@@ -41,7 +41,8 @@ placed_in starts (Some key) p s = aimed (get key_cmp starts key) p s
 -- the slots of a function's copy that begins at b, from slot i on
 abbrev pub copy_in : Unlinked → FunctionContent → Starts → ℕ → ℕ → List bpf_insn → List bpf_insn
 copy_in u f starts b i [] = []
-copy_in u f starts b i (s ∷ ss) = placed_in starts (ref_of u f i s) (b + i) s ∷ copy_in u f starts b (i + 1) ss
+copy_in u f starts b i (s ∷ ss) =
+    placed_in starts (ref_of u f i s) (b + i) s ∷ copy_in u f starts b (i + 1) ss
 
 -- each start fits 31 bits
 pub record StartsFit (starts : Starts) : Type 0 where
@@ -59,13 +60,16 @@ AllFit u own (k ∷ ks) = Fits own (function_at u.functions k) × AllFit u own k
 -- the functions of the appended copies in order, and where each begins
 pub record IsOrdered (u : Unlinked) (own : Key) (f : FunctionContent) (o : Order) : Type 0 where
   pub layout : IsLayout (table_of u) own (reverse o.keys.items)
-  pub starts : (key : Key) → get key_cmp o.starts key ≡ start_of (table_of u) own (reverse o.keys.items) key
+  pub starts : (key : Key)
+      → get key_cmp o.starts key ≡ start_of (table_of u) own (reverse o.keys.items) key
   pub within : end_of (table_of u) own (reverse o.keys.items) < 2147483648
   pub fit : AllFit u f o.keys.items
 
 -- no slot of the function of a key has a fault
 pub record SoundAt (u : Unlinked) (key : Key) : Type 0 where
-  pub each : (f : FunctionContent) → function_at u.functions key ≡ Some f → are_sound u f 0 f.instructions ≡ true
+  pub each : (f : FunctionContent)
+      → function_at u.functions key ≡ Some f
+      → are_sound u f 0 f.instructions ≡ true
 
 abbrev pub AllSound : Unlinked → Key → List Key → Type 0
 AllSound u own [] = SoundAt u own

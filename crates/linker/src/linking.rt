@@ -55,7 +55,10 @@ fn with_copies<'f>(
     matched_tables: MatchedTables,
 ) -> Result<Function<'f>, AllocError>
     requires { is_alone ≡ true → copies.slots.items ≡ function.now.instructions }
-    ensures { IfOk result (λ f. f ≡ with_copies function.now copies.slots.items copies.records.functions.items copies.records.lines.items matched_tables) }
+    ensures { IfOk result (λ f.
+        f
+        ≡ with_copies function.now copies.slots.items copies.records.functions.items
+        copies.records.lines.items matched_tables) }
 {
     let Copies { slots, records } = copies;
     if records.functions.len() > u32::MAX as usize || records.lines.len() > u32::MAX as usize {
@@ -88,7 +91,8 @@ impl<'s, 'o, 'f> Source<'s, 'o, 'f> {
 
     /// The kernel tables that the relocations in a program's functions matched.
     fn matched_tables(&self, own: Key, order: &Order) -> Result<MatchedTables, AllocError>
-        ensures { IfOk result (λ tables. tables ≡ tables_of self.now own (reverse order.now.keys.items)) }
+        ensures { IfOk result (λ tables.
+            tables ≡ tables_of self.now own (reverse order.now.keys.items)) }
     {
         let mut tables = MatchedTables::new(self.alloc);
         self.enter_tables(&mut tables, own)?;
@@ -122,10 +126,16 @@ impl<'s, 'o, 'f> Source<'s, 'o, 'f> {
         name: &str,
         program: &Program<'_>,
     ) -> Result<Function<'f>, EbpfRelocationError>
-        requires { has_function self.now.functions (program.now.section_index, program.now.address) ≡ true }
-        ensures linked { IfOk result (λ f. IsLinked self.now (program.now.section_index, program.now.address) f) }
-        ensures sound { OnOk result (CanBeLinked self.now (program.now.section_index, program.now.address)) }
-        ensures fault { IfErr result (λ e. e.error ≢ OutOfMemory → (option_map string_bytes e.function ≡ Some name.now) × HasLinkFault self.now (program.now.section_index, program.now.address) e.error) }
+        requires { has_function self.now.functions (program.now.section_index, program.now.address)
+            ≡ true }
+        ensures linked { IfOk result (λ f.
+            IsLinked self.now (program.now.section_index, program.now.address) f) }
+        ensures sound { OnOk result
+            (CanBeLinked self.now (program.now.section_index, program.now.address)) }
+        ensures fault { IfErr result (λ e.
+            e.error ≢ OutOfMemory
+            → (option_map string_bytes e.function ≡ Some name.now)
+            × HasLinkFault self.now (program.now.section_index, program.now.address) e.error) }
     {
         match self.link(program.function_key()) {
             Ok(function) => Ok(function),
@@ -136,9 +146,12 @@ impl<'s, 'o, 'f> Source<'s, 'o, 'f> {
     /// The functions of all programs, linked, in order of the programs' names.
     fn link_all(&self, programs: &Programs<'_>) -> Result<Vec<Function<'f>>, EbpfRelocationError>
         requires { HaveFunctions programs.now self.now.functions }
-        ensures linked { IfOk result (λ list. AreLinkedTo self.now (program_keys programs.now) list.items) }
+        ensures linked { IfOk result (λ list.
+            AreLinkedTo self.now (program_keys programs.now) list.items) }
         ensures sound { OnOk result (AllCanBeLinked self.now (program_keys programs.now)) }
-        ensures fault { IfErr result (λ e. e.error ≢ OutOfMemory → HasFaultOf self.now programs.now (option_map string_bytes e.function) e.error) }
+        ensures fault { IfErr result (λ e.
+            e.error ≢ OutOfMemory
+            → HasFaultOf self.now programs.now (option_map string_bytes e.function) e.error) }
     {
         let mut linked = Vec::new(self.alloc);
         for (name, program) in programs.iter() {
@@ -169,9 +182,16 @@ pub fn relocate_calls<'f>(
     text_sections: &BTreeSet<usize>,
 ) -> Result<(), EbpfRelocationError>
     requires { HaveFunctions programs.now functions.old }
-    ensures linked { OnOk result (AreLinked (unlinked file.now text_sections.now.keys functions.old) (program_keys programs.now) functions.new) }
-    ensures sound { OnOk result (AllCanBeLinked (unlinked file.now text_sections.now.keys functions.old) (program_keys programs.now)) }
-    ensures fault { IfErr result (λ e. e.error ≢ OutOfMemory → HasFaultOf (unlinked file.now text_sections.now.keys functions.old) programs.now (option_map string_bytes e.function) e.error) }
+    ensures linked { OnOk result
+        (AreLinked (unlinked file.now text_sections.now.keys functions.old)
+        (program_keys programs.now) functions.new) }
+    ensures sound { OnOk result
+        (AllCanBeLinked (unlinked file.now text_sections.now.keys functions.old)
+        (program_keys programs.now)) }
+    ensures fault { IfErr result (λ e.
+        e.error ≢ OutOfMemory
+        → HasFaultOf (unlinked file.now text_sections.now.keys functions.old) programs.now
+        (option_map string_bytes e.function) e.error) }
     ensures unchanged { OnErr result (functions.new ≡ functions.old) }
 {
     let linked = link_from(alloc, file, programs, functions, text_sections)?;
@@ -188,9 +208,16 @@ fn link_from<'f>(
     text_sections: &BTreeSet<usize>,
 ) -> Result<Vec<Function<'f>>, EbpfRelocationError>
     requires { HaveFunctions programs.now functions.now }
-    ensures linked { IfOk result (λ list. AreLinkedTo (unlinked file.now text_sections.now.keys functions.now) (program_keys programs.now) list.items) }
-    ensures sound { OnOk result (AllCanBeLinked (unlinked file.now text_sections.now.keys functions.now) (program_keys programs.now)) }
-    ensures fault { IfErr result (λ e. e.error ≢ OutOfMemory → HasFaultOf (unlinked file.now text_sections.now.keys functions.now) programs.now (option_map string_bytes e.function) e.error) }
+    ensures linked { IfOk result (λ list.
+        AreLinkedTo (unlinked file.now text_sections.now.keys functions.now)
+        (program_keys programs.now) list.items) }
+    ensures sound { OnOk result
+        (AllCanBeLinked (unlinked file.now text_sections.now.keys functions.now)
+        (program_keys programs.now)) }
+    ensures fault { IfErr result (λ e.
+        e.error ≢ OutOfMemory
+        → HasFaultOf (unlinked file.now text_sections.now.keys functions.now) programs.now
+        (option_map string_bytes e.function) e.error) }
 {
     let source = Source {
         alloc,

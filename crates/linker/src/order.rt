@@ -65,7 +65,10 @@ fn append(
     ensures keys { OnOk result (keys.new.items ≡ keys.old.items ++ found.key ∷ []) }
     ensures starts { OnOk result (SetsStart starts.old starts.new found.key start) }
     ensures len { OnOk result (vec_len path.new ≡ vec_len path.old + 2) }
-    ensures path { OnOk result (path.new.items ≡ (path.old.items ++ record { key = caller; next = found.slot + 1 } ∷ []) ++ record { key = found.key; next = 0 } ∷ []) }
+    ensures path { OnOk result
+        (path.new.items
+        ≡ (path.old.items ++ record { key = caller; next = found.slot + 1 } ∷ [])
+        ++ record { key = found.key; next = 0 } ∷ []) }
 {
     keys.push(found.key)?;
     starts.insert(found.key, start)?;
@@ -89,8 +92,12 @@ impl<'s, 'o, 'f> Source<'s, 'o, 'f> {
         starts: &BTreeMap<Key, usize>,
     ) -> Result<Option<Key>, RelocationError>
         requires { index < length function.now.instructions }
-        ensures found { IfOk result (λ key. key ≡ open_in (has_start_in starts.now) (get_or (refs_of self.now function.now) index None)) }
-        ensures fault { IfErr result (λ e. e ≢ OutOfMemory → HasTargetFault self.now function.now e) }
+        ensures found { IfOk result (λ key.
+            key
+            ≡ open_in (has_start_in starts.now)
+            (get_or (refs_of self.now function.now) index None)) }
+        ensures fault { IfErr result (λ e.
+            e ≢ OutOfMemory → HasTargetFault self.now function.now e) }
     {
         let slot = slot_at(function, index);
         let Some(key) = self.reference(function, index, slot)? else {
@@ -110,11 +117,18 @@ impl<'s, 'o, 'f> Source<'s, 'o, 'f> {
         starts: &BTreeMap<Key, usize>,
     ) -> Result<Option<Open>, RelocationError>
         requires within { from ≤ length function.now.instructions }
-        requires before { first_open (has_start_in starts.now) (take from (refs_of self.now function.now)) ≡ None }
-        ensures some { IfOk result (λ found. IfSome found (λ o. IsOpen (has_start_in starts.now) (refs_of self.now function.now) o)) }
+        requires before { first_open (has_start_in starts.now)
+            (take from (refs_of self.now function.now))
+            ≡ None }
+        ensures some { IfOk result (λ found.
+            IfSome found (λ o.
+            IsOpen (has_start_in starts.now) (refs_of self.now function.now) o)) }
         ensures small { IfOk result (λ found. IfSome found (λ o. o.slot + 1 < 2 ^ 64)) }
-        ensures none { IfOk result (λ found. IfNone found (first_open (has_start_in starts.now) (refs_of self.now function.now) ≡ None)) }
-        ensures fault { IfErr result (λ e. e ≢ OutOfMemory → HasTargetFault self.now function.now e) }
+        ensures none { IfOk result (λ found.
+            IfNone found
+            (first_open (has_start_in starts.now) (refs_of self.now function.now) ≡ None)) }
+        ensures fault { IfErr result (λ e.
+            e ≢ OutOfMemory → HasTargetFault self.now function.now e) }
     {
         for slot in from..slot_count(function) {
             if let Some(key) = self.open_at(function, slot, starts)? {

@@ -43,7 +43,8 @@ pub(crate) fn check_records(
     callee: &Function<'_>,
 ) -> Result<(), RelocationError>
     ensures fit { OnOk result (mismatches own.now callee.now ≡ false) }
-    ensures fault { IfErr result (λ e. e ≢ OutOfMemory → (mismatches own.now callee.now ≡ true) × IsMismatchOf callee.now.name e) }
+    ensures fault { IfErr result (λ e.
+        e ≢ OutOfMemory → (mismatches own.now callee.now ≡ true) × IsMismatchOf callee.now.name e) }
 {
     if !mismatches(own, callee) {
         return Ok(());
@@ -58,7 +59,8 @@ pub(crate) fn push_functions(
     records: &FuncSecInfo<'_>,
     start: u32,
 ) -> Result<(), AllocError>
-    ensures { OnOk result (out.new.items ≡ out.old.items ++ map (moved_function start) records.now) }
+    ensures { OnOk result
+        (out.new.items ≡ out.old.items ++ map (moved_function start) records.now) }
 {
     let mut index = 0;
     while let Some(record) = records.get(index) {

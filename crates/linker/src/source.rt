@@ -35,7 +35,12 @@ impl<'s, 'o, 'f> Model for Source<'s, 'o, 'f> {
 
     ghost Value = { Unlinked };
 
-    ghost view = { λ s. record { file = s.file.now; text_sections = s.text_sections.now.keys; functions = s.functions.now } };
+    ghost view = { λ s.
+        record {
+          file = s.file.now;
+          text_sections = s.text_sections.now.keys;
+          functions = s.functions.now;
+        } };
 }
 
 /// How many slots a function has.
@@ -97,8 +102,12 @@ impl<'s, 'o, 'f> Source<'s, 'o, 'f> {
         address: i128,
         caller: &str,
     ) -> Result<Key, RelocationError>
-        ensures found { IfOk result (λ key. function_in self.now.functions section_index address ≡ Some key) }
-        ensures fault { IfErr result (λ e. e ≢ OutOfMemory → (function_in self.now.functions section_index address ≡ None) × IsUnknownAt address caller.now e) }
+        ensures found { IfOk result (λ key.
+            function_in self.now.functions section_index address ≡ Some key) }
+        ensures fault { IfErr result (λ e.
+            e ≢ OutOfMemory
+            → (function_in self.now.functions section_index address ≡ None)
+            × IsUnknownAt address caller.now e) }
     {
         let Some(key) = key_at(section_index, address) else {
             return Err(unknown_function(self.alloc, address, caller));
@@ -117,8 +126,11 @@ impl<'s, 'o, 'f> Source<'s, 'o, 'f> {
         slot: bpf_insn,
     ) -> Result<Option<Key>, RelocationError>
         ensures found { IfOk result (λ key. key ≡ ref_of self.now function.now index slot) }
-        ensures sound { OnOk result (is_sound self.now (target_at self.now function.now index slot) ≡ true) }
-        ensures fault { IfErr result (λ e. e ≢ OutOfMemory → IsTargetFault self.now function.now (target_at self.now function.now index slot) e) }
+        ensures sound { OnOk result
+            (is_sound self.now (target_at self.now function.now index slot) ≡ true) }
+        ensures fault { IfErr result (λ e.
+            e ≢ OutOfMemory
+            → IsTargetFault self.now function.now (target_at self.now function.now index slot) e) }
     {
         match target_of(self.file, self.text_sections, function, index, slot) {
             Target::Nothing => Ok(None),

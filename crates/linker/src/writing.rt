@@ -83,8 +83,11 @@ fn place(
 
 /// Appends the records of a program's own function.
 fn push_own_records(records: &mut Records, function: &Function<'_>) -> Result<(), AllocError>
-    ensures functions { OnOk result (records.new.functions.items ≡ records.old.functions.items ++ map (moved_function 0) function.now.func_info) }
-    ensures lines { OnOk result (records.new.lines.items ≡ records.old.lines.items ++ function.now.line_info) }
+    ensures functions { OnOk result
+        (records.new.functions.items
+        ≡ records.old.functions.items ++ map (moved_function 0) function.now.func_info) }
+    ensures lines { OnOk result
+        (records.new.lines.items ≡ records.old.lines.items ++ function.now.line_info) }
 {
     push_functions(&mut records.functions, &function.func_info, 0)?;
     push_lines(&mut records.lines, &function.line_info)?;
@@ -98,8 +101,12 @@ fn push_records(
     start: usize,
 ) -> Result<(), AllocError>
     requires { start < 2147483648 }
-    ensures functions { OnOk result (records.new.functions.items ≡ records.old.functions.items ++ map (moved_function start) function.now.func_info) }
-    ensures lines { OnOk result (records.new.lines.items ≡ records.old.lines.items ++ moved_lines start function.now.line_info) }
+    ensures functions { OnOk result
+        (records.new.functions.items
+        ≡ records.old.functions.items ++ map (moved_function start) function.now.func_info) }
+    ensures lines { OnOk result
+        (records.new.lines.items
+        ≡ records.old.lines.items ++ moved_lines start function.now.line_info) }
 {
     let start = start as u32;
     push_functions(&mut records.functions, &function.func_info, start)?;
@@ -117,9 +124,15 @@ impl<'s, 'o, 'f> Source<'s, 'o, 'f> {
     ) -> Result<(), RelocationError>
         requires room { vec_len slots.old + length function.now.instructions < 2147483648 }
         requires starts { StartsFit starts.now }
-        ensures written { OnOk result (slots.new.items ≡ slots.old.items ++ copy_in self.now function.now starts.now (vec_len slots.old) 0 function.now.instructions) }
-        ensures sound { OnOk result (are_sound self.now function.now 0 function.now.instructions ≡ true) }
-        ensures fault { IfErr result (λ e. e ≢ OutOfMemory → HasTargetFault self.now function.now e) }
+        ensures written { OnOk result
+            (slots.new.items
+            ≡ slots.old.items
+            ++ copy_in self.now function.now starts.now (vec_len slots.old) 0
+            function.now.instructions) }
+        ensures sound { OnOk result
+            (are_sound self.now function.now 0 function.now.instructions ≡ true) }
+        ensures fault { IfErr result (λ e.
+            e ≢ OutOfMemory → HasTargetFault self.now function.now e) }
     {
         let begin = slots.len();
         for index in 0..slot_count(function) {
@@ -139,9 +152,12 @@ impl<'s, 'o, 'f> Source<'s, 'o, 'f> {
     ) -> Result<Copies, RelocationError>
         requires own { function_at self.now.functions own ≡ Some own_function.now }
         requires ordered { IsOrdered self.now own own_function.now order.now }
-        ensures slots { IfOk result (λ c. c.slots.items ≡ linked (table_of self.now) own (reverse order.now.keys.items)) }
-        ensures functions { IfOk result (λ c. c.records.functions.items ≡ functions_of self.now own (reverse order.now.keys.items)) }
-        ensures lines { IfOk result (λ c. c.records.lines.items ≡ lines_of self.now own (reverse order.now.keys.items)) }
+        ensures slots { IfOk result (λ c.
+            c.slots.items ≡ linked (table_of self.now) own (reverse order.now.keys.items)) }
+        ensures functions { IfOk result (λ c.
+            c.records.functions.items ≡ functions_of self.now own (reverse order.now.keys.items)) }
+        ensures lines { IfOk result (λ c.
+            c.records.lines.items ≡ lines_of self.now own (reverse order.now.keys.items)) }
         ensures sound { OnOk result (AllSound self.now own (reverse order.now.keys.items)) }
         ensures fault { IfErr result (λ e. e ≢ OutOfMemory → HasLinkFault self.now own e) }
     {

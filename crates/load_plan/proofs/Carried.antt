@@ -1,7 +1,6 @@
 -- The slots of a plan's program, by those of the object's functions.
 use Rattle.std.proofs.Common.{◌≡◌, ◌⊎◌, ℕ, zero, suc, ◌+◌, ◌<◌, ◌==◌, List, [], ◌∷◌, map, length, Bool, true, false, Option, Some, None, refl, sym, ap, ◌∙◌, subst, inl, inr, arith}
 use Rattle.std.proofs.lemmas.Bool.Decides.{nat_tests}
-use Rattle.std.specs.Option.{option_map}
 use Rattle.std.specs.Prelude.{ℤ, pos, ◌&&◌, if◌then◌else◌, is_some, slice_get, unwrap_or}
 use Rattle.ebpf_object.specs.TypeRelocations.{type_groups, types_of}
 use Rattle.ebpf_items.specs.Instruction.{calls_newer_helper, dst_reg_of, is_helper_call, older_helper, src_reg_of, with_older_helper}

@@ -9,12 +9,11 @@ use Rattle.btf_sanitizing.specs.Answers.{Answers}
 use Rattle.btf_tables.specs.Sanitizing.{stepped}
 use Rattle.btf_tables.specs.Tables.{Table}
 use Rattle.ebpf_object.specs.Helpers.{for_kernel}
-use Rattle.ebpf_object.specs.ParsedObject.{ObjectContent}
 use Rattle.ebpf_object.specs.Rewriting.{IsRewritten, IsRewrittenIf}
 use Rattle.function_layout.specs.Layout.{Key}
 use Rattle.function_types.specs.Named.{all_named, is_named_function, names_function, names_function_in}
 use Rattle.function_types.specs.Rewritten.{is_denied}
-use Rattle.linker.specs.Linked.{AreLinked, program_keys}
+use Rattle.linker.specs.Linked.{AreLinked}
 use Rattle.linker.specs.Records.{functions_in}
 use Rattle.linker.specs.Unlinked.{Unlinked}
 use Rattle.object_parts.specs.Content.{FunctionContent, ProgramContent, function_at}

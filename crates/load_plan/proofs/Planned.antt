@@ -17,7 +17,6 @@ use Rattle.function_layout.specs.Copies.{SlotsAreCopied}
 use Rattle.function_layout.specs.Layout.{Key, has}
 use Rattle.function_layout.specs.Renamed.{RenamedVisitsSame}
 use Rattle.function_layout.specs.Theorems.{ReachedAreAppended}
-use Rattle.function_types.specs.Named.{all_named}
 use Rattle.linker.specs.Linked.{IsLinkedIn, program_keys}
 use Rattle.object_parts.specs.Content.{FunctionContent, ProgramContent}
 use Rattle.object_plan.specs.Laws.{HaveRecordsOf, NamesAreCarried, RecordsName}

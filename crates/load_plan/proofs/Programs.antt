@@ -1,5 +1,5 @@
 -- The programs of a plan are those of an object, linked.
-use Rattle.std.proofs.Common.{◌≡◌, ℕ, List, [], ◌∷◌, map, Bool, true, false, Option, Some, None, refl, sym, ap, ◌∙◌, subst}
+use Rattle.std.proofs.Common.{◌≡◌, ℕ, List, [], ◌∷◌, map, Bool, true, false, Option, Some, refl, sym, ap, ◌∙◌, subst}
 use Rattle.std.proofs.lemmas.Map.Made.{lookup-map_values}
 use Rattle.std.specs.BTreeMap.{is_at}
 use Rattle.std.specs.Cmp.{nat_cmp_is}
@@ -10,7 +10,6 @@ use Rattle.std.specs.declared.cmp.Ordering.{Ordering}
 use Rattle.std.specs.declared.cmp.Ordering.TheVariants.{Equal}
 use Rattle.btf_extension.specs.declared.record.bpf_func_info.{bpf_func_info}
 use Rattle.btf_extension.specs.declared.record.bpf_line_info.{bpf_line_info}
-use Rattle.btf_sanitizing.specs.Answers.{Answers}
 use Rattle.ebpf_items.specs.Instruction.{with_older_helper}
 use Rattle.ebpf_items.specs.declared.instruction.bpf_insn.{bpf_insn}
 use Rattle.ebpf_object.specs.Helpers.{for_kernel}
@@ -21,11 +20,11 @@ use Rattle.function_layout.specs.Reached.{AreReached}
 use Rattle.function_layout.specs.Renamed.{RenamedProgram, RenamedVisitsSame, renamed_table}
 use Rattle.function_layout.specs.Theorems.{ReachedAreAppended}
 use Rattle.function_types.specs.Rewritten.{is_denied}
-use Rattle.linker.specs.Linked.{AreLinked, IsLinked, IsLinkedIn, program_keys}
+use Rattle.linker.specs.Linked.{IsLinked, IsLinkedIn, program_keys}
 use Rattle.linker.specs.Records.{functions_of, lines_of, tables_of}
 use Rattle.linker.specs.Unlinked.{Unlinked, table_of}
 use Rattle.object_parts.specs.Content.{FunctionContent, ProgramContent, function_at, key_cmp, with_older_helpers}
-use Rattle.object_plan.specs.Plans.{AllName, AllNamed, func_records_of, line_records_of, plan_program_of, program_of}
+use Rattle.object_plan.specs.Plans.{AllName, AllNamed, plan_program_of, program_of}
 use Rattle.plan_text.specs.Content as plan
 use Rattle.plan_text.specs.Content.{PlanContent}
 use Rattle.load_plan.specs.Inputs.{Inputs, State, Under, keeps_helpers}

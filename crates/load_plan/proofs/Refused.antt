@@ -1,5 +1,5 @@
 -- Errors of passes as a PrepareError.
-use Rattle.std.proofs.Common.{◌≡◌, List, [], Option, Some, None, refl, inl, inr}
+use Rattle.std.proofs.Common.{refl}
 use Rattle.std.specs.Prelude.{◌≢◌}
 use Rattle.btf_records.specs.declared.error.BtfError.{BtfError}
 use Rattle.btf_records.specs.declared.error.BtfError.TheVariants as btf

@@ -11,13 +11,16 @@ use Rattle.btf_tables.specs.Tables.{Table}
 abbrev pub came_as : List BtfType → ℕ → BtfType → BtfType
 came_as before id r = unwrap_or (record_of_id before id) r
 
--- the record of each id needs features alone that are granted; a section without entries that came with a size needs no more than
--- one with entries
+-- the record of each id needs features alone that are granted; a section without entries that came
+-- with a size needs no more than one with entries
 pub record NeedGranted (answers : Answers) (before after : List BtfType) : Type 0 where
-  pub each : (id : ℕ) (r : BtfType) → record_of_id after id ≡ Some r → AllGranted (granted answers) (needed_after (came_as before id r) r)
+  pub each : (id : ℕ) (r : BtfType)
+      → record_of_id after id ≡ Some r
+      → AllGranted (granted answers) (needed_after (came_as before id r) r)
 
 -- so do those of an object's rewritten types
 abbrev pub AreGranted : Answers → Option (ℕ × Option ℕ) → Option Table → Option Table → Type 0
-AreGranted answers ksyms (Some old) (Some new) = NeedGranted answers (stepped ksyms old).types new.types
+AreGranted answers ksyms (Some old) (Some new) =
+    NeedGranted answers (stepped ksyms old).types new.types
 AreGranted answers ksyms None None = Unit {0}
 AreGranted answers ksyms _ _ = ⊥

@@ -13,7 +13,8 @@ use Rattle.load_plan.specs.declared.order.Order.{Order}
 abbrev pub Predicate : Type 0 → Type 1
 Predicate F = Mut F (BtfFeature × Unit {0}) Bool
 
--- the text of the kernel's symbols: the bytes that its reader holds, if they are known, and whether reading them failed
+-- the text of the kernel's symbols: the bytes that its reader holds, if they are known, and whether
+-- reading them failed
 pub record Symbols : Type 0 where
   pub bytes : Option (List ℕ)
   pub failed : Bool
@@ -21,7 +22,8 @@ pub record Symbols : Type 0 where
 abbrev pub symbols_given : Option (List ℕ) → Bool → Symbols
 symbols_given bytes failed = record { bytes = bytes; failed = failed }
 
--- the object's file, the kernel's tables of types and its symbols, what is set for maps and global variables, and the order of two passes
+-- the object's file, the kernel's tables of types and its symbols, what is set for maps and global
+-- variables, and the order of two passes
 pub record Inputs : Type 0 where
   pub file : List ℕ
   pub kernel_types : List Table
@@ -33,8 +35,8 @@ abbrev pub inputs : List ℕ → List Table → Symbols → SettingsContent → 
 inputs file kernel_types symbols settings order =
     record { file = file; kernel_types = kernel_types; symbols = symbols; settings = settings; order = order }
 
--- What was answered about the kernel: which features of types it grants, by the features that were asked about, and whether it has the
--- newer helpers that read memory, if that was asked.
+-- What was answered about the kernel: which features of types it grants, by the features that were
+-- asked about, and whether it has the newer helpers that read memory, if that was asked.
 pub record Under : Type 0 where
   pub answers : Answers
   pub has_helpers : Option Bool

@@ -1,4 +1,5 @@
--- Plans and refusals where the answers about a kernel are known beforehand: whether it grants a feature goes by the feature alone.
+-- Plans and refusals where the answers about a kernel are known beforehand: whether it grants a
+-- feature goes by the feature alone.
 use Rattle.std.specs.Prelude.{◌≡◌, ◌⊎◌, Bool, [], ◌∷◌}
 use Rattle.btf_records.specs.declared.feature.BtfFeature.{BtfFeature}
 use Rattle.btf_sanitizing.specs.Answers.{Answers}

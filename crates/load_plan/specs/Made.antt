@@ -10,15 +10,21 @@ use Rattle.load_plan.specs.declared.order.Order.TheVariants.{RelocateFirst, Rewr
 
 -- the two passes over types, in either order
 abbrev pub MakesTypes : Order → List Table → Answers → State → State → Type 0
-MakesTypes RelocateFirst kernel answers s t = (m : State) × RelocatesTypes kernel s m × RewritesTypes answers m t
-MakesTypes RewriteFirst kernel answers s t = (m : State) × RewritesTypes answers s m × RelocatesTypes kernel m t
+MakesTypes RelocateFirst kernel answers s t =
+    (m : State) × RelocatesTypes kernel s m × RewritesTypes answers m t
+MakesTypes RewriteFirst kernel answers s t =
+    (m : State) × RewritesTypes answers s m × RelocatesTypes kernel m t
 
 -- one of them refuses
 abbrev pub RefusesTypes : Order → List Table → Answers → State → PrepareError → Type 0
 RefusesTypes RelocateFirst kernel answers s e =
-    OfTypeRelocation (CannotRelocateTypes kernel s) e ⊎ ((m : State) × RelocatesTypes kernel s m × OfTypes (CannotRewrite answers m.file m.externs.ksyms m.types) e)
+    OfTypeRelocation (CannotRelocateTypes kernel s) e
+    ⊎ ((m : State)
+    × RelocatesTypes kernel s m
+    × OfTypes (CannotRewrite answers m.file m.externs.ksyms m.types) e)
 RefusesTypes RewriteFirst kernel answers s e =
-    OfTypes (CannotRewrite answers s.file s.externs.ksyms s.types) e ⊎ ((m : State) × RewritesTypes answers s m × OfTypeRelocation (CannotRelocateTypes kernel m) e)
+    OfTypes (CannotRewrite answers s.file s.externs.ksyms s.types) e
+    ⊎ ((m : State) × RewritesTypes answers s m × OfTypeRelocation (CannotRelocateTypes kernel m) e)
 
 -- all passes are made, under these answers about features and one of the probe
 pub record IsMade {F : Type 0} (predicate : Predicate F) (before : F) (Says : Bool → Type 0) (i : Inputs) (answers : Answers) (object final : State) : Type 0 where
@@ -40,7 +46,8 @@ pub record IsRefusedTypes {F : Type 0} (predicate : Predicate F) (before : F) (s
   pub answered : AreAnswered predicate before answers
   pub fault : OfTypes (CannotRewrite answers s.file s.externs.ksyms s.types) e
 
--- the first of the two passes over types refuses, or the second after it, under the answers that the predicate gave so far
+-- the first of the two passes over types refuses, or the second after it, under the answers that
+-- the predicate gave so far
 pub record AreTypesRefused {F : Type 0} (predicate : Predicate F) (before : F) (kernel : List Table) (order : Order) (s : State) (e : PrepareError) : Type 0 where
   pub answers : Answers
   pub answered : AreAnswered predicate before answers

@@ -1,5 +1,5 @@
 -- The passes over an object, in order: what each makes of it, and what each refuses.
-use Rattle.std.specs.Prelude.{◌≡◌, ◌⊎◌, ◌==◌, ◌&&◌, not, ℕ, length, List, [], ◌∷◌, ◌++◌, map, Bool, true, false, Option, None, Some, is_some, slice_get}
+use Rattle.std.specs.Prelude.{◌≡◌, ◌⊎◌, ◌==◌, ◌&&◌, not, length, List, [], ◌∷◌, ◌++◌, map, Bool, true, false, Option, None, is_some, slice_get}
 use Rattle.std.specs.Option.{IsSomeAnd, MatchOption, option_map, option_map_or}
 use Rattle.std.specs.String.{string_bytes}
 use Rattle.btf_extension.specs.Extensions.{Extension}
@@ -75,14 +75,16 @@ first_table i = slice_get i.kernel_types 0
 abbrev pub unlinked_of : State → Unlinked
 unlinked_of s = unlinked s.file (text_sections s.functions) s.functions
 
--- ---- what each pass makes of an object: none of its faults stands, and this is the object after it
+-- ---- what each pass makes of an object: none of its faults stands, and this is the object after
+-- it
 
 abbrev pub KeepsNamed : State → State → Type 0
 KeepsNamed s t = (all_named s.types s.functions ≡ true) × (t ≡ s)
 
 -- whether there is a group of type relocations, one without records too
 abbrev pub has_type_relocations : Option Extension → Bool
-has_type_relocations extension = option_map_or (λ x. not (length x.relocations == 0)) extension false
+has_type_relocations extension =
+    option_map_or (λ x. not (length x.relocations == 0)) extension false
 
 -- type relocations, and no kernel types that they could be looked up in
 abbrev pub lacks_kernel_types : List Table → State → Bool
@@ -100,7 +102,8 @@ pub record PutsValues (settings : SettingsContent) (s t : State) : Type 0 where
 
 -- an object without types keeps its externs
 pub record ResolvesExterns (kernel : Option Table) (symbols : Symbols) (s t : State) : Type 0 where
-  pub externs : MatchOption s.types (t.externs ≡ s.externs) (λ table. AreResolved table kernel symbols.bytes symbols.failed s.externs t.externs)
+  pub externs : MatchOption s.types (t.externs ≡ s.externs) (λ table.
+      AreResolved table kernel symbols.bytes symbols.failed s.externs t.externs)
   pub others : t ≡ record s { externs = t.externs }
 
 pub record RelocatesTypes (kernel : List Table) (s t : State) : Type 0 where
@@ -148,11 +151,13 @@ Makes Helpers i u s t = RenamesHelpers u s t
 -- ---- which faults of each pass stand in an object
 
 abbrev pub HasNamelessRecord : State → PrepareError → Type 0
-HasNamelessRecord s (error.FunctionRecordType function id) = IsNameless s.types s.functions (string_bytes function) id
+HasNamelessRecord s (error.FunctionRecordType function id) =
+    IsNameless s.types s.functions (string_bytes function) id
 HasNamelessRecord s _ = ⊥
 
 abbrev pub LacksNumber : SettingsContent → State → PrepareError → Type 0
-LacksNumber settings s (error.MapNumberMissing name) = lacks_number settings s.maps (string_bytes name) ≡ true
+LacksNumber settings s (error.MapNumberMissing name) =
+    lacks_number settings s.maps (string_bytes name) ≡ true
 LacksNumber settings s _ = ⊥
 
 abbrev pub LacksKernelTypes : List Table → State → PrepareError → Type 0
@@ -183,16 +188,21 @@ abbrev pub CannotPutValues : SettingsContent → State → ParseError → Type 0
 CannotPutValues settings s e = Says (first_fault s.file s.maps settings.globals) e
 
 abbrev pub CannotResolve : Option Table → Symbols → State → KsymsError → Type 0
-CannotResolve kernel symbols s e = IsSomeAnd s.types (λ table. resolution.CannotResolve table kernel symbols.bytes symbols.failed s.externs e)
+CannotResolve kernel symbols s e =
+    IsSomeAnd s.types (λ table.
+    resolution.CannotResolve table kernel symbols.bytes symbols.failed s.externs e)
 
 abbrev pub CannotRelocateTypes : List Table → State → BtfRelocationCause → Type 0
 CannotRelocateTypes kernel s c = faults.HasTypesFault (types_of s kernel) (type_groups s) c
 
 abbrev pub CannotWriteNumbers : SettingsContent → State → EbpfRelocationError → Type 0
-CannotWriteNumbers settings s e = HasErrorIn (map_rule (maps_given settings s)) s.file s.functions (option_map string_bytes e.function) e.error
+CannotWriteNumbers settings s e =
+    HasErrorIn (map_rule (maps_given settings s)) s.file s.functions
+    (option_map string_bytes e.function) e.error
 
 abbrev pub CannotWriteExterns : State → EbpfRelocationError → Type 0
-CannotWriteExterns s e = HasErrorIn (rule_of_externs s) s.file s.functions (option_map string_bytes e.function) e.error
+CannotWriteExterns s e =
+    HasErrorIn (rule_of_externs s) s.file s.functions (option_map string_bytes e.function) e.error
 
 abbrev pub CannotLink : State → EbpfRelocationError → Type 0
 CannotLink s e = HasFaultOf (unlinked_of s) s.programs (option_map string_bytes e.function) e.error
@@ -221,10 +231,20 @@ abbrev pub second_of : Order → Pass
 second_of RelocateFirst = Types
 second_of RewriteFirst = TypeSlots
 
--- those that check an object, and change its maps, its externs, its types and the slots of its functions
+-- those that check an object, and change its maps, its externs, its types and the slots of its
+-- functions
 abbrev pub patching : Order → List Pass
 patching order =
-    FunctionRecords ∷ MapNumbers ∷ GlobalValues ∷ KernelTypes ∷ Externs ∷ first_of order ∷ second_of order ∷ MapSlots ∷ ExternSlots ∷ []
+    FunctionRecords
+    ∷ MapNumbers
+    ∷ GlobalValues
+    ∷ KernelTypes
+    ∷ Externs
+    ∷ first_of order
+    ∷ second_of order
+    ∷ MapSlots
+    ∷ ExternSlots
+    ∷ []
 
 -- those that make its programs whole
 abbrev pub linking : List Pass

@@ -17,8 +17,8 @@ pub record IsWholeObject (file : List ℕ) (object : State) : Type 0 where
   pub faultless : IsFaultless file
   pub parsed : IsParsed file object
 
--- The plan of an object under answers: what all passes make of it. Its types are those of the object, rewritten; each need of them is
--- granted.
+-- The plan of an object under answers: what all passes make of it. Its types are those of the
+-- object, rewritten; each need of them is granted.
 pub record IsPlanOf (i : Inputs) (u : Under) (object : State) (plan : PlanContent) : Type 0 where
   pub patched : State
   pub patching : Made (patching i.order) i u object patched
@@ -52,6 +52,7 @@ pub record IsPassRefusal {F : Type 0} (predicate : Predicate F) (before : F) (i 
   pub whole : IsWholeObject i.file object
   pub refused : IsRefusedObject predicate before i object e
 
--- What a refusal says, memory apart: a fault of the file, or a pass refuses the object of a file without a fault.
+-- What a refusal says, memory apart: a fault of the file, or a pass refuses the object of a file
+-- without a fault.
 abbrev pub IsRefusal : {F : Type 0} → Predicate F → F → Inputs → PrepareError → Type 0
 IsRefusal predicate before i e = OfParse (HasFault i.file) e ⊎ IsPassRefusal predicate before i e

@@ -29,7 +29,8 @@ use Rattle.type_relocation.specs.Laws as types
 use Rattle.load_plan.specs.Inputs.{Inputs, State, Under, keeps_helpers}
 use Rattle.load_plan.specs.Passes.{ExternSlots, Made, MapSlots, Pass, TypeSlots, maps_given, patching, unlinked_of}
 
--- the functions that a program's slots are copies of: those of a kernel that has the newer helpers, or lacks them
+-- the functions that a program's slots are copies of: those of a kernel that has the newer helpers,
+-- or lacks them
 abbrev pub source_for : Bool → Unlinked → Table
 source_for true u = table_of u
 source_for false u = renamed_table (table_of u)
@@ -47,7 +48,8 @@ abbrev pub func_records_of : Answers → Unlinked → Key → List Key → List 
 func_records_of answers u own keys = if is_denied answers then [] else functions_of u own keys
 
 abbrev pub line_records_of : Answers → Bool → Unlinked → Key → List Key → List bpf_line_info
-line_records_of answers has_types u own keys = if is_denied answers || not has_types then [] else lines_of u own keys
+line_records_of answers has_types u own keys =
+    if is_denied answers || not has_types then [] else lines_of u own keys
 
 -- some map of a plan has this name and this number
 abbrev pub HasMap : List MapContent → NumberedMap → Type 0
@@ -68,27 +70,40 @@ pub record NumbersMap (g : MapsGiven) (maps : List MapContent) (r : Relocation) 
 abbrev pub OfFunction : State → Key → (FunctionContent → Type 0) → Type 0
 OfFunction s key Holds = (f : FunctionContent) × (function_at s.functions key ≡ Some f) × Holds f
 
--- a relocation of a pass writes the slot at a place of a function, of an object as the pass finds it
+-- a relocation of a pass writes the slot at a place of a function, of an object as the pass finds
+-- it
 abbrev pub WritesSlot : Pass → Inputs → State → Key → ℕ → Type 0
-WritesSlot TypeSlots i s key place = OfFunction s key (λ f. types.WritesAt (types_of s i.kernel_types) (type_groups s) f place)
-WritesSlot MapSlots i s key place = OfFunction s key (λ f. maps.WritesAt (maps_given i.settings s) f place)
-WritesSlot ExternSlots i s key place = OfFunction s key (λ f. externs.WritesAt s.file s.externs.by_name f place)
+WritesSlot TypeSlots i s key place =
+    OfFunction s key (λ f. types.WritesAt (types_of s i.kernel_types) (type_groups s) f place)
+WritesSlot MapSlots i s key place =
+    OfFunction s key (λ f. maps.WritesAt (maps_given i.settings s) f place)
+WritesSlot ExternSlots i s key place =
+    OfFunction s key (λ f. externs.WritesAt s.file s.externs.by_name f place)
 WritesSlot _ i s key place = ⊥
 
 -- one alone does, and puts this into it
 abbrev pub PutsSlot : Pass → Inputs → State → Key → ℕ → bpf_insn → Type 0
-PutsSlot TypeSlots i s key place y = OfFunction s key (λ f. types.PutsAt (types_of s i.kernel_types) (type_groups s) f place y)
-PutsSlot MapSlots i s key place y = OfFunction s key (λ f. maps.PutsAt (maps_given i.settings s) f place y)
-PutsSlot ExternSlots i s key place y = OfFunction s key (λ f. externs.PutsAt s.file s.externs.by_name f place y)
+PutsSlot TypeSlots i s key place y =
+    OfFunction s key (λ f. types.PutsAt (types_of s i.kernel_types) (type_groups s) f place y)
+PutsSlot MapSlots i s key place y =
+    OfFunction s key (λ f. maps.PutsAt (maps_given i.settings s) f place y)
+PutsSlot ExternSlots i s key place y =
+    OfFunction s key (λ f. externs.PutsAt s.file s.externs.by_name f place y)
 PutsSlot _ i s key place y = ⊥
 
 -- one of some passes that are made writes the slot
-abbrev pub IsWritten : (ps : List Pass) (i : Inputs) (u : Under) (s t : State) → Made ps i u s t → Key → ℕ → Type 0
+abbrev pub IsWritten : (ps : List Pass) (i : Inputs) (u : Under) (s t : State)
+    → Made ps i u s t
+    → Key
+    → ℕ
+    → Type 0
 IsWritten [] i u s t made key place = ⊥
-IsWritten (p ∷ ps) i u s t made key place = WritesSlot p i s key place ⊎ IsWritten ps i u made.0 t made.2 key place
+IsWritten (p ∷ ps) i u s t made key place =
+    WritesSlot p i s key place ⊎ IsWritten ps i u made.0 t made.2 key place
 
--- a slot at which a relocation by a map stands carries the map's number in the plan, and one at which one by an extern stands what is
--- known of the extern, whatever other relocations of the pass write
+-- a slot at which a relocation by a map stands carries the map's number in the plan, and one at
+-- which one by an extern stands what is known of the extern, whatever other relocations of the pass
+-- write
 abbrev pub Carries : Pass → Inputs → List MapContent → State → Key → ℕ → bpf_insn → Type 0
 Carries MapSlots i whole s key place x = (f : FunctionContent) (r : ℕ × Relocation) (w : Write)
     → function_at s.functions key ≡ Some f
@@ -102,21 +117,31 @@ Carries ExternSlots i whole s key place x = (f : FunctionContent) (r : ℕ × Re
     → externs.CarriesExtern s.file s.externs.by_name r.1 x
 Carries _ i whole s key place x = Unit {0}
 
--- what a slot is by the last pass that writes it: what one relocation alone puts there, older helpers aside, and what else it carries
+-- what a slot is by the last pass that writes it: what one relocation alone puts there, older
+-- helpers aside, and what else it carries
 pub record IsWrittenBy (p : Pass) (i : Inputs) (has_helpers : Bool) (whole : List MapContent) (s : State) (key : Key) (place : ℕ) (x : bpf_insn) : Type 0 where
   pub alone : (y : bpf_insn) → PutsSlot p i s key place y → x ≡ for_helpers has_helpers y
   pub carries : Carries p i whole s key place x
 
 -- of some passes that are made: each by which it is written last
-abbrev pub AreWrittenLast : (ps : List Pass) (i : Inputs) (u : Under) (s t : State) → Made ps i u s t → List MapContent → Key → ℕ → bpf_insn → Type 0
+abbrev pub AreWrittenLast : (ps : List Pass) (i : Inputs) (u : Under) (s t : State)
+    → Made ps i u s t
+    → List MapContent
+    → Key
+    → ℕ
+    → bpf_insn
+    → Type 0
 AreWrittenLast [] i u s t made whole key place x = Unit {0}
 AreWrittenLast (p ∷ ps) i u s t made whole key place x =
-    ((IsWritten ps i u made.0 t made.2 key place → ⊥) → IsWrittenBy p i (keeps_helpers u) whole s key place x) × AreWrittenLast ps i u made.0 t made.2 whole key place x
+    ((IsWritten ps i u made.0 t made.2 key place → ⊥)
+    → IsWrittenBy p i (keeps_helpers u) whole s key place x)
+    × AreWrittenLast ps i u made.0 t made.2 whole key place x
 
--- What has become of a slot of an object's function: one that no relocation writes is the object's, older helpers aside, and another is
--- what the last pass that writes it gives.
+-- What has become of a slot of an object's function: one that no relocation writes is the object's,
+-- older helpers aside, and another is what the last pass that writes it gives.
 pub record HasBecome (i : Inputs) (u : Under) (object patched : State) (made : Made (patching i.order) i u object patched) (whole : List MapContent) (key : Key) (place : ℕ) (s x : bpf_insn) : Type 0 where
-  pub unwritten : (IsWritten (patching i.order) i u object patched made key place → ⊥) → x ≡ for_helpers (keeps_helpers u) s
+  pub unwritten : (IsWritten (patching i.order) i u object patched made key place → ⊥)
+      → x ≡ for_helpers (keeps_helpers u) s
   pub written : AreWrittenLast (patching i.order) i u object patched made whole key place x
 
 -- the slot at a place of a function whose copy begins at a slot of a program refers to no function
@@ -127,14 +152,18 @@ pub record IsCopied (functions : List (Key × FunctionContent)) (t : Table) (own
   pub slot : slice_get function.instructions place ≡ Some s
   pub refers : ref_at t key place ≡ None
 
--- the slots of a program, by those of the object's functions that it has copies of and that refer to no function
+-- the slots of a program, by those of the object's functions that it has copies of and that refer
+-- to no function
 pub record AreSlotsOf (i : Inputs) (u : Under) (object patched : State) (made : Made (patching i.order) i u object patched) (whole : List MapContent) (own : Key) (keys : List Key) (slots : List bpf_insn) : Type 0 where
   pub each : (key : Key) (start place : ℕ) (s : bpf_insn)
       → IsCopied object.functions (table_of (unlinked_of patched)) own keys key start place s
-      → (x : bpf_insn) × (slice_get slots (start + place) ≡ Some x) × HasBecome i u object patched made whole key place s x
+      → (x : bpf_insn)
+      × (slice_get slots (start + place) ≡ Some x)
+      × HasBecome i u object patched made whole key place s x
 
--- A program of a plan: what it is by an object, by the same after its functions' slots were written, and by what was answered about
--- the kernel. All is told by one layout, the keys of the functions whose copies are appended to the program's own.
+-- A program of a plan: what it is by an object, by the same after its functions' slots were
+-- written, and by what was answered about the kernel. All is told by one layout, the keys of the
+-- functions whose copies are appended to the program's own.
 pub record IsPlanProgram (i : Inputs) (u : Under) (object patched : State) (made : Made (patching i.order) i u object patched) (whole : PlanContent) (e : List ℕ × ProgramContent) (p : plan.ProgramContent) : Type 0 where
   -- name and kind are the program's
   pub name : p.name ≡ e.0
@@ -149,15 +178,26 @@ pub record IsPlanProgram (i : Inputs) (u : Under) (object patched : State) (made
   -- on each list of decisions they are visited as the functions are, run with a stack of calls
   pub visits : VisitsSame (source u patched) (own_key e.1) keys p.slots
   -- the records are those of the copies, moved with them
-  pub func_records : p.func_records ≡ func_records_of u.answers (unlinked_of patched) (own_key e.1) keys
-  pub line_records : p.line_records ≡ line_records_of u.answers (is_some whole.type_bytes) (unlinked_of patched) (own_key e.1) keys
+  pub func_records : p.func_records
+      ≡ func_records_of u.answers (unlinked_of patched) (own_key e.1) keys
+  pub line_records : p.line_records
+      ≡ line_records_of u.answers (is_some whole.type_bytes) (unlinked_of patched) (own_key e.1)
+      keys
   -- the kernel tables are those that the type relocations in the copied functions matched
   pub tables : p.tables ≡ Some (tables_of (unlinked_of patched) (own_key e.1) keys)
-  -- each record of a function names, in the plan's types, the function that it names in the object's
+  -- each record of a function names, in the plan's types, the function that it names in the
+  -- object's
   pub names : AllName object.types whole.type_bytes p.func_records
 
 -- a plan's programs are those of an object, each of them so
-abbrev pub ArePlanPrograms : (i : Inputs) (u : Under) (object patched : State) → Made (patching i.order) i u object patched → PlanContent → List (List ℕ × ProgramContent) → List plan.ProgramContent → Type 0
+abbrev pub ArePlanPrograms : (i : Inputs) (u : Under) (object patched : State)
+    → Made (patching i.order) i u object patched
+    → PlanContent
+    → List (List ℕ × ProgramContent)
+    → List plan.ProgramContent
+    → Type 0
 ArePlanPrograms i u object patched made whole [] [] = Unit {0}
-ArePlanPrograms i u object patched made whole (e ∷ es) (p ∷ ps) = IsPlanProgram i u object patched made whole e p × ArePlanPrograms i u object patched made whole es ps
+ArePlanPrograms i u object patched made whole (e ∷ es) (p ∷ ps) =
+    IsPlanProgram i u object patched made whole e p
+    × ArePlanPrograms i u object patched made whole es ps
 ArePlanPrograms i u object patched made whole _ _ = ⊥

@@ -43,8 +43,8 @@ pub enum PrepareError {
     /// The object's types can't be rewritten to the kernel's features.
     #[error("{0}")]
     Types(BtfError),
-    /// A slot can't get a map's number or what is known of an extern, or a program can't be linked to
-    /// the functions that it leads to.
+    /// A slot can't get a map's number or what is known of an extern, or a program can't be linked
+    /// to the functions that it leads to.
     #[error("{0}")]
     Relocation(EbpfRelocationError),
     /// Memory ran out.

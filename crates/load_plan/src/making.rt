@@ -57,7 +57,8 @@ fn require_numbered(
 /// Puts the values of global variables into an object's maps.
 fn put_values(settings: &Settings, object: &mut Object<'_>) -> Result<(), PrepareError>
     ensures made { OnOk result (PutsValues settings.now object.old object.new) }
-    ensures refused { IfErr result (λ e. e ≢ OutOfMemory → OfParse (CannotPutValues settings.now object.old) e) }
+    ensures refused { IfErr result (λ e.
+        e ≢ OutOfMemory → OfParse (CannotPutValues settings.now object.old) e) }
 {
     object.put_values(settings.globals())?;
     Ok(())
@@ -80,8 +81,16 @@ fn resolve<R: BufRead>(
     symbols: &mut Watched<R>,
     object: &mut Object<'_>,
 ) -> Result<(), PrepareError>
-    ensures made { OnOk result (ResolvesExterns (slice_get kernel_types.now 0) (symbols_given (R.remaining (watched_inner symbols.old)) (has_failed symbols.new)) object.old object.new) }
-    ensures refused { IfErr result (λ e. e ≢ OutOfMemory → OfKsyms (CannotResolve (slice_get kernel_types.now 0) (symbols_given (R.remaining (watched_inner symbols.old)) (has_failed symbols.new)) object.old) e) }
+    ensures made { OnOk result
+        (ResolvesExterns (slice_get kernel_types.now 0)
+        (symbols_given (R.remaining (watched_inner symbols.old)) (has_failed symbols.new))
+        object.old object.new) }
+    ensures refused { IfErr result (λ e.
+        e ≢ OutOfMemory
+        → OfKsyms
+        (CannotResolve (slice_get kernel_types.now 0)
+        (symbols_given (R.remaining (watched_inner symbols.old)) (has_failed symbols.new))
+        object.old) e) }
 {
     object.resolve_externs(kernel_types, symbols)?;
     Ok(())
@@ -91,7 +100,8 @@ fn resolve<R: BufRead>(
 fn relocate_types(kernel_types: &[Btf<'_>], object: &mut Object<'_>) -> Result<(), PrepareError>
     requires { length kernel_types.now ≤ 2 ^ 32 }
     ensures made { OnOk result (RelocatesTypes kernel_types.now object.old object.new) }
-    ensures refused { IfErr result (λ e. e ≢ OutOfMemory → OfTypeRelocation (CannotRelocateTypes kernel_types.now object.old) e) }
+    ensures refused { IfErr result (λ e.
+        e ≢ OutOfMemory → OfTypeRelocation (CannotRelocateTypes kernel_types.now object.old) e) }
 {
     object.relocate_btf(kernel_types)?;
     Ok(())
@@ -105,7 +115,8 @@ fn rewrite_types<F: FnMut(BtfFeature) -> bool>(
     requires { F.IsAlwaysCallable predicate }
     ensures made { IfOk result (λ answers. RewritesTypes answers.items object.old object.new) }
     ensures answered { IfOk result (λ answers. AreAnswered F.FnMut predicate answers.items) }
-    ensures refused { IfErr result (λ e. e ≢ OutOfMemory → IsRefusedTypes F.FnMut predicate object.old e) }
+    ensures refused { IfErr result (λ e.
+        e ≢ OutOfMemory → IsRefusedTypes F.FnMut predicate object.old e) }
 {
     Ok(object.fixup_and_sanitize_btf(predicate)?)
 }
@@ -119,8 +130,13 @@ fn write_numbers_of(
     text_sections: &BTreeSet<usize>,
 ) -> Result<(), PrepareError>
     requires { text_sections.now.keys ≡ calls.text_sections object.old.functions }
-    ensures made { OnOk result (WritesNumbers settings.now (record object.old { maps = maps.now }) (record object.new { maps = maps.now })) }
-    ensures refused { IfErr result (λ e. e ≢ OutOfMemory → OfRelocation (CannotWriteNumbers settings.now (record object.old { maps = maps.now })) e) }
+    ensures made { OnOk result
+        (WritesNumbers settings.now (record object.old { maps = maps.now })
+        (record object.new { maps = maps.now })) }
+    ensures refused { IfErr result (λ e.
+        e ≢ OutOfMemory
+        → OfRelocation (CannotWriteNumbers settings.now (record object.old { maps = maps.now }))
+        e) }
 {
     let numbered = numbered_maps(alloc, maps, settings)?;
     object.write_map_numbers(&numbered, text_sections)?;
@@ -136,7 +152,8 @@ fn write_numbers(
 ) -> Result<(), PrepareError>
     requires { text_sections.now.keys ≡ calls.text_sections object.old.functions }
     ensures made { OnOk result (WritesNumbers settings.now object.old object.new) }
-    ensures refused { IfErr result (λ e. e ≢ OutOfMemory → OfRelocation (CannotWriteNumbers settings.now object.old) e) }
+    ensures refused { IfErr result (λ e.
+        e ≢ OutOfMemory → OfRelocation (CannotWriteNumbers settings.now object.old) e) }
 {
     let maps = object.take_maps();
     let written = write_numbers_of(alloc, settings, &maps, object, text_sections);
@@ -147,7 +164,8 @@ fn write_numbers(
 /// Writes what is known of an object's externs into its slots.
 fn write_externs(object: &mut Object<'_>) -> Result<(), PrepareError>
     ensures made { OnOk result (WritesExterns object.old object.new) }
-    ensures refused { IfErr result (λ e. e ≢ OutOfMemory → OfRelocation (CannotWriteExterns object.old) e) }
+    ensures refused { IfErr result (λ e.
+        e ≢ OutOfMemory → OfRelocation (CannotWriteExterns object.old) e) }
 {
     object.relocate_externs()?;
     Ok(())
@@ -163,8 +181,8 @@ fn link(object: &mut Object<'_>, text_sections: &BTreeSet<usize>) -> Result<(), 
     Ok(())
 }
 
-/// Relocates by an object's types and rewrites these, in either order, and answers what was answered
-/// about the kernel's features.
+/// Relocates by an object's types and rewrites these, in either order, and answers what was
+/// answered about the kernel's features.
 fn make_types<F: FnMut(BtfFeature) -> bool>(
     kernel_types: &[Btf<'_>],
     order: Order,
@@ -173,8 +191,10 @@ fn make_types<F: FnMut(BtfFeature) -> bool>(
 ) -> Result<Answers, PrepareError>
     requires tables { length kernel_types.now ≤ 2 ^ 32 }
     requires predicate { F.IsAlwaysCallable predicate }
-    ensures made { IfOk result (λ answers. AreTypesMade F.FnMut predicate kernel_types.now order answers.items object.old object.new) }
-    ensures refused { IfErr result (λ e. e ≢ OutOfMemory → AreTypesRefused F.FnMut predicate kernel_types.now order object.old e) }
+    ensures made { IfOk result (λ answers.
+        AreTypesMade F.FnMut predicate kernel_types.now order answers.items object.old object.new) }
+    ensures refused { IfErr result (λ e.
+        e ≢ OutOfMemory → AreTypesRefused F.FnMut predicate kernel_types.now order object.old e) }
 {
     match order {
         Order::RelocateFirst => {
@@ -205,8 +225,19 @@ pub(crate) fn make<R: BufRead, F: FnMut(BtfFeature) -> bool, P: FnOnce() -> bool
     requires tables { length kernel_types.now ≤ 2 ^ 32 }
     requires predicate { F.IsAlwaysCallable predicate }
     requires probe { P.pre probe }
-    ensures made { IfOk result (λ answers. (file : List ℕ) → IsMade F.FnMut predicate (P.post probe) (inputs file kernel_types.now (symbols_given (R.remaining (watched_inner symbols.old)) (has_failed symbols.new)) settings.now order) answers.items object.old object.new) }
-    ensures refused { IfErr result (λ e. e ≢ OutOfMemory → (file : List ℕ) → IsRefusedObject F.FnMut predicate (inputs file kernel_types.now (symbols_given (R.remaining (watched_inner symbols.old)) (has_failed symbols.new)) settings.now order) object.old e) }
+    ensures made { IfOk result (λ answers.
+        (file : List ℕ)
+        → IsMade F.FnMut predicate (P.post probe)
+        (inputs file kernel_types.now
+        (symbols_given (R.remaining (watched_inner symbols.old)) (has_failed symbols.new))
+        settings.now order) answers.items object.old object.new) }
+    ensures refused { IfErr result (λ e.
+        e ≢ OutOfMemory
+        → (file : List ℕ)
+        → IsRefusedObject F.FnMut predicate
+        (inputs file kernel_types.now
+        (symbols_given (R.remaining (watched_inner symbols.old)) (has_failed symbols.new))
+        settings.now order) object.old e) }
 {
     require_named(alloc, object)?;
     require_numbered(alloc, settings, object)?;

@@ -47,8 +47,19 @@ fn plan_object<'a, R: BufRead, F: FnMut(BtfFeature) -> bool, P: FnOnce() -> bool
     requires tables { length kernel_types.now ≤ 2 ^ 32 }
     requires predicate { F.IsAlwaysCallable predicate }
     requires probe { P.pre probe }
-    ensures planned { IfOk result (λ plan. (file : List ℕ) → IsPlannedObject F.FnMut predicate (P.post probe) (inputs file kernel_types.now (symbols_given (R.remaining (watched_inner symbols.old)) (has_failed symbols.new)) settings.now order) object.old plan) }
-    ensures refused { IfErr result (λ e. e ≢ OutOfMemory → (file : List ℕ) → IsRefusedObject F.FnMut predicate (inputs file kernel_types.now (symbols_given (R.remaining (watched_inner symbols.old)) (has_failed symbols.new)) settings.now order) object.old e) }
+    ensures planned { IfOk result (λ plan.
+        (file : List ℕ)
+        → IsPlannedObject F.FnMut predicate (P.post probe)
+        (inputs file kernel_types.now
+        (symbols_given (R.remaining (watched_inner symbols.old)) (has_failed symbols.new))
+        settings.now order) object.old plan) }
+    ensures refused { IfErr result (λ e.
+        e ≢ OutOfMemory
+        → (file : List ℕ)
+        → IsRefusedObject F.FnMut predicate
+        (inputs file kernel_types.now
+        (symbols_given (R.remaining (watched_inner symbols.old)) (has_failed symbols.new))
+        settings.now order) object.old e) }
 {
     types_are_written();
     numbers_are_written();
@@ -73,29 +84,30 @@ fn plan_object<'a, R: BufRead, F: FnMut(BtfFeature) -> bool, P: FnOnce() -> bool
 }
 
 /// The load plan of an object file for one kernel: its maps under the numbers that `settings` give
-/// them, with the values of its global variables; its types rewritten to the features that the kernel
-/// grants; and its programs, whose slots name the maps by these numbers and the kernel's functions and
-/// variables by what is known of them, each linked to the functions that it leads to.
+/// them, with the values of its global variables; its types rewritten to the features that the
+/// kernel grants; and its programs, whose slots name the maps by these numbers and the kernel's
+/// functions and variables by what is known of them, each linked to the functions that it leads to.
 ///
-/// `kernel_types` are the kernel's types, in no more than 2^32 tables, in which type relocations are
-/// looked up, and of which the first has its functions and variables;
-/// `symbols` are its symbols as `/proc/kallsyms` lists them, which are read only where a variable
-/// without a type is looked for; `predicate` says whether it takes a feature of types, and `probe`
-/// whether it has the newer helpers that read memory: where it lacks them, older ones are called.
-/// `order` says whether type relocations are looked up in the object's types as they are or as they
-/// are rewritten. A number that is set for a map that the object hasn't is ignored.
+/// `kernel_types` are the kernel's types, in no more than 2^32 tables, in which type relocations
+/// are looked up, and of which the first has its functions and variables; `symbols` are its symbols
+/// as `/proc/kallsyms` lists them, which are read only where a variable without a type is looked
+/// for; `predicate` says whether it takes a feature of types, and `probe` whether it has the newer
+/// helpers that read memory: where it lacks them, older ones are called. `order` says whether type
+/// relocations are looked up in the object's types as they are or as they are rewritten. A number
+/// that is set for a map that the object hasn't is ignored.
 ///
 /// # Errors
 ///
 /// The earliest pass that refuses: [`PrepareError::Parse`] where the file isn't an object that can
 /// be parsed, [`PrepareError::FunctionRecordType`] where a record of a function names none,
-/// [`PrepareError::MapNumberMissing`] where no number is set for a map, [`PrepareError::Parse`] where
-/// a value of a global variable can't be put into the maps, [`PrepareError::KernelTypesRequired`] where
-/// the object has type relocations and no kernel types are given, [`PrepareError::Ksyms`] where an
-/// extern can't be resolved, [`PrepareError::BtfRelocation`] where a type relocation can't be made and
+/// [`PrepareError::MapNumberMissing`] where no number is set for a map, [`PrepareError::Parse`]
+/// where a value of a global variable can't be put into the maps,
+/// [`PrepareError::KernelTypesRequired`] where the object has type relocations and no kernel types
+/// are given, [`PrepareError::Ksyms`] where an extern can't be resolved,
+/// [`PrepareError::BtfRelocation`] where a type relocation can't be made and
 /// [`PrepareError::Types`] where the types can't be rewritten, in the order given, and
-/// [`PrepareError::Relocation`] where a slot can't get a map's number or what is known of an extern, or
-/// a program can't be linked.
+/// [`PrepareError::Relocation`] where a slot can't get a map's number or what is known of an
+/// extern, or a program can't be linked.
 pub fn prepare<'a, R: BufRead, F: FnMut(BtfFeature) -> bool, P: FnOnce() -> bool>(
     alloc: Global,
     object: &'a [u8],
@@ -109,8 +121,17 @@ pub fn prepare<'a, R: BufRead, F: FnMut(BtfFeature) -> bool, P: FnOnce() -> bool
     requires tables { length kernel_types.now ≤ 2 ^ 32 }
     requires predicate { F.IsAlwaysCallable predicate }
     requires probe { P.pre probe }
-    ensures planned { IfOk result (IsPlanned F.FnMut predicate (P.post probe) (inputs object.entry.now kernel_types.now (symbols_given (R.remaining (watched_inner symbols.old)) (has_failed symbols.new)) settings.now order)) }
-    ensures refused { IfErr result (λ e. e ≢ OutOfMemory → IsRefusal F.FnMut predicate (inputs object.entry.now kernel_types.now (symbols_given (R.remaining (watched_inner symbols.old)) (has_failed symbols.new)) settings.now order) e) }
+    ensures planned { IfOk result
+        (IsPlanned F.FnMut predicate (P.post probe)
+        (inputs object.entry.now kernel_types.now
+        (symbols_given (R.remaining (watched_inner symbols.old)) (has_failed symbols.new))
+        settings.now order)) }
+    ensures refused { IfErr result (λ e.
+        e ≢ OutOfMemory
+        → IsRefusal F.FnMut predicate
+        (inputs object.entry.now kernel_types.now
+        (symbols_given (R.remaining (watched_inner symbols.old)) (has_failed symbols.new))
+        settings.now order) e) }
 {
     let mut parsed = parse(alloc, object)?;
     plan_object(

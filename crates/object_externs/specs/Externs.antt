@@ -1,5 +1,6 @@
--- The externs of an object: what its programs expect of the kernel, as the first section `.ksyms` of its table of types lists
--- it. libbpf has this as bpf_object__collect_externs (tools/lib/bpf/libbpf.c).
+-- The externs of an object: what its programs expect of the kernel, as the first section `.ksyms`
+-- of its table of types lists it. libbpf has this as bpf_object__collect_externs
+-- (tools/lib/bpf/libbpf.c).
 use Rattle.std.specs.Prelude.{ℕ, ◌==◌, Bool, true, false, if◌then◌else◌, List, [], fold, length, Option, None, Some, option_and_then, unwrap_or}
 use Rattle.std.specs.BTreeMap.{insert_entry}
 use Rattle.std.specs.Cmp.Lexicographic.{slice_cmp}
@@ -21,8 +22,9 @@ use Rattle.object_externs.specs.Section.{ksyms_entries, ksyms_section}
 use Rattle.object_externs.specs.Symbols.{symbol_named}
 use Rattle.string_table.specs.Texts.{text_at}
 
--- an extern: its name, also without flavour, the id of the function or variable that declares it, whether it may be missing, the
--- type that the kernel's must be compatible with, and what is known of the kernel's
+-- an extern: its name, also without flavour, the id of the function or variable that declares it,
+-- whether it may be missing, the type that the kernel's must be compatible with, and what is known
+-- of the kernel's
 pub record ExternContent : Type 0 where
   pub name : List ℕ
   pub btf_id : ℕ
@@ -33,7 +35,8 @@ pub record ExternContent : Type 0 where
   pub type_id : Option ℕ
   pub essential_name : List ℕ
 
--- externs by name, and the ids that a rewriting of the section is handed: its own, and that of the placeholder
+-- externs by name, and the ids that a rewriting of the section is handed: its own, and that of the
+-- placeholder
 pub record ExternsContent : Type 0 where
   pub by_name : List (List ℕ × ExternContent)
   pub ksyms : Option (ℕ × Option ℕ)
@@ -49,7 +52,8 @@ is_function kinds.Func = true
 is_function _ = false
 
 abbrev pub names_function : Table → DataSecEntry → Bool
-names_function table entry = option_map_or (λ t. is_function (kind_of_type t)) (type_by_id table entry.btf_type) false
+names_function table entry =
+    option_map_or (λ t. is_function (kind_of_type t)) (type_by_id table entry.btf_type) false
 
 abbrev pub has_function : Table → Bool
 has_function table = list_any (names_function table) (ksyms_entries table)
@@ -67,7 +71,8 @@ abbrev pub held_type : BtfType → ℕ
 held_type t = unwrap_or (type_of t) 0
 
 abbrev pub declared_type : Table → BtfType → Option ℕ
-declared_type table t = option_and_then (typed (kind_of_type t)) (result_ok (resolved_type table (held_type t)))
+declared_type table t =
+    option_and_then (typed (kind_of_type t)) (result_ok (resolved_type table (held_type t)))
 
 abbrev pub is_weak : List Symbol → List ℕ → Bool
 is_weak symbols name = option_map_or (λ s. s.is_weak) (symbol_named symbols name) false
@@ -86,16 +91,33 @@ declared symbols table id t name = record {
 }
 
 -- the externs with that of one more entry: it takes the place of an earlier one of its name
-abbrev pub with_declared : List Symbol → Table → ℕ → List (List ℕ × ExternContent) → BtfType → List (List ℕ × ExternContent)
+abbrev pub with_declared : List Symbol
+    → Table
+    → ℕ
+    → List (List ℕ × ExternContent)
+    → BtfType
+    → List (List ℕ × ExternContent)
 with_declared symbols table id externs t =
-    option_map_or (λ name. insert_entry (slice_cmp nat_cmp) externs name (declared symbols table id t name)) (declared_name table t) externs
+    option_map_or (λ name.
+    insert_entry (slice_cmp nat_cmp) externs name (declared symbols table id t name))
+    (declared_name table t) externs
 
-abbrev pub with_extern : List Symbol → Table → List (List ℕ × ExternContent) → DataSecEntry → List (List ℕ × ExternContent)
-with_extern symbols table externs entry = option_map_or (with_declared symbols table entry.btf_type externs) (type_by_id table entry.btf_type) externs
+abbrev pub with_extern : List Symbol
+    → Table
+    → List (List ℕ × ExternContent)
+    → DataSecEntry
+    → List (List ℕ × ExternContent)
+with_extern symbols table externs entry =
+    option_map_or (with_declared symbols table entry.btf_type externs)
+    (type_by_id table entry.btf_type) externs
 
 -- the ids, where the section has an entry
 abbrev pub ksyms_ids : Table → Option (ℕ × Option ℕ)
-ksyms_ids table = if length (ksyms_entries table) == 0 then None else option_map (λ id. (id, if has_function table then Some (placeholder_id table) else None)) (ksyms_section table)
+ksyms_ids table =
+    if length (ksyms_entries table) == 0
+    then None
+    else option_map (λ id. (id, if has_function table then Some (placeholder_id table) else None))
+    (ksyms_section table)
 
 -- the externs of an object with these symbols and this table, as it was parsed
 abbrev pub externs_of : List Symbol → Table → ExternsContent

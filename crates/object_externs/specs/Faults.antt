@@ -18,7 +18,8 @@ use Rattle.string_table.specs.Texts.{text_at}
 
 -- a section before the first `.ksyms` has a name that can't be read
 abbrev pub SectionFault : Table → BtfError → Type 0
-SectionFault table (InvalidStringOffset offset) = has_unreadable table.strings offset table.types ≡ true
+SectionFault table (InvalidStringOffset offset) =
+    has_unreadable table.strings offset table.types ≡ true
 SectionFault table _ = ⊥
 
 -- a record declares no extern: it is neither a function nor a variable
@@ -28,8 +29,10 @@ KindFault t _ = ⊥
 
 -- the name that it declares can't be read, or no symbol has it
 abbrev pub NameFault : List Symbol → Table → BtfType → BtfError → Type 0
-NameFault symbols table t (InvalidStringOffset offset) = (name_offset_of t ≡ offset) × (text_at table.strings offset ≡ None)
-NameFault symbols table t InvalidSymbolName = IsSomeAnd (declared_name table t) (λ name. symbol_named symbols name ≡ None)
+NameFault symbols table t (InvalidStringOffset offset) =
+    (name_offset_of t ≡ offset) × (text_at table.strings offset ≡ None)
+NameFault symbols table t InvalidSymbolName =
+    IsSomeAnd (declared_name table t) (λ name. symbol_named symbols name ≡ None)
 NameFault symbols table t _ = ⊥
 
 -- the type that it is of can't be resolved
@@ -38,7 +41,9 @@ TypeFault table t e = resolved_type table (held_type t) ≡ Err e
 
 -- a fault of the name or the type is looked for only in a record that declares an extern
 abbrev pub RecordFault : List Symbol → Table → BtfType → BtfError → Type 0
-RecordFault symbols table t e = KindFault t e ⊎ ((declares (kind_of_type t) ≡ true) × (NameFault symbols table t e ⊎ TypeFault table t e))
+RecordFault symbols table t e =
+    KindFault t e
+    ⊎ ((declares (kind_of_type t) ≡ true) × (NameFault symbols table t e ⊎ TypeFault table t e))
 
 -- no type has the id of an entry
 abbrev pub IdFault : Table → ℕ → BtfError → Type 0
@@ -46,15 +51,24 @@ IdFault table id (UnknownBtfType unknown) = (id ≡ unknown) × (type_by_id tabl
 IdFault table id _ = ⊥
 
 abbrev pub EntryFault : List Symbol → Table → DataSecEntry → BtfError → Type 0
-EntryFault symbols table entry e = IdFault table entry.btf_type e ⊎ IsSomeAnd (type_by_id table entry.btf_type) (λ t. RecordFault symbols table t e)
+EntryFault symbols table entry e =
+    IdFault table entry.btf_type e
+    ⊎ IsSomeAnd (type_by_id table entry.btf_type) (λ t. RecordFault symbols table t e)
 
 -- the table with the placeholder would be greater than 32 bits can count
 abbrev pub IsOverfull : Table → Type 0
-IsOverfull table = TooMany (length table.strings) ⊎ TooMany (length (type_bytes table)) ⊎ TooMany (length table.types)
+IsOverfull table =
+    TooMany (length table.strings)
+    ⊎ TooMany (length (type_bytes table))
+    ⊎ TooMany (length table.types)
 
 abbrev pub GrowthFault : Table → BtfError → Type 0
-GrowthFault table e = (e ≡ InvalidTypeInfo) × (has_function table ≡ true) × IsOverfull (with_placeholder table)
+GrowthFault table e =
+    (e ≡ InvalidTypeInfo) × (has_function table ≡ true) × IsOverfull (with_placeholder table)
 
 -- why the externs of an object are refused
 abbrev pub ExternsFault : List Symbol → Table → BtfError → Type 0
-ExternsFault symbols table e = SectionFault table e ⊎ Any (λ entry. EntryFault symbols table entry e) (ksyms_entries table) ⊎ GrowthFault table e
+ExternsFault symbols table e =
+    SectionFault table e
+    ⊎ Any (λ entry. EntryFault symbols table entry e) (ksyms_entries table)
+    ⊎ GrowthFault table e

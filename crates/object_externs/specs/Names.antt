@@ -13,7 +13,8 @@ by_bytes entries = map (λ e. (e.0.now, e.1)) entries
 
 -- the symbol that stands under a name
 abbrev pub symbol_under : List (Bor (List ℕ) × Bor Symbol) → List ℕ → Option Symbol
-symbol_under entries name = option_copied (lookup (is_at (λ key. slice_cmp nat_cmp name key.now)) entries)
+symbol_under entries name =
+    option_copied (lookup (is_at (λ key. slice_cmp nat_cmp name key.now)) entries)
 
 -- each name has the symbol of the least index
 pub record AreByName (symbols : List Symbol) (entries : List (Bor (List ℕ) × Bor Symbol)) : Type 0 where

@@ -13,7 +13,8 @@ is_named name s = option_map_or (λ n. pointwise nat_eq n name) s.name false
 abbrev pub symbol_named : List Symbol → List ℕ → Option Symbol
 symbol_named symbols name = find (is_named name) symbols
 
--- a symbol that stands for something outside the object: it lies in no section, defines nothing, and is of no kind
+-- a symbol that stands for something outside the object: it lies in no section, defines nothing,
+-- and is of no kind
 abbrev pub is_unknown_kind : SymbolKind → Bool
 is_unknown_kind kinds.Unknown = true
 is_unknown_kind _ = false

@@ -39,7 +39,9 @@ fn declared_symbol<'s, 'a>(
     t: &TypeRef<'_>,
 ) -> Result<&'s ReadSymbol<'a>, BtfError>
     ensures name { IfOk result (λ symbol. declared_name table.now t.now ≡ symbol.now.name) }
-    ensures value { IfOk result (λ symbol. option_and_then (symbol_named symbols.now) (declared_name table.now t.now) ≡ Some symbol.now) }
+    ensures value { IfOk result (λ symbol.
+        option_and_then (symbol_named symbols.now) (declared_name table.now t.now)
+        ≡ Some symbol.now) }
     ensures refused { IfErr result (NameFault symbols.now table.now t.now) }
     ensures accepted { OnOk result (IsFaultless (NameFault symbols.now table.now t.now)) }
 {
@@ -86,8 +88,11 @@ fn enter<'a>(
     table: &Btf<'_>,
     entry: &DataSecEntry,
 ) -> Result<(), BtfError>
-    ensures externs { OnOk result (by_bytes externs.new.entries ≡ with_extern symbols.now table.now (by_bytes externs.old.entries) entry.now) }
-    ensures refused { IfErr result (λ e. e ≢ OutOfMemory → EntryFault symbols.now table.now entry.now e) }
+    ensures externs { OnOk result
+        (by_bytes externs.new.entries
+        ≡ with_extern symbols.now table.now (by_bytes externs.old.entries) entry.now) }
+    ensures refused { IfErr result (λ e.
+        e ≢ OutOfMemory → EntryFault symbols.now table.now entry.now e) }
     ensures accepted { OnOk result (IsFaultless (EntryFault symbols.now table.now entry.now)) }
 {
     let t = table.type_by_id(entry.btf_type)?;
@@ -103,9 +108,12 @@ pub(crate) fn read_entries<'a>(
     table: &Btf<'_>,
     entries: &[DataSecEntry],
 ) -> Result<BTreeMap<&'a str, ExternDesc<'a>>, BtfError>
-    ensures value { IfOk result (λ externs. by_bytes externs.entries ≡ fold (with_extern symbols.now table.now) [] entries.now) }
-    ensures refused { IfErr result (λ e. e ≢ OutOfMemory → Any (λ entry. EntryFault symbols.now table.now entry e) entries.now) }
-    ensures accepted { OnOk result (IsFaultless (λ e. Any (λ entry. EntryFault symbols.now table.now entry e) entries.now)) }
+    ensures value { IfOk result (λ externs.
+        by_bytes externs.entries ≡ fold (with_extern symbols.now table.now) [] entries.now) }
+    ensures refused { IfErr result (λ e.
+        e ≢ OutOfMemory → Any (λ entry. EntryFault symbols.now table.now entry e) entries.now) }
+    ensures accepted { OnOk result
+        (IsFaultless (λ e. Any (λ entry. EntryFault symbols.now table.now entry e) entries.now)) }
 {
     let mut externs = BTreeMap::new(alloc);
     for entry in entries {

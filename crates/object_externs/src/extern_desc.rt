@@ -28,5 +28,15 @@ impl<'a> Model for ExternDesc<'a> {
 
     ghost Value = { ExternContent };
 
-    ghost view = { λ e. record { name = e.name.now; btf_id = e.btf_id; is_weak = e.is_weak; is_resolved = e.is_resolved; kernel_btf_id = e.kernel_btf_id; ksym_addr = e.ksym_addr; type_id = e.type_id; essential_name = e.essential_name.now } };
+    ghost view = { λ e.
+        record {
+          name = e.name.now;
+          btf_id = e.btf_id;
+          is_weak = e.is_weak;
+          is_resolved = e.is_resolved;
+          kernel_btf_id = e.kernel_btf_id;
+          ksym_addr = e.ksym_addr;
+          type_id = e.type_id;
+          essential_name = e.essential_name.now;
+        } };
 }

@@ -55,7 +55,8 @@ impl<'a> Externs<'a> {
 
     /// The extern of a name.
     pub fn get(&self, name: &str) -> Option<&ExternDesc<'a>>
-        ensures { option_copied result ≡ lookup (is_at (slice_cmp nat_cmp name.now)) self.now.by_name }
+        ensures { option_copied result
+            ≡ lookup (is_at (slice_cmp nat_cmp name.now)) self.now.by_name }
     {
         self.by_name.get(name)
     }

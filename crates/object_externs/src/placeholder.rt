@@ -41,7 +41,8 @@ fn int_of(table: &mut Btf<'_>) -> Result<u32, BtfError>
     ensures id { IfOk result (λ id. id ≡ int_id table.old) }
     ensures texts { OnOk result (TextsStay table.old table.new) }
     ensures types { OnOk result (TypesStay table.old table.new) }
-    ensures refused { IfErr result (λ e. e ≢ OutOfMemory → (e ≡ InvalidTypeInfo) × IsOverfull (with_int table.old)) }
+    ensures refused { IfErr result (λ e.
+        e ≢ OutOfMemory → (e ≡ InvalidTypeInfo) × IsOverfull (with_int table.old)) }
 {
     if let Some(id) = int4_id(table) {
         return Ok(id);
@@ -56,7 +57,8 @@ fn add_variable(table: &mut Btf<'_>, int: u32) -> Result<u32, BtfError>
     ensures id { IfOk result (λ id. id ≡ length table.old.types + 1) }
     ensures texts { OnOk result (TextsStay table.old table.new) }
     ensures types { OnOk result (TypesStay table.old table.new) }
-    ensures refused { IfErr result (λ e. e ≢ OutOfMemory → (e ≡ InvalidTypeInfo) × IsOverfull (with_variable int table.old)) }
+    ensures refused { IfErr result (λ e.
+        e ≢ OutOfMemory → (e ≡ InvalidTypeInfo) × IsOverfull (with_variable int table.old)) }
     ensures accepted { OnOk result (IsOverfull (with_variable int table.old) → ⊥) }
 {
     let name_offset = table.add_string("ksym_func_placeholder")?;
@@ -71,7 +73,8 @@ pub(crate) fn add_placeholder<'a>(table: &mut Btf<'a>) -> Result<u32, BtfError>
     ensures id { IfOk result (λ id. id ≡ placeholder_id table.old) }
     ensures texts { OnOk result (TextsStay table.old table.new) }
     ensures types { OnOk result (TypesStay table.old table.new) }
-    ensures refused { IfErr result (λ e. e ≢ OutOfMemory → (e ≡ InvalidTypeInfo) × IsOverfull (with_placeholder table.old)) }
+    ensures refused { IfErr result (λ e.
+        e ≢ OutOfMemory → (e ≡ InvalidTypeInfo) × IsOverfull (with_placeholder table.old)) }
     ensures accepted { OnOk result (IsOverfull (with_placeholder table.old) → ⊥) }
     ensures err { OnErr result (table.new ≡ table.old) }
 {

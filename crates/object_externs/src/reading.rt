@@ -33,7 +33,8 @@ pub fn read_externs<'a>(
     table: &mut Btf<'a>,
 ) -> Result<Externs<'a>, BtfError>
     ensures value { IfOk result (λ externs. externs ≡ externs_of symbols.now table.old) }
-    ensures table { OnOk result (table.new ≡ (if has_function table.old then with_placeholder table.old else table.old)) }
+    ensures table { OnOk result
+        (table.new ≡ (if has_function table.old then with_placeholder table.old else table.old)) }
     ensures texts { OnOk result (TextsStay table.old table.new) }
     ensures types { OnOk result (TypesStay table.old table.new) }
     ensures refused { IfErr result (λ e. e ≢ OutOfMemory → ExternsFault symbols.now table.old e) }

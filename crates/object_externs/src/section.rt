@@ -21,8 +21,11 @@ const KSYMS: &str = ".ksyms";
 /// `InvalidStringOffset` where it is a section whose name can't be read.
 fn is_ksyms(table: &Btf<'_>, t: &TypeRef<'_>) -> Result<bool, BtfError>
     ensures value { IfOk result (λ r. r ≡ is_ksyms table.now.strings t.now) }
-    ensures accepted { OnOk result ((offset : ℕ) → is_unreadable table.now.strings offset t.now ≡ false) }
-    ensures refused { IfErr result (λ e. (e ≡ InvalidStringOffset (name_offset_of t.now)) × (is_unreadable table.now.strings (name_offset_of t.now) t.now ≡ true)) }
+    ensures accepted { OnOk result
+        ((offset : ℕ) → is_unreadable table.now.strings offset t.now ≡ false) }
+    ensures refused { IfErr result (λ e.
+        (e ≡ InvalidStringOffset (name_offset_of t.now))
+        × (is_unreadable table.now.strings (name_offset_of t.now) t.now ≡ true)) }
 {
     if t.kind() != BtfKind::DataSec {
         return Ok(false);

@@ -10,8 +10,8 @@ use std::alloc::{AllocError, Global};
 use std::collections::BTreeMap;
 use std::marker::Model;
 
-/// Whether a symbol stands for something outside the object: it lies in no section, defines nothing,
-/// and is of no kind.
+/// Whether a symbol stands for something outside the object: it lies in no section, defines
+/// nothing, and is of no kind.
 pub fn is_extern_symbol(symbol: &SymbolView<'_>) -> bool
     ensures { result ≡ is_extern_symbol symbol.now }
 {
@@ -44,7 +44,12 @@ fn enter<'s, 'a>(
     by_name: &mut BTreeMap<&'a str, &'s ReadSymbol<'a>>,
     symbol: &'s ReadSymbol<'a>,
 ) -> Result<(), AllocError>
-    ensures { OnOk result ((name : List ℕ) → symbol_under by_name.new.entries name ≡ (if is_named name symbol.now then Some symbol.now else symbol_under by_name.old.entries name)) }
+    ensures { OnOk result
+        ((name : List ℕ)
+        → symbol_under by_name.new.entries name
+        ≡ (if is_named name symbol.now
+        then Some symbol.now
+        else symbol_under by_name.old.entries name)) }
 {
     by_name.insert(symbol.name(), symbol)?;
     Ok(())

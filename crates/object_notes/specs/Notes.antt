@@ -40,7 +40,8 @@ abbrev pub machine_of : List ℕ → ByteOrder → ℕ
 machine_of file order = number_at w16 order file 18
 
 abbrev pub machine_notes : List ℕ → ByteOrder → List NoteContent
-machine_notes file order = if machine_of file order == 247 then [] else OtherMachine (machine_of file order) ∷ []
+machine_notes file order =
+    if machine_of file order == 247 then [] else OtherMachine (machine_of file order) ∷ []
 
 abbrev pub order_notes : ByteOrder → List NoteContent
 order_notes Little = []
@@ -48,7 +49,8 @@ order_notes Big = MostByteFirst ∷ []
 
 -- those on the header of an ELF64 file
 abbrev pub header_notes : List ℕ → List NoteContent
-header_notes file = option_map_or (λ order. machine_notes file order ++ order_notes order) (order_of file) []
+header_notes file =
+    option_map_or (λ order. machine_notes file order ++ order_notes order) (order_of file) []
 
 abbrev pub license_notes : List ℕ → List NoteContent
 license_notes file = if is_none (contents_named file (codes "license")) then NoLicense ∷ [] else []
@@ -64,7 +66,9 @@ relocated_notes _ name = []
 
 abbrev pub section_notes : List ℕ → Section → List NoteContent
 section_notes file section =
-    if length (relocations_of file section.index) == 0 then [] else relocated_notes (kind_of section) (unwrap_or section.name [])
+    if length (relocations_of file section.index) == 0
+    then []
+    else relocated_notes (kind_of section) (unwrap_or section.name [])
 
 -- those on what an object file holds
 abbrev pub object_notes : List ℕ → List NoteContent
@@ -79,4 +83,5 @@ pub record IsFaulty (file : List ℕ) : Type 0 where
 -- the notes on a file: also on what it holds, where it is an object file without fault
 abbrev pub AreFileNotes : List ℕ → List NoteContent → Type 0
 AreFileNotes file notes =
-    (IsFileFaultless file × (notes ≡ header_notes file ++ object_notes file)) ⊎ (IsFaulty file × (notes ≡ header_notes file))
+    (IsFileFaultless file × (notes ≡ header_notes file ++ object_notes file))
+    ⊎ (IsFaulty file × (notes ≡ header_notes file))

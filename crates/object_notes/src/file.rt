@@ -52,7 +52,9 @@ fn add_machine_note(
     notes: &mut Vec<Note<'_>>,
 ) -> Result<(), AllocError>
     requires { 20 ≤ length file.now }
-    ensures { OnOk result (map note_content notes.new.items ≡ map note_content notes.old.items ++ machine_notes file.now order) }
+    ensures { OnOk result
+        (map note_content notes.new.items
+        ≡ map note_content notes.old.items ++ machine_notes file.now order) }
 {
     let machine = machine_of(file, order);
     if machine == BPF_MACHINE {
@@ -64,7 +66,8 @@ fn add_machine_note(
 
 /// Adds the note on a file's byte order.
 fn add_order_note(order: ByteOrder, notes: &mut Vec<Note<'_>>) -> Result<(), AllocError>
-    ensures { OnOk result (map note_content notes.new.items ≡ map note_content notes.old.items ++ order_notes order) }
+    ensures { OnOk result
+        (map note_content notes.new.items ≡ map note_content notes.old.items ++ order_notes order) }
 {
     match order {
         ByteOrder::Little => Ok(()),
@@ -90,7 +93,9 @@ fn header_notes<'a>(alloc: Global, file: &'a [u8]) -> Result<Vec<Note<'a>>, Allo
 
 /// Adds the note on a file without a license.
 fn add_license_note(file: &ObjectFile<'_>, notes: &mut Vec<Note<'_>>) -> Result<(), AllocError>
-    ensures { OnOk result (map note_content notes.new.items ≡ map note_content notes.old.items ++ license_notes file.now) }
+    ensures { OnOk result
+        (map note_content notes.new.items
+        ≡ map note_content notes.old.items ++ license_notes file.now) }
 {
     if file.contents_of("license").is_some() {
         return Ok(());
@@ -105,7 +110,9 @@ fn add_section_note<'a>(
     section: &ReadSection<'a>,
     notes: &mut Vec<Note<'a>>,
 ) -> Result<(), AllocError>
-    ensures { OnOk result (map note_content notes.new.items ≡ map note_content notes.old.items ++ section_notes file.now section.now) }
+    ensures { OnOk result
+        (map note_content notes.new.items
+        ≡ map note_content notes.old.items ++ section_notes file.now section.now) }
 {
     if file.relocations_of(section.index()).is_empty() {
         return Ok(());
@@ -130,7 +137,9 @@ fn add_section_notes<'a>(
     sections: &[ReadSection<'a>],
     notes: &mut Vec<Note<'a>>,
 ) -> Result<(), AllocError>
-    ensures { OnOk result (map note_content notes.new.items ≡ map note_content notes.old.items ++ flat_map (section_notes file.now) sections.now) }
+    ensures { OnOk result
+        (map note_content notes.new.items
+        ≡ map note_content notes.old.items ++ flat_map (section_notes file.now) sections.now) }
 {
     for section in sections {
         add_section_note(file, section, notes)?;
@@ -140,7 +149,9 @@ fn add_section_notes<'a>(
 
 /// Adds the notes on what an object file holds.
 fn add_object_notes<'a>(file: &ObjectFile<'a>, notes: &mut Vec<Note<'a>>) -> Result<(), AllocError>
-    ensures { OnOk result (map note_content notes.new.items ≡ map note_content notes.old.items ++ object_notes file.now) }
+    ensures { OnOk result
+        (map note_content notes.new.items
+        ≡ map note_content notes.old.items ++ object_notes file.now) }
 {
     add_license_note(file, notes)?;
     add_section_notes(file, file.sections(), notes)
@@ -155,7 +166,8 @@ fn is_want_of_memory(error: &ParseError) -> bool
 
 /// The object file of some bytes; none where they have a fault.
 fn object_file<'a>(alloc: Global, file: &'a [u8]) -> Result<Option<ObjectFile<'a>>, AllocError>
-    ensures some { IfOk result (λ object. IfSome object (λ o. (o ≡ file.entry.now) × IsFileFaultless file.entry.now)) }
+    ensures some { IfOk result (λ object.
+        IfSome object (λ o. (o ≡ file.entry.now) × IsFileFaultless file.entry.now)) }
     ensures none { IfOk result (λ object. is_none object ≡ true → IsFaulty file.entry.now) }
 {
     match ObjectFile::parse(alloc, file) {

@@ -11,7 +11,8 @@ use Rattle.ebpf_items.specs.Instruction.{calls_newer_helper, with_older_helper}
 use Rattle.ebpf_items.specs.declared.instruction.bpf_insn.{bpf_insn}
 use Rattle.program_kinds.specs.declared.program_section.ProgramSection.{ProgramSection}
 
--- a program: its license and version are those of the object, its section and address are its function's key
+-- a program: its license and version are those of the object, its section and address are its
+-- function's key
 pub record ProgramContent : Type 0 where
   pub license : List ℕ
   pub kernel_version : Option ℕ
@@ -19,7 +20,8 @@ pub record ProgramContent : Type 0 where
   pub section_index : ℕ
   pub address : ℕ
 
--- a function, its slots and its records, and the kernel tables that its type relocations matched; the sizes of records are in bytes
+-- a function, its slots and its records, and the kernel tables that its type relocations matched;
+-- the sizes of records are in bytes
 pub record FunctionContent : Type 0 where
   pub address : ℕ
   pub name : List ℕ
@@ -50,9 +52,12 @@ abbrev pub has_function : List ((ℕ × ℕ) × FunctionContent) → ℕ × ℕ 
 has_function functions key = is_some (lookup (is_at (key_cmp key)) functions)
 
 -- each program's function is there
-unfoldable pub HaveFunctions : List (List ℕ × ProgramContent) → List ((ℕ × ℕ) × FunctionContent) → Type 0
+unfoldable pub HaveFunctions : List (List ℕ × ProgramContent)
+    → List ((ℕ × ℕ) × FunctionContent)
+    → Type 0
 HaveFunctions [] functions = ⊤
-HaveFunctions (e ∷ es) functions = (has_function functions (e.1.section_index, e.1.address) ≡ true) × HaveFunctions es functions
+HaveFunctions (e ∷ es) functions =
+    (has_function functions (e.1.section_index, e.1.address) ≡ true) × HaveFunctions es functions
 
 -- the function of a key
 abbrev pub function_at : List ((ℕ × ℕ) × FunctionContent) → ℕ × ℕ → Option FunctionContent
@@ -69,4 +74,6 @@ with_older_helpers f = record f { instructions = map with_older_helper f.instruc
 -- a function stands in place of that of its key; all others, and the keys, are as they were
 pub record Replaces (old new : List ((ℕ × ℕ) × FunctionContent)) (f : FunctionContent) : Type 0 where
   pub keys : keys_of new ≡ keys_of old
-  pub at : (key : ℕ × ℕ) → function_at new key ≡ (if is_at (key_cmp (key_of f)) key then Some f else function_at old key)
+  pub at : (key : ℕ × ℕ)
+      → function_at new key
+      ≡ (if is_at (key_cmp (key_of f)) key then Some f else function_at old key)

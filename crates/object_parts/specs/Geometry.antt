@@ -1,4 +1,5 @@
--- Where functions lie in their sections. A slot has 8 bytes (instruction-set.rst, "Instruction encoding").
+-- Where functions lie in their sections. A slot has 8 bytes (instruction-set.rst, "Instruction
+-- encoding").
 use Rattle.std.specs.Prelude.{ℕ, ◌+◌, ◌*◌, nat_le, nat_lt, ◌&&◌, Bool, List, length}
 use Rattle.ebpf_items.specs.declared.instruction.bpf_insn.{bpf_insn}
 use Rattle.object_parts.specs.Content.{FunctionContent}

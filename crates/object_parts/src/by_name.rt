@@ -71,7 +71,8 @@ impl<'a> Programs<'a> {
 
     /// Enters a program under a name, in place of an earlier one of that name.
     pub fn insert(&mut self, name: &'a str, program: Program<'a>) -> Result<(), AllocError>
-        ensures ok { OnOk result (self.new ≡ insert_entry (slice_cmp nat_cmp) self.old name.now program.entry) }
+        ensures ok { OnOk result
+            (self.new ≡ insert_entry (slice_cmp nat_cmp) self.old name.now program.entry) }
         ensures err { OnErr result (self.new ≡ self.old) }
     {
         self.entries.insert(name, program)?;

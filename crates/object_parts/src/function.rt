@@ -34,8 +34,8 @@ pub struct Function<'a> {
     pub func_info_rec_size: usize,
     /// The size of a line's record in bytes, as the object gives it; 0 where it has none.
     pub line_info_rec_size: usize,
-    /// The kernel tables in which its type relocations have their first matches; of a linked program
-    /// those of all functions that it has copies of.
+    /// The kernel tables in which its type relocations have their first matches; of a linked
+    /// program those of all functions that it has copies of.
     pub matched_tables: MatchedTables,
 }
 
@@ -44,7 +44,19 @@ impl<'a> Model for Function<'a> {
 
     ghost Value = { FunctionContent };
 
-    ghost view = { λ f. record { address = f.address; name = f.name.now; section_index = f.section_index; section_offset = f.section_offset; instructions = f.instructions; func_info = f.func_info; line_info = f.line_info; func_info_rec_size = f.func_info_rec_size; line_info_rec_size = f.line_info_rec_size; matched_tables = f.matched_tables } };
+    ghost view = { λ f.
+        record {
+          address = f.address;
+          name = f.name.now;
+          section_index = f.section_index;
+          section_offset = f.section_offset;
+          instructions = f.instructions;
+          func_info = f.func_info;
+          line_info = f.line_info;
+          func_info_rec_size = f.func_info_rec_size;
+          line_info_rec_size = f.line_info_rec_size;
+          matched_tables = f.matched_tables;
+        } };
 }
 
 impl<'a> Function<'a> {
@@ -72,7 +84,8 @@ impl<'a> Function<'a> {
 
     /// The function with other slots.
     pub fn with_instructions(&self, instructions: Slots<'a>) -> Result<Function<'a>, AllocError>
-        ensures { IfOk result (λ function. function ≡ with_instructions self.now instructions.entry) }
+        ensures { IfOk result (λ function.
+            function ≡ with_instructions self.now instructions.entry) }
     {
         Ok(Function {
             address: self.address,

@@ -120,8 +120,8 @@ impl<'a> Functions<'a> {
             .any(|(_, function)| calls_newer_helper(&function.instructions))
     }
 
-    /// Puts the older helper into each slot that calls a newer one. Takes no memory: slots that stand
-    /// in the file stay there.
+    /// Puts the older helper into each slot that calls a newer one. Takes no memory: slots that
+    /// stand in the file stay there.
     pub fn rename_helpers(&mut self)
         ensures { self.new ≡ map (λ e. (e.0, with_older_helpers e.1)) self.old }
     {
@@ -133,8 +133,13 @@ impl<'a> Functions<'a> {
 
     /// Enters a function under its key, in place of an earlier one of that key.
     pub fn insert(&mut self, function: Function<'a>) -> Result<(), AllocError>
-        ensures ok { OnOk result (self.new ≡ insert_entry key_cmp self.old (function.entry.section_index, function.entry.address) function.entry) }
-        ensures replaced { OnOk result (has_function self.old (key_of function.entry) ≡ true → Replaces self.old self.new function.entry) }
+        ensures ok { OnOk result
+            (self.new
+            ≡ insert_entry key_cmp self.old (function.entry.section_index, function.entry.address)
+            function.entry) }
+        ensures replaced { OnOk result
+            (has_function self.old (key_of function.entry) ≡ true
+            → Replaces self.old self.new function.entry) }
         ensures err { OnErr result (self.new ≡ self.old) }
         ensures absent { OnErr result (has_function self.old (key_of function.entry) ≡ false) }
     {

@@ -26,7 +26,14 @@ impl<'a> Model for Program<'a> {
 
     ghost Value = { ProgramContent };
 
-    ghost view = { λ p. record { license = p.license.now; kernel_version = p.kernel_version; section = p.section; section_index = p.section_index; address = p.address } };
+    ghost view = { λ p.
+        record {
+          license = p.license.now;
+          kernel_version = p.kernel_version;
+          section = p.section;
+          section_index = p.section_index;
+          address = p.address;
+        } };
 }
 
 impl<'a> Program<'a> {

@@ -80,7 +80,7 @@ copies_named types functions u own [] h same = moved_named types 0 _ (under_key 
 copies_named types functions u own (k ∷ ks) h same =
     both_named types (functions_of u own ks) _ (copies_named types functions u own ks h same) (moved_named types (end_of (table_of u) own ks) _ (under_key types functions u k h same))
 
--- those of any function behind the linking
+-- those of any function after the linking
 linked_named : (types : Option Table) (functions : List (Key × FunctionContent)) (u : Unlinked) (new : List (Key × FunctionContent)) (key : Key) → list_any (λ e. keeps_nameless types e.1) functions ≡ false → HaveRecordsOf functions u.functions → IsLinkedIn u new key → AreNames types (functions_in (function_at new key))
 linked_named types functions u new key h same linked =
     let is_there = linked.1.0 in

@@ -7,7 +7,7 @@ use Rattle.std.specs.List.{All}
 use Rattle.plan_text.specs.Content.{IsSoundProgram, ProgramContent}
 use Rattle.plan_lines.specs.Lines.{AreTables}
 
--- a sound program behind sound ones
+-- a sound program after sound ones
 pub with_sound : (ps old : List ProgramContent) (p : ProgramContent) → ps ≡ old ++ p ∷ [] → All IsSoundProgram old → IsSoundProgram p → All IsSoundProgram ps
 with_sound ps old p is sound one = subst (λ l. All IsSoundProgram l) (sym is) (All-push IsSoundProgram old p sound one)
 

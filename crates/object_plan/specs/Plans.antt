@@ -30,8 +30,20 @@ abbrev pub line_records_of : Answers → Bool → FunctionContent → List bpf_l
 line_records_of answers has_types f = if is_denied answers || not has_types then [] else f.line_info
 
 -- a program of the plan: the slots, the records and the kernel tables are those of its function
-abbrev pub program_of : Answers → Bool → List ℕ → ProgramSection → Option FunctionContent → plan.ProgramContent
-program_of answers has_types name section None = record { name = name; section = section; slots = []; func_records = []; line_records = []; tables = Some [] }
+abbrev pub program_of : Answers
+    → Bool
+    → List ℕ
+    → ProgramSection
+    → Option FunctionContent
+    → plan.ProgramContent
+program_of answers has_types name section None = record {
+  name = name;
+  section = section;
+  slots = [];
+  func_records = [];
+  line_records = [];
+  tables = Some [];
+}
 program_of answers has_types name section (Some f) =
     record {
       name = name;
@@ -42,8 +54,14 @@ program_of answers has_types name section (Some f) =
       tables = Some f.matched_tables;
     }
 
-abbrev pub plan_program_of : Answers → Bool → List ((ℕ × ℕ) × FunctionContent) → List ℕ × ProgramContent → plan.ProgramContent
-plan_program_of answers has_types functions e = program_of answers has_types e.0 e.1.section (function_at functions (e.1.section_index, e.1.address))
+abbrev pub plan_program_of : Answers
+    → Bool
+    → List ((ℕ × ℕ) × FunctionContent)
+    → List ℕ × ProgramContent
+    → plan.ProgramContent
+plan_program_of answers has_types functions e =
+    program_of answers has_types e.0 e.1.section
+    (function_at functions (e.1.section_index, e.1.address))
 
 -- the plan of an object, under these answers, with maps of the plan
 abbrev pub plan_of : Answers → List plan.MapContent → ObjectContent → PlanContent
@@ -56,7 +74,8 @@ plan_of answers maps o = record {
   programs = map (plan_program_of answers (is_some (type_bytes o.types)) o.functions) o.programs;
 }
 
--- in the table that the bytes hold, the id is a function of the name that it has in the object's table
+-- in the table that the bytes hold, the id is a function of the name that it has in the object's
+-- table
 pub record NamesIn (table : Table) (bytes : List ℕ) (id : ℕ) : Type 0 where
   pub held : Table
   pub holds : HoldsTable table.order bytes held

@@ -10,7 +10,8 @@ pub fn records_name()
     ensures { RecordsName }
 {}
 
-/// Where a kernel takes functions, what names one in an object's types does in the bytes of its plan.
+/// Where a kernel takes functions, what names one in an object's types does in the bytes of its
+/// plan.
 #[tactic(auto, using(crate::proofs::Types::names_are_carried))]
 pub fn names_are_carried()
     ensures { NamesAreCarried }

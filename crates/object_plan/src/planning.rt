@@ -19,8 +19,10 @@ use std::alloc::{AllocError, Global};
 
 /// The section as which an object's types are written: none where it has no type.
 fn type_bytes(table: Option<&Btf<'_>>) -> Result<Option<Vec<u8>>, AllocError>
-    ensures value { IfOk result (λ bytes. option_map (λ b. b.items) bytes ≡ type_bytes (option_copied table.entry)) }
-    ensures holds { IfOk result (λ bytes. HoldsTypeBytes (option_copied table.entry) (option_map (λ b. b.items) bytes)) }
+    ensures value { IfOk result (λ bytes.
+        option_map (λ b. b.items) bytes ≡ type_bytes (option_copied table.entry)) }
+    ensures holds { IfOk result (λ bytes.
+        HoldsTypeBytes (option_copied table.entry) (option_map (λ b. b.items) bytes)) }
     ensures some { IfOk result (λ bytes. AreTypeBytes (option_map (λ b. b.items) bytes)) }
 {
     match table {
@@ -50,7 +52,8 @@ fn line_records<'a>(
     has_types: bool,
     function: &Function<'a>,
 ) -> Result<LineSecInfo<'a>, AllocError>
-    ensures { IfOk result (λ records. records ≡ line_records_of answers.now.items has_types function.now) }
+    ensures { IfOk result (λ records.
+        records ≡ line_records_of answers.now.items has_types function.now) }
 {
     if is_denied(answers) || !has_types {
         return Ok(LineSecInfo::from_records(Vec::new(alloc)));
@@ -88,7 +91,9 @@ fn program_of<'a>(
     section: ProgramSection,
     function: Option<&Function<'a>>,
 ) -> Result<PlanProgram<'a>, AllocError>
-    ensures value { IfOk result (λ p. p ≡ program_of answers.now.items has_types name.now section (option_copied function.entry)) }
+    ensures value { IfOk result (λ p.
+        p
+        ≡ program_of answers.now.items has_types name.now section (option_copied function.entry)) }
     ensures sound { IfOk result IsSoundProgram }
 {
     let Some(function) = function else {
@@ -127,7 +132,10 @@ fn plan_programs<'a>(
     answers: &Answers,
     has_types: bool,
 ) -> Result<Vec<PlanProgram<'a>>, AllocError>
-    ensures value { IfOk result (λ list. list.items ≡ map (plan_program_of answers.now.items has_types object.now.functions) object.now.programs) }
+    ensures value { IfOk result (λ list.
+        list.items
+        ≡ map (plan_program_of answers.now.items has_types object.now.functions)
+        object.now.programs) }
     ensures sound { IfOk result (λ list. All IsSoundProgram list.items) }
     ensures rising { IfOk result (λ list. AreRising (program_names list.items)) }
 {
@@ -141,8 +149,8 @@ fn plan_programs<'a>(
     Ok(programs)
 }
 
-/// The plan of an object with these maps, names rising by bytes, under these answers about a kernel's
-/// features. Maps of the object itself aren't looked at.
+/// The plan of an object with these maps, names rising by bytes, under these answers about a
+/// kernel's features. Maps of the object itself aren't looked at.
 pub fn plan_of<'a>(
     alloc: Global,
     object: &Object<'a>,

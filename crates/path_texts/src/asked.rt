@@ -51,9 +51,9 @@ fn push_unread(
     }
 }
 
-/// What a type relocation asks for by a table, the types that its program was compiled against: the kind
-/// in words, and the type with the members, elements or the variant that the access leads to. Of an
-/// access that leads to nothing it has the access string.
+/// What a type relocation asks for by a table, the types that its program was compiled against: the
+/// kind in words, and the type with the members, elements or the variant that the access leads to.
+/// Of an access that leads to nothing it has the access string.
 pub fn relocation_text(
     alloc: Global,
     table: &Btf<'_>,

@@ -120,7 +120,11 @@ impl<'s, 'o, 'f> Source<'s, 'o, 'f> {
     ) -> Result<(), AllocError>
         requires short { end_of (table_of self.now) own keys.now < 2147483648 }
         requires within { begin + length ((table_of self.now).slots function) < 2147483648 }
-        ensures { OnOk result (slots.new.items ≡ slots.old.items ++ copy_of (table_of self.now) own keys.now function begin 0 ((table_of self.now).slots function)) }
+        ensures { OnOk result
+            (slots.new.items
+            ≡ slots.old.items
+            ++ copy_of (table_of self.now) own keys.now function begin 0
+            ((table_of self.now).slots function)) }
     {
         for index in 0..self.slot_count(function) {
             let Some(slot) = self.slot(function, index) else {
@@ -137,7 +141,8 @@ impl<'s, 'o, 'f> Source<'s, 'o, 'f> {
     fn copies_of(&self, own: Key, all: &[Key], keys: &[Key]) -> Result<Vec<bpf_insn>, AllocError>
         requires short { end_of (table_of self.now) own all.now < 2147483648 }
         requires within { end_of (table_of self.now) own keys.now < 2147483648 }
-        ensures { IfOk result (λ slots. slots.items ≡ copies_of (table_of self.now) own all.now keys.now) }
+        ensures { IfOk result (λ slots.
+            slots.items ≡ copies_of (table_of self.now) own all.now keys.now) }
     {
         match keys.split_first() {
             None => {
@@ -163,7 +168,9 @@ pub fn plain_layout(
     functions: &Functions<'_>,
     own: Key,
 ) -> Option<Vec<Key>>
-    ensures { IfSome result (λ keys. IsLayout (table_of (unlinked file.now text_sections.now.keys functions.now)) own keys.items) }
+    ensures { IfSome result (λ keys.
+        IsLayout (table_of (unlinked file.now text_sections.now.keys functions.now)) own
+        keys.items) }
 {
     let source = Source {
         alloc,
@@ -185,7 +192,8 @@ pub fn plain_slots(
     functions: &Functions<'_>,
     own: Key,
 ) -> Option<Vec<bpf_insn>>
-    ensures { IfSome result (λ slots. HasSlots (unlinked file.now text_sections.now.keys functions.now) own slots.items) }
+    ensures { IfSome result (λ slots.
+        HasSlots (unlinked file.now text_sections.now.keys functions.now) own slots.items) }
 {
     let source = Source {
         alloc,

@@ -31,7 +31,12 @@ impl<'s, 'o, 'f> Model for Source<'s, 'o, 'f> {
 
     ghost Value = { Unlinked };
 
-    ghost view = { λ s. record { file = s.file.now; text_sections = s.text_sections.now.keys; functions = s.functions.now } };
+    ghost view = { λ s.
+        record {
+          file = s.file.now;
+          text_sections = s.text_sections.now.keys;
+          functions = s.functions.now;
+        } };
 }
 
 /// The key of an address in a section, where the address is a number of 64 bits.

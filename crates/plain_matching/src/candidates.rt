@@ -30,7 +30,8 @@ impl<'l> Model for PlainWanted<'l> {
 impl<'l> PlainWanted<'l> {
     /// Those of a local type.
     pub fn find(local: &'l Btf<'_>, type_id: u32) -> Result<PlainWanted<'l>, BtfError>
-        ensures { MatchResult result (λ wanted. wanted_for local.now type_id ≡ Ok wanted) (λ e. wanted_for local.now type_id ≡ Err e) }
+        ensures { MatchResult result (λ wanted. wanted_for local.now type_id ≡ Ok wanted) (λ e.
+            wanted_for local.now type_id ≡ Err e) }
     {
         let t = local.type_by_id(type_id)?;
         match local.string_at(t.name_offset()) {
@@ -110,7 +111,7 @@ fn name_offset_at(targets: &[Btf<'_>], place: KernelType) -> u32
     }
 }
 
-/// So many types of a table, by id.
+/// The first types of a table, by id.
 #[tactic(auto, using(crate::proofs::Types::next_id))]
 fn first_types(alloc: Global, table: usize, count: usize) -> Result<Vec<KernelType>, AllocError>
     requires { count ≤ 2 ^ 32 }
@@ -170,7 +171,8 @@ fn named(
     targets: &[Btf<'_>],
     all: &[KernelType],
 ) -> Result<Vec<KernelType>, AllocError>
-    ensures { IfOk result (λ found. found.items ≡ filter (is_candidate wanted.now targets.now) all.now) }
+    ensures { IfOk result (λ found.
+        found.items ≡ filter (is_candidate wanted.now targets.now) all.now) }
 {
     all.iter()
         .copied()
@@ -185,7 +187,8 @@ pub fn plain_candidates(
     targets: &[Btf<'_>],
 ) -> Result<Vec<KernelType>, CandidateError>
     ensures value { IfOk result (λ found. candidates wanted.now targets.now ≡ Ok found.items) }
-    ensures refused { IfErr result (λ e. e ≢ OutOfMemory → candidates wanted.now targets.now ≡ Err e) }
+    ensures refused { IfErr result (λ e.
+        e ≢ OutOfMemory → candidates wanted.now targets.now ≡ Err e) }
 {
     let all = all_types(alloc, targets)?;
     if let Some(place) = first_unreadable(wanted, targets, all.as_slice()) {

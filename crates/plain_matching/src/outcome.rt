@@ -23,7 +23,8 @@ use type_match::{
 
 /// An error about the object's own types.
 fn local_error(error: AccessError) -> TypeRelocationError
-    ensures { result ≢ OutOfMemory → (result ≡ TypeRelocationError.Local error) × (error ≢ TypeError NoMemory) }
+    ensures { result ≢ OutOfMemory
+        → (result ≡ TypeRelocationError.Local error) × (error ≢ TypeError NoMemory) }
 {
     match error {
         AccessError::BtfError(BtfError::OutOfMemory) => TypeRelocationError::OutOfMemory,
@@ -33,7 +34,8 @@ fn local_error(error: AccessError) -> TypeRelocationError
 
 /// An error about a type of a kernel's.
 fn kernel_error(place: KernelType, error: AccessError) -> TypeRelocationError
-    ensures { result ≢ OutOfMemory → (result ≡ TypeRelocationError.Kernel place error) × (error ≢ TypeError NoMemory) }
+    ensures { result ≢ OutOfMemory
+        → (result ≡ TypeRelocationError.Kernel place error) × (error ≢ TypeError NoMemory) }
 {
     match error {
         AccessError::BtfError(BtfError::OutOfMemory) => TypeRelocationError::OutOfMemory,
@@ -75,8 +77,10 @@ fn match_in<'t>(
     target: &Btf<'t>,
     place: KernelType,
 ) -> Result<Option<Match>, AccessError>
-    ensures value { IfOk result (λ found. match_in kind local.now path.now target.now place ≡ Ok found) }
-    ensures refused { IfErr result (λ e. e ≢ TypeError NoMemory → match_in kind local.now path.now target.now place ≡ Err e) }
+    ensures value { IfOk result (λ found.
+        match_in kind local.now path.now target.now place ≡ Ok found) }
+    ensures refused { IfErr result (λ e.
+        e ≢ TypeError NoMemory → match_in kind local.now path.now target.now place ≡ Err e) }
 {
     let found = matching_path(subject_of(kind), local, path, target, place.type_id)?;
     let Some(found) = found else {
@@ -94,8 +98,10 @@ fn match_at<'t>(
     targets: &[Btf<'t>],
     place: KernelType,
 ) -> Result<Option<Match>, TypeRelocationError>
-    ensures value { IfOk result (λ found. match_at kind local.now path.now targets.now place ≡ Ok found) }
-    ensures refused { IfErr result (λ e. e ≢ OutOfMemory → match_at kind local.now path.now targets.now place ≡ Err e) }
+    ensures value { IfOk result (λ found.
+        match_at kind local.now path.now targets.now place ≡ Ok found) }
+    ensures refused { IfErr result (λ e.
+        e ≢ OutOfMemory → match_at kind local.now path.now targets.now place ≡ Err e) }
 {
     let Some(target) = targets.get(place.table) else {
         return Ok(None);
@@ -127,8 +133,11 @@ fn matches_of<'t>(
     done: Vec<Match>,
     candidates: &[KernelType],
 ) -> Result<Vec<Match>, TypeRelocationError>
-    ensures value { IfOk result (λ found. matches_of kind local.now path.now targets.now done.items candidates.now ≡ Ok found.items) }
-    ensures refused { IfErr result (λ e. e ≢ OutOfMemory → matches_of kind local.now path.now targets.now done.items candidates.now ≡ Err e) }
+    ensures value { IfOk result (λ found.
+        matches_of kind local.now path.now targets.now done.items candidates.now ≡ Ok found.items) }
+    ensures refused { IfErr result (λ e.
+        e ≢ OutOfMemory
+        → matches_of kind local.now path.now targets.now done.items candidates.now ≡ Err e) }
 {
     match candidates.split_first() {
         None => Ok(done),
@@ -162,8 +171,10 @@ fn kernel_matches<'t>(
     path: &AccessPath,
     targets: &[Btf<'t>],
 ) -> Result<Vec<Match>, TypeRelocationError>
-    ensures value { IfOk result (λ found. kernel_matches kind local.now path.now targets.now ≡ Ok found.items) }
-    ensures refused { IfErr result (λ e. e ≢ OutOfMemory → kernel_matches kind local.now path.now targets.now ≡ Err e) }
+    ensures value { IfOk result (λ found.
+        kernel_matches kind local.now path.now targets.now ≡ Ok found.items) }
+    ensures refused { IfErr result (λ e.
+        e ≢ OutOfMemory → kernel_matches kind local.now path.now targets.now ≡ Err e) }
 {
     let wanted = match PlainWanted::find(local, path.type_id) {
         Ok(wanted) => wanted,
@@ -224,8 +235,10 @@ pub fn plain_outcome<'t>(
     relocation: TypeRelocation,
     targets: &[Btf<'t>],
 ) -> Result<RelocationOutcome, TypeRelocationError>
-    ensures value { IfOk result (λ outcome. relocation_outcome local.now relocation targets.now ≡ Ok outcome) }
-    ensures refused { IfErr result (λ e. e ≢ OutOfMemory → relocation_outcome local.now relocation targets.now ≡ Err e) }
+    ensures value { IfOk result (λ outcome.
+        relocation_outcome local.now relocation targets.now ≡ Ok outcome) }
+    ensures refused { IfErr result (λ e.
+        e ≢ OutOfMemory → relocation_outcome local.now relocation targets.now ≡ Err e) }
 {
     let kind = relocation.kind;
     let path = match local_path(local, kind, relocation.type_id, relocation.access_str_off) {

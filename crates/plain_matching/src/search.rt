@@ -33,7 +33,7 @@ impl<'s, 't> Model for Sought<'s, 't> {
     ghost view = { λ s. searched s.local.now s.type_id s.name.now s.target.now };
 }
 
-/// A struct or union whose members are looked at, where so many more may be opened inside it.
+/// A struct or union whose members are looked at, and how many more may be opened inside it.
 #[derive(Clone, Copy)]
 pub(crate) struct Opened {
     pub(crate) type_id: u32,
@@ -74,7 +74,8 @@ fn member_here(
     index: usize,
     member: BtfMember,
 ) -> Found
-    ensures { result ≡ member_here opened.type_id t.now (length open_ids.now) opened.bits index member }
+    ensures { result
+        ≡ member_here opened.type_id t.now (length open_ids.now) opened.bits index member }
 {
     Found {
         place: Place {
@@ -88,7 +89,7 @@ fn member_here(
 }
 
 impl<'s, 't> Sought<'s, 't> {
-    /// In a member without a name, and in those behind it.
+    /// In a member without a name, and in those after it.
     #[cycle(searching)]
     fn found_at_nameless(
         &self,
@@ -100,8 +101,21 @@ impl<'s, 't> Sought<'s, 't> {
         rest: &[BtfMember],
     ) -> Result<Option<Found>, AccessError>
         requires { index + 1 + length rest.now < 65536 }
-        ensures value { IfOk result (λ found. and_then (look_inside self.now.target member) (by_look (found_in opened.left self.now open_ids.now) (member_here opened.type_id t.now (length open_ids.now) opened.bits index member) (members_found (found_in opened.left self.now open_ids.now) self.now opened.type_id t.now (length open_ids.now) opened.bits (index + 1) rest.now)) ≡ Ok found) }
-        ensures refused { IfErr result (λ e. e ≢ TypeError OutOfMemory → and_then (look_inside self.now.target member) (by_look (found_in opened.left self.now open_ids.now) (member_here opened.type_id t.now (length open_ids.now) opened.bits index member) (members_found (found_in opened.left self.now open_ids.now) self.now opened.type_id t.now (length open_ids.now) opened.bits (index + 1) rest.now)) ≡ Err e) }
+        ensures value { IfOk result (λ found.
+            and_then (look_inside self.now.target member)
+            (by_look (found_in opened.left self.now open_ids.now)
+            (member_here opened.type_id t.now (length open_ids.now) opened.bits index member)
+            (members_found (found_in opened.left self.now open_ids.now) self.now opened.type_id
+            t.now (length open_ids.now) opened.bits (index + 1) rest.now))
+            ≡ Ok found) }
+        ensures refused { IfErr result (λ e.
+            e ≢ TypeError OutOfMemory
+            → and_then (look_inside self.now.target member)
+            (by_look (found_in opened.left self.now open_ids.now)
+            (member_here opened.type_id t.now (length open_ids.now) opened.bits index member)
+            (members_found (found_in opened.left self.now open_ids.now) self.now opened.type_id
+            t.now (length open_ids.now) opened.bits (index + 1) rest.now))
+            ≡ Err e) }
     {
         let type_id = self.target.resolve_type(member.btf_type)?;
         let inner = self.target.type_by_id(type_id)?;
@@ -131,8 +145,15 @@ impl<'s, 't> Sought<'s, 't> {
         members: &[BtfMember],
     ) -> Result<Option<Found>, AccessError>
         requires { index + length members.now < 65536 }
-        ensures value { IfOk result (λ found. members_found (found_in opened.left self.now open_ids.now) self.now opened.type_id t.now (length open_ids.now) opened.bits index members.now ≡ Ok found) }
-        ensures refused { IfErr result (λ e. e ≢ TypeError OutOfMemory → members_found (found_in opened.left self.now open_ids.now) self.now opened.type_id t.now (length open_ids.now) opened.bits index members.now ≡ Err e) }
+        ensures value { IfOk result (λ found.
+            members_found (found_in opened.left self.now open_ids.now) self.now opened.type_id t.now
+            (length open_ids.now) opened.bits index members.now
+            ≡ Ok found) }
+        ensures refused { IfErr result (λ e.
+            e ≢ TypeError OutOfMemory
+            → members_found (found_in opened.left self.now open_ids.now) self.now opened.type_id
+            t.now (length open_ids.now) opened.bits index members.now
+            ≡ Err e) }
     {
         let (member, rest) = match members.split_first() {
             None => return Ok(None),
@@ -166,8 +187,10 @@ impl<'s, 't> Sought<'s, 't> {
         type_id: u32,
         bits: Option<u32>,
     ) -> Result<Option<Found>, AccessError>
-        ensures value { IfOk result (λ found. found_in left self.now open_ids.now type_id bits ≡ Ok found) }
-        ensures refused { IfErr result (λ e. e ≢ TypeError OutOfMemory → found_in left self.now open_ids.now type_id bits ≡ Err e) }
+        ensures value { IfOk result (λ found.
+            found_in left self.now open_ids.now type_id bits ≡ Ok found) }
+        ensures refused { IfErr result (λ e.
+            e ≢ TypeError OutOfMemory → found_in left self.now open_ids.now type_id bits ≡ Err e) }
     {
         if left == 0 || is_among(open_ids, type_id) {
             return Err(AccessError::MaximumNestingLevelReached);
@@ -194,8 +217,11 @@ pub fn plain_member<'t>(
     root: u32,
     bits: Option<u32>,
 ) -> Result<Option<Found>, AccessError>
-    ensures value { IfOk result (λ found. member_found (searched local.now type_id name.now target.now) root bits ≡ Ok found) }
-    ensures refused { IfErr result (λ e. e ≢ TypeError OutOfMemory → member_found (searched local.now type_id name.now target.now) root bits ≡ Err e) }
+    ensures value { IfOk result (λ found.
+        member_found (searched local.now type_id name.now target.now) root bits ≡ Ok found) }
+    ensures refused { IfErr result (λ e.
+        e ≢ TypeError OutOfMemory
+        → member_found (searched local.now type_id name.now target.now) root bits ≡ Err e) }
 {
     let sought = Sought {
         local,

@@ -98,7 +98,7 @@ pub passes-need : (u v : Under) → Agree u v → (order : Order) → NeedsBefor
 passes-need u v agree RelocateFirst = (tt, (tt, (tt, (tt, (tt, (tt, (agree, (tt, (tt, (tt, tt))))))))))
 passes-need u v agree RewriteFirst = (tt, (tt, (tt, (tt, (tt, (agree, (tt, (tt, (tt, (tt, tt))))))))))
 
--- ---- the passes behind the rewriting of types look at none
+-- ---- the passes after the rewriting of types look at none
 
 abbrev pub retyped : State → Option Table → State
 retyped s types = record s { types = types }

@@ -150,7 +150,7 @@ excluded laws = record { under = under; kernel = kernel } where
 
 -- ---- answers on features change no slot where relocations come first
 
--- the passes before the rewriting of types, and behind it
+-- the passes before the rewriting of types, and after it
 abbrev before : List Pass
 before = FunctionRecords ∷ MapNumbers ∷ GlobalValues ∷ KernelTypes ∷ Externs ∷ TypeSlots ∷ []
 
@@ -172,7 +172,7 @@ slots-same a b x y functions (e ∷ es) =
     (slots-by a b x y e.0 e.1.section (function_at functions (e.1.section_index, e.1.address)))
     (slots-same a b x y functions es)
 
--- what these make of an object, and those behind the rewriting of one that differs in its types alone
+-- what these make of an object, and those after the rewriting of one that differs in its types alone
 record Ends (i : Inputs) (u : Under) (object final : State) : Type 0 where
   middle : State
   made : Made before i u object middle

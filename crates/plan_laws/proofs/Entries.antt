@@ -55,7 +55,7 @@ same-order Less e = cc
 same-order Equal e = refl
 same-order Greater e = cc
 
--- no key behind the first is this one, where the first is
+-- no key after the first is this one, where the first is
 none-behind : {K V : Type 0} {R : K → K → Ordering} (o : IsTotalOrder R) (key k : K) (es : List (K × V))
     → R key k ≡ Equal → AllByRecursion (λ y. R k y ≡ Less) (keys_of es) → lookup (is_at (R key)) es ≡ None
 none-behind o key k [] equal all = refl

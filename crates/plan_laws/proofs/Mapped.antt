@@ -38,7 +38,7 @@ leaves-maps i u ExternSlots s t leaves made = ap (λ (x : State). x.maps) made.o
 leaves-maps i u Links s t leaves made = ap (λ (x : State). x.maps) made.others
 leaves-maps i u Helpers s t leaves made = ap (λ (x : State). x.maps) made.functions
 
--- those behind it
+-- those after it
 all-leave : (order : Order)
     → AllByRecursion LeavesMaps (KernelTypes ∷ Externs ∷ first_of order ∷ second_of order ∷ MapSlots ∷ ExternSlots ∷ [])
 all-leave RelocateFirst = (tt, (tt, (tt, (tt, (tt, (tt, tt))))))

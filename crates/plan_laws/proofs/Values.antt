@@ -86,7 +86,7 @@ names-stay Outside (x ∷ xs) (y ∷ ys) one =
     ap (λ (n : List ℕ). n ∷ keys_of ys) one.0.name
     ∙ ap (λ (ns : List (List ℕ)). x.0 ∷ ns) (names-stay Outside xs ys one.1)
 
--- the map of a section before, for one that is found behind
+-- the map of a section before, for one that is found later
 record Found (Outside : List ℕ → ℕ → Type 0) (before : Option (List ℕ × MapView)) (m : List ℕ × MapView) : Type 0 where
   map : List ℕ × MapView
   is : before ≡ Some map

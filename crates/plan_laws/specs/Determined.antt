@@ -29,13 +29,14 @@ pub record IsPassRefusalUnder (i : Inputs) (u : Under) (e : PrepareError) : Type
 abbrev pub IsRefusalUnder : Inputs → Under → PrepareError → Type 0
 IsRefusalUnder i u e = OfParse (HasFault i.file) e ⊎ IsPassRefusalUnder i u e
 
--- it is known which text the reader of the kernel's symbols gives, or no extern of the object is looked for in it
+-- it is known which text the reader of the kernel's symbols gives, or no extern of the object is
+-- looked for in it
 pub record IsKnown (i : Inputs) : Type 0 where
   pub each : (object : State) → IsWholeObject i.file object
       → IsSome i.symbols.bytes ⊎ (is_any_sought object.externs.by_name ≡ false)
 
--- Equal inputs and equal answers give equal plans. So do equal inputs for a kernel of these features, that has the
--- newer helpers or lacks them; and then equal texts.
+-- Equal inputs and equal answers give equal plans. So do equal inputs for a kernel of these
+-- features, that has the newer helpers or lacks them; and then equal texts.
 pub record PlansAreDetermined : Type 0 where
   pub under : (i : Inputs) → IsKnown i → (u : Under) (a b : PlanContent)
       → IsPlanUnder i u a → IsPlanUnder i u b → a ≡ b

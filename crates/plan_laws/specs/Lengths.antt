@@ -16,8 +16,8 @@ use Rattle.plan_text.specs.Content as plan
 abbrev pub Functions : Type 0
 Functions = List (Key × FunctionContent)
 
--- the slots of a program are those of its own function and of the others in its layout, each of these once, and no more
--- than those of its own function and of all functions together
+-- the slots of a program are those of its own function and of the others in its layout, each of
+-- these once, and no more than those of its own function and of all functions together
 pub record IsShort (t : Table) (all : Functions) (own : Key) (keys : List Key) (slots : List bpf_insn) : Type 0 where
   pub once : AreDistinct keys
   pub sum : length slots ≡ length (t.slots own) + slots_of t keys

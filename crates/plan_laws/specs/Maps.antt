@@ -18,8 +18,9 @@ Maps = List (List ℕ × MapView)
 abbrev pub Global : Type 0
 Global = List ℕ × GlobalContent
 
--- The value of a global variable goes over a byte of the map of a name: the variable's symbol is of the map's section,
--- and the byte's place lies in the symbol's range, which begins at its address and is as long as its size.
+-- The value of a global variable goes over a byte of the map of a name: the variable's symbol is of
+-- the map's section, and the byte's place lies in the symbol's range, which begins at its address
+-- and is as long as its size.
 pub record IsPutOver (symbols : List Symbol) (maps : Maps) (name : List ℕ) (place : ℕ) (global : Global) : Type 0 where
   pub symbol : Symbol
   pub named : symbol_named symbols global.0 ≡ Some symbol
@@ -30,21 +31,26 @@ pub record IsPutOver (symbols : List Symbol) (maps : Maps) (name : List ℕ) (pl
 
 -- none of these does
 abbrev pub IsOutside : List Symbol → Maps → List Global → List ℕ → ℕ → Type 0
-IsOutside symbols maps globals name place = All (λ global. IsPutOver symbols maps name place global → ⊥) globals
+IsOutside symbols maps globals name place =
+    All (λ global. IsPutOver symbols maps name place global → ⊥) globals
 
 -- no value that is set goes over a byte of an object's map
 abbrev pub IsLeft : Inputs → State → List ℕ → ℕ → Type 0
 IsLeft i object name place = IsOutside (symbols_of i.file) object.maps i.settings.globals name place
 
--- A map of a plan is one of an object, under the number that is set for it and as long as it was. No byte is another
--- but where the value of a global variable goes over it.
+-- A map of a plan is one of an object, under the number that is set for it and as long as it was.
+-- No byte is another but where the value of a global variable goes over it.
 pub record IsMapOf (i : Inputs) (object : State) (e : List ℕ × MapView) (m : MapContent) : Type 0 where
   pub name : m.name ≡ e.0
   pub number : set_number i.settings e.0 ≡ Some m.number
   pub sized : length m.contents ≡ length e.1.contents
-  pub rest : (place : ℕ) → IsLeft i object e.0 place → slice_get m.contents place ≡ slice_get e.1.contents place
+  pub rest : (place : ℕ)
+      → IsLeft i object e.0 place
+      → slice_get m.contents place ≡ slice_get e.1.contents place
 
 -- so are the maps of each plan, one for each of the object's
 pub record MapsKeepLengths : Type 0 where
   pub each : (i : Inputs) (u : Under) (object : State) (plan : PlanContent)
-      → IsWholeObject i.file object → IsPlanOf i u object plan → AllZip (IsMapOf i object) object.maps plan.maps
+      → IsWholeObject i.file object
+      → IsPlanOf i u object plan
+      → AllZip (IsMapOf i object) object.maps plan.maps

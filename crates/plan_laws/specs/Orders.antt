@@ -39,11 +39,13 @@ pub record IsReach (reached : ℕ → Bool) (table : Table) (groups : Groups) : 
   pub closed : (id : ℕ) → reached id ≡ true
       → IfSome (type_by_id table id) (λ t. All (λ next. reached next ≡ true) (held_ids t))
 
--- the names that the records hold, the access strings and the names of the groups' sections can be read
+-- the names that the records hold, the access strings and the names of the groups' sections can be
+-- read
 pub record IsReadable (reached : ℕ → Bool) (table : Table) (groups : Groups) : Type 0 where
   pub names : (id : ℕ) (t : BtfType) → reached id ≡ true → type_by_id table id ≡ Some t
       → All (λ offset. is_some (text_at table.strings offset) ≡ true) (held_names t)
-  pub accesses : All (λ x. All (λ r. is_some (text_at table.strings r.access_str_off) ≡ true) x.records) groups
+  pub accesses : All (λ x.
+      All (λ r. is_some (text_at table.strings r.access_str_off) ≡ true) x.records) groups
   pub sections : All (λ x. is_some (text_at table.strings x.name_offset) ≡ true) groups
 
 -- the records are the same in another table
@@ -52,30 +54,44 @@ pub record StaysReached (reached : ℕ → Bool) (table new : Table) : Type 0 wh
 
 -- what an object's type relocations reach can be read, and stays where its types are rewritten
 pub record IsOrderFree (reached : ℕ → Bool) (answers : Answers) (object : State) : Type 0 where
-  pub reach : (table : Table) → object.types ≡ Some table → IsReach reached table (type_groups object)
-  pub readable : (table : Table) → object.types ≡ Some table → IsReadable reached table (type_groups object)
+  pub reach : (table : Table)
+      → object.types ≡ Some table
+      → IsReach reached table (type_groups object)
+  pub readable : (table : Table)
+      → object.types ≡ Some table
+      → IsReadable reached table (type_groups object)
   pub stays : (table new : Table) → object.types ≡ Some table
-      → IsRewritten answers object.file object.externs.ksyms (Some table) (Some new) → StaysReached reached table new
+      → IsRewritten answers object.file object.externs.ksyms (Some table) (Some new)
+      → StaysReached reached table new
 
--- then both orders come to the same plans, the kernel tables that relocations matched among all else that a plan says
+-- then both orders come to the same plans, the kernel tables that relocations matched among all
+-- else that a plan says
 pub record OrdersAgree : Type 0 where
   pub each : (i : Inputs) (u : Under) (object : State) (reached : ℕ → Bool) → IsOrderFree reached u.answers object
       → (plan : PlanContent)
-      → (IsMadePlan (in_order RelocateFirst i) u object plan → IsMadePlan (in_order RewriteFirst i) u object plan)
-      × (IsMadePlan (in_order RewriteFirst i) u object plan → IsMadePlan (in_order RelocateFirst i) u object plan)
+      → (IsMadePlan (in_order RelocateFirst i) u object plan
+      → IsMadePlan (in_order RewriteFirst i) u object plan)
+      × (IsMadePlan (in_order RewriteFirst i) u object plan
+      → IsMadePlan (in_order RelocateFirst i) u object plan)
 
 -- under any answers that go by the feature alone
 pub record IsOrderFreeFor (reached : ℕ → Bool) (grants : BtfFeature → Bool) (object : State) : Type 0 where
   pub each : (answers : Answers) → GoByFeature grants answers → IsOrderFree reached answers object
 
--- Under that premise plans of a file's object are equal, each in an order of its own: under the same answers, or for a
--- kernel of these features, that has the newer helpers or lacks them.
+-- Under that premise plans of a file's object are equal, each in an order of its own: under the
+-- same answers, or for a kernel of these features, that has the newer helpers or lacks them.
 pub record OrdersPlanAlike : Type 0 where
   pub under : (order other : Order) (i : Inputs) → IsKnown i → (u : Under) (object : State)
       → IsWholeObject i.file object → (reached : ℕ → Bool) → IsOrderFree reached u.answers object
-      → (a b : PlanContent) → IsPlanUnder (in_order order i) u a → IsPlanUnder (in_order other i) u b → a ≡ b
+      → (a b : PlanContent)
+      → IsPlanUnder (in_order order i) u a
+      → IsPlanUnder (in_order other i) u b
+      → a ≡ b
   pub kernel : (order other : Order) (i : Inputs) → IsKnown i → (grants : BtfFeature → Bool) (has_helpers : Bool)
-      → (object : State) → IsWholeObject i.file object → (reached : ℕ → Bool) → IsOrderFreeFor reached grants object
+      → (object : State)
+      → IsWholeObject i.file object
+      → (reached : ℕ → Bool)
+      → IsOrderFreeFor reached grants object
       → (a b : PlanContent) → IsPlanFor grants has_helpers (in_order order i) a
       → IsPlanFor grants has_helpers (in_order other i) b → a ≡ b
 
@@ -86,6 +102,10 @@ pub record OrdersRefuseAlike : Type 0 where
       → (plan : PlanContent) (e : PrepareError) → IsPlanUnder (in_order order i) u plan
       → IsRefusalUnder (in_order other i) u e → ⊥
   pub kernel : (order other : Order) (i : Inputs) → IsKnown i → (grants : BtfFeature → Bool) (has_helpers : Bool)
-      → (object : State) → IsWholeObject i.file object → (reached : ℕ → Bool) → IsOrderFreeFor reached grants object
-      → (plan : PlanContent) (e : PrepareError) → IsPlanFor grants has_helpers (in_order order i) plan
+      → (object : State)
+      → IsWholeObject i.file object
+      → (reached : ℕ → Bool)
+      → IsOrderFreeFor reached grants object
+      → (plan : PlanContent) (e : PrepareError)
+      → IsPlanFor grants has_helpers (in_order order i) plan
       → IsRefusalFor grants (in_order other i) e → ⊥

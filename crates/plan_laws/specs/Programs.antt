@@ -17,8 +17,9 @@ use Rattle.object_parts.specs.Content as parts
 use Rattle.object_plan.specs.Plans.{AllName}
 use Rattle.plan_text.specs.Content.{PlanContent, ProgramContent}
 
--- The bytes of a plan's types hold a table, of which the record of each id needs features alone that the plan says are
--- granted; a section without entries that came with a size needs no more than one with entries.
+-- The bytes of a plan's types hold a table, of which the record of each id needs features alone
+-- that the plan says are granted; a section without entries that came with a size needs no more
+-- than one with entries.
 pub record HoldsGranted (object : State) (table : Table) (features : Answers) (bytes : List ℕ) : Type 0 where
   pub old : object.types ≡ Some table
   pub held : Table
@@ -28,14 +29,15 @@ pub record HoldsGranted (object : State) (table : Table) (features : Answers) (b
 -- a plan without types needs nothing
 abbrev pub TypesAreGranted : State → Answers → Option (List ℕ) → Type 0
 TypesAreGranted object features None = Unit {0}
-TypesAreGranted object features (Some bytes) = (table : Table) × HoldsGranted object table features bytes
+TypesAreGranted object features (Some bytes) =
+    (table : Table) × HoldsGranted object table features bytes
 
 -- a program of an object, with its name
 abbrev pub Named : Type 0
 Named = List ℕ × parts.ProgramContent
 
--- a program of a plan of an object, by the object's functions as relocations leave them, and by these with the helpers
--- that the kernel has
+-- a program of a plan of an object, by the object's functions as relocations leave them, and by
+-- these with the helpers that the kernel has
 pub record IsDescribed (u : Unlinked) (t : Functions) (o : State) (plan : PlanContent) (e : Named)
     (p : ProgramContent) : Type 0 where
   -- name and kind are those of a program of the object
@@ -47,7 +49,8 @@ pub record IsDescribed (u : Unlinked) (t : Functions) (o : State) (plan : PlanCo
   pub slots : p.slots ≡ linked t (own_key e.1) keys
   -- on each list of decisions they are visited as the functions are, run with a stack of calls
   pub visits : VisitsSame t (own_key e.1) keys p.slots
-  -- the records of functions are those of the copies, each at its copy's beginning; none where functions are denied
+  -- the records of functions are those of the copies, each at its copy's beginning; none where
+  -- functions are denied
   pub records : p.func_records ≡ func_records_of plan.features u (own_key e.1) keys
   -- each names, in the plan's own bytes, the function that it names in the object's types
   pub names : AllName o.types plan.type_bytes p.func_records

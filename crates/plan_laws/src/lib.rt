@@ -1,5 +1,5 @@
-//! Laws of plans, over what the contract of `prepare` names. The functions here compute nothing: their contracts are
-//! the theorems.
+//! Laws of plans, over what the contract of `prepare` names. The functions here compute nothing:
+//! their contracts are the theorems.
 #![tactic(auto)]
 
 mod determined;

@@ -22,7 +22,8 @@ pub(crate) fn number_of(settings: &Settings, name: &str) -> u32
 #[tactic(auto, unfolding(crate::specs::Numbers::is_unnumbered))]
 fn is_unnumbered(settings: &Settings, name: &str, map: &Map) -> bool
     ensures value { result ≡ is_none (set_number settings.now name.now) }
-    ensures named { result ≡ true → is_unnumbered settings.now name.now (name.now, map_view map.now) ≡ true }
+    ensures named { result ≡ true
+        → is_unnumbered settings.now name.now (name.now, map_view map.now) ≡ true }
 {
     let _ = map;
     settings.map_number(name).is_none()

@@ -26,8 +26,9 @@ pub record MapContent : Type 0 where
   pub contents : List ℕ
   pub inner : Option MapWords
 
--- a program of the plan: its name's bytes, its kind, its slots, the records of its functions and lines, and the places of the
--- kernel tables that its type relocations matched, where these are known
+-- a program of the plan: its name's bytes, its kind, its slots, the records of its functions and
+-- lines, and the places of the kernel tables that its type relocations matched, where these are
+-- known
 pub record ProgramContent : Type 0 where
   pub name : List ℕ
   pub section : ProgramSection
@@ -46,7 +47,13 @@ pub record PlanContent : Type 0 where
   pub maps : List MapContent
   pub programs : List ProgramContent
 
-abbrev pub plan_content : List ℕ → Option ℕ → Answers → Option (List ℕ) → List MapContent → List ProgramContent → PlanContent
+abbrev pub plan_content : List ℕ
+    → Option ℕ
+    → Answers
+    → Option (List ℕ)
+    → List MapContent
+    → List ProgramContent
+    → PlanContent
 plan_content license version features type_bytes maps programs = record {
   license = license;
   version = version;
@@ -109,7 +116,8 @@ FitsFunc r = AreWithin (max_32 ∷ max_32 ∷ []) (r.insn_off ∷ r.type_id ∷ 
 
 abbrev pub FitsSource : bpf_line_info → Type 0
 FitsSource r =
-    AreWithin (max_32 ∷ max_32 ∷ max_32 ∷ max_32 ∷ []) (r.insn_off ∷ r.file_name_off ∷ r.line_off ∷ r.line_col ∷ [])
+    AreWithin (max_32 ∷ max_32 ∷ max_32 ∷ max_32 ∷ [])
+    (r.insn_off ∷ r.file_name_off ∷ r.line_off ∷ r.line_col ∷ [])
 
 pub record FitsProgram (p : ProgramContent) : Type 0 where
   pub name : IsName p.name

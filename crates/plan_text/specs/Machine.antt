@@ -71,12 +71,20 @@ after_slots Second = AtTables
 
 -- a program of which no more is read
 abbrev pub bare_program : List ℕ → ProgramSection → ProgramContent
-bare_program name section = record { name = name; section = section; slots = []; func_records = []; line_records = []; tables = None }
+bare_program name section = record {
+  name = name;
+  section = section;
+  slots = [];
+  func_records = [];
+  line_records = [];
+  tables = None;
+}
 
 -- ---- one line more, at a phase; none where the line may not stand there
 
 abbrev pub step_header : Phase → StateContent → TextVersion → Option StateContent
-step_header AtHeader s text_version = Some (record s { phase = AtLicense; text_version = text_version })
+step_header AtHeader s text_version =
+    Some (record s { phase = AtLicense; text_version = text_version })
 step_header _ s text_version = None
 
 abbrev pub step_license : Phase → StateContent → List ℕ → Option StateContent
@@ -113,7 +121,9 @@ abbrev pub holding : MapContent → MapWords → Option MapContent
 holding m words = if may_hold m words then Some (record m { inner = Some words }) else None
 
 abbrev pub step_inner : Phase → StateContent → MapWords → Option StateContent
-step_inner AtMaps s words = option_map (λ m. record s { last_map = Some m }) (option_and_then (λ m. holding m words) s.last_map)
+step_inner AtMaps s words =
+    option_map (λ m. record s { last_map = Some m })
+    (option_and_then (λ m. holding m words) s.last_map)
 step_inner _ s words = None
 
 abbrev pub begin_program : StateContent → ProgramContent → Option StateContent
@@ -128,11 +138,16 @@ step_program AtLines s p = begin_program s p
 step_program _ s p = None
 
 -- the last program, changed
-abbrev pub at_program : StateContent → Phase → (ProgramContent → ProgramContent) → Option StateContent
-at_program s phase change = option_map (λ p. record s { phase = phase; last_program = Some (change p) }) s.last_program
+abbrev pub at_program : StateContent
+    → Phase
+    → (ProgramContent → ProgramContent)
+    → Option StateContent
+at_program s phase change =
+    option_map (λ p. record s { phase = phase; last_program = Some (change p) }) s.last_program
 
 abbrev pub step_slots : Phase → StateContent → List ℕ → Option StateContent
-step_slots AtSlots s bytes = at_program s (after_slots s.text_version) (λ p. record p { slots = slots_of bytes })
+step_slots AtSlots s bytes =
+    at_program s (after_slots s.text_version) (λ p. record p { slots = slots_of bytes })
 step_slots _ s bytes = None
 
 abbrev pub step_tables : Phase → StateContent → Option (List ℕ) → Option StateContent
@@ -174,10 +189,22 @@ abbrev pub func_of : ℕ → ℕ → bpf_func_info
 func_of slot id = record { insn_off = slot; type_id = id }
 
 abbrev pub source_of : ℕ → ℕ → ℕ → ℕ → bpf_line_info
-source_of slot file row column = record { insn_off = slot; file_name_off = file; line_off = row; line_col = column }
+source_of slot file row column = record {
+  insn_off = slot;
+  file_name_off = file;
+  line_off = row;
+  line_col = column;
+}
 
 abbrev pub map_of : List ℕ → ℕ → Bool → MapWords → List ℕ → MapContent
-map_of name number is_btf words contents = record { name = name; number = number; is_btf = is_btf; words = words; contents = contents; inner = None }
+map_of name number is_btf words contents = record {
+  name = name;
+  number = number;
+  is_btf = is_btf;
+  words = words;
+  contents = contents;
+  inner = None;
+}
 
 abbrev pub step : StateContent → LineContent → Option StateContent
 step s (Header text_version) = step_header s.phase s text_version
@@ -185,7 +212,8 @@ step s (License bytes) = step_license s.phase s bytes
 step s (Version version) = step_version s.phase s version
 step s (Feature asked answer) = step_feature s.phase s asked answer
 step s (Types type_bytes) = step_types s.phase s type_bytes
-step s (Map name number is_btf words contents) = step_map s.phase s (map_of name number is_btf words contents)
+step s (Map name number is_btf words contents) =
+    step_map s.phase s (map_of name number is_btf words contents)
 step s (Inner words) = step_inner s.phase s words
 step s (Program name section) = step_program s.phase s (bare_program name section)
 step s (Slots bytes) = step_slots s.phase s bytes
@@ -215,7 +243,10 @@ pub record TookLine (s : StateContent) (bytes : List ℕ) (t : StateContent) : T
   pub sound : IsSoundLine line
   pub text : bytes ≡ line_text line
   pub steps : step s line ≡ Some t
-  pub only : (other : LineContent) → IsSoundLine other → bytes ≡ line_text other → step s other ≡ Some t
+  pub only : (other : LineContent)
+      → IsSoundLine other
+      → bytes ≡ line_text other
+      → step s other ≡ Some t
 
 -- no line of these bytes may stand there
 pub record RefusedLine (s : StateContent) (bytes : List ℕ) : Type 0 where

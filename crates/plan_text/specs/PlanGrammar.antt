@@ -19,7 +19,10 @@ use Rattle.plan_lines.specs.declared.program_kind.KindNumbers.{KindNumbers}
 
 abbrev pub first_lines : TextVersion → PlanContent → List (List (List ℕ))
 first_lines text_version plan =
-    (codes "bpf-plan" ∷ number_word text_version ∷ []) ∷ (codes "license" ∷ hex_word plan.license ∷ []) ∷ (codes "version" ∷ version_word plan.version ∷ []) ∷ []
+    (codes "bpf-plan" ∷ number_word text_version ∷ [])
+    ∷ (codes "license" ∷ hex_word plan.license ∷ [])
+    ∷ (codes "version" ∷ version_word plan.version ∷ [])
+    ∷ []
 
 -- the line of a question about a feature
 abbrev pub feature_line : BtfFeature × Bool → List (List ℕ)
@@ -35,7 +38,11 @@ end_line = codes "end" ∷ []
 
 abbrev pub map_line : MapContent → List (List ℕ)
 map_line m =
-    codes "map" ∷ hex_word m.name ∷ decimal m.number ∷ form_word m.is_btf ∷ (map decimal (numbers_of m.words) ++ hex_word m.contents ∷ [])
+    codes "map"
+    ∷ hex_word m.name
+    ∷ decimal m.number
+    ∷ form_word m.is_btf
+    ∷ (map decimal (numbers_of m.words) ++ hex_word m.contents ∷ [])
 
 -- the line of the maps that a map holds
 abbrev pub inner_line : MapWords → List (List ℕ)
@@ -53,7 +60,12 @@ map_lines m = map_line m ∷ inner_lines m.inner
 
 abbrev pub program_line : List ℕ → KindNumbers → List (List ℕ)
 program_line name numbers =
-    codes "program" ∷ hex_word name ∷ decimal numbers.kind ∷ decimal numbers.first ∷ decimal numbers.second ∷ []
+    codes "program"
+    ∷ hex_word name
+    ∷ decimal numbers.kind
+    ∷ decimal numbers.first
+    ∷ decimal numbers.second
+    ∷ []
 
 abbrev pub slots_line : List bpf_insn → List (List ℕ)
 slots_line slots = codes "slots" ∷ hex_word (slot_bytes slots) ∷ []
@@ -72,19 +84,31 @@ func_line r = codes "func" ∷ decimal r.insn_off ∷ decimal r.type_id ∷ []
 -- the line of a source line's record
 abbrev pub source_line : bpf_line_info → List (List ℕ)
 source_line r =
-    codes "line" ∷ decimal r.insn_off ∷ decimal r.file_name_off ∷ decimal r.line_off ∷ decimal r.line_col ∷ []
+    codes "line"
+    ∷ decimal r.insn_off
+    ∷ decimal r.file_name_off
+    ∷ decimal r.line_off
+    ∷ decimal r.line_col
+    ∷ []
 
 -- the lines of a program
 abbrev pub program_lines : TextVersion → ProgramContent → List (List (List ℕ))
 program_lines text_version program =
-    program_line program.name (kind_numbers program.section) ∷ slots_line program.slots ∷ (tables_lines text_version program.tables ++ (map func_line program.func_records ++ map source_line program.line_records))
+    program_line program.name (kind_numbers program.section)
+    ∷ slots_line program.slots
+    ∷ (tables_lines text_version program.tables
+    ++ (map func_line program.func_records ++ map source_line program.line_records))
 
 -- ---- the whole
 
 -- the lines of a plan
 abbrev pub plan_lines : TextVersion → PlanContent → List (List (List ℕ))
 plan_lines text_version plan =
-    first_lines text_version plan ++ (map feature_line plan.features ++ types_line plan.type_bytes ∷ (flat_map map_lines plan.maps ++ (flat_map (program_lines text_version) plan.programs ++ end_line ∷ [])))
+    first_lines text_version plan
+    ++ (map feature_line plan.features
+    ++ types_line plan.type_bytes
+    ∷ (flat_map map_lines plan.maps
+    ++ (flat_map (program_lines text_version) plan.programs ++ end_line ∷ [])))
 
 -- the text of a plan in a version
 unfoldable pub text_in : TextVersion → PlanContent → List ℕ

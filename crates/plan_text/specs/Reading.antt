@@ -24,9 +24,9 @@ pub record EndsPlanText (front rest : List ℕ) : Type 0 where
   pub unbroken : IsUnbroken line
   pub bad : BeginsPlanText (front ++ (line ++ 10 ∷ [])) → ⊥
 
--- The number of the first line, from 1, with which no plan text begins any more: some plan text begins with the lines before
--- it. Where there is no such line, the text stops before a plan's end, and the number is that of the line after the last whole
--- one.
+-- The number of the first line, from 1, with which no plan text begins any more: some plan text
+-- begins with the lines before it. Where there is no such line, the text stops before a plan's end,
+-- and the number is that of the line after the last whole one.
 pub record IsFirstBadLine (bytes : List ℕ) (bad_line : ℕ) : Type 0 where
   pub before : List (List ℕ)
   pub rest : List ℕ

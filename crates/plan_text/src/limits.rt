@@ -1,5 +1,5 @@
-//! That numbers fit the words of a plan's text, which their types give. Of lists that are known by what
-//! they hold alone, each element is looked at once for it.
+//! That numbers fit the words of a plan's text, which their types give. Of lists that are known by
+//! what they hold alone, each element is looked at once for it.
 
 ghost use Rattle.std.specs.Prelude.{◌≤◌, IfSome};
 ghost use Rattle.std.specs.List.{All};

@@ -40,9 +40,26 @@ impl<'a> Model for PlanMap<'a> {
 
     ghost Value = { MapContent };
 
-    ghost view = { λ m. record { name = cow_str_bytes m.name; number = m.number; is_btf = m.is_btf; words = m.words; contents = m.contents.items; inner = m.inner } };
+    ghost view = { λ m.
+        record {
+          name = cow_str_bytes m.name;
+          number = m.number;
+          is_btf = m.is_btf;
+          words = m.words;
+          contents = m.contents.items;
+          inner = m.inner;
+        } };
 
-    ghost invariant = { λ m. FitsMap (record { name = cow_str_bytes m.name; number = m.number; is_btf = m.is_btf; words = m.words; contents = m.contents.items; inner = m.inner }) };
+    ghost invariant = { λ m.
+        FitsMap
+        (record {
+          name = cow_str_bytes m.name;
+          number = m.number;
+          is_btf = m.is_btf;
+          words = m.words;
+          contents = m.contents.items;
+          inner = m.inner;
+        }) };
 }
 
 impl<'a> PlanMap<'a> {
@@ -56,7 +73,15 @@ impl<'a> PlanMap<'a> {
         contents: Vec<u8>,
         inner: Option<MapWords>,
     ) -> PlanMap<'a>
-        ensures { result ≡ record { name = name.now; number = number; is_btf = is_btf; words = words; contents = contents.items; inner = inner } }
+        ensures { result
+            ≡ record {
+              name = name.now;
+              number = number;
+              is_btf = is_btf;
+              words = words;
+              contents = contents.items;
+              inner = inner;
+            } }
     {
         name_fits(name);
         words_fit(words);
@@ -80,7 +105,15 @@ impl<'a> PlanMap<'a> {
         words: MapWords,
         contents: Vec<u8>,
     ) -> PlanMap<'a>
-        ensures { result ≡ record { name = string_bytes name; number = number; is_btf = is_btf; words = words; contents = contents.items; inner = None } }
+        ensures { result
+            ≡ record {
+              name = string_bytes name;
+              number = number;
+              is_btf = is_btf;
+              words = words;
+              contents = contents.items;
+              inner = None;
+            } }
     {
         name_fits(name.as_str());
         words_fit(words);
@@ -177,9 +210,26 @@ impl<'a> Model for PlanProgram<'a> {
 
     ghost Value = { ProgramContent };
 
-    ghost view = { λ p. record { name = cow_str_bytes p.name; section = p.section; slots = p.slots; func_records = p.func_records; line_records = p.line_records; tables = option_map (λ places. places.items) p.tables } };
+    ghost view = { λ p.
+        record {
+          name = cow_str_bytes p.name;
+          section = p.section;
+          slots = p.slots;
+          func_records = p.func_records;
+          line_records = p.line_records;
+          tables = option_map (λ places. places.items) p.tables;
+        } };
 
-    ghost invariant = { λ p. FitsProgram (record { name = cow_str_bytes p.name; section = p.section; slots = p.slots; func_records = p.func_records; line_records = p.line_records; tables = option_map (λ places. places.items) p.tables }) };
+    ghost invariant = { λ p.
+        FitsProgram
+        (record {
+          name = cow_str_bytes p.name;
+          section = p.section;
+          slots = p.slots;
+          func_records = p.func_records;
+          line_records = p.line_records;
+          tables = option_map (λ places. places.items) p.tables;
+        }) };
 }
 
 impl<'a> PlanProgram<'a> {
@@ -193,7 +243,15 @@ impl<'a> PlanProgram<'a> {
         line_records: LineSecInfo<'a>,
         tables: Option<Vec<u32>>,
     ) -> PlanProgram<'a>
-        ensures { result ≡ record { name = name.now; section = section; slots = slots.entry; func_records = func_records.entry; line_records = line_records.entry; tables = option_map (λ places. places.items) tables } }
+        ensures { result
+            ≡ record {
+              name = name.now;
+              section = section;
+              slots = slots.entry;
+              func_records = func_records.entry;
+              line_records = line_records.entry;
+              tables = option_map (λ places. places.items) tables;
+            } }
     {
         name_fits(name);
         slots_fit(&slots);
@@ -218,7 +276,15 @@ impl<'a> PlanProgram<'a> {
         line_records: LineSecInfo<'a>,
         tables: Option<Vec<u32>>,
     ) -> PlanProgram<'a>
-        ensures { result ≡ record { name = string_bytes name; section = section; slots = slots.entry; func_records = func_records.entry; line_records = line_records.entry; tables = option_map (λ places. places.items) tables } }
+        ensures { result
+            ≡ record {
+              name = string_bytes name;
+              section = section;
+              slots = slots.entry;
+              func_records = func_records.entry;
+              line_records = line_records.entry;
+              tables = option_map (λ places. places.items) tables;
+            } }
     {
         name_fits(name.as_str());
         slots_fit(&slots);
@@ -326,9 +392,14 @@ impl<'a> Model for Plan<'a> {
 
     ghost Value = { PlanContent };
 
-    ghost view = { λ p. plan_content (cow_slice_items p.license) p.version p.features.items (option_map (λ bytes. bytes.items) p.type_bytes) p.maps.items p.programs.items };
+    ghost view = { λ p.
+        plan_content (cow_slice_items p.license) p.version p.features.items
+        (option_map (λ bytes. bytes.items) p.type_bytes) p.maps.items p.programs.items };
 
-    ghost invariant = { λ p. IsPlan (plan_content (cow_slice_items p.license) p.version p.features.items (option_map (λ bytes. bytes.items) p.type_bytes) p.maps.items p.programs.items) };
+    ghost invariant = { λ p.
+        IsPlan
+        (plan_content (cow_slice_items p.license) p.version p.features.items
+        (option_map (λ bytes. bytes.items) p.type_bytes) p.maps.items p.programs.items) };
 }
 
 /// The plan of these parts.
@@ -361,8 +432,12 @@ impl<'a> Plan<'a> {
         maps: Vec<PlanMap<'a>>,
         programs: Vec<PlanProgram<'a>>,
     ) -> Plan<'a>
-        requires { IsPlan (plan_content license.items version features.items (option_map (λ bytes. bytes.items) type_bytes) maps.items programs.items) }
-        ensures { result ≡ plan_content license.items version features.items (option_map (λ bytes. bytes.items) type_bytes) maps.entry.items programs.entry.items }
+        requires { IsPlan
+            (plan_content license.items version features.items
+            (option_map (λ bytes. bytes.items) type_bytes) maps.items programs.items) }
+        ensures { result
+            ≡ plan_content license.items version features.items
+            (option_map (λ bytes. bytes.items) type_bytes) maps.entry.items programs.entry.items }
     {
         Plan {
             license: CowSlice::Owned(license),

@@ -24,7 +24,8 @@ fn numbers_of_kind(numbers: KindNumbers) -> [u64; 3]
 }
 
 fn send_program_line<W: Write>(out: &mut Watched<W>, name: &str, numbers: KindNumbers)
-    ensures { Sends W.contents out.old out.new (text_of_lines (program_line name.now numbers ∷ [])) }
+    ensures { Sends W.contents out.old out.new
+        (text_of_lines (program_line name.now numbers ∷ [])) }
 {
     out.send(b"program ");
     send_bytes(out, name.as_bytes());
@@ -42,7 +43,8 @@ fn send_slots_line<W: Write>(out: &mut Watched<W>, slots: &Slots<'_>)
 }
 
 fn send_tables_line<W: Write>(out: &mut Watched<W>, tables: Option<&[u32]>)
-    ensures { Sends W.contents out.old out.new (text_of_lines (tables_line (option_map (λ places. places.now) tables.entry) ∷ [])) }
+    ensures { Sends W.contents out.old out.new
+        (text_of_lines (tables_line (option_map (λ places. places.now) tables.entry) ∷ [])) }
 {
     out.send(b"tables");
     send_tables(out, tables);
@@ -116,7 +118,8 @@ fn send_program<W: Write>(out: &mut Watched<W>, program: &PlanProgram<'_>)
 
 /// Sends the lines of programs.
 pub(crate) fn send_programs<W: Write>(out: &mut Watched<W>, programs: &[PlanProgram<'_>])
-    ensures { Sends W.contents out.old out.new (text_of_lines (flat_map (program_lines Second) programs.now)) }
+    ensures { Sends W.contents out.old out.new
+        (text_of_lines (flat_map (program_lines Second) programs.now)) }
 {
     for program in programs {
         send_program(out, program);

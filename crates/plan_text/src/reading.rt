@@ -96,9 +96,18 @@ impl Model for ReadProgram {
 
     ghost Value = { ProgramContent };
 
-    ghost view = { λ p. record { name = string_bytes p.name; section = p.section; slots = p.slots.items; func_records = p.func_records.items; line_records = p.line_records.items; tables = option_map (λ places. places.items) p.tables } };
+    ghost view = { λ p.
+        record {
+          name = string_bytes p.name;
+          section = p.section;
+          slots = p.slots.items;
+          func_records = p.func_records.items;
+          line_records = p.line_records.items;
+          tables = option_map (λ places. places.items) p.tables;
+        } };
 
-    ghost invariant = { λ p. (length p.func_records.items < 2 ^ 32) × (length p.line_records.items < 2 ^ 32) };
+    ghost invariant = { λ p.
+        (length p.func_records.items < 2 ^ 32) × (length p.line_records.items < 2 ^ 32) };
 }
 
 impl ReadProgram {
@@ -171,7 +180,8 @@ impl Reader {
     }
 
     fn header(&mut self, text_version: TextVersion) -> bool
-        ensures { Takes (step_header self.old.phase (state_view self.old) text_version) result (state_view self.new) }
+        ensures { Takes (step_header self.old.phase (state_view self.old) text_version) result
+            (state_view self.new) }
     {
         match self.phase {
             Phase::AtHeader => {
@@ -184,7 +194,8 @@ impl Reader {
     }
 
     fn license(&mut self, bytes: Vec<u8>) -> bool
-        ensures { Takes (step_license self.old.phase (state_view self.old) bytes.items) result (state_view self.new) }
+        ensures { Takes (step_license self.old.phase (state_view self.old) bytes.items) result
+            (state_view self.new) }
     {
         match self.phase {
             Phase::AtLicense => {
@@ -197,7 +208,8 @@ impl Reader {
     }
 
     fn version(&mut self, version: Option<u32>) -> bool
-        ensures { Takes (step_version self.old.phase (state_view self.old) version) result (state_view self.new) }
+        ensures { Takes (step_version self.old.phase (state_view self.old) version) result
+            (state_view self.new) }
     {
         match self.phase {
             Phase::AtVersion => {
@@ -211,7 +223,8 @@ impl Reader {
 
     fn feature(&mut self, feature: BtfFeature, answer: bool) -> bool
         requires { AreDistinct (features self.old.features.items) }
-        ensures { Takes (step_feature self.old.phase (state_view self.old) feature answer) result (state_view self.new) }
+        ensures { Takes (step_feature self.old.phase (state_view self.old) feature answer) result
+            (state_view self.new) }
     {
         match self.phase {
             Phase::AtFeatures => {
@@ -226,7 +239,9 @@ impl Reader {
     }
 
     fn types(&mut self, type_bytes: Option<Vec<u8>>) -> bool
-        ensures { Takes (step_types self.old.phase (state_view self.old) (option_map (λ bytes. bytes.items) type_bytes)) result (state_view self.new) }
+        ensures { Takes
+            (step_types self.old.phase (state_view self.old)
+            (option_map (λ bytes. bytes.items) type_bytes)) result (state_view self.new) }
     {
         match self.phase {
             Phase::AtFeatures => {
@@ -250,7 +265,12 @@ impl Reader {
 
     /// Puts the last map among the others.
     fn keep_map(&mut self) -> Result<(), AllocError>
-        ensures { OnOk result (state_view self.new ≡ record (state_view self.old) { maps = with_last (state_view self.old).maps (state_view self.old).last_map; last_map = None }) }
+        ensures { OnOk result
+            (state_view self.new
+            ≡ record (state_view self.old) {
+              maps = with_last (state_view self.old).maps (state_view self.old).last_map;
+              last_map = None;
+            }) }
     {
         if let Some(map) = self.last_map.take() {
             self.maps.push(map)?;
@@ -259,7 +279,11 @@ impl Reader {
     }
 
     fn map(&mut self, map: MapLine) -> Result<bool, AllocError>
-        ensures { IfOk result (λ ok. Takes (step_map self.old.phase (state_view self.old) (map_of (string_bytes map.name) map.number map.is_btf map.words map.contents.items)) ok (state_view self.new)) }
+        ensures { IfOk result (λ ok.
+            Takes
+            (step_map self.old.phase (state_view self.old)
+            (map_of (string_bytes map.name) map.number map.is_btf map.words map.contents.items)) ok
+            (state_view self.new)) }
     {
         match self.phase {
             Phase::AtMaps => {
@@ -281,7 +305,8 @@ impl Reader {
     }
 
     fn inner(&mut self, words: MapWords) -> bool
-        ensures { Takes (step_inner self.old.phase (state_view self.old) words) result (state_view self.new) }
+        ensures { Takes (step_inner self.old.phase (state_view self.old) words) result
+            (state_view self.new) }
     {
         match self.phase {
             Phase::AtMaps => {
@@ -313,7 +338,13 @@ impl Reader {
 
     /// Puts the last program among the others.
     fn keep_program(&mut self) -> Result<(), AllocError>
-        ensures { OnOk result (state_view self.new ≡ record (state_view self.old) { programs = with_last (state_view self.old).programs (state_view self.old).last_program; last_program = None }) }
+        ensures { OnOk result
+            (state_view self.new
+            ≡ record (state_view self.old) {
+              programs = with_last (state_view self.old).programs
+                  (state_view self.old).last_program;
+              last_program = None;
+            }) }
     {
         if let Some(program) = self.last_program.take() {
             self.programs.push(program.into_program())?;
@@ -327,7 +358,9 @@ impl Reader {
         name: String,
         section: ProgramSection,
     ) -> Result<bool, AllocError>
-        ensures { IfOk result (λ ok. Takes (begin_program (state_view self.old) (bare_program (string_bytes name) section)) ok (state_view self.new)) }
+        ensures { IfOk result (λ ok.
+            Takes (begin_program (state_view self.old) (bare_program (string_bytes name) section))
+            ok (state_view self.new)) }
     {
         if !self.program_follows(name.as_str()) {
             return Ok(false);
@@ -344,7 +377,10 @@ impl Reader {
         name: String,
         section: ProgramSection,
     ) -> Result<bool, AllocError>
-        ensures { IfOk result (λ ok. Takes (step_program self.old.phase (state_view self.old) (bare_program (string_bytes name) section)) ok (state_view self.new)) }
+        ensures { IfOk result (λ ok.
+            Takes
+            (step_program self.old.phase (state_view self.old)
+            (bare_program (string_bytes name) section)) ok (state_view self.new)) }
     {
         match self.phase {
             Phase::AtMaps => self.begin_program(alloc, name, section),
@@ -355,7 +391,9 @@ impl Reader {
     }
 
     fn slots(&mut self, alloc: Global, bytes: &[u8]) -> Result<bool, AllocError>
-        ensures { IfOk result (λ ok. Takes (step_slots self.old.phase (state_view self.old) bytes.now) ok (state_view self.new)) }
+        ensures { IfOk result (λ ok.
+            Takes (step_slots self.old.phase (state_view self.old) bytes.now) ok
+            (state_view self.new)) }
     {
         match self.phase {
             Phase::AtSlots => {
@@ -371,7 +409,9 @@ impl Reader {
     }
 
     fn tables(&mut self, tables: Option<Vec<u32>>) -> bool
-        ensures { Takes (step_tables self.old.phase (state_view self.old) (option_map (λ places. places.items) tables)) result (state_view self.new) }
+        ensures { Takes
+            (step_tables self.old.phase (state_view self.old)
+            (option_map (λ places. places.items) tables)) result (state_view self.new) }
     {
         match self.phase {
             Phase::AtTables => {
@@ -387,7 +427,8 @@ impl Reader {
     }
 
     fn func(&mut self, info: bpf_func_info) -> Result<bool, AllocError>
-        ensures { IfOk result (λ ok. Takes (step_func self.old.phase (state_view self.old) info) ok (state_view self.new)) }
+        ensures { IfOk result (λ ok.
+            Takes (step_func self.old.phase (state_view self.old) info) ok (state_view self.new)) }
     {
         match self.phase {
             Phase::AtFuncs => {
@@ -403,7 +444,9 @@ impl Reader {
     }
 
     fn add_source(&mut self, info: bpf_line_info) -> Result<bool, AllocError>
-        ensures { IfOk result (λ ok. Takes (at_program (state_view self.old) Phase.AtLines (with_source info)) ok (state_view self.new)) }
+        ensures { IfOk result (λ ok.
+            Takes (at_program (state_view self.old) Phase.AtLines (with_source info)) ok
+            (state_view self.new)) }
     {
         let Some(program) = self.last_program.as_mut() else {
             return Ok(false);
@@ -414,7 +457,9 @@ impl Reader {
     }
 
     fn source(&mut self, info: bpf_line_info) -> Result<bool, AllocError>
-        ensures { IfOk result (λ ok. Takes (step_source self.old.phase (state_view self.old) info) ok (state_view self.new)) }
+        ensures { IfOk result (λ ok.
+            Takes (step_source self.old.phase (state_view self.old) info) ok
+            (state_view self.new)) }
     {
         match self.phase {
             Phase::AtFuncs => self.add_source(info),
@@ -433,7 +478,8 @@ impl Reader {
     }
 
     fn end(&mut self) -> Result<bool, AllocError>
-        ensures { IfOk result (λ ok. Takes (step_end self.old.phase (state_view self.old)) ok (state_view self.new)) }
+        ensures { IfOk result (λ ok.
+            Takes (step_end self.old.phase (state_view self.old)) ok (state_view self.new)) }
     {
         match self.phase {
             Phase::AtMaps | Phase::AtFuncs | Phase::AtLines => {
@@ -447,7 +493,8 @@ impl Reader {
     /// Takes the next line, if it may stand there.
     fn step(&mut self, alloc: Global, line: PlanLine) -> Result<bool, AllocError>
         requires { AreDistinct (features self.old.features.items) }
-        ensures { IfOk result (λ ok. Takes (step (state_view self.old) (line_view line)) ok (state_view self.new)) }
+        ensures { IfOk result (λ ok.
+            Takes (step (state_view self.old) (line_view line)) ok (state_view self.new)) }
     {
         match line {
             PlanLine::Header(text_version) => Ok(self.header(text_version)),
@@ -576,7 +623,8 @@ fn slots_of(alloc: Global, bytes: &[u8]) -> Result<Vec<bpf_insn>, AllocError>
 
 /// The bytes before the first line feed, and those after it.
 fn cut_line(bytes: &[u8]) -> Option<(&[u8], &[u8])>
-    ensures { MatchOption result (IsUnbroken bytes.now) (λ p. (bytes.now ≡ p.0.now ++ 10 ∷ p.1.now) × IsUnbroken p.0.now) }
+    ensures { MatchOption result (IsUnbroken bytes.now) (λ p.
+        (bytes.now ≡ p.0.now ++ 10 ∷ p.1.now) × IsUnbroken p.0.now) }
 {
     let mut len = 0;
     while len < bytes.len() {
@@ -608,8 +656,8 @@ impl Plan<'static> {
     ///
     /// # Errors
     ///
-    /// `Line` where the bytes are no plan's text, and `OutOfMemory`, also where a program has 2^32 records
-    /// of functions or of lines, or the lines can't be counted.
+    /// `Line` where the bytes are no plan's text, and `OutOfMemory`, also where a program has 2^32
+    /// records of functions or of lines, or the lines can't be counted.
     pub fn read(alloc: Global, bytes: &[u8]) -> Result<Plan<'static>, PlanReadError>
         ensures found { IfOk result (λ plan. IsTextOf plan bytes.now) }
         ensures only { (plan : PlanContent) → IsTextOf plan bytes.now → ReadsAs result plan }

@@ -63,7 +63,8 @@ fn send_feature_lines<W: Write>(out: &mut Watched<W>, answers: &[(BtfFeature, bo
 }
 
 fn send_types<W: Write>(out: &mut Watched<W>, type_bytes: Option<&[u8]>)
-    ensures { Sends W.contents out.old out.new (types_word (option_map (λ bytes. bytes.now) type_bytes.entry)) }
+    ensures { Sends W.contents out.old out.new
+        (types_word (option_map (λ bytes. bytes.now) type_bytes.entry)) }
 {
     match type_bytes {
         None => out.send(b"none"),
@@ -72,7 +73,8 @@ fn send_types<W: Write>(out: &mut Watched<W>, type_bytes: Option<&[u8]>)
 }
 
 fn send_types_line<W: Write>(out: &mut Watched<W>, plan: &Plan<'_>)
-    ensures { Sends W.contents out.old out.new (text_of_lines (types_line plan.now.type_bytes ∷ [])) }
+    ensures { Sends W.contents out.old out.new
+        (text_of_lines (types_line plan.now.type_bytes ∷ [])) }
 {
     out.send(b"types ");
     send_types(out, plan.type_bytes());
@@ -91,16 +93,20 @@ fn send_plan<W: Write>(out: &mut Watched<W>, plan: &Plan<'_>)
 }
 
 impl<'a> Plan<'a> {
-    /// Writes the text of the plan, in its second version, and takes no memory for it. Each plan has its
-    /// text, and `Plan::read` gives the plan back from it.
+    /// Writes the text of the plan, in its second version, and takes no memory for it. Each plan
+    /// has its text, and `Plan::read` gives the plan back from it.
     ///
     /// # Errors
     ///
     /// Where the writer fails, or answers 0 to some bytes; a beginning of the text went out then.
     pub fn write<W: Write>(&self, out: &mut Watched<W>) -> io::Result<()>
         ensures text { IsTextOf self.now (text_of self.now) }
-        ensures ok { OnOk result (Appends (W.contents (watched_inner out.old)) (W.contents (watched_inner out.new)) (text_of self.now)) }
-        ensures part { OnErr result (AppendsPart (W.contents (watched_inner out.old)) (W.contents (watched_inner out.new)) (text_of self.now)) }
+        ensures ok { OnOk result
+            (Appends (W.contents (watched_inner out.old)) (W.contents (watched_inner out.new))
+            (text_of self.now)) }
+        ensures part { OnErr result
+            (AppendsPart (W.contents (watched_inner out.old)) (W.contents (watched_inner out.new))
+            (text_of self.now)) }
         ensures failed { IsErr result ↔ (has_failed out.new ≡ true) }
         ensures at_once { has_failed out.old ≡ true → out.new ≡ out.old }
     {

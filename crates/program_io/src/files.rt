@@ -71,8 +71,8 @@ const MAX_TABLES: usize = 0x1_0000_0000;
 ///
 /// # Errors
 ///
-/// `Types` at the first that can't be parsed, `TooManyTypes` where there are more than 2^32 files, and
-/// `OutOfMemory`.
+/// `Types` at the first that can't be parsed, `TooManyTypes` where there are more than 2^32 files,
+/// and `OutOfMemory`.
 pub fn kernel_tables<'t>(
     alloc: Global,
     names: &[&str],

@@ -11,6 +11,8 @@ use Rattle.refusal_texts.specs.declared.places.Place.TheVariants.{Function, Symb
 
 abbrev pub IsPlace : List ℕ → ParseError → Place → Type 0
 IsPlace file error.InvalidProgramCode (Function index section name) =
-    (place_without_code file ≡ Some (index, string_bytes name)) × (string_bytes section ≡ name_at file index)
-IsPlace file (error.BtfError btf.InvalidSymbolName) (Symbol index) = unnamed_symbol file ≡ Some index
+    (place_without_code file ≡ Some (index, string_bytes name))
+    × (string_bytes section ≡ name_at file index)
+IsPlace file (error.BtfError btf.InvalidSymbolName) (Symbol index) =
+    unnamed_symbol file ≡ Some index
 IsPlace file _ _ = ⊥

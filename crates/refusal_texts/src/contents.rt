@@ -10,10 +10,10 @@ const CLASS_32: u8 = 1;
 
 const CLASS_AT: usize = 4;
 
-/// Of so many bytes at a file's beginning is asked whether they are text.
+/// How many bytes at a file's beginning are looked at to tell whether it is text.
 const LOOKED_AT: usize = 512;
 
-/// The control character behind the printable ones.
+/// The control character after the printable ones.
 const DELETE: u8 = 0x7f;
 
 fn is_text_byte(byte: u8) -> bool {

@@ -88,8 +88,8 @@ fn relocation_in<'a>(
     None
 }
 
-/// The instruction whose relocation an error is for. It stands in the function that the error names,
-/// or, of a symbol that isn't known, in one that this function leads to.
+/// The instruction whose relocation an error is for. It stands in the function that the error
+/// names, or, of a symbol that isn't known, in one that this function leads to.
 fn relocation_at<'a>(
     file: &ObjectFile<'a>,
     functions: &Functions<'a>,

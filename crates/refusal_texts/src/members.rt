@@ -32,7 +32,7 @@ fn is_struct(table: &Btf<'_>, type_id: u32) -> bool {
     t.kind() == BtfKind::Struct
 }
 
-/// Whether a type gives a number: as a pointer to an array of so many elements.
+/// Whether a type gives a number: it is a pointer to an array with this number of elements.
 fn is_number(table: &Btf<'_>, type_id: u32) -> bool {
     match target_of(table, type_id) {
         Some(target) => array_at(table, target).is_some(),

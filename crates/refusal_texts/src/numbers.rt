@@ -33,7 +33,8 @@ fn names_of<'o>(alloc: Global, object: &'o [u8], settings: &Settings) -> Option<
     without_number(alloc, &maps, settings).ok()
 }
 
-/// What is told where the map of a name has no number: which others have none, and how maps get them.
+/// What is told where the map of a name has no number: which others have none, and how maps get
+/// them.
 pub(crate) fn missing_numbers_text(
     alloc: Global,
     object: &[u8],

@@ -6,11 +6,11 @@ use std::alloc::{AllocError, Global};
 const FIRST_PIECES: &str =
     "kprobe, kretprobe, uprobe, uretprobe, tracepoint, tp, tp_btf, raw_tracepoint, raw_tp, fentry, fexit, freplace, iter, lsm, lsm_cgroup, perf_event, xdp, classifier, socket, sockops, sk_lookup, sk_msg, sk_reuseport, sk_skb, cgroup, cgroup_skb, flow_dissector, lirc_mode2";
 
-/// What stands behind some of them.
+/// What stands after some of them.
 const ENDINGS: &str =
     "with .multi or .s behind uprobe and uretprobe, .s behind fentry, fexit, iter and lsm, .frags behind xdp";
 
-/// What stands behind a first piece that doesn't decide alone.
+/// What stands after a first piece that doesn't decide alone.
 fn second_pieces(first: &str) -> Option<&'static str> {
     match first {
         "xdp" | "xdp.frags" => Some("nothing, /cpumap or /devmap"),

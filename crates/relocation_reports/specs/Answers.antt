@@ -13,9 +13,14 @@ use Rattle.relocation_reports.specs.declared.relocations.Place.{Place}
 use Rattle.relocation_reports.specs.declared.relocations.RelocationAt.{RelocationAt}
 
 -- an outcome gives a patch, which the instruction as the object has it gets or not
-abbrev pub answer_of : TypesGiven → Place → Result RelocationOutcome TypeRelocationError → RelocationAnswer
+abbrev pub answer_of : TypesGiven
+    → Place
+    → Result RelocationOutcome TypeRelocationError
+    → RelocationAnswer
 answer_of g place (Err e) = Fault e
-answer_of g place (Ok o) = Given (patch_of g.local g.targets o) (patched place.slot place.next (patch_of g.local g.targets o))
+answer_of g place (Ok o) =
+    Given (patch_of g.local g.targets o)
+    (patched place.slot place.next (patch_of g.local g.targets o))
 
 -- one without an instruction comes to nothing
 abbrev pub answer_at : TypesGiven → bpf_core_relo → Option Place → RelocationAnswer

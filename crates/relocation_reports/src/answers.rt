@@ -30,7 +30,8 @@ pub enum RelocationAnswer {
 
 /// What a relocation asks for, of which the kind was told.
 fn asked_for(kind: RelocationKind, asked: bpf_core_relo) -> TypeRelocation
-    ensures { result ≡ record { kind = kind; type_id = asked.type_id; access_str_off = asked.access_str_off } }
+    ensures { result
+        ≡ record { kind = kind; type_id = asked.type_id; access_str_off = asked.access_str_off } }
 {
     TypeRelocation {
         kind,
@@ -113,7 +114,8 @@ fn all_answers(
     relocations: &[RelocationAt],
 ) -> Result<Vec<RelocationAnswer>, AllocError>
     requires { matcher.old ≡ record { local = local.now; targets = targets.now } }
-    ensures { IfOk result (λ answers. answers.items ≡ map (answer_to local.now targets.now) relocations.now) }
+    ensures { IfOk result (λ answers.
+        answers.items ≡ map (answer_to local.now targets.now) relocations.now) }
 {
     let mut answers = Vec::new(alloc);
     for at in relocations {
@@ -124,15 +126,16 @@ fn all_answers(
 }
 
 /// What each of some relocations of an object comes to in a kernel's types, by itself: by the slots
-/// of the object, as if no other relocation were made. Each table is gone over once for all of them,
-/// the first once more where ids of a kernel's types are asked for.
+/// of the object, as if no other relocation were made. Each table is gone over once for all of
+/// them, the first once more where ids of a kernel's types are asked for.
 pub fn relocation_answers(
     alloc: Global,
     local: Option<&Btf<'_>>,
     targets: &[Btf<'_>],
     relocations: &[RelocationAt],
 ) -> Result<Vec<RelocationAnswer>, AllocError>
-    ensures { IfOk result (λ answers. answers.items ≡ answers_to (option_copied local.entry) targets.now relocations.now) }
+    ensures { IfOk result (λ answers.
+        answers.items ≡ answers_to (option_copied local.entry) targets.now relocations.now) }
 {
     let Some(local) = local else {
         return Ok(Vec::new(alloc));

@@ -69,7 +69,13 @@ impl<'r, 'o, 'f, 't> Model for Found<'r, 'o, 'f, 't> {
 
     ghost Value = { TypesGiven };
 
-    ghost view = { λ l. record { file = l.file.now; functions = l.functions.now; local = l.local.now; targets = [] } };
+    ghost view = { λ l.
+        record {
+          file = l.file.now;
+          functions = l.functions.now;
+          local = l.local.now;
+          targets = [];
+        } };
 
     ghost invariant = { λ l. AreIndexes (read_sections l.file.now) l.sections.now.entries };
 }
@@ -121,7 +127,9 @@ impl<'r, 'o, 'f, 't> Found<'r, 'o, 'f, 't> {
 
     /// The instruction at which a relocation of the section of an index stands.
     fn place_inside(&self, section: usize, asked: bpf_core_relo) -> Option<Place>
-        ensures { result ≡ option_and_then (place_in asked) (function_holding self.now.functions section asked.insn_off) }
+        ensures { result
+            ≡ option_and_then (place_in asked)
+            (function_holding self.now.functions section asked.insn_off) }
     {
         match function_holding(self.functions, section, u64::from(asked.insn_off)) {
             Some(function) => place_in(function, asked),
@@ -162,7 +170,8 @@ impl<'r, 'o, 'f, 't> Found<'r, 'o, 'f, 't> {
         group: &SecInfo<'_>,
         list: &mut Vec<RelocationAt>,
     ) -> Result<(), AllocError>
-        ensures { OnOk result (list.new.items ≡ list.old.items ++ relocations_in self.now group.now) }
+        ensures { OnOk result
+            (list.new.items ≡ list.old.items ++ relocations_in self.now group.now) }
     {
         let records = records_of(alloc, group)?;
         let name_offset = group.name_offset();
@@ -175,7 +184,8 @@ impl<'r, 'o, 'f, 't> Found<'r, 'o, 'f, 't> {
 
     /// The relocations of all groups.
     fn all(&self, alloc: Global, extension: &BtfExt<'_>) -> Result<Vec<RelocationAt>, AllocError>
-        ensures { IfOk result (λ list. list.items ≡ relocations_of self.now extension.now.relocations) }
+        ensures { IfOk result (λ list.
+            list.items ≡ relocations_of self.now extension.now.relocations) }
     {
         let mut list = Vec::new(alloc);
         for group in extension.relocations() {
@@ -185,8 +195,8 @@ impl<'r, 'o, 'f, 't> Found<'r, 'o, 'f, 't> {
     }
 }
 
-/// The type relocations of an object, group by group, by its file, its functions, its own types and what
-/// stands beside these.
+/// The type relocations of an object, group by group, by its file, its functions, its own types and
+/// what stands beside these.
 pub fn relocations_of(
     alloc: Global,
     file: &ObjectFile<'_>,
@@ -194,7 +204,10 @@ pub fn relocations_of(
     local: &Btf<'_>,
     extension: &BtfExt<'_>,
 ) -> Result<Vec<RelocationAt>, AllocError>
-    ensures { IfOk result (λ list. list.items ≡ relocations_of (types_given file.now functions.now local.now []) extension.now.relocations) }
+    ensures { IfOk result (λ list.
+        list.items
+        ≡ relocations_of (types_given file.now functions.now local.now [])
+        extension.now.relocations) }
 {
     let sections = section_indexes(alloc, file)?;
     let found = Found {

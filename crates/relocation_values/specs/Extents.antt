@@ -1,10 +1,12 @@
--- Where a field is read from: a bit field in an aligned unit (`bpf_core_calc_field_relo`, tools/lib/bpf/relo_core.c).
+-- Where a field is read from: a bit field in an aligned unit (`bpf_core_calc_field_relo`,
+-- tools/lib/bpf/relo_core.c).
 use Rattle.std.specs.Prelude.{ℕ, zero, suc, ◌+◌, ◌*◌, ◌/◌, ◌%◌, ◌==◌, Bool, Option, None, Some, if◌then◌else◌, nat_lt, nat_le}
 use Rattle.std.specs.Option.{option_map}
 use Rattle.relocation_values.specs.declared.extent.Extent.{Extent}
 use Rattle.relocation_values.specs.declared.extent.Field.{Field}
 
--- a field of so many bits from a bit on lies in the aligned unit of so many bytes in which it begins
+-- a field of so many bits from a bit on lies in the aligned unit of so many bytes in which it
+-- begins
 abbrev pub fits_unit : ℕ → ℕ → ℕ → Bool
 fits_unit at bits unit = nat_le (at % (8 * unit) + bits) (8 * unit)
 
@@ -25,9 +27,15 @@ bit_field_extent unit at bits =
     record { byte_offset = at / (8 * unit) * unit; byte_size = unit; start = at % (8 * unit); bits = bits }
 
 abbrev pub whole_extent : ℕ → ℕ → Extent
-whole_extent size at = record { byte_offset = at / 8; byte_size = size; start = at % 8; bits = 8 * size }
+whole_extent size at = record {
+  byte_offset = at / 8;
+  byte_size = size;
+  start = at % 8;
+  bits = 8 * size;
+}
 
 abbrev pub extent_of : Field → ℕ → Option Extent
 extent_of field at =
     if field.bit_size == 0 then Some (whole_extent field.size at)
-    else option_map (λ unit. bit_field_extent unit at field.bit_size) (unit_of field.size at field.bit_size)
+    else option_map (λ unit. bit_field_extent unit at field.bit_size)
+    (unit_of field.size at field.bit_size)

@@ -28,14 +28,16 @@ plain value = record { value = value; field = None }
 
 -- what is left of 64 bits
 abbrev pub shift_past : ℕ → Result RelocationValue AccessError
-shift_past bits = if nat_lt 64 bits then Err (errors.BtfError InvalidTypeInfo) else Ok (plain (64 - bits))
+shift_past bits =
+    if nat_lt 64 bits then Err (errors.BtfError InvalidTypeInfo) else Ok (plain (64 - bits))
 
 -- an element of a type has an offset and a size
 abbrev pub element_value : Table → RelocationKind → ℕ → ℕ → Result RelocationValue AccessError
 element_value table kinds.FieldByteOffset id at =
     with_found (type_size_in_32_bits table id) (λ size.
     Ok (record { value = at / 8; field = Some (record { type_id = id; size = size }) }))
-element_value table kinds.FieldByteSize id at = with_found (type_size_in_32_bits table id) (λ size. Ok (plain size))
+element_value table kinds.FieldByteSize id at =
+    with_found (type_size_in_32_bits table id) (λ size. Ok (plain size))
 element_value table _ id at = Err (errors.InvalidRelocationKindForType id)
 
 -- an integer's encoding has the bit of signed ones; numbers that no encoding has count as signed
@@ -54,14 +56,18 @@ field_at table place =
     with_found (resolved_type table m.btf_type) (λ id.
     with_found (type_size_in_32_bits table id) (λ size.
     Ok (record { type_id = id; size = size; bit_size = bit_size_of (bits_of t).flag m }))))
-    (slice_get (members_of t) place.index) (Err (errors.InvalidRelocationKindForType place.type_id)))
+    (slice_get (members_of t) place.index)
+    (Err (errors.InvalidRelocationKindForType place.type_id)))
 
--- offset and size of the bytes that hold it, whether it is signed, and the shifts that bring it to the upper end of 64
--- bits and from there to the lower
+-- offset and size of the bytes that hold it, whether it is signed, and the shifts that bring it to
+-- the upper end of 64 bits and from there to the lower
 abbrev pub of_extent : Table → RelocationKind → Field → Extent → Result RelocationValue AccessError
 of_extent table kinds.FieldByteOffset field extent = Ok (record {
   value = extent.byte_offset;
-  field = if field.bit_size == 0 then Some (record { type_id = field.type_id; size = field.size }) else None;
+  field =
+      if field.bit_size == 0
+      then Some (record { type_id = field.type_id; size = field.size })
+      else None;
 })
 of_extent table kinds.FieldByteSize field extent = Ok (plain extent.byte_size)
 of_extent table kinds.FieldSigned field extent =
@@ -70,11 +76,17 @@ of_extent table kinds.FieldLShift64 field extent = shift_past (extent.start + ex
 of_extent table kinds.FieldRShift64 field extent = shift_past extent.bits
 of_extent table _ field extent = Err (errors.InvalidRelocationKindForType field.type_id)
 
-abbrev pub with_extent : Option Extent → (Extent → Result RelocationValue AccessError) → Result RelocationValue AccessError
+abbrev pub with_extent : Option Extent
+    → (Extent → Result RelocationValue AccessError)
+    → Result RelocationValue AccessError
 with_extent None go = Err (errors.BtfError InvalidTypeInfo)
 with_extent (Some extent) go = go extent
 
-abbrev pub of_field : Table → RelocationKind → ℕ → Result Field AccessError → Result RelocationValue AccessError
+abbrev pub of_field : Table
+    → RelocationKind
+    → ℕ
+    → Result Field AccessError
+    → Result RelocationValue AccessError
 of_field table kind at (Err e) = Err e
 of_field table kind at (Ok field) = with_extent (extent_of field at) (of_extent table kind field)
 

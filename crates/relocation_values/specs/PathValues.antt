@@ -1,4 +1,5 @@
--- The value that a kind of type relocations asks of a path (`bpf_core_calc_relo_insn`, tools/lib/bpf/relo_core.c).
+-- The value that a kind of type relocations asks of a path (`bpf_core_calc_relo_insn`,
+-- tools/lib/bpf/relo_core.c).
 use Rattle.std.specs.Prelude.{ℕ, ◌-◌, length, slice_get, Option, Some, Result, Ok, Err}
 use Rattle.std.specs.Option.{option_map_or}
 use Rattle.access_paths.specs.Lookups.{with_found, with_type}
@@ -20,8 +21,13 @@ abbrev pub last_step : AccessPath → Option Step
 last_step path = slice_get path.steps (length path.steps - 1)
 
 -- a path to a field ends at an element or a member
-abbrev pub value_at : Table → RelocationKind → AccessPath → Option Step → Result RelocationValue AccessError
-value_at table kind path (Some (Element place)) = element_value table kind place.type_id path.bit_offset
+abbrev pub value_at : Table
+    → RelocationKind
+    → AccessPath
+    → Option Step
+    → Result RelocationValue AccessError
+value_at table kind path (Some (Element place)) =
+    element_value table kind place.type_id path.bit_offset
 value_at table kind path (Some (Member place)) = member_value table kind place path.bit_offset
 value_at table kind path _ = Err (InvalidRelocationKindForType path.type_id)
 

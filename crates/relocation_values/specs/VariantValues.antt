@@ -10,7 +10,10 @@ abbrev pub sign_extended : ℕ → ℕ
 sign_extended value = if nat_lt value (2 ^ 31) then value else value + (2 ^ 64 - 2 ^ 32)
 
 abbrev pub variant_value : BtfType → ℕ → Option ℕ
-variant_value (types.Enum t) index = option_map (λ v. if t.info.flag then sign_extended v.value else v.value) (slice_get t.variants index)
+variant_value (types.Enum t) index =
+    option_map (λ v. if t.info.flag then sign_extended v.value else v.value)
+    (slice_get t.variants index)
 variant_value (types.Enum64 t) index = option_map value_of (slice_get t.variants index)
-variant_value (types.Union t) index = option_and_then (λ e. option_map value_of (slice_get e.variants index)) t.fallback
+variant_value (types.Union t) index =
+    option_and_then (λ e. option_map value_of (slice_get e.variants index)) t.fallback
 variant_value _ index = None

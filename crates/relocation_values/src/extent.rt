@@ -41,7 +41,7 @@ fn fits_unit(at: u32, bits: u32, unit: u32) -> bool
 
 /// The bytes of the least aligned unit for a bit field of a type of a size: of the type, or doubled
 /// until the field fits. One of 8 bytes or more isn't doubled.
-#[tactic(auto, using(crate::proofs::Units::no_rounds, crate::proofs::Units::fitting_unit, crate::proofs::Units::large_unit, crate::proofs::Units::next_unit))]
+#[tactic(auto, using(crate::proofs::Units::no_rounds, crate::proofs::Units::fitting_unit, crate::proofs::Units::large_unit, crate::proofs::Units::next_unit,),)]
 fn unit_of(size: u32, at: u32, bits: u32) -> Option<u32>
     ensures value { result ≡ unit_of size at bits }
     ensures some { IfSome result (λ unit. 0 < unit) }

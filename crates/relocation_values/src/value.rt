@@ -68,8 +68,8 @@ fn enum_value(table: &Btf<'_>, path: &AccessPath) -> Result<RelocationValue, Acc
 /// it is below 8 bytes.
 ///
 /// `InvalidRelocationKindForType` where an element is asked for more than its offset and size,
-/// `BtfError::InvalidTypeInfo` where a bit field has no unit, a size doesn't fit 32 bits, or a shift
-/// would be negative, and what the look-ups of sizes and types answer.
+/// `BtfError::InvalidTypeInfo` where a bit field has no unit, a size doesn't fit 32 bits, or a
+/// shift would be negative, and what the look-ups of sizes and types answer.
 pub fn path_value(
     table: &Btf<'_>,
     kind: RelocationKind,

@@ -74,7 +74,7 @@ fn table_of(alloc: Global, rows: &Rows<'_>, columns: &[Column<'_>]) -> Result<Ta
     Ok(table)
 }
 
-/// The bytes of the longest text, or so many where all are shorter.
+/// How many bytes the longest text has; this number where all are shorter.
 fn width_of(texts: &[String], least: usize) -> usize {
     let mut width = least;
     for text in texts {
@@ -190,8 +190,8 @@ fn push_refusals(text: &mut String, columns: &[Column<'_>]) -> Result<(), AllocE
     Ok(())
 }
 
-/// The reports on several kernels as a table for a person, with a column for each kernel, and why the
-/// object gets no plan.
+/// The reports on several kernels as a table for a person, with a column for each kernel, and why
+/// the object gets no plan.
 pub fn summary_text(
     alloc: Global,
     rows: &Rows<'_>,

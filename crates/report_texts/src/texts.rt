@@ -13,7 +13,7 @@ pub(crate) enum Manner {
     Immediate,
     /// As the immediate of a load of 64 bits.
     Immediate64,
-    /// As the offset of a load or a store of so many bytes.
+    /// As the offset of a load or a store of this number of bytes.
     Offset { width: u8 },
 }
 

@@ -22,7 +22,8 @@ symbol_index r = unwrap_or r.symbol 0
 -- what a relocation at a slot does
 abbrev pub outcome_of : List ℕ → Does → bpf_insn → Option bpf_insn → Relocation → Outcome Fault
 outcome_of file does slot next r =
-    option_map_or (does slot next (symbol_index r)) (symbol_at file (symbol_index r)) (Refused (UnknownSymbol (symbol_index r)))
+    option_map_or (does slot next (symbol_index r)) (symbol_at file (symbol_index r))
+    (Refused (UnknownSymbol (symbol_index r)))
 
 -- the slot that begins at a distance in bytes from the function's beginning
 abbrev pub slot_at : List bpf_insn → ℕ → Option bpf_insn
@@ -31,4 +32,5 @@ slot_at slots distance = if distance % 8 == 0 then slice_get slots (distance / 8
 -- the rule: a relocation stands at a whole slot and is by a known symbol, which says the rest
 abbrev pub symbol_rule : List ℕ → Does → Rule
 symbol_rule file does slots distance r =
-    option_map_or (λ slot. outcome_of file does slot (slice_get slots (distance / 8 + 1)) r) (slot_at slots distance) (Refused InvalidOffset)
+    option_map_or (λ slot. outcome_of file does slot (slice_get slots (distance / 8 + 1)) r)
+    (slot_at slots distance) (Refused InvalidOffset)

@@ -47,21 +47,43 @@ pub record CarriesNumber (g : MapsGiven) (r : Relocation) (s : bpf_insn) : Type 
   pub number : s.imm ≡ map.number
   pub source : src_reg_of s ≡ mark_of map.map.contents
 
--- after all relocations a slot at which one of them stands and writes carries the number of its map, whatever the others write
+-- after all relocations a slot at which one of them stands and writes carries the number of its
+-- map, whatever the others write
 pub record SlotsCarryNumbers : Type 0 where
-  pub each : (g : MapsGiven) (f : FunctionContent) (r : ℕ × Relocation) (w : Write) → Writes g f r w → (s : bpf_insn) × (slice_get (slots_after g f) (place_of f r.0) ≡ Some s) × CarriesNumber g r.1 s
+  pub each : (g : MapsGiven) (f : FunctionContent) (r : ℕ × Relocation) (w : Write)
+      → Writes g f r w
+      → (s : bpf_insn)
+      × (slice_get (slots_after g f) (place_of f r.0) ≡ Some s)
+      × CarriesNumber g r.1 s
 
 -- what holds of a function's slots after all relocations
 pub record HasNumbers (g : MapsGiven) (old new : FunctionContent) : Type 0 where
-  pub numbers : (r : ℕ × Relocation) (w : Write) → Writes g old r w → (s : bpf_insn) × (slice_get new.instructions (place_of old r.0) ≡ Some s) × CarriesNumber g r.1 s
-  pub alone : (place : ℕ) (s : bpf_insn) → PutsAt g old place s → place < length old.instructions → slice_get new.instructions place ≡ Some s
-  pub others : (place : ℕ) → (WritesAt g old place → ⊥) → slice_get new.instructions place ≡ slice_get old.instructions place
+  pub numbers : (r : ℕ × Relocation) (w : Write)
+      → Writes g old r w
+      → (s : bpf_insn)
+      × (slice_get new.instructions (place_of old r.0) ≡ Some s)
+      × CarriesNumber g r.1 s
+  pub alone : (place : ℕ) (s : bpf_insn)
+      → PutsAt g old place s
+      → place < length old.instructions
+      → slice_get new.instructions place ≡ Some s
+  pub others : (place : ℕ)
+      → (WritesAt g old place → ⊥)
+      → slice_get new.instructions place ≡ slice_get old.instructions place
   pub as_many : length new.instructions ≡ length old.instructions
 
 -- of the function of each key
-abbrev pub HaveNumbers : MapsGiven → List ((ℕ × ℕ) × FunctionContent) → List ((ℕ × ℕ) × FunctionContent) → Type 0
-HaveNumbers g old new = (key : ℕ × ℕ) (f : FunctionContent) → function_at old key ≡ Some f → (h : FunctionContent) × (function_at new key ≡ Some h) × HasNumbers g f h
+abbrev pub HaveNumbers : MapsGiven
+    → List ((ℕ × ℕ) × FunctionContent)
+    → List ((ℕ × ℕ) × FunctionContent)
+    → Type 0
+HaveNumbers g old new =
+    (key : ℕ × ℕ) (f : FunctionContent)
+    → function_at old key ≡ Some f
+    → (h : FunctionContent) × (function_at new key ≡ Some h) × HasNumbers g f h
 
 -- it holds of relocated functions
 pub record NumbersAreWritten : Type 0 where
-  pub each : (g : MapsGiven) (old new : List ((ℕ × ℕ) × FunctionContent)) → AreRelocated (map_rule g) g.file old new → HaveNumbers g old new
+  pub each : (g : MapsGiven) (old new : List ((ℕ × ℕ) × FunctionContent))
+      → AreRelocated (map_rule g) g.file old new
+      → HaveNumbers g old new

@@ -1,5 +1,5 @@
--- The rule for relocations by maps and variables: a slot gets the map's number, and for a variable the next slot its place in
--- the map's value.
+-- The rule for relocations by maps and variables: a slot gets the map's number, and for a variable
+-- the next slot its place in the map's value.
 use Rattle.std.specs.Prelude.{ℕ, ◌^◌, ◌==◌, ◌||◌, nat_lt, Bool, false, if◌then◌else◌, List, [], ◌∷◌, find, reverse, Option, Some, None, ℤ, pos, negsuc, ◌+ℤ◌}
 use Rattle.std.specs.BTreeMap.{is_at}
 use Rattle.std.specs.List.{list_any}
@@ -24,7 +24,8 @@ pub record NumberedMap : Type 0 where
   pub number : ℤ
   pub map : MapView
 
--- what the rule rests on: the object's file, the indexes of its sections with functions, and the maps as they are given
+-- what the rule rests on: the object's file, the indexes of its sections with functions, and the
+-- maps as they are given
 pub record MapsGiven : Type 0 where
   pub file : List ℕ
   pub text_sections : List ℕ
@@ -45,7 +46,8 @@ last_map test maps = find test (reverse maps)
 
 -- the map of a symbol in a section: the last one of the symbol, or else the last one of the section
 abbrev pub map_for : List NumberedMap → ℕ → ℕ → Option NumberedMap
-map_for maps symbol section = option_or (last_map (is_of_symbol symbol) maps) (last_map (is_of_section section) maps)
+map_for maps symbol section =
+    option_or (last_map (is_of_symbol symbol) maps) (last_map (is_of_section section) maps)
 
 -- a number of 32 bits
 abbrev pub fits_32_bits : ℤ → Bool
@@ -56,8 +58,8 @@ fits_32_bits (negsuc n) = nat_lt n (2 ^ 31)
 abbrev pub map_write : NumberedMap → bpf_insn → Outcome Fault
 map_write m slot = Written (record { first = with_number slot 1 m.number; next = None })
 
--- Source register 2 (BPF_PSEUDO_MAP_VALUE) marks the number of a map with a variable, whose place in the value is the next
--- slot's immediate.
+-- Source register 2 (BPF_PSEUDO_MAP_VALUE) marks the number of a map with a variable, whose place
+-- in the value is the next slot's immediate.
 abbrev pub variable_write : NumberedMap → bpf_insn → bpf_insn → ℤ → Outcome Fault
 variable_write m slot next place =
     if fits_32_bits place then Written (record { first = with_number slot 2 m.number; next = Some (record next { imm = place }) })
@@ -66,7 +68,8 @@ variable_write m slot next place =
 -- a variable stands where the slot's immediate leads from its symbol's address
 abbrev pub variable_outcome : NumberedMap → bpf_insn → Option bpf_insn → ℕ → Outcome Fault
 variable_outcome m slot next address =
-    option_map_or (λ n. variable_write m slot n (slot.imm +ℤ pos address)) next (Refused InvalidOffset)
+    option_map_or (λ n. variable_write m slot n (slot.imm +ℤ pos address)) next
+    (Refused InvalidOffset)
 
 -- a map with bytes holds variables
 abbrev pub outcome_for : NumberedMap → List ℕ → bpf_insn → Option bpf_insn → ℕ → Outcome Fault
@@ -78,14 +81,30 @@ abbrev pub has_functions : List ℕ → ℕ → Bool
 has_functions text_sections section = list_any (is_at (nat_cmp section)) text_sections
 
 -- a symbol of a section without functions is a map or a variable
-abbrev pub outcome_in : List ℕ → List NumberedMap → bpf_insn → Option bpf_insn → ℕ → Symbol → ℕ → Outcome Fault
+abbrev pub outcome_in : List ℕ
+    → List NumberedMap
+    → bpf_insn
+    → Option bpf_insn
+    → ℕ
+    → Symbol
+    → ℕ
+    → Outcome Fault
 outcome_in text_sections maps slot next index s section =
     if is_pseudo_call slot || has_functions text_sections section then Skipped
-    else option_map_or (λ m. outcome_for m m.map.contents slot next s.address) (map_for maps index section) (Refused (NoMap section index))
+    else option_map_or (λ m. outcome_for m m.map.contents slot next s.address)
+    (map_for maps index section) (Refused (NoMap section index))
 
-abbrev pub outcome_by : List ℕ → List NumberedMap → bpf_insn → Option bpf_insn → ℕ → Symbol → Outcome Fault
-outcome_by text_sections maps slot next index s = option_map_or (outcome_in text_sections maps slot next index s) s.section_index Skipped
+abbrev pub outcome_by : List ℕ
+    → List NumberedMap
+    → bpf_insn
+    → Option bpf_insn
+    → ℕ
+    → Symbol
+    → Outcome Fault
+outcome_by text_sections maps slot next index s =
+    option_map_or (outcome_in text_sections maps slot next index s) s.section_index Skipped
 
 -- the rule: a relocation stands at a whole slot and is by a known symbol
 abbrev pub map_rule : MapsGiven → Rule
-map_rule g slots distance r = symbol_rule g.file (outcome_by g.text_sections g.maps) slots distance r
+map_rule g slots distance r =
+    symbol_rule g.file (outcome_by g.text_sections g.maps) slots distance r

@@ -33,7 +33,8 @@ pub record AreLastOf (all given : List NumberedMap) (by_symbol by_section : Plac
 
 -- what is written has a place
 abbrev pub FitsIn : {E : Type 0} → List bpf_insn → ℕ → Outcome E → Type 0
-FitsIn slots place (Written w) = (place < length slots) × IfSome w.next (λ s. place + 1 < length slots)
+FitsIn slots place (Written w) =
+    (place < length slots) × IfSome w.next (λ s. place + 1 < length slots)
 FitsIn slots place _ = ⊤
 
 -- where something is written into the next slot, there is one
@@ -46,9 +47,15 @@ is_refused (Refused cause) = true
 is_refused _ = false
 
 -- whether no relocation has a fault, by the slots after those before it
-abbrev pub are_sound : {A E : Type 0} → RuleOf A E → FunctionContent → List bpf_insn → List (ℕ × A) → Bool
+abbrev pub are_sound : {A E : Type 0}
+    → RuleOf A E
+    → FunctionContent
+    → List bpf_insn
+    → List (ℕ × A)
+    → Bool
 are_sound rule f slots [] = true
-are_sound rule f slots (r ∷ rs) = not (is_refused (outcome_at rule f slots r)) && are_sound rule f (after_one rule f slots r) rs
+are_sound rule f slots (r ∷ rs) =
+    not (is_refused (outcome_at rule f slots r)) && are_sound rule f (after_one rule f slots r) rs
 
 abbrev pub is_sound : {A E : Type 0} → RuleOf A E → List (ℕ × A) → FunctionContent → Bool
 is_sound rule rs f = are_sound rule f f.instructions rs
@@ -59,47 +66,92 @@ IsRefusalOf offset outcome (refusal.Fault o cause) = (o ≡ offset) × (outcome 
 IsRefusalOf offset outcome refusal.OutOfMemory = ⊤
 
 -- why a function isn't relocated
-abbrev pub IsRefusal : {A E : Type 0} → RuleOf A E → List (ℕ × A) → FunctionContent → Refusal E → Type 0
+abbrev pub IsRefusal : {A E : Type 0}
+    → RuleOf A E
+    → List (ℕ × A)
+    → FunctionContent
+    → Refusal E
+    → Type 0
 IsRefusal rule rs f (refusal.Fault offset cause) = HasFaultAmong rule f rs offset cause
 IsRefusal rule rs f refusal.OutOfMemory = ⊤
 
 -- the functions at which faults stand
-abbrev pub IsFaultAt : {A E : Type 0} → RuleOf A E → (FunctionContent → List (ℕ × A)) → FunctionContent → FaultAt E → Type 0
-IsFaultAt rule inside f x = (x.function.now ≡ f.name) × (x.section_index ≡ f.section_index) × HasFaultAmong rule f (inside f) x.offset x.fault
+abbrev pub IsFaultAt : {A E : Type 0}
+    → RuleOf A E
+    → (FunctionContent → List (ℕ × A))
+    → FunctionContent
+    → FaultAt E
+    → Type 0
+IsFaultAt rule inside f x =
+    (x.function.now ≡ f.name)
+    × (x.section_index ≡ f.section_index)
+    × HasFaultAmong rule f (inside f) x.offset x.fault
 
-abbrev pub IsFaultIn : {A E : Type 0} → RuleOf A E → (FunctionContent → List (ℕ × A)) → List ((ℕ × ℕ) × FunctionContent) → FaultAt E → Type 0
+abbrev pub IsFaultIn : {A E : Type 0}
+    → RuleOf A E
+    → (FunctionContent → List (ℕ × A))
+    → List ((ℕ × ℕ) × FunctionContent)
+    → FaultAt E
+    → Type 0
 IsFaultIn rule inside [] x = ⊥
 IsFaultIn rule inside (g ∷ gs) x = IsFaultAt rule inside g.1 x ⊎ IsFaultIn rule inside gs x
 
 -- why functions aren't relocated
-abbrev pub IsStop : {A E : Type 0} → RuleOf A E → (FunctionContent → List (ℕ × A)) → List ((ℕ × ℕ) × FunctionContent) → Stop E → Type 0
+abbrev pub IsStop : {A E : Type 0}
+    → RuleOf A E
+    → (FunctionContent → List (ℕ × A))
+    → List ((ℕ × ℕ) × FunctionContent)
+    → Stop E
+    → Type 0
 IsStop rule inside functions (stop.Fault x) = IsFaultIn rule inside functions x
 IsStop rule inside functions stop.OutOfMemory = ⊤
 
 -- a function after the relocations inside it
-abbrev pub changed : {A E : Type 0} → RuleOf A E → (FunctionContent → List (ℕ × A)) → FunctionContent → FunctionContent
+abbrev pub changed : {A E : Type 0}
+    → RuleOf A E
+    → (FunctionContent → List (ℕ × A))
+    → FunctionContent
+    → FunctionContent
 changed rule inside f = relocated_by rule (inside f) f
 
 -- no relocation inside some functions has a fault
-abbrev pub AllSound : {A E : Type 0} → RuleOf A E → (FunctionContent → List (ℕ × A)) → List ((ℕ × ℕ) × FunctionContent) → Type 0
+abbrev pub AllSound : {A E : Type 0}
+    → RuleOf A E
+    → (FunctionContent → List (ℕ × A))
+    → List ((ℕ × ℕ) × FunctionContent)
+    → Type 0
 AllSound rule inside [] = ⊤
 AllSound rule inside (g ∷ gs) = (is_sound rule (inside g.1) g.1 ≡ true) × AllSound rule inside gs
 
 -- the functions so far are relocated and have no fault, or this is a fault of them
-abbrev pub AreWalked : {A E : Type 0} → RuleOf A E → (FunctionContent → List (ℕ × A)) → List ((ℕ × ℕ) × FunctionContent) → List FunctionContent → Option (FaultAt E) → Type 0
-AreWalked rule inside functions list None = (list ≡ map (changed rule inside) (values_of functions)) × AllSound rule inside functions
+abbrev pub AreWalked : {A E : Type 0}
+    → RuleOf A E
+    → (FunctionContent → List (ℕ × A))
+    → List ((ℕ × ℕ) × FunctionContent)
+    → List FunctionContent
+    → Option (FaultAt E)
+    → Type 0
+AreWalked rule inside functions list None =
+    (list ≡ map (changed rule inside) (values_of functions)) × AllSound rule inside functions
 AreWalked rule inside functions list (Some x) = IsFaultIn rule inside functions x
 
--- whether a fault of a relocation that the file holds stands before another, by section and then by offset
+-- whether a fault of a relocation that the file holds stands before another, by section and then by
+-- offset
 abbrev pub is_before : {E : Type 0} → FaultAt E → FaultAt E → Bool
-is_before a b = is_lt (ordering_then (nat_cmp a.section_index b.section_index) (nat_cmp a.offset b.offset))
+is_before a b =
+    is_lt (ordering_then (nat_cmp a.section_index b.section_index) (nat_cmp a.offset b.offset))
 
 -- the first of two faults in some order; where neither stands before the other the earlier one
-abbrev pub first_of : {E : Type 0} → (FaultAt E → FaultAt E → Bool) → Option (FaultAt E) → FaultAt E → FaultAt E
+abbrev pub first_of : {E : Type 0}
+    → (FaultAt E → FaultAt E → Bool)
+    → Option (FaultAt E)
+    → FaultAt E
+    → FaultAt E
 first_of before None met = met
 first_of before (Some earlier) met = if before met earlier then met else earlier
 
 -- the error, with a function's name, for what stopped the relocations that a file holds
 abbrev pub IsErrorFor : List ℕ → Stop Fault → Option (List ℕ) → RelocationError → Type 0
-IsErrorFor file (stop.Fault x) name e = (name ≡ Some x.function.now) × IsErrorOf file x.section_index x.offset x.fault e
+IsErrorFor file (stop.Fault x) name e =
+    (name ≡ Some x.function.now) × IsErrorOf file x.section_index x.offset x.fault e
 IsErrorFor file stop.OutOfMemory name e = ⊥

@@ -34,12 +34,20 @@ pub record IsWritten {A E : Type 0} (rule : RuleOf A E) (f : FunctionContent) (r
 
 -- a slot that none writes is as it was
 pub record UnwrittenStay (A E : Type 0) : Type 0 where
-  pub each : (rule : RuleOf A E) (f : FunctionContent) (rs : List (ℕ × A)) (place : ℕ) → (IsWritten rule f rs place → ⊥) → slice_get (after_all rule f rs) place ≡ slice_get f.instructions place
+  pub each : (rule : RuleOf A E) (f : FunctionContent) (rs : List (ℕ × A)) (place : ℕ)
+      → (IsWritten rule f rs place → ⊥)
+      → slice_get (after_all rule f rs) place ≡ slice_get f.instructions place
 
--- a slot that exactly one writes carries what that one writes, computed from the slots after those before it; relocations are
--- told apart by those before them
+-- a slot that exactly one writes carries what that one writes, computed from the slots after those
+-- before it; relocations are told apart by those before them
 pub record OneWrites (A E : Type 0) : Type 0 where
-  pub each : (rule : RuleOf A E) (f : FunctionContent) (rs : List (ℕ × A)) (r : ℕ × A) (w : Write) (place : ℕ) (s : bpf_insn) → (m : Makes rule f rs r w) → Puts (place_of f r.0) w place s → place < length f.instructions → ((o : IsWritten rule f rs place) → o.made.before ≡ m.before) → slice_get (after_all rule f rs) place ≡ Some s
+  pub each : (rule : RuleOf A E) (f : FunctionContent) (rs : List (ℕ × A)) (r : ℕ × A) (w : Write)
+      (place : ℕ) (s : bpf_insn)
+      → (m : Makes rule f rs r w)
+      → Puts (place_of f r.0) w place s
+      → place < length f.instructions
+      → ((o : IsWritten rule f rs place) → o.made.before ≡ m.before)
+      → slice_get (after_all rule f rs) place ≡ Some s
 
 -- one relocation alone writes the slot of a place, and puts this into it
 pub record WritesAlone {A E : Type 0} (rule : RuleOf A E) (f : FunctionContent) (rs : List (ℕ × A)) (place : ℕ) (s : bpf_insn) : Type 0 where
@@ -51,19 +59,24 @@ pub record WritesAlone {A E : Type 0} (rule : RuleOf A E) (f : FunctionContent) 
 
 -- a function keeps its number of slots
 pub record LengthsRemain (A E : Type 0) : Type 0 where
-  pub each : (rule : RuleOf A E) (f : FunctionContent) (rs : List (ℕ × A)) → length (after_all rule f rs) ≡ length f.instructions
+  pub each : (rule : RuleOf A E) (f : FunctionContent) (rs : List (ℕ × A))
+      → length (after_all rule f rs) ≡ length f.instructions
 
 -- ---- relocations that the file holds: they stand at whole slots, and their offsets rise
 
--- so one that writes stands at a slot and is by a symbol, which say what it writes, and after all of them the slot carries
--- that, whatever the others write
+-- so one that writes stands at a slot and is by a symbol, which say what it writes, and after all
+-- of them the slot carries that, whatever the others write
 pub record IsKept (file : List ℕ) (does : Does) (f : FunctionContent) (r : ℕ × Relocation) (w : Write) : Type 0 where
   pub slot : bpf_insn
   pub next : Option bpf_insn
   pub symbol : Symbol
   pub known : symbol_at file (symbol_index r.1) ≡ Some symbol
   pub made : does slot next (symbol_index r.1) symbol ≡ Written w
-  pub kept : slice_get (after_all (symbol_rule file does) f (relocations_inside file f)) (place_of f r.0) ≡ Some w.first
+  pub kept : slice_get (after_all (symbol_rule file does) f (relocations_inside file f))
+      (place_of f r.0)
+      ≡ Some w.first
 
 pub record WritesAreKept : Type 0 where
-  pub each : (file : List ℕ) (does : Does) (f : FunctionContent) (r : ℕ × Relocation) (w : Write) → Makes (symbol_rule file does) f (relocations_inside file f) r w → IsKept file does f r w
+  pub each : (file : List ℕ) (does : Does) (f : FunctionContent) (r : ℕ × Relocation) (w : Write)
+      → Makes (symbol_rule file does) f (relocations_inside file f) r w
+      → IsKept file does f r w

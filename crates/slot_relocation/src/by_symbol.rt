@@ -18,7 +18,8 @@ pub trait SymbolRule {
     /// The rule's definition.
     ghost does: { Self → Does };
 
-    /// What a relocation at a slot, after which the next one stands, does by the symbol of an index.
+    /// What a relocation at a slot, after which the next one stands, does by the symbol of an
+    /// index.
     fn outcome_by(
         &self,
         slot: bpf_insn,
@@ -85,9 +86,13 @@ fn slots_to_last<'f, R: Rule<RelocView, Fault>>(
     file: &ObjectFile<'_>,
     function: &Function<'f>,
 ) -> Result<Slots<'f>, Refusal<Fault>>
-    ensures value { IfOk result (λ s. s ≡ after_all (R.rule rule.now) function.now (relocations_inside file.now function.now)) }
-    ensures sound { OnOk result (is_sound (R.rule rule.now) (relocations_inside file.now function.now) function.now ≡ true) }
-    ensures refused { IfErr result (IsRefusal (R.rule rule.now) (relocations_inside file.now function.now) function.now) }
+    ensures value { IfOk result (λ s.
+        s ≡ after_all (R.rule rule.now) function.now (relocations_inside file.now function.now)) }
+    ensures sound { OnOk result
+        (is_sound (R.rule rule.now) (relocations_inside file.now function.now) function.now
+        ≡ true) }
+    ensures refused { IfErr result
+        (IsRefusal (R.rule rule.now) (relocations_inside file.now function.now) function.now) }
 {
     let mut slots = function.instructions.try_clone()?;
     for (offset, relocation) in file.relocations_by_offset(function.section_index) {
@@ -104,9 +109,13 @@ fn slots_after<'f, R: Rule<RelocView, Fault>>(
     file: &ObjectFile<'_>,
     function: &Function<'f>,
 ) -> Result<Slots<'f>, Refusal<Fault>>
-    ensures value { IfOk result (λ s. s ≡ after_all (R.rule rule.now) function.now (relocations_inside file.now function.now)) }
-    ensures sound { OnOk result (is_sound (R.rule rule.now) (relocations_inside file.now function.now) function.now ≡ true) }
-    ensures refused { IfErr result (IsRefusal (R.rule rule.now) (relocations_inside file.now function.now) function.now) }
+    ensures value { IfOk result (λ s.
+        s ≡ after_all (R.rule rule.now) function.now (relocations_inside file.now function.now)) }
+    ensures sound { OnOk result
+        (is_sound (R.rule rule.now) (relocations_inside file.now function.now) function.now
+        ≡ true) }
+    ensures refused { IfErr result
+        (IsRefusal (R.rule rule.now) (relocations_inside file.now function.now) function.now) }
 {
     // Offsets have 64 bits, so that none lies behind an end past these.
     let Ok(end) = u64::try_from(function.end()) else {

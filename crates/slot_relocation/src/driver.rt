@@ -50,7 +50,8 @@ impl<'f, E, T: Drop> From<AllocFailed<T>> for Stop<'f, E> {
     }
 }
 
-/// The first of two faults in a pass's order; where neither stands before the other the earlier one.
+/// The first of two faults in a pass's order; where neither stands before the other the earlier
+/// one.
 fn first_of<'f, A, E: Copy, P: Pass<A, E>>(
     pass: &P,
     earlier: Option<FaultAt<'f, E>>,
@@ -73,9 +74,12 @@ fn relocated<'f, A, E: Copy, P: Pass<A, E>>(
     pass: &P,
     function: &Function<'f>,
 ) -> Result<Function<'f>, Refusal<E>>
-    ensures value { IfOk result (λ f. f ≡ changed (P.rule pass.now) (P.inside pass.now) function.now) }
-    ensures sound { OnOk result (is_sound (P.rule pass.now) (P.inside pass.now function.now) function.now ≡ true) }
-    ensures refused { IfErr result (IsRefusal (P.rule pass.now) (P.inside pass.now function.now) function.now) }
+    ensures value { IfOk result (λ f.
+        f ≡ changed (P.rule pass.now) (P.inside pass.now) function.now) }
+    ensures sound { OnOk result
+        (is_sound (P.rule pass.now) (P.inside pass.now function.now) function.now ≡ true) }
+    ensures refused { IfErr result
+        (IsRefusal (P.rule pass.now) (P.inside pass.now function.now) function.now) }
 {
     let slots = pass.slots_after(function)?;
     let relocated = function.with_instructions(slots)?;
@@ -89,7 +93,9 @@ pub fn relocated_functions<'g, 'f, A, E: Copy, P: Pass<A, E>>(
     pass: &P,
     functions: &'g Functions<'f>,
 ) -> Result<Vec<Function<'f>>, Stop<'f, E>>
-    ensures value { IfOk result (λ list. list.items ≡ map (changed (P.rule pass.now) (P.inside pass.now)) (values_of functions.now)) }
+    ensures value { IfOk result (λ list.
+        list.items
+        ≡ map (changed (P.rule pass.now) (P.inside pass.now)) (values_of functions.now)) }
     ensures keyed { AreKeyed functions.now }
     ensures sound { OnOk result (AreFaultless (P.rule pass.now) (P.inside pass.now) functions.now) }
     ensures fault { IfErr result (IsStop (P.rule pass.now) (P.inside pass.now) functions.now) }
@@ -125,7 +131,8 @@ pub fn relocate_functions<'f, A, E: Copy, P: Pass<A, E>>(
     pass: &P,
     functions: &mut Functions<'f>,
 ) -> Result<(), Stop<'f, E>>
-    ensures relocated { OnOk result (AreChanged (changed (P.rule pass.now) (P.inside pass.now)) functions.old functions.new) }
+    ensures relocated { OnOk result
+        (AreChanged (changed (P.rule pass.now) (P.inside pass.now)) functions.old functions.new) }
     ensures sound { OnOk result (AreFaultless (P.rule pass.now) (P.inside pass.now) functions.old) }
     ensures fault { IfErr result (IsStop (P.rule pass.now) (P.inside pass.now) functions.old) }
     ensures unchanged { OnErr result (functions.new ≡ functions.old) }

@@ -50,7 +50,8 @@ fn text_of(alloc: Global, file: &ObjectFile<'_>, symbol_index: usize) -> Result<
 
 /// The error for a fault.
 fn error_of(alloc: Global, file: &ObjectFile<'_>, at: &FaultAt<'_, Fault>) -> RelocationError
-    ensures { result ≢ OutOfMemory → IsErrorOf file.now at.now.section_index at.now.offset at.now.fault result }
+    ensures { result ≢ OutOfMemory
+        → IsErrorOf file.now at.now.section_index at.now.offset at.now.fault result }
 {
     match at.fault {
         Fault::InvalidOffset => RelocationError::InvalidRelocationOffset {
@@ -82,7 +83,8 @@ fn error_of(alloc: Global, file: &ObjectFile<'_>, at: &FaultAt<'_, Fault>) -> Re
 
 /// The error for what stopped a pass, with the function's name.
 fn error_for(alloc: Global, file: &ObjectFile<'_>, stop: Stop<'_, Fault>) -> EbpfRelocationError
-    ensures { result.error ≢ OutOfMemory → IsErrorFor file.now stop.entry (option_map string_bytes result.function) result.error }
+    ensures { result.error ≢ OutOfMemory
+        → IsErrorFor file.now stop.entry (option_map string_bytes result.function) result.error }
 {
     match stop {
         Stop::Fault(at) => {
@@ -93,17 +95,23 @@ fn error_for(alloc: Global, file: &ObjectFile<'_>, stop: Stop<'_, Fault>) -> Ebp
     }
 }
 
-/// Makes the relocations that the file holds in all functions, by a rule on their symbols. Of several
-/// faults the first in order of section and offset is answered. The functions then stay as they are.
+/// Makes the relocations that the file holds in all functions, by a rule on their symbols. Of
+/// several faults the first in order of section and offset is answered. The functions then stay as
+/// they are.
 pub fn relocate_by_symbol<'f, S: SymbolRule + Drop>(
     alloc: Global,
     file: &ObjectFile<'_>,
     rule: S,
     functions: &mut Functions<'f>,
 ) -> Result<(), EbpfRelocationError>
-    ensures relocated { OnOk result (AreRelocated (symbol_rule file.now (S.does rule)) file.now functions.old functions.new) }
-    ensures sound { OnOk result (CanBeRelocated (symbol_rule file.now (S.does rule)) file.now functions.old) }
-    ensures fault { IfErr result (λ e. e.error ≢ OutOfMemory → HasErrorIn (symbol_rule file.now (S.does rule)) file.now functions.old (option_map string_bytes e.function) e.error) }
+    ensures relocated { OnOk result
+        (AreRelocated (symbol_rule file.now (S.does rule)) file.now functions.old functions.new) }
+    ensures sound { OnOk result
+        (CanBeRelocated (symbol_rule file.now (S.does rule)) file.now functions.old) }
+    ensures fault { IfErr result (λ e.
+        e.error ≢ OutOfMemory
+        → HasErrorIn (symbol_rule file.now (S.does rule)) file.now functions.old
+        (option_map string_bytes e.function) e.error) }
     ensures unchanged { OnErr result (functions.new ≡ functions.old) }
 {
     let pass = BySymbol { file, rule };

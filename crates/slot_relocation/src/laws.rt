@@ -23,9 +23,9 @@ pub fn lengths_remain<A, E>()
     ensures { LengthsRemain A E }
 {}
 
-/// Of the relocations that the file holds, by any rule on their symbols, one that writes stands at a
-/// slot and is by a symbol, and after all of them the slot carries what it writes, whatever the others
-/// write.
+/// Of the relocations that the file holds, by any rule on their symbols, one that writes stands at
+/// a slot and is by a symbol, and after all of them the slot carries what it writes, whatever the
+/// others write.
 pub fn writes_are_kept()
     ensures { WritesAreKept }
 {}

@@ -77,8 +77,8 @@ impl<'m> MapIndex<'m> {
         self.maps.get(*place)
     }
 
-    /// The map that a symbol of a section names: the last one of the symbol, or else the last one of
-    /// the section.
+    /// The map that a symbol of a section names: the last one of the symbol, or else the last one
+    /// of the section.
     pub(crate) fn get(
         &self,
         symbol_index: usize,

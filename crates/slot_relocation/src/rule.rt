@@ -60,9 +60,12 @@ pub trait Pass<A, E>: Rule<A, E> {
     /// The slots of a function after the relocations inside it. Slots in which nothing is written
     /// stay in the file.
     fn slots_after<'f>(&self, function: &Function<'f>) -> Result<Slots<'f>, Refusal<E>>
-        ensures value { IfOk result (λ s. s ≡ after_all (Self.rule self.now) function.now (inside self.now function.now)) }
-        ensures sound { OnOk result (is_sound (Self.rule self.now) (inside self.now function.now) function.now ≡ true) }
-        ensures refused { IfErr result (IsRefusal (Self.rule self.now) (inside self.now function.now) function.now) };
+        ensures value { IfOk result (λ s.
+            s ≡ after_all (Self.rule self.now) function.now (inside self.now function.now)) }
+        ensures sound { OnOk result
+            (is_sound (Self.rule self.now) (inside self.now function.now) function.now ≡ true) }
+        ensures refused { IfErr result
+            (IsRefusal (Self.rule self.now) (inside self.now function.now) function.now) };
 }
 
 /// Makes the relocation of an offset inside a function, in the function's slots as they stand.
@@ -73,9 +76,14 @@ pub(crate) fn relocate_at<A, E: Copy, R: Rule<A, E>>(
     offset: u64,
     relocation: &A,
 ) -> Result<(), Refusal<E>>
-    ensures ok { OnOk result (slots.new ≡ after_one (R.rule rule.now) function.now slots.old (offset, relocation.now)) }
-    ensures sound { OnOk result (is_refused (outcome_at (R.rule rule.now) function.now slots.old (offset, relocation.now)) ≡ false) }
-    ensures refused { IfErr result (IsRefusalOf offset (outcome_at (R.rule rule.now) function.now slots.old (offset, relocation.now))) }
+    ensures ok { OnOk result
+        (slots.new ≡ after_one (R.rule rule.now) function.now slots.old (offset, relocation.now)) }
+    ensures sound { OnOk result
+        (is_refused (outcome_at (R.rule rule.now) function.now slots.old (offset, relocation.now))
+        ≡ false) }
+    ensures refused { IfErr result
+        (IsRefusalOf offset
+        (outcome_at (R.rule rule.now) function.now slots.old (offset, relocation.now))) }
 {
     let distance = offset.saturating_sub(function.section_offset as u64);
     match rule.outcome(slots, distance, relocation) {
@@ -94,7 +102,8 @@ pub fn relocate_each<'f, A, E: Copy, R: Rule<A, E>>(
     function: &Function<'f>,
     relocations: Range<'_, u64, A>,
 ) -> Result<Slots<'f>, Refusal<E>>
-    ensures value { IfOk result (λ s. s ≡ after_all (R.rule rule.now) function.now relocations.entry) }
+    ensures value { IfOk result (λ s.
+        s ≡ after_all (R.rule rule.now) function.now relocations.entry) }
     ensures sound { OnOk result (is_sound (R.rule rule.now) relocations.entry function.now ≡ true) }
     ensures refused { IfErr result (IsRefusal (R.rule rule.now) relocations.entry function.now) }
 {
@@ -105,14 +114,15 @@ pub fn relocate_each<'f, A, E: Copy, R: Rule<A, E>>(
     Ok(slots)
 }
 
-/// The slots of a function after some relocations inside it, one after the other, each with its offset
-/// in the function's section.
+/// The slots of a function after some relocations inside it, one after the other, each with its
+/// offset in the function's section.
 pub fn relocate_list<'f, A, E: Copy, R: Rule<A, E>>(
     rule: &R,
     function: &Function<'f>,
     relocations: &[(u64, A)],
 ) -> Result<Slots<'f>, Refusal<E>>
-    ensures value { IfOk result (λ s. s ≡ after_all (R.rule rule.now) function.now relocations.now) }
+    ensures value { IfOk result (λ s.
+        s ≡ after_all (R.rule rule.now) function.now relocations.now) }
     ensures sound { OnOk result (is_sound (R.rule rule.now) relocations.now function.now ≡ true) }
     ensures refused { IfErr result (IsRefusal (R.rule rule.now) relocations.now function.now) }
 {

@@ -9,8 +9,8 @@ use std::collections::BTreeMap;
 use std::io::BufRead;
 use watched::Watched;
 
-/// An extern: its name, the id of what declares it, its type, whether it is weak, and the address that
-/// it was found at before.
+/// An extern: its name, the id of what declares it, its type, whether it is weak, and the address
+/// that it was found at before.
 pub(crate) type Declared = (&'static str, u32, Option<u32>, bool, Option<u64>);
 
 /// Whether an extern is resolved, the id of the kernel's type, and the address.

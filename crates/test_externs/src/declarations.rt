@@ -70,7 +70,8 @@ static WITH_KERNEL_TYPES: [Case; 15] = [
         [(true, Some(8), None), RESOLVED],
         None,
     ),
-    // What declares an extern with a type must be there and be one of the two, be the extern weak or not.
+    // What declares an extern with a type must be there and be one of the two, be the extern weak
+    // or not.
     (
         &[("f", INTEGER, Some(INTEGER), STRONG, None), WEAK],
         [UNKNOWN, RESOLVED],

@@ -1,5 +1,5 @@
-//! Of externs with several faults that of the first by name is named, of those with a type before the
-//! others, and of the text of symbols that of its first line.
+//! Of externs with several faults that of the first by name is named, of those with a type before
+//! the others, and of the text of symbols that of its first line.
 
 use crate::answers::{Answer, Declared, Refusal, UNKNOWN, answer_of};
 use crate::tables::{
@@ -8,8 +8,8 @@ use crate::tables::{
 use sample_objects::SlowText;
 use watched::Watched;
 
-/// What an extern that must be there is: a function, a variable, a variable without a type, or one of a
-/// type that an integer declares or that nothing declares.
+/// What an extern that must be there is: a function, a variable, a variable without a type, or one
+/// of a type that an integer declares or that nothing declares.
 #[derive(Clone, Copy)]
 enum Sort {
     Function,
@@ -112,7 +112,8 @@ fn first_name_is_named(rt: HostRuntime) {
     }
 }
 
-/// The text of symbols, behind how many bytes its reader fails, and the fault of `a` and `z` that is named.
+/// The text of symbols, behind how many bytes its reader fails, and the fault of `a` and `z` that
+/// is named.
 type TextFault = (&'static [u8], usize, Refusal);
 
 const NEVER: usize = usize::MAX;

@@ -1,4 +1,5 @@
-//! Relocations by externs: of two sections, at slots of all codes, and by all that is known of an extern.
+//! Relocations by externs: of two sections, at slots of all codes, and by all that is known of an
+//! extern.
 
 use crate::sections::{Known, Refused, Relocated, Relocation, Written, answer_of};
 
@@ -26,8 +27,8 @@ fn both(first: [u8; 8], second: [u8; 8]) -> [u8; 16] {
     slots
 }
 
-/// The relocations of `kprobe` and `xdp`, what is known of `kernel` and `other`, and what becomes of the
-/// functions of both sections.
+/// The relocations of `kprobe` and `xdp`, what is known of `kernel` and `other`, and what becomes
+/// of the functions of both sections.
 type Case = ([Relocation; 2], [Option<Known>; 2], Relocated);
 
 static SECTIONS: [Case; 9] = [
@@ -125,8 +126,8 @@ fn sections_are_relocated_in_order(rt: HostRuntime) {
     }
 }
 
-// What is known of an extern, and what becomes of a load of 64 bits and of a call by it, if it isn't
-// refused.
+// What is known of an extern, and what becomes of a load of 64 bits and of a call by it, if it
+// isn't refused.
 type Outcome = (Known, Option<Written>, Option<Written>);
 
 const ZERO_LOADED: Written = [[0x18, 0x01, 0, 0, 0, 0, 0, 0], [0; 8]];

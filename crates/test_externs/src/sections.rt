@@ -11,9 +11,10 @@ use sample_objects::with_bytes;
 use std::alloc::{AllocError, Global};
 use std::collections::BTreeMap;
 
-/// An object with the sections `kprobe` (index 2) and `xdp` (3), and a relocation of each, of `xdp` at 120
-/// and of `kprobe` at 136: eight bytes of offset, four of type, four of symbol. That of `xdp` stands first.
-/// Symbols 1 and 2 are the externs `kernel` and `other`, 3 and 4 the functions of the sections.
+/// An object with the sections `kprobe` (index 2) and `xdp` (3), and a relocation of each, of `xdp`
+/// at 120 and of `kprobe` at 136: eight bytes of offset, four of type, four of symbol. That of
+/// `xdp` stands first. Symbols 1 and 2 are the externs `kernel` and `other`, 3 and 4 the functions
+/// of the sections.
 static OBJECT: [u8; 944] = [
     0x7f, 0x45, 0x4c, 0x46, 2, 1, 1, 0, 0, 0, 0, 0, 0, 0, 0, 0, 1, 0, 0xf7, 0, 1, 0, 0, 0, 0, 0, 0,
     0, 0, 0, 0, 0, 0, 0, 0, 0, 0, 0, 0, 0, 0x70, 1, 0, 0, 0, 0, 0, 0, 0, 0, 0, 0, 0x40, 0, 0, 0, 0,
@@ -56,8 +57,8 @@ const RELOCATIONS_AT: [usize; 2] = [136, 120];
 /// From a relocation's beginning to its symbol.
 const SYMBOL: usize = 12;
 
-/// What is known of an extern: whether it may be missing, whether it is resolved, the id of the kernel's
-/// type, and the address.
+/// What is known of an extern: whether it may be missing, whether it is resolved, the id of the
+/// kernel's type, and the address.
 pub(crate) type Known = (bool, bool, Option<u32>, Option<u64>);
 
 /// The offset and the symbol of a relocation.
@@ -75,8 +76,8 @@ pub(crate) enum Refused {
     Other,
 }
 
-/// What becomes of the functions `f` of `kprobe` and `g` of `xdp`, none where they stay in the file, and
-/// of which function a relocation is refused.
+/// What becomes of the functions `f` of `kprobe` and `g` of `xdp`, none where they stay in the
+/// file, and of which function a relocation is refused.
 #[derive(Clone, Copy, Debug, PartialEq, Eq)]
 pub(crate) struct Relocated {
     pub f: Option<Written>,
@@ -161,7 +162,8 @@ fn written(functions: &Functions<'_>, section_index: usize) -> Option<Written> {
     Some([slots.get(0)?.to_bytes(), slots.get(1)?.to_bytes()])
 }
 
-/// What becomes of two functions of these slots by a relocation of each section, that of `kprobe` first.
+/// What becomes of two functions of these slots by a relocation of each section, that of `kprobe`
+/// first.
 pub(crate) fn answer_of(
     alloc: Global,
     slots: &[u8; 16],

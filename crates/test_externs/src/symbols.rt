@@ -66,8 +66,8 @@ fn reader_is_left_unread(rt: HostRuntime) {
     }
 }
 
-/// A text, an extern `a` with or without a type that may be missing, and what is known of it and of `z`,
-/// which has no type.
+/// A text, an extern `a` with or without a type that may be missing, and what is known of it and of
+/// `z`, which has no type.
 type Text = (&'static [u8], Option<u32>, [Known; 2]);
 
 static TEXTS: [Text; 7] = [

@@ -25,8 +25,8 @@ const VAR: u32 = 0x0e00_0000;
 /// `f`, `g`, `v` and `w`, at 1, 3, 5 and 7.
 const STRINGS: [u8; 9] = *b"\0f\0g\0v\0w\0";
 
-/// The types of an object: an integer, a prototype that takes it, a function of that, a variable of the
-/// integer, and a pointer to it.
+/// The types of an object: an integer, a prototype that takes it, a function of that, a variable of
+/// the integer, and a pointer to it.
 pub(crate) const OBJECT: &[u32] = &[
     0, INT, 4, 0x20, 0, PROTO_1, 1, 0, 1, 0, FUNC, 2, 0, VAR, 1, 2, 0, PTR, 1,
 ];
@@ -44,8 +44,8 @@ pub(crate) const POINTER: u32 = 5;
 
 pub(crate) const NOTHING: u32 = 99;
 
-/// The types of a kernel: the function `f` as the object's (3), `g` of no parameter (5), the variable `v`
-/// of an integer (6), and `w` of a pointer (8).
+/// The types of a kernel: the function `f` as the object's (3), `g` of no parameter (5), the
+/// variable `v` of an integer (6), and `w` of a pointer (8).
 const KERNEL: &[u32] = &[
     0, INT, 4, 0x20, 0, PROTO_1, 1, 0, 1, 1, FUNC, 2, 0, PROTO, 1, 3, FUNC, 4, 5, VAR, 1, 1, 0,
     PTR, 1, 7, VAR, 7, 1,

@@ -40,8 +40,8 @@ fn kernel_tables<'a>(
     Ok(tables)
 }
 
-/// What a type relocation comes to over tables, and in which of a kernel's: looked for alone, and with
-/// the candidates collected before.
+/// What a type relocation comes to over tables, and in which of a kernel's: looked for alone, and
+/// with the candidates collected before.
 fn outcome_in<'m>(
     rt: &impl Abort,
     local: &'m Btf<'m>,

@@ -11,23 +11,23 @@ use plain_matching::{Answer, Fault};
 
 const OFFSET: RelocationKind = RelocationKind::FieldByteOffset;
 
-/// A nameless struct of `b` and `a`, and `s` with it behind a `d`.
+/// A nameless struct of `b` and `a`, and `s` with it after a `d`.
 const INSIDE: [u32; 19] = [
     0, INT, 4, 0x20, 0, STRUCT_2, 8, B, 1, 0, A, 1, 32, S, STRUCT_1, 16, 0, 2, 64,
 ];
 
-/// The same, a union behind a CONST, by an empty name.
+/// The same, a union after a CONST, by an empty name.
 const BEHIND_CONST: [u32; 25] = [
     0, INT, 4, 0x20, 0, UNION_2, 8, B, 1, 0, A, 1, 0, 0, CONST, 2, S, STRUCT_2, 16, D, 1, 0, EMPTY,
     3, 64,
 ];
 
-/// A nameless struct with a pointer `a`, and behind it the integer `a`.
+/// A nameless struct with a pointer `a`, and after it the integer `a`.
 const BEHIND_POINTER: [u32; 22] = [
     0, INT, 4, 0x20, 0, PTR, 1, 0, STRUCT_1, 8, A, 2, 0, S, STRUCT_2, 16, 0, 3, 0, A, 1, 64,
 ];
 
-/// A pointer `a`, and behind it the integer `a`, in one struct.
+/// A pointer `a`, and after it the integer `a`, in one struct.
 const POINTER_FIRST: [u32; 16] = [
     0, INT, 4, 0x20, 0, PTR, 1, S, STRUCT_2, 16, A, 2, 0, A, 1, 64,
 ];
@@ -37,7 +37,7 @@ const INSIDE_FIRST: [u32; 19] = [
     0, INT, 4, 0x20, 0, STRUCT_1, 8, A, 1, 32, S, STRUCT_2, 16, 0, 2, 0, A, 1, 64,
 ];
 
-/// A nameless integer and one without a type, before `a` and behind it.
+/// A nameless integer and one without a type, before `a` and after it.
 const PASSED: [u32; 13] = [0, INT, 4, 0x20, S, STRUCT_2, 16, 0, 1, 0, A, 1, 32];
 
 const UNKNOWN_FIRST: [u32; 13] = [0, INT, 4, 0x20, S, STRUCT_2, 16, 0, 9, 0, A, 1, 32];

@@ -1,4 +1,5 @@
-//! Tests of type relocations over tables of types: their paths, their matches and what they come to.
+//! Tests of type relocations over tables of types: their paths, their matches and what they come
+//! to.
 #![tactic(auto)]
 
 #[cfg(test)]

@@ -13,7 +13,7 @@ const OFFSET: RelocationKind = RelocationKind::FieldByteOffset;
 
 const TOO_DEEP: Answer = Answer::Kernel(0, 2, Fault::MaximumNestingLevelReached);
 
-/// `s` with a member without a name that is `s`, before `a` and behind it.
+/// `s` with a member without a name that is `s`, before `a` and after it.
 const IN_ITSELF: [u32; 13] = [0, INT, 4, 0x20, S, STRUCT_2, 16, 0, 2, 0, A, 1, 64];
 
 const FOUND_BEFORE: [u32; 13] = [0, INT, 4, 0x20, S, STRUCT_2, 16, A, 1, 64, 0, 2, 0];
@@ -47,8 +47,8 @@ fn a_struct_in_itself_is_too_deep(rt: HostRuntime) {
     }
 }
 
-/// An integer, and so many structs `s`, each with a member `a` at bit 32: the next one, and at last
-/// the integer.
+/// An integer, and a number of structs `s`, each with a member `a` at bit 32: the next one, and at
+/// last the integer.
 fn nested(alloc: Global, count: u32) -> Result<Vec<u32>, AllocError> {
     let mut words = Vec::new(alloc);
     words.extend_from_slice(&[0, INT, 4, 0x20])?;
@@ -63,7 +63,7 @@ fn nested(alloc: Global, count: u32) -> Result<Vec<u32>, AllocError> {
     Ok(words)
 }
 
-/// The numbers of a path of so many steps behind the first.
+/// The numbers of a path with a number of steps after the first.
 fn zeros(alloc: Global, count: u32) -> Result<String, AllocError> {
     let mut access = String::new(alloc);
     access.push('0')?;
@@ -73,7 +73,7 @@ fn zeros(alloc: Global, count: u32) -> Result<String, AllocError> {
     Ok(access)
 }
 
-/// What a path of so many named steps comes to, where only the outermost struct is a candidate.
+/// What a path of a number of named steps comes to, where only the outermost struct is a candidate.
 fn steps(rt: &impl Abort, alloc: Global, count: u32) -> Result<Answer, AllocError> {
     let words = nested(alloc, count)?;
     let access = zeros(alloc, count)?;
@@ -105,7 +105,8 @@ const A_THEN_B: [u32; 16] = [
     0, INT, 4, 0x20, S, STRUCT_1, 4, A, 3, 0, A, STRUCT_1, 4, B, 1, 0,
 ];
 
-/// A struct with a `b`, and `s` with an `a` that is that struct, inside so many members without names.
+/// A struct with a `b`, and `s` with an `a` that is that struct, inside a number of members without
+/// names.
 fn wrapped(alloc: Global, count: u32) -> Result<Vec<u32>, AllocError> {
     let mut words = Vec::new(alloc);
     words.extend_from_slice(&[0, INT, 4, 0x20])?;

@@ -1,4 +1,4 @@
-//! Tables by hand. Info words are named by kind and, behind a `_`, by the count of their items.
+//! Tables by hand. Info words are named by kind and, after a `_`, by the count of their items.
 
 use btf_records::Endianness;
 use btf_tables::Btf;
@@ -8,7 +8,7 @@ use std::process::Abort;
 
 pub(crate) const ORDERS: [Endianness; 2] = [Endianness::Little, Endianness::Big];
 
-/// The strings of all tables. An access string stands behind those of the object's own.
+/// The strings of all tables. An access string stands after those of the object's own.
 pub(crate) const STRINGS: &[u8; 25] = b"\0s\0a\0b\0s___x\0c\0d\0c___y\0\xff\0";
 
 pub(crate) const S: u32 = 1;

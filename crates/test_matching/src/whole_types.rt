@@ -14,7 +14,7 @@ const EXISTS: RelocationKind = RelocationKind::TypeExists;
 
 const SIZE: RelocationKind = RelocationKind::TypeSize;
 
-/// `s` behind another, and a struct with an unreadable name.
+/// `s` after another, and a struct with an unreadable name.
 const UNREADABLE_STRUCT: [u32; 13] = [
     0, INT, 4, 0x20, S, STRUCT_1, 16, A, 1, 64, UNREADABLE, STRUCT, 0,
 ];
@@ -110,7 +110,7 @@ fn sizes_are_the_kernels(rt: HostRuntime) {
     check(&rt, rt.alloc(), &NO_SIZE, &[&NO_SIZE], &cases);
 }
 
-/// Integers `s`, of which one begins behind its first bits, and a function `s`.
+/// Integers `s`, of which one begins after its first bits, and a function `s`.
 const WHOLE_INT: [u32; 4] = [S, INT, 4, 0x20];
 
 const LATE_INT: [u32; 4] = [S, INT, 4, 0x0004_0020];

@@ -105,7 +105,7 @@ const NONE_LAST: [u32; 16] = [
     0, INT, 4, 0x20, 0, ARRAY, 0, 1, 0, 0, S, STRUCT_1, 32, A, 2, 32,
 ];
 
-/// Of none, with a `b` behind it.
+/// Of none, with a `b` after it.
 const NONE_BEFORE: [u32; 19] = [
     0, INT, 4, 0x20, 0, ARRAY, 0, 1, 0, 0, S, STRUCT_2, 32, A, 2, 32, B, 1, 160,
 ];

@@ -24,8 +24,8 @@ fn functions<'a>(alloc: Global, slot: &'a [u8]) -> Option<Functions<'a>> {
     Some(functions)
 }
 
-// A call of a helper by its number in `enum bpf_func_id` of the kernel's `bpf.h`, or what else a slot
-// is, and the number of the helper that stands in for it.
+// A call of a helper by its number in `enum bpf_func_id` of the kernel's `bpf.h`, or what else a
+// slot is, and the number of the helper that stands in for it.
 const CALLS: [([u8; 8], Option<i32>); 9] = [
     ([0x85, 0, 0, 0, 111, 0, 0, 0], None),
     ([0x85, 0, 0, 0, 112, 0, 0, 0], Some(4)),

@@ -12,8 +12,8 @@ static TABLE: [u8; 32] = [
     b'r', b'o', b'b', b'e', 0,
 ];
 
-/// Of `kprobe` three functions, at the bytes 0, 16 and 16, of the types 3, 5 and 6, and five lines, at
-/// the bytes 24, 0, 8, 20 and 16.
+/// Of `kprobe` three functions, at the bytes 0, 16 and 16, of the types 3, 5 and 6, and five lines,
+/// at the bytes 24, 0, 8, 20 and 16.
 static EXTENSION: [u8; 152] = [
     0x9f, 0xeb, 1, 0, 24, 0, 0, 0, 0, 0, 0, 0, 36, 0, 0, 0, 36, 0, 0, 0, 92, 0, 0, 0, 8, 0, 0, 0,
     1, 0, 0, 0, 3, 0, 0, 0, 0, 0, 0, 0, 3, 0, 0, 0, 16, 0, 0, 0, 5, 0, 0, 0, 16, 0, 0, 0, 6, 0, 0,

@@ -22,7 +22,7 @@ const PROTO_1: u32 = PROTO + 1;
 
 const PTR: u32 = 0x0200_0000;
 
-/// What stands behind the strings of every kernel's table: `f` at 18 and `v___x` at 20.
+/// What stands after the strings of every kernel's table: `f` at 18 and `v___x` at 20.
 const KERNEL_STRINGS: &[u8] = b"f\0v___x\0";
 
 const NAMES: [&str; 5] = ["f___x", "v___x", "init_task", "f", "v"];
@@ -110,7 +110,7 @@ fn known(object: &Object<'_>, name: &str) -> Option<Known> {
     Some((desc.is_resolved, desc.kernel_btf_id, desc.ksym_addr))
 }
 
-/// What is known of the externs of an object behind their resolution.
+/// What is known of the externs of an object after their resolution.
 fn answer_of<R: BufRead>(
     alloc: Global,
     bytes: &[u8],
@@ -174,12 +174,12 @@ const CHANGED_KERNEL: &[u32] = &[
 /// One whose function takes a pointer to itself.
 const ENDLESS_KERNEL: &[u32] = &[0, INT, 4, 0x20, 0, PROTO_1, 1, 0, 3, 0, PTR, 3, 18, FUNC, 2];
 
-/// One in which the name of a function can't be read, before `f` and behind `v___x`.
+/// One in which the name of a function can't be read, before `f` and after `v___x`.
 const HIDING_KERNEL: &[u32] = &[
     0, INT, 4, 0x20, 0, PROTO_1, 1, 0, 1, 20, VAR, 1, 1, 99, FUNC, 2, 18, FUNC, 2,
 ];
 
-/// One in which the name of a variable can't be read, behind `f` and before `v___x`.
+/// One in which the name of a variable can't be read, after `f` and before `v___x`.
 const LATE_KERNEL: &[u32] = &[
     0, INT, 4, 0x20, 0, PROTO_1, 1, 0, 1, 18, FUNC, 2, 99, VAR, 1, 1, 20, VAR, 1, 1,
 ];

@@ -94,7 +94,7 @@ fn are_linked_plainly(alloc: Global, object: &[u8], met: &mut Met) -> Option<boo
     Some(true)
 }
 
-/// Whether the programs of so many random objects are linked to the slots of the plain linker.
+/// Whether the programs of a number of random objects are linked to the slots of the plain linker.
 fn all_are_linked_plainly(alloc: Global, met: &mut Met) -> Option<bool> {
     let mut numbers = Numbers { state: SEED };
     for _ in 0..GRAPHS {

@@ -11,10 +11,11 @@ use sample_objects::with_bytes;
 use std::alloc::Global;
 use std::collections::BTreeMap;
 
-/// An object with a section `kprobe` (index 2) and two relocations of it (at 96 and 112: eight bytes
-/// of offset, four of type, four of symbol). Symbol 1 is its function `f`. Symbols 2 to 6 and 10 are
-/// externs: `id`, `address`, `weak`, `strong`, `nothing` and `found`; so is symbol 9, without a name.
-/// Symbol 7 is the variable `text` of `license` (index 1), symbol 8 a variable that isn't defined.
+/// An object with a section `kprobe` (index 2) and two relocations of it (at 96 and 112: eight
+/// bytes of offset, four of type, four of symbol). Symbol 1 is its function `f`. Symbols 2 to 6 and
+/// 10 are externs: `id`, `address`, `weak`, `strong`, `nothing` and `found`; so is symbol 9,
+/// without a name. Symbol 7 is the variable `text` of `license` (index 1), symbol 8 a variable that
+/// isn't defined.
 static OBJECT: [u8; 952] = [
     0x7f, 0x45, 0x4c, 0x46, 2, 1, 1, 0, 0, 0, 0, 0, 0, 0, 0, 0, 1, 0, 0xf7, 0, 1, 0, 0, 0, 0, 0, 0,
     0, 0, 0, 0, 0, 0, 0, 0, 0, 0, 0, 0, 0, 0xf8, 1, 0, 0, 0, 0, 0, 0, 0, 0, 0, 0, 0x40, 0, 0, 0, 0,
@@ -67,11 +68,11 @@ const EXTERNS: [(&str, bool, Option<u32>, Option<u64>); 5] = [
     ("found", true, Some(7), None),
 ];
 
-/// An offset behind the functions.
+/// An offset after the functions.
 const FAR: usize = 1000;
 
-/// Where functions `f` and `g` begin, the slots of each, the offsets and symbols of the relocations,
-/// and whether the object has externs.
+/// Where functions `f` and `g` begin, the slots of each, the offsets and symbols of the
+/// relocations, and whether the object has externs.
 type Case = (usize, usize, &'static [u8; 24], [(u64, u8); 2], bool);
 
 /// The slots of a function that was written.
@@ -231,7 +232,7 @@ enum Refused {
 const NAMES: [&str; 7] = ["id", "address", "weak", "strong", "nothing", "", "found"];
 
 const REFUSALS: [(Case, (bool, Refused)); 17] = [
-    // At no whole slot, and behind one that is sound.
+    // At no whole slot, and after one that is sound.
     (
         (0, FAR, &LOAD, [(4, 2), NONE], true),
         (true, Refused::Offset(4, 0)),

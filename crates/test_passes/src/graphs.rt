@@ -1,7 +1,7 @@
 //! Objects of random functions that call each other.
 //!
 //! An object has a section `kprobe` with two programs and `.text` with up to forty functions, one
-//! behind the other. The first five slots of a program call functions by relocations, of which the
+//! after the other. The first five slots of a program call functions by relocations, of which the
 //! last names a function and the others the section. The sixth calls one of the programs or none,
 //! the next two load the address of a function by a relocation, and the last ends the program. In
 //! `.text` each sixteenth slot is a call by a relocation; the others are calls without one, or no
@@ -47,7 +47,7 @@ static HEAD: &[u8] = &[
     0, 0, 0x40, 0, 9, 0, 8, 0, 0x47, 0x50, 0x4c, 0, 0, 0, 0, 0,
 ];
 
-/// What stands behind the symbols: their names, the relocations, the sections' names and headers.
+/// What stands after the symbols: their names, the relocations, the sections' names and headers.
 static TAIL: &[u8] = &[
     0, 0x66, 0, 0x67, 0, 0x68, 0, 0, 0, 0, 0, 0, 0, 0, 0, 0, 0x0a, 0, 0, 0, 1, 0, 0, 0, 8, 0, 0, 0,
     0, 0, 0, 0, 0x0a, 0, 0, 0, 1, 0, 0, 0, 0x10, 0, 0, 0, 0, 0, 0, 0, 0x0a, 0, 0, 0, 1, 0, 0, 0,

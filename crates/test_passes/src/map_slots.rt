@@ -10,11 +10,11 @@ use slot_relocation::{NumberedMap, relocate_maps};
 use std::alloc::Global;
 use std::collections::BTreeSet;
 
-/// An object with a section `kprobe` (index 2) and two relocations of it (at 96 and 112: eight bytes
-/// of offset, four of type, four of symbol). Symbol 1 is its function `f`, symbol 2 a function of
-/// `.text` (index 4), symbol 3 the variable `limit` at address 4 of `.data` (index 5), symbol 4 a map
-/// of `maps` (index 6), symbol 5 isn't defined, symbol 6 is a variable of `.bss` (index 7), and symbol
-/// 7 is the variable `text` of `license` (index 1).
+/// An object with a section `kprobe` (index 2) and two relocations of it (at 96 and 112: eight
+/// bytes of offset, four of type, four of symbol). Symbol 1 is its function `f`, symbol 2 a
+/// function of `.text` (index 4), symbol 3 the variable `limit` at address 4 of `.data` (index 5),
+/// symbol 4 a map of `maps` (index 6), symbol 5 isn't defined, symbol 6 is a variable of `.bss`
+/// (index 7), and symbol 7 is the variable `text` of `license` (index 1).
 static OBJECT: [u8; 1192] = [
     0x7f, 0x45, 0x4c, 0x46, 2, 1, 1, 0, 0, 0, 0, 0, 0, 0, 0, 0, 1, 0, 0xf7, 0, 1, 0, 0, 0, 0, 0, 0,
     0, 0, 0, 0, 0, 0, 0, 0, 0, 0, 0, 0, 0, 0xe8, 1, 0, 0, 0, 0, 0, 0, 0, 0, 0, 0, 0x40, 0, 0, 0, 0,
@@ -75,7 +75,7 @@ const MAPS: [(i32, usize, Option<usize>, usize); 6] = [
     (11, 7, None, 0),
 ];
 
-/// An offset behind the functions.
+/// An offset after the functions.
 const FAR: usize = 1000;
 
 /// The last eight of the offsets of 64 bits begin here.
@@ -93,7 +93,7 @@ static LOAD: [u8; 24] = [
     0x18, 0x01, 0, 0, 0, 0, 0, 0, 0, 0, 0, 0, 0, 0, 0, 0, 0x95, 0, 0, 0, 0, 0, 0, 0,
 ];
 
-// The same, of a place 2 bytes behind the symbol, with a number in the second slot.
+// The same, of a place 2 bytes after the symbol, with a number in the second slot.
 static LOAD_BEHIND: [u8; 24] = [
     0x18, 0x01, 0, 0, 2, 0, 0, 0, 0, 0, 0, 0, 5, 0, 0, 0, 0x95, 0, 0, 0, 0, 0, 0, 0,
 ];
@@ -103,7 +103,7 @@ static LOAD_BEFORE: [u8; 24] = [
     0x18, 0x01, 0, 0, 0xff, 0xff, 0xff, 0xff, 0, 0, 0, 0, 0, 0, 0, 0, 0x95, 0, 0, 0, 0, 0, 0, 0,
 ];
 
-// The last place that a symbol at address 4 leads to, and the one behind it.
+// The last place that a symbol at address 4 leads to, and the one after it.
 static LOAD_LAST: [u8; 24] = [
     0x18, 0x01, 0, 0, 0xfb, 0xff, 0xff, 0x7f, 0, 0, 0, 0, 0, 0, 0, 0, 0x95, 0, 0, 0, 0, 0, 0, 0,
 ];
@@ -245,7 +245,7 @@ enum Refused {
 }
 
 const REFUSALS: [(Case, (bool, Refused)); 9] = [
-    // At no whole slot, the first of two such ones, and one behind another that is sound.
+    // At no whole slot, the first of two such ones, and one after another that is sound.
     (
         (0, FAR, &LOAD, [(4, 4), NONE]),
         (true, Refused::Offset(4, 0)),
@@ -276,7 +276,8 @@ const REFUSALS: [(Case, (bool, Refused)); 9] = [
         (FAR, 0, &LOAD, [(0, 7), NONE]),
         (false, Refused::Section(1, 7, true)),
     ),
-    // Of functions that overlap the fault of the least offset, though the other function is earlier.
+    // Of functions that overlap the fault of the least offset, though the other function is
+    // earlier.
     (
         (0, 4, &LOAD, [(8, 4), (20, 4)]),
         (false, Refused::Offset(8, 0)),
@@ -309,7 +310,7 @@ fn function<'a>(
     })
 }
 
-/// A map of a section, with or without a symbol, with so many bytes.
+/// A map of a section, with or without a symbol, with a number of bytes.
 fn map(
     alloc: Global,
     section_index: usize,

@@ -38,7 +38,7 @@ const ADDRESS: usize = 221;
 
 const SIZE: usize = 229;
 
-/// What is changed in the object, what is set, and the bytes of `.data` behind it.
+/// What is changed in the object, what is set, and the bytes of `.data` after it.
 type Case = (
     &'static [Change],
     &'static [Variable],

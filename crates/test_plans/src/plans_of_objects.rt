@@ -9,8 +9,8 @@ use std::alloc::Global;
 use std::io;
 use std::test::Fail;
 
-/// The plan of an object without symbols and kernel types, for a kernel that has the newer helpers and
-/// lacks these features.
+/// The plan of an object without symbols and kernel types, for a kernel that has the newer helpers
+/// and lacks these features.
 pub(crate) fn planned<'a>(
     alloc: Global,
     object: &'a [u8],
@@ -121,8 +121,9 @@ const KPROBE: &[u8] = b"kprobe";
 
 const ZEROS: &[u8] = b".bss\0\0";
 
-// The name of the section of the one function, the size of the license, whether the map `.bss` has a
-// number, a global variable with its bytes and whether it must exist, and why the object is refused.
+// The name of the section of the one function, the size of the license, whether the map `.bss` has
+// a number, a global variable with its bytes and whether it must exist, and why the object is
+// refused.
 type Change = (
     &'static [u8],
     u8,
@@ -210,8 +211,9 @@ fn maps_and_globals(rt: HostRuntime) -> Result<(), Fail> {
     Ok(())
 }
 
-/// The slots of the object with one program, of which the first ones are changed to these, for a kernel
-/// that has or lacks the newer helpers, and how often the kernel is asked. The slots stay in the file.
+/// The slots of the object with one program, of which the first ones are changed to these, for a
+/// kernel that has or lacks the newer helpers, and how often the kernel is asked. The slots stay in
+/// the file.
 fn probed(
     alloc: Global,
     slots: &[[u8; 8]; 2],
@@ -254,8 +256,8 @@ fn call(helper: u8) -> [u8; 8] {
     [0x85, 0, 0, 0, helper, 0, 0, 0]
 }
 
-// The numbers of the helpers that two slots call, those for a kernel that lacks the newer helpers, and
-// how often a kernel is asked.
+// The numbers of the helpers that two slots call, those for a kernel that lacks the newer helpers,
+// and how often a kernel is asked.
 const PROBES: [([u8; 2], [u8; 2], u32); 4] = [
     ([112, 6], [4, 6], 1),
     ([6, 115], [6, 45], 1),

@@ -166,7 +166,7 @@ const NO_PLANS: [(&[u8], usize); 22] = [
     ),
 ];
 
-/// Takes so many bytes, one at a time, and then fails or takes nothing.
+/// Takes a number of bytes, one at a time, and then fails or takes nothing.
 #[derive(Drop)]
 struct Short {
     taken: Vec<u8>,

@@ -1,4 +1,5 @@
-//! Answers that a rewriting carries over, as a crate above would prove it from the clauses of the public calls.
+//! Answers that a rewriting carries over, as a crate above would prove it from the clauses of the
+//! public calls.
 
 ghost use Rattle.std.specs.Prelude.{◌≡◌, Bool, IfOk, true, ℕ};
 ghost use Rattle.btf_sanitizing.specs.Facts.{number_named};
@@ -16,8 +17,8 @@ pub struct SizeBehind {
     pub behind: Option<u64>,
 }
 
-/// Asks for the size of a type before and behind a rewriting. They are the same where the records that are
-/// reached from the type stay.
+/// Asks for the size of a type before and behind a rewriting. They are the same where the records
+/// that are reached from the type stay.
 pub fn size_behind<'m, 'n, F: FnMut(BtfFeature) -> bool>(
     table: &mut Btf<'_>,
     sizes: &'m BTreeMap<&'n str, u64>,
@@ -27,7 +28,14 @@ pub fn size_behind<'m, 'n, F: FnMut(BtfFeature) -> bool>(
     type_id: u32,
 ) -> Result<SizeBehind, BtfError>
     requires { F.IsAlwaysCallable predicate }
-    ensures { IfOk result (λ sizes_of. (reached : ℕ → Bool) → AreLeft (stays_in ksyms table.old (facts_in sizes_of.answers.items (number_named sizes.now.entries) (number_named offsets.now.entries) (stepped ksyms table.old))) reached table.old → reached type_id ≡ true → sizes_of.behind ≡ sizes_of.before) }
+    ensures { IfOk result (λ sizes_of.
+        (reached : ℕ → Bool)
+        → AreLeft
+        (stays_in ksyms table.old
+        (facts_in sizes_of.answers.items (number_named sizes.now.entries)
+        (number_named offsets.now.entries) (stepped ksyms table.old))) reached table.old
+        → reached type_id ≡ true
+        → sizes_of.behind ≡ sizes_of.before) }
 {
     let before = table.type_size(type_id).ok();
     let answers = table.fixup_and_sanitize(sizes, offsets, ksyms, predicate)?;

@@ -1,5 +1,5 @@
-//! Sections of types by hand, from the kernel's BTF documentation. Info words are named by kind and,
-//! behind a `_`, by the count of their items.
+//! Sections of types by hand, from the kernel's BTF documentation. Info words are named by kind
+//! and, behind a `_`, by the count of their items.
 
 ghost use Rattle.std.specs.Prelude.{◌<◌, ◌^◌, length};
 

@@ -134,7 +134,8 @@ fn flavours_do_not_count(rt: HostRuntime) {
     ask_all(&rt, rt.alloc(), &words, strings, &asked);
 }
 
-// An INT, one behind four bits, a STRUCT, a UNION, a TYPEDEF of the INT, PTRs to the INT and STRUCT.
+// An INT, one behind four bits, a STRUCT, a UNION, a TYPEDEF of the INT, PTRs to the INT and
+// STRUCT.
 #[test]
 fn members_of_one_kind_are_compatible(rt: HostRuntime) {
     let words = [

@@ -303,7 +303,8 @@ static REFUSED: [(&[u32], Answer); 20] = [
     ),
 ];
 
-/// Sections whose headers end inside a word, or before it, low byte first, and their functions' size.
+/// Sections whose headers end inside a word, or before it, low byte first, and their functions'
+/// size.
 static BYTES: [(&[u8], Answer); 4] = [
     (&[0x9f, 0xeb, 1, 0, 8, 0, 0], Answer::InvalidHeader),
     (

@@ -40,7 +40,10 @@ fn len_of(kind: u32, count: usize) -> Option<usize>
 
 /// The number of bytes of the record that the bytes begin with.
 pub(crate) fn len(order: Endianness, bytes: &[u8]) -> Option<usize>
-    ensures { SomeIff result ((12 ≤ length bytes.now) × (kind_number_at order bytes.now < kind_count) × (record_len order bytes.now ≤ length bytes.now)) (record_len order bytes.now) }
+    ensures { SomeIff result
+        ((12 ≤ length bytes.now)
+        × (kind_number_at order bytes.now < kind_count)
+        × (record_len order bytes.now ≤ length bytes.now)) (record_len order bytes.now) }
 {
     if bytes.len() < 12 {
         return None;

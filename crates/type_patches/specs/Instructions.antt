@@ -1,5 +1,5 @@
--- What a value does to an instruction, by the instruction's class (instruction-set.rst, "Instruction encoding";
--- `bpf_core_patch_insn`, tools/lib/bpf/relo_core.c).
+-- What a value does to an instruction, by the instruction's class (instruction-set.rst,
+-- "Instruction encoding"; `bpf_core_patch_insn`, tools/lib/bpf/relo_core.c).
 use Rattle.std.specs.Prelude.{ℕ, ◌+◌, ◌*◌, ◌/◌, ◌%◌, ◌^◌, ◌==◌, ◌||◌, nat_lt, Option, None, Some, ℤ, pos, if◌then◌else◌}
 use Rattle.std.specs.Int.{w32, cast_signed}
 use Rattle.std.specs.Option.{option_map_or}
@@ -30,7 +30,10 @@ both slot next = Written (record { first = slot; next = Some next })
 
 -- arithmetic with an immediate gets the low word
 abbrev pub of_arithmetic : bpf_insn → ℕ → Outcome WriteFault
-of_arithmetic slot value = if src_reg_of slot == 0 then first_alone (record slot { imm = low_word value }) else Refused SourceRegister
+of_arithmetic slot value =
+    if src_reg_of slot == 0
+    then first_alone (record slot { imm = low_word value })
+    else Refused SourceRegister
 
 -- the bits of an operation code for a width in bytes: BPF_B, BPF_H, BPF_W, BPF_DW
 abbrev pub width_bits : ℕ → Option ℕ
@@ -48,16 +51,24 @@ with_width_bits code bits = code / 32 * 32 + bits + code % 8
 -- a load or a store of another width
 abbrev pub with_width : bpf_insn → Width → Outcome WriteFault
 with_width slot Kept = first_alone slot
-with_width slot (Changed size) = option_map_or (λ bits. first_alone (record slot { code = with_width_bits slot.code bits })) (width_bits size) (Refused OtherWidth)
+with_width slot (Changed size) =
+    option_map_or (λ bits. first_alone (record slot { code = with_width_bits slot.code bits }))
+    (width_bits size) (Refused OtherWidth)
 with_width slot Unknown = Refused OtherWidth
 
 -- loads and stores get the value as their offset of 16 signed bits
 abbrev pub of_memory : bpf_insn → ℕ → Width → Outcome WriteFault
-of_memory slot value width = if nat_lt 32767 value then Refused LargeOffset else with_width (record slot { off = pos value }) width
+of_memory slot value width =
+    if nat_lt 32767 value
+    then Refused LargeOffset
+    else with_width (record slot { off = pos value }) width
 
 -- a load of 64 bits gets the low word in its own slot, and the high word in the next one
 abbrev pub of_wide_load : bpf_insn → Option bpf_insn → ℕ → Outcome WriteFault
-of_wide_load slot next value = option_map_or (λ n. both (record slot { imm = low_word value }) (record n { imm = high_word value })) next (Refused NoNextSlot)
+of_wide_load slot next value =
+    option_map_or (λ n.
+    both (record slot { imm = low_word value }) (record n { imm = high_word value })) next
+    (Refused NoNextSlot)
 
 -- by class: BPF_LD 0, BPF_LDX 1, BPF_ST 2, BPF_STX 3, BPF_ALU 4, BPF_ALU64 7
 abbrev pub of_value : bpf_insn → Option bpf_insn → ℕ → Width → Outcome WriteFault
@@ -67,7 +78,8 @@ of_value slot next value width =
     else if nat_lt (slot.code % 8) 4 then of_memory slot value width
     else Refused OtherClass
 
--- a call of helper 195896080 (0xbad2310), which no kernel has: the verifier refuses it if it is reached
+-- a call of helper 195896080 (0xbad2310), which no kernel has: the verifier refuses it if it is
+-- reached
 abbrev pub poison : bpf_insn
 poison = record { code = 0x85; registers = 0; off = pos 0; imm = pos 0xbad2310 }
 

@@ -15,7 +15,7 @@ use type_match::{Outcome, RelocationOutcome};
 pub enum Width {
     /// It stays.
     Kept,
-    /// It becomes so many bytes.
+    /// It becomes as many bytes as this.
     Changed(u32),
     /// The field has another size, and its type isn't one whose width can change.
     Unknown,

@@ -1,5 +1,5 @@
 -- Type relocations over tables of an object's types that agree on what is reached.
-use Rattle.std.proofs.Common.{◌≡◌, ◌⊎◌, ℕ, suc, Bool, true, List, [], ◌∷◌, ◌++◌, None, Some, Ok, Err, Option, Result, refl, sym, ap, subst, inl, inr, ◌∙◌}
+use Rattle.std.proofs.Common.{◌≡◌, ℕ, suc, Bool, true, List, [], ◌∷◌, ◌++◌, None, Some, Ok, Err, Option, Result, refl, sym, ap, subst, inl, inr, ◌∙◌}
 use Rattle.std.proofs.lemmas.List.Elements.{All-head, All-tail}
 use Rattle.std.specs.Prelude.{◌==◌, All, IfOk, IfSome, option_and_then, slice_get, if◌then◌else◌}
 use Rattle.std.specs.Option.{option_map, option_to_list}

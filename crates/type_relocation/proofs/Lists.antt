@@ -1,6 +1,6 @@
 -- Relocations by the keys of functions.
 use Rattle.std.proofs.Common.{arith, ◌≡◌, ℕ, Bool, true, false, cond, List, [], ◌∷◌, ◌++◌, map, Option, None, Some, refl, sym, ap, ◌∙◌, append-nil}
-use Rattle.std.specs.Prelude.{filter, if◌then◌else◌}
+use Rattle.std.specs.Prelude.{if◌then◌else◌}
 use Rattle.std.proofs.lemmas.Cmp.{nat_cmp_total}
 use Rattle.std.specs.BTreeMap.{get, is_at}
 use Rattle.std.proofs.lemmas.Bool.Decides.{nat_tests}

@@ -1,8 +1,6 @@
 -- The tables in which relocations have their first matches.
 use Rattle.std.proofs.Common.{◌≡◌, ℕ, List, [], ◌∷◌, ◌++◌, map, refl, sym, ap, ◌∙◌}
-use Rattle.std.specs.Prelude.{fold}
 use Rattle.std.proofs.lemmas.List.Sums.{fold-append}
-use Rattle.std.specs.Map.{values_of}
 use Rattle.object_parts.specs.Content.{FunctionContent}
 use Rattle.slot_relocation.specs.Walks.{changed}
 use Rattle.type_relocation.specs.Writes.{after_types, inside_of, type_rule, with_match, with_matches, with_tables_of}

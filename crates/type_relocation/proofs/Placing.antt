@@ -1,5 +1,5 @@
 -- Type relocations placed one after the other.
-use Rattle.std.proofs.Common.{arith, ◌≡◌, ◌⊎◌, ℕ, suc, ◌+◌, ◌<◌, ◌≤◌, List, [], ◌∷◌, ◌++◌, drop, length, get_or, Option, Some, None, inl, inr, refl, sym, ap, ◌∙◌, subst, append_assoc, append-nil, add-one, drop-cons}
+use Rattle.std.proofs.Common.{arith, ◌≡◌, ◌⊎◌, ℕ, suc, ◌+◌, ◌<◌, ◌≤◌, List, [], ◌∷◌, ◌++◌, drop, length, get_or, Option, Some, inl, inr, refl, sym, ap, ◌∙◌, subst, append_assoc, append-nil, add-one, drop-cons}
 use Rattle.std.proofs.lemmas.Grind.{common_steps}
 use Rattle.std.specs.Option.{option_to_list}
 use Rattle.btf_extension.specs.Groups.{Group}
@@ -27,7 +27,7 @@ at_this (inr b) = inr (inl b)
 
 -- ---- the relocations of a group
 
--- so many are placed, and those that are left, with these, are all; a fault stands among those that are left where one stands at all
+-- those that are placed, and those that are left, with these, are all; a fault stands among those that are left where one stands at all
 pub record ArePlacedSo (g : TypesGiven) (group name : ℕ) (section : Option ℕ) (records : List bpf_core_relo) (number : ℕ) (old now : List Placed) : Type 0 where
   pub all : now ++ placed_from g group name section number (drop number records) ≡ old ++ placed_from g group name section 0 records
   pub onward : (c : BtfRelocationCause) → RecordsFault g section records c → RecordsFault g section (drop number records) c

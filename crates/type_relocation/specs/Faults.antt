@@ -22,8 +22,10 @@ use Rattle.type_relocation.specs.declared.placed.PlacedFault.{PlacedFault}
 
 abbrev pub OfAccess : AccessError → BtfRelocationCause → Type 0
 OfAccess access.InvalidAccessString (cause.InvalidAccessString text) = Unit {0}
-OfAccess (access.InvalidAccessIndex place len) (cause.InvalidAccessIndex path spec index of error) = Unit {0}
-OfAccess (access.InvalidRelocationKindForType id) (cause.InvalidRelocationKindForType number kind type error) = Unit {0}
+OfAccess (access.InvalidAccessIndex place len) (cause.InvalidAccessIndex path spec index of error) =
+    Unit {0}
+OfAccess (access.InvalidRelocationKindForType id) (cause.InvalidRelocationKindForType number kind type error) =
+    Unit {0}
 OfAccess access.MaximumNestingLevelReached (cause.MaximumNestingLevelReached name) = Unit {0}
 OfAccess (access.BtfError e) (cause.BtfError f) = f ≡ e
 OfAccess _ _ = ⊥
@@ -49,13 +51,18 @@ OfWrite _ _ = ⊥
 
 -- a group's name can't be read, or the file has no section of this name
 abbrev pub FaultOfGroup : TypesGiven → ℕ → BtfRelocationCause → Type 0
-FaultOfGroup g name (cause.BtfError e) = (e ≡ btf.InvalidStringOffset name) × (text_at g.local.strings name ≡ None)
-FaultOfGroup g name cause.SectionNotFound = (text : List ℕ) × (text_at g.local.strings name ≡ Some text) × (section_named g.file text ≡ None)
+FaultOfGroup g name (cause.BtfError e) =
+    (e ≡ btf.InvalidStringOffset name) × (text_at g.local.strings name ≡ None)
+FaultOfGroup g name cause.SectionNotFound =
+    (text : List ℕ)
+    × (text_at g.local.strings name ≡ Some text)
+    × (section_named g.file text ≡ None)
 FaultOfGroup g name _ = ⊥
 
 -- no function of the group's section holds the instruction
 abbrev pub LacksFunction : TypesGiven → Option ℕ → bpf_core_relo → BtfRelocationCause → Type 0
-LacksFunction g section r cause.FunctionNotFound = (s : ℕ) × (section ≡ Some s) × (function_holding g.functions s r.insn_off ≡ None)
+LacksFunction g section r cause.FunctionNotFound =
+    (s : ℕ) × (section ≡ Some s) × (function_holding g.functions s r.insn_off ≡ None)
 LacksFunction g section r _ = ⊥
 
 -- a relocation comes to nothing in the kernel's types
@@ -65,22 +72,35 @@ LacksOutcome g r c = (e : TypeRelocationError) × (record_outcome g r ≡ Err e)
 -- some relocation of a group does
 abbrev pub RecordsFault : TypesGiven → Option ℕ → List bpf_core_relo → BtfRelocationCause → Type 0
 RecordsFault g section [] c = ⊥
-RecordsFault g section (r ∷ rs) c = LacksFunction g section r c ⊎ LacksOutcome g r c ⊎ RecordsFault g section rs c
+RecordsFault g section (r ∷ rs) c =
+    LacksFunction g section r c ⊎ LacksOutcome g r c ⊎ RecordsFault g section rs c
 
 -- some group, also one without relocations
 abbrev pub GroupsFault : TypesGiven → Groups → BtfRelocationCause → Type 0
 GroupsFault g [] c = ⊥
-GroupsFault g (x ∷ xs) c = FaultOfGroup g x.name_offset c ⊎ RecordsFault g (section_at g x.name_offset) x.records c ⊎ GroupsFault g xs c
+GroupsFault g (x ∷ xs) c =
+    FaultOfGroup g x.name_offset c
+    ⊎ RecordsFault g (section_at g x.name_offset) x.records c
+    ⊎ GroupsFault g xs c
 
--- what a relocation of some function would write doesn't fit its instruction, by the slots after those before it
-abbrev pub WritesFault : (FunctionContent → List (ℕ × Placed)) → List ((ℕ × ℕ) × FunctionContent) → BtfRelocationCause → Type 0
+-- what a relocation of some function would write doesn't fit its instruction, by the slots after
+-- those before it
+abbrev pub WritesFault : (FunctionContent → List (ℕ × Placed))
+    → List ((ℕ × ℕ) × FunctionContent)
+    → BtfRelocationCause
+    → Type 0
 WritesFault inside [] c = ⊥
 WritesFault inside (f ∷ fs) c =
-    ((offset : ℕ) × (e : PlacedFault) × HasFaultAmong type_rule f.1 (inside f.1) offset e × OfWrite e.fault c) ⊎ WritesFault inside fs c
+    ((offset : ℕ)
+    × (e : PlacedFault)
+    × HasFaultAmong type_rule f.1 (inside f.1) offset e
+    × OfWrite e.fault c)
+    ⊎ WritesFault inside fs c
 
 -- a fault of type relocations
 abbrev pub HasTypesFault : TypesGiven → Groups → BtfRelocationCause → Type 0
-HasTypesFault g groups c = GroupsFault g groups c ⊎ WritesFault (types_inside g groups) g.functions c
+HasTypesFault g groups c =
+    GroupsFault g groups c ⊎ WritesFault (types_inside g groups) g.functions c
 
 -- no such fault stands
 pub record CanBeRelocated (g : TypesGiven) (groups : Groups) : Type 0 where

@@ -1,6 +1,6 @@
--- The type relocations of an object, each at the function that it stands in and with what it gives to its instruction ("BTF.ext
--- section", "BTF CO-RE relocations").
-use Rattle.std.specs.Prelude.{◌==◌, ◌&&◌, ℕ, suc, find, List, [], ◌∷◌, ◌++◌, Option, None, Some, option_and_then, slice_get, Result, Ok, Err}
+-- The type relocations of an object, each at the function that it stands in and with what it gives
+-- to its instruction ("BTF.ext section", "BTF CO-RE relocations").
+use Rattle.std.specs.Prelude.{◌==◌, ◌&&◌, ℕ, suc, find, List, [], ◌∷◌, ◌++◌, Option, None, Some, option_and_then, slice_get, Result, Err}
 use Rattle.std.specs.Option.{option_map, option_to_list}
 use Rattle.std.specs.Result.{result_ok}
 use Rattle.access_paths.specs.declared.error.AccessError.TheVariants.{BtfError as TypeError}
@@ -26,7 +26,8 @@ use Rattle.type_relocation.specs.declared.placed.Position.{Position}
 abbrev pub Groups : Type 0
 Groups = List (Group bpf_core_relo)
 
--- what type relocations rest on: the object's file and its functions by key, its own types, and the tables of a kernel
+-- what type relocations rest on: the object's file and its functions by key, its own types, and the
+-- tables of a kernel
 pub record TypesGiven : Type 0 where
   pub file : List ℕ
   pub functions : List ((ℕ × ℕ) × FunctionContent)
@@ -34,7 +35,12 @@ pub record TypesGiven : Type 0 where
   pub targets : List Table
 
 abbrev pub types_given : List ℕ → List ((ℕ × ℕ) × FunctionContent) → Table → List Table → TypesGiven
-types_given file functions local targets = record { file = file; functions = functions; local = local; targets = targets }
+types_given file functions local targets = record {
+  file = file;
+  functions = functions;
+  local = local;
+  targets = targets;
+}
 
 -- the index of the section of a name; of several of a name the last counts
 abbrev pub section_named : List ℕ → List ℕ → Option ℕ
@@ -46,26 +52,49 @@ section_at g offset = option_and_then (section_named g.file) (text_at g.local.st
 
 -- the first function, by key, of those of a section whose bytes hold an offset
 abbrev pub function_holding : List ((ℕ × ℕ) × FunctionContent) → ℕ → ℕ → Option FunctionContent
-function_holding functions section offset = option_map (λ e. e.1) (find (λ e. (e.1.section_index == section) && is_inside e.1 offset) functions)
+function_holding functions section offset =
+    option_map (λ e. e.1)
+    (find (λ e. (e.1.section_index == section) && is_inside e.1 offset) functions)
 
--- what a relocation of a kind comes to in the kernel's types; a number that stands for no kind is refused
-abbrev pub outcome_of_kind : TypesGiven → bpf_core_relo → Option RelocationKind → Result RelocationOutcome TypeRelocationError
+-- what a relocation of a kind comes to in the kernel's types; a number that stands for no kind is
+-- refused
+abbrev pub outcome_of_kind : TypesGiven
+    → bpf_core_relo
+    → Option RelocationKind
+    → Result RelocationOutcome TypeRelocationError
 outcome_of_kind g r None = Err (Local (TypeError (InvalidRelocationKind r.kind)))
-outcome_of_kind g r (Some kind) = relocation_outcome g.local (record { kind = kind; type_id = r.type_id; access_str_off = r.access_str_off }) g.targets
+outcome_of_kind g r (Some kind) =
+    relocation_outcome g.local
+    (record { kind = kind; type_id = r.type_id; access_str_off = r.access_str_off }) g.targets
 
-abbrev pub record_outcome : TypesGiven → bpf_core_relo → Result RelocationOutcome TypeRelocationError
+abbrev pub record_outcome : TypesGiven
+    → bpf_core_relo
+    → Result RelocationOutcome TypeRelocationError
 record_outcome g r = outcome_of_kind g r (slice_get relocation_kinds r.kind)
 
 -- a relocation in a function, with what its outcome gives to its instruction
-abbrev pub placed_as : TypesGiven → Position → bpf_core_relo → FunctionContent → RelocationOutcome → Placed
-placed_as g position r f o = record { key = key_of f; offset = r.insn_off; position = position; patch = patch_of g.local g.targets o; table = o.table }
+abbrev pub placed_as : TypesGiven
+    → Position
+    → bpf_core_relo
+    → FunctionContent
+    → RelocationOutcome
+    → Placed
+placed_as g position r f o = record {
+  key = key_of f;
+  offset = r.insn_off;
+  position = position;
+  patch = patch_of g.local g.targets o;
+  table = o.table;
+}
 
 abbrev pub placed_in : TypesGiven → Position → bpf_core_relo → FunctionContent → Option Placed
 placed_in g position r f = option_map (placed_as g position r f) (result_ok (record_outcome g r))
 
 -- in the function that holds its offset; one without section, function or outcome has no place
 abbrev pub placed : TypesGiven → Position → Option ℕ → bpf_core_relo → Option Placed
-placed g position section r = option_and_then (λ s. option_and_then (placed_in g position r) (function_holding g.functions s r.insn_off)) section
+placed g position section r =
+    option_and_then (λ s.
+    option_and_then (placed_in g position r) (function_holding g.functions s r.insn_off)) section
 
 -- those of a group, from a number on
 abbrev pub placed_from : TypesGiven → ℕ → ℕ → Option ℕ → ℕ → List bpf_core_relo → List Placed

@@ -1,5 +1,5 @@
 -- What the functions of this crate answer on their way.
-use Rattle.std.specs.Prelude.{◌≡◌, ◌⊎◌, ℕ, ◌++◌, List, [], ◌∷◌, Option}
+use Rattle.std.specs.Prelude.{◌≡◌, ◌⊎◌, ℕ, ◌++◌, List, [], Option}
 use Rattle.std.specs.BTreeMap.{get}
 use Rattle.std.specs.Option.{option_map_or}
 use Rattle.std.specs.declared.alloc.Global.{Global}
@@ -32,7 +32,8 @@ RecordFault g section r c = LacksFunction g section r c ⊎ LacksOutcome g r c
 
 -- what refuses a group before instructions are looked at
 abbrev pub GroupFault : TypesGiven → Group bpf_core_relo → BtfRelocationCause → Type 0
-GroupFault g x c = FaultOfGroup g x.name_offset c ⊎ RecordsFault g (section_at g x.name_offset) x.records c
+GroupFault g x c =
+    FaultOfGroup g x.name_offset c ⊎ RecordsFault g (section_at g x.name_offset) x.records c
 
 -- a list with some more is a whole one
 abbrev pub IsFront : {A : Type 0} → List A → List A → Type 0

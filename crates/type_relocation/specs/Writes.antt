@@ -3,7 +3,6 @@ use Rattle.std.specs.Prelude.{Bool, ℕ, ◌+◌, ◌/◌, List, length, map, fi
 use Rattle.std.specs.BTreeMap.{is_at}
 use Rattle.std.specs.Option.{option_map_or}
 use Rattle.std.specs.Ordering.{is_lt, nat_cmp, ordering_then}
-use Rattle.ebpf_items.specs.declared.instruction.bpf_insn.{bpf_insn}
 use Rattle.object_parts.specs.Content.{FunctionContent, key_cmp, key_of}
 use Rattle.object_parts.specs.Installed.{AreChanged}
 use Rattle.object_parts.specs.MatchedTables.{with_table}
@@ -17,23 +16,28 @@ use Rattle.type_relocation.specs.declared.placed.Placed.{Placed}
 use Rattle.type_relocation.specs.declared.placed.PlacedFault.{PlacedFault}
 use Rattle.type_relocation.specs.declared.placed.Position.{Position}
 
--- a fault with the relocation at which it stands, the place of its slot, and how many slots there are
+-- a fault with the relocation at which it stands, the place of its slot, and how many slots there
+-- are
 abbrev pub at_position : Position → ℕ → ℕ → Outcome WriteFault → Outcome PlacedFault
 at_position position place count Skipped = Skipped
 at_position position place count (Written w) = Written w
-at_position position place count (Refused fault) = Refused (record { position = position; index = place; num_instructions = count; fault = fault })
+at_position position place count (Refused fault) =
+    Refused (record { position = position; index = place; num_instructions = count; fault = fault })
 
--- The rule: a relocation is made at the slot in which its offset lies, counted from the function's beginning. One inside a function has
--- such a slot.
+-- The rule: a relocation is made at the slot in which its offset lies, counted from the function's
+-- beginning. One inside a function has such a slot.
 abbrev pub type_rule : RuleOf Placed PlacedFault
 type_rule slots distance p =
     option_map_or
-    (λ slot. at_position p.position (distance / 8) (length slots) (patched slot (slice_get slots (distance / 8 + 1)) p.patch))
+    (λ slot.
+    at_position p.position (distance / 8) (length slots)
+    (patched slot (slice_get slots (distance / 8 + 1)) p.patch))
     (slice_get slots (distance / 8)) Skipped
 
 -- whether a relocation stands before another: by group, and then by number
 abbrev pub precedes : Position → Position → Bool
-precedes one other = is_lt (ordering_then (nat_cmp one.group other.group) (nat_cmp one.number other.number))
+precedes one other =
+    is_lt (ordering_then (nat_cmp one.group other.group) (nat_cmp one.number other.number))
 
 -- those of the function of a key, in order, with their offsets in its section
 abbrev pub placed_at : List Placed → ℕ × ℕ → List (ℕ × Placed)
@@ -57,7 +61,8 @@ with_tables_of rs tables = fold (λ so_far r. with_match so_far r.1) tables rs
 abbrev pub with_matches : List (ℕ × Placed) → FunctionContent → FunctionContent
 with_matches rs f = record f { matched_tables = with_tables_of rs f.matched_tables }
 
--- a function after relocations: they are written into its slots, and it knows where they have matches
+-- a function after relocations: they are written into its slots, and it knows where they have
+-- matches
 abbrev pub after_types : (FunctionContent → List (ℕ × Placed)) → FunctionContent → FunctionContent
 after_types inside f = with_matches (inside f) (relocated_by type_rule (inside f) f)
 

@@ -12,9 +12,14 @@ use std::collections::BTreeMap;
 /// Lists of type relocations, with their offsets, by the keys of functions.
 pub(crate) type ByFunction = BTreeMap<(usize, u64), Vec<(u64, Placed)>>;
 
-/// Enters a relocation behind those of its function.
+/// Enters a relocation after those of its function.
 fn enter(alloc: Global, lists: &mut ByFunction, placed: Placed) -> Result<(), AllocError>
-    ensures { OnOk result ((key : ℕ × ℕ) → listed_at lists.new key ≡ (if is_at (key_cmp placed.key) key then listed_at lists.old key ++ ((placed.offset, placed) ∷ []) else listed_at lists.old key)) }
+    ensures { OnOk result
+        ((key : ℕ × ℕ)
+        → listed_at lists.new key
+        ≡ (if is_at (key_cmp placed.key) key
+        then listed_at lists.old key ++ ((placed.offset, placed) ∷ [])
+        else listed_at lists.old key)) }
 {
     let mut list = match lists.remove(&placed.key) {
         Some(list) => list,

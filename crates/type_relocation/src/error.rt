@@ -12,8 +12,8 @@ use ebpf_items::RelocationKind;
 use std::alloc::{AllocError, AllocFailed};
 use thiserror::Error;
 
-/// Why a type relocation, or a group of them, can't be made. Relocations are counted from 0 in their
-/// group.
+/// Why a type relocation, or a group of them, can't be made. Relocations are counted from 0 in
+/// their group.
 #[derive(Debug, Drop, Error)]
 pub enum BtfRelocationCause {
     /// The object has no section of the group's name.
@@ -108,8 +108,8 @@ impl<T: Drop> From<AllocFailed<T>> for BtfRelocationCause {
     }
 }
 
-/// Why the type relocations of an object can't be made, with the name of the group's section and the
-/// relocation at which it stands.
+/// Why the type relocations of an object can't be made, with the name of the group's section and
+/// the relocation at which it stands.
 #[derive(Debug, Drop, Error)]
 #[error("error relocating section {:?}{place}: {error}", section.as_deref().unwrap_or(""))]
 pub struct BtfRelocationError {

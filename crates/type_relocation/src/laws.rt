@@ -17,9 +17,9 @@ pub fn types_are_written()
     lengths_remain::<Placed, PlacedFault>();
 }
 
-/// What type relocations come to, write and are refused for rests, of the object's own types, on the
-/// records that are reached from their types, on the texts there, on their access strings and on the
-/// names of their groups' sections.
+/// What type relocations come to, write and are refused for rests, of the object's own types, on
+/// the records that are reached from their types, on the texts there, on their access strings and
+/// on the names of their groups' sections.
 pub fn relocations_rest()
     ensures { RelocationsRest }
 {

@@ -96,7 +96,8 @@ impl TypePass {
 
     /// A function that knows the tables in which its relocations have their first matches.
     fn with_matches<'f>(&self, function: Function<'f>) -> Result<Function<'f>, AllocError>
-        ensures { IfOk result (λ f. f ≡ with_matches (inside_of self.now function.entry) function.entry) }
+        ensures { IfOk result (λ f.
+            f ≡ with_matches (inside_of self.now function.entry) function.entry) }
     {
         let mut function = function;
         let list = self.relocations_at(function.key());
@@ -110,7 +111,8 @@ impl TypePass {
         alloc: Global,
         functions: Vec<Function<'f>>,
     ) -> Result<Vec<Function<'f>>, AllocError>
-        ensures { IfOk result (λ list. list.items ≡ map (λ f. with_matches (inside_of self.now f) f) functions.entry.items) }
+        ensures { IfOk result (λ list.
+            list.items ≡ map (λ f. with_matches (inside_of self.now f) f) functions.entry.items) }
     {
         let mut list = Vec::new(alloc);
         for function in functions {

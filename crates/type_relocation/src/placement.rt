@@ -48,7 +48,13 @@ impl<'r, 'o, 'f, 't, 'k> Model for Lookup<'r, 'o, 'f, 't, 'k> {
 
     ghost Value = { TypesGiven };
 
-    ghost view = { λ l. record { file = l.file.now; functions = l.functions.now; local = l.local.now; targets = l.targets.now } };
+    ghost view = { λ l.
+        record {
+          file = l.file.now;
+          functions = l.functions.now;
+          local = l.local.now;
+          targets = l.targets.now;
+        } };
 
     ghost invariant = { λ l. AreIndexes (read_sections l.file.now) l.sections.now.entries };
 }
@@ -147,9 +153,12 @@ impl<'r, 'o, 'f, 't, 'k> Lookup<'r, 'o, 'f, 't, 'k> {
     ) -> Result<Placed, BtfRelocationCause>
         requires few { length self.now.targets ≤ 2 ^ 32 }
         requires same { matcher.old ≡ matched self.now }
-        ensures value { IfOk result (λ p. placed self.now position (Some section_index) relocation ≡ Some p) }
-        ensures accepted { OnOk result (StandsNone (RecordFault self.now (Some section_index) relocation)) }
-        ensures refused { IfErr result (λ c. c ≢ OutOfMemory → RecordFault self.now (Some section_index) relocation c) }
+        ensures value { IfOk result (λ p.
+            placed self.now position (Some section_index) relocation ≡ Some p) }
+        ensures accepted { OnOk result
+            (StandsNone (RecordFault self.now (Some section_index) relocation)) }
+        ensures refused { IfErr result (λ c.
+            c ≢ OutOfMemory → RecordFault self.now (Some section_index) relocation c) }
         ensures same { matcher.new ≡ matcher.old }
     {
         let offset = u64::from(relocation.insn_off);
@@ -178,10 +187,19 @@ impl<'r, 'o, 'f, 't, 'k> Lookup<'r, 'o, 'f, 't, 'k> {
     ) -> Result<(), BtfRelocationCause>
         requires few { length self.now.targets ≤ 2 ^ 32 }
         requires same { matcher.old ≡ matched self.now }
-        ensures ok { OnOk result (list.new.items ≡ list.old.items ++ placed_from self.now first.group first.name_offset (Some section_index) 0 records.now) }
-        ensures front { IsFront list.new.items (list.old.items ++ placed_from self.now first.group first.name_offset (Some section_index) 0 records.now) }
-        ensures accepted { OnOk result (StandsNone (RecordsFault self.now (Some section_index) records.now)) }
-        ensures refused { IfErr result (λ c. c ≢ OutOfMemory → RecordsFault self.now (Some section_index) records.now c) }
+        ensures ok { OnOk result
+            (list.new.items
+            ≡ list.old.items
+            ++ placed_from self.now first.group first.name_offset (Some section_index) 0
+            records.now) }
+        ensures front { IsFront list.new.items
+            (list.old.items
+            ++ placed_from self.now first.group first.name_offset (Some section_index) 0
+            records.now) }
+        ensures accepted { OnOk result
+            (StandsNone (RecordsFault self.now (Some section_index) records.now)) }
+        ensures refused { IfErr result (λ c.
+            c ≢ OutOfMemory → RecordsFault self.now (Some section_index) records.now c) }
         ensures same { matcher.new ≡ matcher.old }
     {
         for (number, relocation) in records.iter().enumerate() {
@@ -202,8 +220,10 @@ impl<'r, 'o, 'f, 't, 'k> Lookup<'r, 'o, 'f, 't, 'k> {
     ) -> Result<(), BtfRelocationCause>
         requires few { length self.now.targets ≤ 2 ^ 32 }
         requires same { matcher.old ≡ matched self.now }
-        ensures ok { OnOk result (list.new.items ≡ list.old.items ++ placed_group self.now number group.now) }
-        ensures front { IsFront list.new.items (list.old.items ++ placed_group self.now number group.now) }
+        ensures ok { OnOk result
+            (list.new.items ≡ list.old.items ++ placed_group self.now number group.now) }
+        ensures front { IsFront list.new.items
+            (list.old.items ++ placed_group self.now number group.now) }
         ensures accepted { OnOk result (StandsNone (GroupFault self.now group.now)) }
         ensures refused { IfErr result (λ c. c ≢ OutOfMemory → GroupFault self.now group.now c) }
         ensures same { matcher.new ≡ matcher.old }
@@ -235,7 +255,8 @@ impl<'r, 'o, 'f, 't, 'k> Lookup<'r, 'o, 'f, 't, 'k> {
         asked_text(self.alloc, self.local, record)
     }
 
-    /// Where a relocation of a group stands, by its number; of a number that none has it is the group.
+    /// Where a relocation of a group stands, by its number; of a number that none has it is the
+    /// group.
     fn place_of(
         &self,
         group: &RelocationGroup,
@@ -275,10 +296,12 @@ impl<'r, 'o, 'f, 't, 'k> Lookup<'r, 'o, 'f, 't, 'k> {
     ) -> Result<(), BtfRelocationError>
         requires few { length self.now.targets ≤ 2 ^ 32 }
         requires same { matcher.old ≡ matched self.now }
-        ensures ok { OnOk result (list.new.items ≡ list.old.items ++ all_placed self.now groups.now) }
+        ensures ok { OnOk result
+            (list.new.items ≡ list.old.items ++ all_placed self.now groups.now) }
         ensures front { IsFront list.new.items (list.old.items ++ all_placed self.now groups.now) }
         ensures accepted { OnOk result (StandsNone (GroupsFault self.now groups.now)) }
-        ensures refused { IfErr result (λ e. e.error ≢ OutOfMemory → GroupsFault self.now groups.now e.error) }
+        ensures refused { IfErr result (λ e.
+            e.error ≢ OutOfMemory → GroupsFault self.now groups.now e.error) }
     {
         for (number, group) in groups.iter().enumerate() {
             let before = list.len();

@@ -45,9 +45,20 @@ fn placement_of(
     groups: &[RelocationGroup],
 ) -> Result<Placement, AllocError>
     requires { length targets.now ≤ 2 ^ 32 }
-    ensures front { IfOk result (λ p. IsFront p.all.items (all_placed (types_given file.now functions.now local.now targets.now) groups.now)) }
-    ensures whole { IfOk result (λ p. p.stopped ≡ None → (p.all.items ≡ all_placed (types_given file.now functions.now local.now targets.now) groups.now) × StandsNone (GroupsFault (types_given file.now functions.now local.now targets.now) groups.now)) }
-    ensures stopped { IfOk result (λ p. IfSome p.stopped (λ e. e.error ≢ OutOfMemory → GroupsFault (types_given file.now functions.now local.now targets.now) groups.now e.error)) }
+    ensures front { IfOk result (λ p.
+        IsFront p.all.items
+        (all_placed (types_given file.now functions.now local.now targets.now) groups.now)) }
+    ensures whole { IfOk result (λ p.
+        p.stopped ≡ None
+        → (p.all.items
+        ≡ all_placed (types_given file.now functions.now local.now targets.now) groups.now)
+        × StandsNone
+        (GroupsFault (types_given file.now functions.now local.now targets.now) groups.now)) }
+    ensures stopped { IfOk result (λ p.
+        IfSome p.stopped (λ e.
+        e.error ≢ OutOfMemory
+        → GroupsFault (types_given file.now functions.now local.now targets.now) groups.now
+        e.error)) }
 {
     let asked = asked_by(alloc, groups)?;
     let sections = section_indexes(alloc, file)?;
@@ -117,10 +128,12 @@ fn written<'f>(
     all: Vec<Placed>,
     functions: &Functions<'f>,
 ) -> Result<Vec<Function<'f>>, BtfRelocationError>
-    ensures value { IfOk result (λ list. list.items ≡ map (after_types (inside_of all.items)) (values_of functions.now)) }
+    ensures value { IfOk result (λ list.
+        list.items ≡ map (after_types (inside_of all.items)) (values_of functions.now)) }
     ensures keyed { OnOk result (AreKeyed functions.now) }
     ensures sound { OnOk result (AreFaultless type_rule (inside_of all.items) functions.now) }
-    ensures fault { IfErr result (λ e. e.error ≢ OutOfMemory → WritesFault (inside_of all.items) functions.now e.error) }
+    ensures fault { IfErr result (λ e.
+        e.error ≢ OutOfMemory → WritesFault (inside_of all.items) functions.now e.error) }
 {
     let pass = TypePass::new(alloc, all)?;
     match relocated_functions(alloc, &pass, functions) {
@@ -141,9 +154,11 @@ fn write_all<'f>(
     all: Vec<Placed>,
     functions: &mut Functions<'f>,
 ) -> Result<(), BtfRelocationError>
-    ensures relocated { OnOk result (AreChanged (after_types (inside_of all.items)) functions.old functions.new) }
+    ensures relocated { OnOk result
+        (AreChanged (after_types (inside_of all.items)) functions.old functions.new) }
     ensures sound { OnOk result (AreFaultless type_rule (inside_of all.items) functions.old) }
-    ensures fault { IfErr result (λ e. e.error ≢ OutOfMemory → WritesFault (inside_of all.items) functions.old e.error) }
+    ensures fault { IfErr result (λ e.
+        e.error ≢ OutOfMemory → WritesFault (inside_of all.items) functions.old e.error) }
     ensures unchanged { OnErr result (functions.new ≡ functions.old) }
 {
     changes_are_installed();
@@ -162,7 +177,9 @@ fn first_error(
     stopped: BtfRelocationError,
     functions: &Functions<'_>,
 ) -> BtfRelocationError
-    ensures { result.error ≢ OutOfMemory → (result.error ≡ stopped.error) ⊎ WritesFault (inside_of all.items) functions.now result.error }
+    ensures { result.error ≢ OutOfMemory
+        → (result.error ≡ stopped.error)
+        ⊎ WritesFault (inside_of all.items) functions.now result.error }
 {
     let pass = match TypePass::new(alloc, all) {
         Ok(pass) => pass,
@@ -190,12 +207,12 @@ fn first_error(
 /// # Errors
 ///
 /// With the name of the group's section: `BtfError` and `SectionNotFound` for a group whose
-/// section's name can't be read or isn't there; `FunctionNotFound` for a relocation that no function
-/// holds; those of [`type_match::relocation_outcome`]; `InvalidInstruction` for arithmetic with a
-/// register, an offset past 32,767, a load or a store of another width that it can't get, and an
-/// instruction of another class; `InvalidInstructionIndex` for a load of 64 bits without a second
-/// slot; and `OutOfMemory`. Of several faults the first by group and relocation is answered. The
-/// functions then stay as they are.
+/// section's name can't be read or isn't there; `FunctionNotFound` for a relocation that no
+/// function holds; those of [`type_match::relocation_outcome`]; `InvalidInstruction` for arithmetic
+/// with a register, an offset past 32,767, a load or a store of another width that it can't get,
+/// and an instruction of another class; `InvalidInstructionIndex` for a load of 64 bits without a
+/// second slot; and `OutOfMemory`. Of several faults the first by group and relocation is answered.
+/// The functions then stay as they are.
 pub fn relocate_types<'f>(
     alloc: Global,
     file: &ObjectFile<'_>,
@@ -205,9 +222,16 @@ pub fn relocate_types<'f>(
     functions: &mut Functions<'f>,
 ) -> Result<(), BtfRelocationError>
     requires { length targets.now ≤ 2 ^ 32 }
-    ensures relocated { OnOk result (AreRelocated (types_given file.now functions.old local.now targets.now) extension.now.relocations functions.new) }
-    ensures sound { OnOk result (CanBeRelocated (types_given file.now functions.old local.now targets.now) extension.now.relocations) }
-    ensures fault { IfErr result (λ e. e.error ≢ OutOfMemory → HasTypesFault (types_given file.now functions.old local.now targets.now) extension.now.relocations e.error) }
+    ensures relocated { OnOk result
+        (AreRelocated (types_given file.now functions.old local.now targets.now)
+        extension.now.relocations functions.new) }
+    ensures sound { OnOk result
+        (CanBeRelocated (types_given file.now functions.old local.now targets.now)
+        extension.now.relocations) }
+    ensures fault { IfErr result (λ e.
+        e.error ≢ OutOfMemory
+        → HasTypesFault (types_given file.now functions.old local.now targets.now)
+        extension.now.relocations e.error) }
     ensures unchanged { OnErr result (functions.new ≡ functions.old) }
 {
     let groups = groups_of(alloc, extension)?;

@@ -1,7 +1,8 @@
 //! An object's symbols by hand.
 
-/// An object of 368 bytes whose symbols 1 to 3 lie in no section: `f___x`, and `v` twice, of which the
-/// first is weak. The symbol table begins at 64, its strings at 160, the section headers at 176.
+/// An object of 368 bytes whose symbols 1 to 3 lie in no section: `f___x`, and `v` twice, of which
+/// the first is weak. The symbol table begins at 64, its strings at 160, the section headers at
+/// 176.
 pub(crate) static OBJECT: [u8; 368] = [
     127, 69, 76, 70, 2, 1, 1, 0, 0, 0, 0, 0, 0, 0, 0, 0, 1, 0, 0xf7, 0, 1, 0, 0, 0, 0, 0, 0, 0, 0,
     0, 0, 0, 0, 0, 0, 0, 0, 0, 0, 0, 0xb0, 0, 0, 0, 0, 0, 0, 0, 0, 0, 0, 0, 64, 0, 0, 0, 0, 0, 64,

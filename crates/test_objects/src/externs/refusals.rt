@@ -47,7 +47,7 @@ static REFUSED: [(&[u32], Refusal); 8] = [
     ),
     // an entry of a type that isn't there
     (&[9, DATASEC_1, 0, 9, 0, 0], Refusal::UnknownBtfType(9)),
-    // an entry that is an integer, behind a function
+    // an entry that is an integer, after a function
     (
         &[
             0, INT, 8, 0x40, 0, PROTO, 0, 1, EXTERN, 2, 9, DATASEC_2, 0, 3, 0, 0, 1, 0, 0,
@@ -69,7 +69,7 @@ static REFUSED: [(&[u32], Refusal); 8] = [
         &[7, VAR, 5, 2, 9, DATASEC_1, 0, 1, 0, 0],
         Refusal::UnknownBtfType(5),
     ),
-    // one of a type behind a modifier that isn't there
+    // one of a type after a modifier that isn't there
     (
         &[0, CONST, 6, 7, VAR, 1, 2, 9, DATASEC_1, 0, 2, 0, 0],
         Refusal::UnknownBtfType(6),

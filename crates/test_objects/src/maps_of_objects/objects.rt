@@ -30,12 +30,12 @@ struct Header {
     link: u32,
 }
 
-/// Where the next bytes of the body lie in the file, behind the file header.
+/// Where the next bytes of the body lie in the file, after the file header.
 fn offset(body: &Vec<u8>) -> u64 {
     (body.len() as u64).wrapping_add(64)
 }
 
-/// The offset of a name that is written behind the others.
+/// The offset of a name that is written after the others.
 fn push_name(names: &mut Vec<u8>, name: &str) -> Result<u32, AllocError> {
     let at = (names.len() % 0x1_0000) as u32;
     names.extend_from_slice(name.as_bytes())?;

@@ -1,8 +1,8 @@
 //! An object with a program that calls a function of `.text`.
 
-/// An object with the function `f` (section 2, three slots) and `add` (section 3, two slots), both at
-/// address 0. The first slot of `f` calls helper 112, the second `add`; the first slot of `add` calls
-/// helper 113. It is the one of tests/rows/older-helpers-of-two-functions.
+/// An object with the function `f` (section 2, three slots) and `add` (section 3, two slots), both
+/// at address 0. The first slot of `f` calls helper 112, the second `add`; the first slot of `add`
+/// calls helper 113. It is the one of tests/rows/older-helpers-of-two-functions.
 pub(crate) static TWO_FUNCTIONS: [u8; 784] = [
     0x7f, 0x45, 0x4c, 0x46, 2, 1, 1, 0, 0, 0, 0, 0, 0, 0, 0, 0, 1, 0, 0xf7, 0, 1, 0, 0, 0, 0, 0, 0,
     0, 0, 0, 0, 0, 0, 0, 0, 0, 0, 0, 0, 0, 0x10, 1, 0, 0, 0, 0, 0, 0, 0, 0, 0, 0, 0x40, 0, 0, 0, 0,

@@ -11,7 +11,7 @@ const NAME: usize = 159;
 /// What became of a rewriting to all features.
 #[derive(Clone, Copy, PartialEq)]
 enum Outcome {
-    /// It asked so many questions.
+    /// How many questions it asked.
     Asked(usize),
     UnknownSectionSize,
     Other,

@@ -1,8 +1,9 @@
 //! An object with externs, and where it is changed.
 
-/// An object of 928 bytes with three externs: the function `f___x` of a parameter (type 3), the variable
-/// `v___x` of an integer (4) and the variable `init_task` without a type (5). Its other types are the
-/// integer (1), the function's prototype (2), a pointer to itself (6) and the section of the externs.
+/// An object of 928 bytes with three externs: the function `f___x` of a parameter (type 3), the
+/// variable `v___x` of an integer (4) and the variable `init_task` without a type (5). Its other
+/// types are the integer (1), the function's prototype (2), a pointer to itself (6) and the section
+/// of the externs.
 pub(crate) static OBJECT: [u8; 928] = [
     0x7f, 0x45, 0x4c, 0x46, 2, 1, 1, 0, 0, 0, 0, 0, 0, 0, 0, 0, 1, 0, 0xf7, 0, 1, 0, 0, 0, 0, 0, 0,
     0, 0, 0, 0, 0, 0, 0, 0, 0, 0, 0, 0, 0, 0xe0, 1, 0, 0, 0, 0, 0, 0, 0, 0, 0, 0, 0x40, 0, 0, 0, 0,

@@ -25,7 +25,8 @@ pub(crate) static FLOATS: [u8; 584] = [
     0, 0, 0, 0, 0, 0, 0, 0, 0, 0, 0, 0,
 ];
 
-/// A program `f` that calls `add` of `.text`, with a record for each: types 3 and 5, functions of these names, of which `f` is global.
+/// A program `f` that calls `add` of `.text`, with a record for each: types 3 and 5, functions of
+/// these names, of which `f` is global.
 pub(crate) static RECORDS: [u8; 1104] = [
     0x7f, 0x45, 0x4c, 0x46, 2, 1, 1, 0, 0, 0, 0, 0, 0, 0, 0, 0, 1, 0, 0xf7, 0, 1, 0, 0, 0, 0, 0, 0,
     0, 0, 0, 0, 0, 0, 0, 0, 0, 0, 0, 0, 0, 0xd0, 1, 0, 0, 0, 0, 0, 0, 0, 0, 0, 0, 0x40, 0, 0, 0, 0,

@@ -1,4 +1,4 @@
-use Rattle.std.proofs.Common.{◌≡◌, List, [], sym, subst}
+use Rattle.std.proofs.Common.{sym, subst}
 use Rattle.btf_sanitizing.specs.Answers.{Answers}
 use Rattle.ebpf_object.proofs.RefusedTables.{none_answered}
 use Rattle.ebpf_object.specs.Rewriting.{AreAnswered}

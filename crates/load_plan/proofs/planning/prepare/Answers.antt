@@ -1,4 +1,3 @@
-use Rattle.std.proofs.Common.{inr}
 use Rattle.load_plan.proofs.Chain.{through_ok}
 use Rattle.load_plan.proofs.planning.prepare.Goals as goal
 

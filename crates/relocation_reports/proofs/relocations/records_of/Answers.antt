@@ -1,4 +1,4 @@
-use Rattle.std.proofs.Common.{◌≡◌, ◌<◌, ◌++◌, ◌∷◌, [], length, sym, ap, ◌∙◌, subst}
+use Rattle.std.proofs.Common.{◌<◌, ◌++◌, ◌∷◌, [], length, sym, ap, ◌∙◌, subst}
 use Rattle.relocation_reports.proofs.Taken.{none_missing, taken}
 use Rattle.relocation_reports.proofs.relocations.records_of.Goals as goal
 use Rattle.relocation_reports.proofs.relocations.records_of.Goals.{in-Some+in_ok-push, in_default}

@@ -1,4 +1,4 @@
-use Rattle.std.proofs.Common.{◌≡◌, ◌<◌, ◌++◌, ◌∷◌, [], length, sym, ap, ◌∙◌, subst}
+use Rattle.std.proofs.Common.{◌<◌, ◌++◌, ◌∷◌, [], length, sym, ap, ◌∙◌, subst}
 use Rattle.type_relocation.proofs.Taken.{none_missing, taken}
 use Rattle.type_relocation.proofs.groups.records_of.Goals as goal
 use Rattle.type_relocation.proofs.groups.records_of.Goals.{in-Some+in_ok-push, in_default}

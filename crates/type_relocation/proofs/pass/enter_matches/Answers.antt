@@ -1,4 +1,4 @@
-use Rattle.std.proofs.Common.{◌∙◌, get_or, take}
+use Rattle.std.proofs.Common.{take}
 use Rattle.std.proofs.lemmas.List.{take_more}
 use Rattle.type_relocation.proofs.Matches.{entered_next}
 use Rattle.type_relocation.proofs.pass.enter_matches.Goals as goal

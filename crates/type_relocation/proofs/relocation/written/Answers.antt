@@ -1,7 +1,6 @@
 use Rattle.std.proofs.Common.{List, map, ap, subst, ◌∙◌}
 use Rattle.std.specs.Map.{values_of}
-use Rattle.object_parts.specs.Content.{FunctionContent}
-use Rattle.slot_relocation.specs.Walks.{IsStop, changed}
+use Rattle.slot_relocation.specs.Walks.{IsStop}
 use Rattle.type_relocation.specs.Writes.{after_types, inside_of, type_rule, with_matches}
 use Rattle.type_relocation.specs.declared.placed.Placed.{Placed}
 use Rattle.type_relocation.proofs.Matches.{both}

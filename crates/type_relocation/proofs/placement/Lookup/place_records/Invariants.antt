@@ -1,5 +1,4 @@
 use Rattle.std.proofs.Common.{◌≡◌, Some}
-use Rattle.type_relocation.specs.Walks.{matched}
 use Rattle.type_relocation.proofs.Placing.{ArePlacedSo}
 use Rattle.type_relocation.proofs.placement.Lookup.place_records.Given as goal
 
