@@ -23,12 +23,12 @@ use Rattle.btf_tables.specs.ResolvedTypes.{resolved_type}
 use Rattle.btf_tables.specs.Tables.{Table, type_by_id}
 use Rattle.btf_tables.specs.TypeSizes.{type_size_in_32_bits}
 
--- some more bits behind others, where 32 bits hold the sum
+-- some more bits after others, where 32 bits hold the sum
 abbrev pub bits_after : Option ℕ → ℕ → Option ℕ
 bits_after None more = None
 bits_after (Some bits) more = if nat_lt (bits + more) (2 ^ 32) then Some (bits + more) else None
 
--- so many elements of a size in bytes
+-- a number of elements of a size in bytes
 abbrev pub elements_after : Option ℕ → ℕ → ℕ → Option ℕ
 elements_after bits count size = bits_after bits (8 * (count * size))
 

@@ -23,7 +23,7 @@ variant_name (types.Union t) index =
     option_and_then (λ e. option_map (λ v. v.name_offset) (slice_get e.variants index)) t.fallback
 variant_name _ index = None
 
--- the variant of an enum that has so many, where its name can be read
+-- the variant of this index of an enum of `len` variants, where its name can be read
 abbrev pub variant_at : Table → ℕ → BtfType → ℕ → ℕ → Result Place AccessError
 variant_at table id t len index =
     option_map_or (λ offset. with_text table offset (λ _. Ok (record { type_id = id; index = index })))

@@ -29,7 +29,7 @@ pub(crate) struct Advance {
     pub(crate) step: Option<Step>,
 }
 
-/// Some more bits behind others, where 32 bits hold the sum.
+/// Some more bits after others, where 32 bits hold the sum.
 pub fn bits_after(bits: Option<u32>, more: u64) -> Option<u32>
     ensures { result ≡ bits_after bits more }
 {
@@ -40,7 +40,7 @@ pub fn bits_after(bits: Option<u32>, more: u64) -> Option<u32>
     }
 }
 
-/// The bits of so many elements of a size in bytes behind others, where 32 bits hold the sum.
+/// The bits of a number of elements of a size in bytes after others, where 32 bits hold the sum.
 pub fn elements_after(bits: Option<u32>, count: u64, size: u32) -> Option<u32>
     ensures { result ≡ bits_after bits (8 * (count * size)) }
 {
@@ -240,7 +240,7 @@ fn path_from(
 /// the one without modifiers.
 ///
 /// `InvalidAccessIndex` and `InvalidRelocationKindForType` where it leads nowhere,
-/// `BtfError::InvalidTypeInfo` where the field lies 2^32 bits or more behind the type's beginning,
+/// `BtfError::InvalidTypeInfo` where the field lies 2^32 bits or more after the type's beginning,
 /// and what the look-ups of sizes, names and types on the way answer.
 pub(crate) fn field_path(
     table: &Btf<'_>,

@@ -75,13 +75,13 @@ fn path_of(
 /// about fields to the field, of one about variants to the variant, and of the others to the whole
 /// type (`bpf_core_parse_spec`, tools/lib/bpf/relo_core.c).
 ///
-/// Its type's name and the access string are read, and the type is looked up behind its modifiers:
+/// Its type's name and the access string are read, and the type is looked up after its modifiers:
 /// `BtfError` where that fails. `InvalidAccessString` where the access string isn't numbers of 64
 /// bits joined by `:`, or isn't the one number 0 for a whole type, or one number for a variant;
 /// `InvalidAccessIndex` where it counts past what a type has, and `InvalidRelocationKindForType`
 /// where a type has nothing to count. An array without elements that is the last member of a struct
 /// may be counted in past its end. `BtfError::InvalidTypeInfo` where a field lies 2^32 bits or more
-/// behind the type's beginning.
+/// after the type's beginning.
 pub fn local_path(
     table: &Btf<'_>,
     kind: RelocationKind,

@@ -8,7 +8,7 @@ ghost use Rattle.btf_records.specs.declared.error.BtfError.TheVariants.{OutOfMem
 use crate::error::AccessError;
 use std::alloc::Global;
 
-/// The number of 64 bits that a text writes in base ten, behind a `+` or none.
+/// The number of 64 bits that a text writes in base ten, after a `+` or none.
 #[tactic(auto, using(crate::proofs::AccessStrings::parsed_number))]
 fn number_in(text: &str) -> Option<u64>
     ensures { result ≡ number_in text.now }

@@ -8,7 +8,7 @@ use std::marker::Model;
 /// A number that counts something in a type.
 #[derive(Clone, Copy, Debug)]
 pub struct Place {
-    /// The type's id, behind modifiers.
+    /// The type's id, after modifiers.
     pub type_id: u32,
     pub index: u64,
 }
@@ -16,7 +16,7 @@ pub struct Place {
 /// A step of a path.
 #[derive(Clone, Copy, Debug)]
 pub enum Step {
-    /// So many elements of a type on.
+    /// A number of elements of a type on.
     Element(Place),
     /// To a member with a name of a struct or union.
     Member(Place),
@@ -80,6 +80,6 @@ pub struct AccessPath {
     /// Its steps: of a path to a field the elements and the members with names, of one to a variant
     /// that variant, of one to the whole type none.
     pub steps: Steps,
-    /// The bits that its field lies behind the type's beginning; 0 where it leads to no field.
+    /// The bits that its field lies after the type's beginning; 0 where it leads to no field.
     pub bit_offset: u32,
 }

@@ -32,7 +32,7 @@ is_open-pushed open_pairs l r i k h =
       | inr last ↦ inr (IsSame-from_test l r i k last)
     ]
 
--- in so many rounds no open pair has an answer
+-- in that many rounds no open pair has an answer
 pub record AreDeep (n : ℕ) (local target : Table) (asked : ℕ) (open_pairs : List (ℕ × ℕ)) : Type 0 where
   pub each : (i k : ℕ) → is_open open_pairs i k ≡ true → in_rounds n local target asked i k ≡ deep asked
 

@@ -1,4 +1,5 @@
--- The comparison of two types in at most so many rounds, each pair looked at again wherever it is met.
+-- The comparison of two types in at most that many rounds, each pair looked at again
+-- wherever it is met.
 -- More rounds give the same answer or one where there was none.
 use Rattle.std.proofs.Common.{◌≡◌, ℕ, zero, suc, Bool, true, false, List, [], ◌∷◌, ◌++◌, Ok, Err, Result, refl, ap, ◌∙◌}
 use Rattle.std.specs.Prelude.{◌⊎◌, if◌then◌else◌}

@@ -12,7 +12,7 @@ use Rattle.btf_compatibility.proofs.Rounds.{IsDeepOr, deep, in_rounds, in_rounds
 use Rattle.btf_tables.specs.Tables.{Table}
 use Rattle.btf_records.specs.declared.error.BtfError.{BtfError}
 
--- the answer for a part in so many rounds
+-- the answer for a part in that many rounds
 abbrev pub part_answer : Table → Table → ℕ → ℕ → (ℕ × ℕ) → Result Bool BtfError
 part_answer local target asked n = behind_modifiers local target asked (in_rounds n local target asked)
 
@@ -24,7 +24,7 @@ parts_left local target p = drop p.next (pair_parts local target p.left p.right)
 pub record IsUnderWay (local target : Table) (asked : ℕ) (p : OpenPair) : Type 0 where
   pub rest : EndsAs asked (λ n. in_rounds (suc n) local target asked p.left p.right) (λ n. all_yes (part_answer local target asked n) (parts_left local target p))
 
--- a part has these ids behind its modifiers
+-- a part has these ids after its modifiers
 pub record EndsAt (local target : Table) (asked : ℕ) (part : ℕ × ℕ) (l r : ℕ) : Type 0 where
   pub left : chain_end max_depth local asked part.0 ≡ Ok l
   pub right : chain_end max_depth target asked part.1 ≡ Ok r

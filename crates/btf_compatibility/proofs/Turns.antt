@@ -31,7 +31,7 @@ drop-past (y ∷ xs) (suc n) e = drop-past xs n e
 
 -- ---- answers
 
--- the first pair's answer is that behind the modifiers
+-- the first pair's answer is that after the modifiers
 pub answered : (local target : Table) (asked i k l r : ℕ) (answer : Result Bool BtfError) → Ok l ≡ chain_end max_depth local asked i → Ok r ≡ chain_end max_depth target asked k → Ends local target asked l r answer → ends_compatible local target asked (i, k) ≡ answer
 answered local target asked i k l r answer left right h =
     let known = Ends-compared local target asked l r answer (chain_end-known max_depth local asked i l (sym left)) (chain_end-known max_depth target asked k r (sym right)) h in

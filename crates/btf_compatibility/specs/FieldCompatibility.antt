@@ -66,7 +66,7 @@ field_answer go local target l a b =
     then Ok true
     else if same_kind a b then field_verdict go local target (kind_of_type a) l a b else Ok false
 
--- the answer for two ids in at most so many rounds, each behind modifiers and then into an array
+-- the answer for two ids in at most that many rounds, each after modifiers and then into an array
 unfoldable pub fields_compared : ℕ → Table → Table → ℕ → (ℕ × ℕ) → Result Bool BtfError
 fields_compared zero local target asked p = Err (MaximumTypeDepthReached asked)
 fields_compared (suc n) local target asked p =

@@ -31,7 +31,7 @@ all_yes ask (p ∷ ps) = and_also (ask p) (all_yes ask ps)
 abbrev pub same_kind : BtfType → BtfType → Bool
 same_kind a b = number_of (kind_of_type a) == number_of (kind_of_type b)
 
--- no integer that begins behind its first bit
+-- no integer that begins after its first bit
 abbrev pub has_no_bit_offset : BtfType → Bool
 has_no_bit_offset t = option_map_or (λ int. offset_in int.int_word == 0) (int_of t) true
 
@@ -95,7 +95,7 @@ behind_modifiers local target asked go p =
     both_ends go (chain_end max_depth local asked p.0) (chain_end max_depth target asked p.1)
 
 -- the answer for two ids without modifiers: what the records say, and then their parts in order,
--- with the pair open meanwhile; a pair that is met while it is open is too deep. So many pairs at
+-- with the pair open meanwhile; a pair that is met while it is open is too deep. That many pairs at
 -- most are opened one inside the other
 unfoldable pub compared : ℕ → Table → Table → ℕ → List (ℕ × ℕ) → ℕ → ℕ → Result Bool BtfError
 compared zero local target asked open_pairs l r = Err (MaximumTypeDepthReached asked)
@@ -111,7 +111,7 @@ compared (suc n) local target asked open_pairs l r =
 abbrev pub pair_bound : Table → Table → ℕ
 pair_bound local target = suc (suc (length local.types) * suc (length target.types))
 
--- the answer for two ids with modifiers, with so many pairs at most opened one inside the other
+-- the answer for two ids with modifiers, with that many pairs at most opened one inside the other
 abbrev pub ends_within : ℕ → Table → Table → ℕ → (ℕ × ℕ) → Result Bool BtfError
 ends_within n local target asked p =
     behind_modifiers local target asked (compared n local target asked []) p
@@ -125,8 +125,8 @@ first_verdict l r None b = Err (UnknownBtfType l)
 first_verdict l r (Some a) None = Err (UnknownBtfType r)
 first_verdict l r (Some a) (Some b) = Ok (same_kind a b)
 
--- whether the local type is compatible with the target type, with so many pairs at most opened one
--- inside the other
+-- whether the local type is compatible with the target type, with that many pairs at most opened
+-- one inside the other
 abbrev pub types_within : ℕ → Table → ℕ → Table → ℕ → Result Bool BtfError
 types_within n local l target r =
     and_also (first_verdict l r (type_by_id local l) (type_by_id target r))

@@ -23,7 +23,7 @@ pub(crate) fn record_at<'t>(table: &'t Btf<'_>, id: u32) -> TypeRef<'t>
 }
 
 /// A signature's parameters, and then what it returns.
-#[tactic(auto, using(crate::proofs::Parts::param_at, crate::proofs::Parts::returned_at, crate::proofs::Parts::past_returned,),)]
+#[tactic(auto, using(crate::proofs::Parts::param_at, crate::proofs::Parts::returned_at, crate::proofs::Parts::past_returned))]
 fn signature_part(t: &TypeRef<'_>, index: usize) -> Option<u32>
     requires { kind_of_type t.now ≡ BtfKind.FuncProto }
     ensures value { result ≡ slice_get (parts_of t.now) index }
@@ -53,7 +53,7 @@ fn part(t: &TypeRef<'_>, index: usize) -> Option<u32>
 }
 
 /// The next parts of a pair of types.
-#[tactic(auto, using(crate::proofs::Parts::both_parts, crate::proofs::Parts::no_left_part, crate::proofs::Parts::no_right_part,),)]
+#[tactic(auto, using(crate::proofs::Parts::both_parts, crate::proofs::Parts::no_left_part, crate::proofs::Parts::no_right_part))]
 fn next_parts(local: &Btf<'_>, target: &Btf<'_>, pair: OpenPair) -> Option<(u32, u32)>
     ensures value { result
         ≡ slice_get (pair_parts local.now target.now pair.left pair.right) pair.next }
@@ -64,7 +64,7 @@ fn next_parts(local: &Btf<'_>, target: &Btf<'_>, pair: OpenPair) -> Option<(u32,
     Some((left, right))
 }
 
-/// Whether a record is no integer that begins behind its first bit.
+/// Whether a record is no integer that begins after its first bit.
 pub(crate) fn has_no_bit_offset(t: &TypeRef<'_>) -> bool
     ensures { result ≡ has_no_bit_offset t.now }
 {
@@ -117,7 +117,7 @@ fn enter(
     Ok(agree)
 }
 
-/// Whether the types behind two chains of modifiers are compatible, as a part of a question about
+/// Whether the types after two chains of modifiers are compatible, as a part of a question about
 /// another id.
 fn ends_are_compatible(
     local: &Btf<'_>,

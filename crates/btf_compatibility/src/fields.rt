@@ -70,8 +70,8 @@ fn elements(a: &TypeRef<'_>, b: &TypeRef<'_>) -> Option<(u32, u32)>
     Some((a.array()?.element_type, b.array()?.element_type))
 }
 
-/// The answer for two members' types, round by round behind modifiers and then into an array.
-#[tactic(auto, using(crate::proofs::FieldRounds::rounds_over, crate::proofs::FieldRounds::round_left, crate::proofs::FieldRounds::round_right,),)]
+/// The answer for two members' types, round by round after modifiers and then into an array.
+#[tactic(auto, using(crate::proofs::FieldRounds::rounds_over, crate::proofs::FieldRounds::round_left, crate::proofs::FieldRounds::round_right))]
 fn compare_fields(
     local: &Btf<'_>,
     local_id: u32,
@@ -100,7 +100,7 @@ fn compare_fields(
 /// libbpf asks where it moves an access to a kernel's place of a member
 /// (`bpf_core_fields_are_compat`, tools/lib/bpf/relo_core.c).
 ///
-/// Behind modifiers, structs and unions are; so are floats, pointers and integers that begin with
+/// After modifiers, structs and unions are; so are floats, pointers and integers that begin with
 /// their first bit, each with its kind, arrays with compatible elements, and enums and forward
 /// declarations with the same name. A name's flavour, from its first `___` on, doesn't count.
 ///

@@ -68,7 +68,7 @@ info_back info lt =
     let y = bit_of (info / 536870912 % 2) (omega arith) in
     rw (f, x, y) (omega (arith, lt))
 
--- two words, three, and three with others behind them
+-- two words, three, and three with others after them
 one_back : (order : Endianness) (bytes : List ℕ) → 4 ≤ length bytes → IsBytes bytes → words_bytes order (word_at order bytes 0 ∷ []) ≡ take 4 bytes
 one_back order bytes h fits = append-nil (word_bytes order (word_at order bytes 0)) ∙ word_back order bytes 0 h fits
 
@@ -98,7 +98,7 @@ behind_three order bytes ws m h fits behind =
 three_back : (order : Endianness) (bytes : List ℕ) → 12 ≤ length bytes → IsBytes bytes → words_bytes order (word_at order bytes 0 ∷ word_at order bytes 4 ∷ word_at order bytes 8 ∷ []) ≡ take 12 bytes
 three_back order bytes h fits = behind_three order bytes [] 0 (omega arith) fits refl
 
--- items, one behind the other
+-- items, one after the other
 items_back : {X : Type 0} (order : Endianness) (item : List ℕ → X) (words : X → List ℕ) (size n : ℕ) (bytes : List ℕ) → ((b : List ℕ) → size ≤ length b → IsBytes b → words_bytes order (words (item b)) ≡ take size b) → size * n ≤ length bytes → IsBytes bytes → words_bytes order (flat_map words (items_in item size n bytes)) ≡ take (size * n) bytes
 items_back order item words size zero bytes each h fits = rw mul-zero refl
 items_back order item words size (suc n) bytes each h fits =
@@ -107,7 +107,7 @@ items_back order item words size (suc n) bytes each h fits =
     let this = each bytes (omega arith) fits in
     flat_map-append (word_bytes order) (words (item bytes)) (flat_map words (items_in item size n (drop size bytes))) ∙ rw (this, others, more) (sym (take-add size (size * n) bytes))
 
--- the first three words of a record, and what is behind them
+-- the first three words of a record, and what is after them
 head_back : (order : Endianness) (bytes : List ℕ) (kind : ℕ) (ws : List ℕ) (m : ℕ) → kind ≡ kind_number_at order bytes → 12 + m ≤ length bytes → IsBytes bytes → words_bytes order ws ≡ take m (drop 12 bytes) → words_bytes order (name_at order bytes ∷ info_of kind (count_at order bytes) (bits_at order bytes) ∷ third_at order bytes ∷ ws) ≡ take (12 + m) bytes
 head_back order bytes kind ws m number h fits behind =
     let info : info_of kind (count_at order bytes) (bits_at order bytes) ≡ word_at order bytes 4 = rw number (info_back (word_at order bytes 4) (word_small order bytes 4 fits)) in

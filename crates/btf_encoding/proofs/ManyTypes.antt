@@ -1,4 +1,4 @@
--- Bytes that are records, one behind the other.
+-- Bytes that are records, one after the other.
 use Rattle.std.proofs.Common.{◌≡◌, ℕ, ◌<◌, List, [], ◌∷◌, ◌++◌, length, drop, take, refl, sym, ap, subst, ◌∙◌, arith, length-take, append-nil}
 use Rattle.std.proofs.Math.Seq.{drop-length}
 use Rattle.std.proofs.lemmas.List.{drop-append-le, take-append-drop}
@@ -10,7 +10,7 @@ use Rattle.btf_records.specs.declared.types.BtfType.{BtfType}
 use Rattle.btf_encoding.proofs.WhateverFollows.{reads_same, word_same}
 use Rattle.btf_records.specs.declared.words.Endianness.{Endianness}
 
--- records behind records
+-- records after records
 pub begins_append : (order : Endianness) (front more : List BtfType) (mid rest bytes : List ℕ) → Begins order front mid bytes → Begins order more rest mid → Begins order (front ++ more) rest bytes
 begins_append order [] more mid rest bytes b m = subst (λ (bs : List ℕ). Begins order more rest bs) (sym b) m
 begins_append order (t ∷ ts) more mid rest bytes b m = (b.0, b.1, begins_append order ts more mid rest (drop (record_len order bytes) bytes) b.2 m)
@@ -26,7 +26,7 @@ begins_behind order (t ∷ ts) rest x bytes b =
 pub spells_append : (order : Endianness) (front more : List BtfType) (bytes new : List ℕ) → Spells order front bytes → Spells order more new → Spells order (front ++ more) (bytes ++ new)
 spells_append order front more bytes new s m = begins_append order front more new [] (bytes ++ new) (begins_behind order front [] new bytes s) m
 
--- a record written behind others is one more
+-- a record written after others is one more
 pub follows : (order : Endianness) (t : BtfType) (new : List ℕ) → HasRecord order new → type_in order new ≡ t → record_len order new ≡ length new → (front : List BtfType) (bytes : List ℕ) → Spells order front bytes → Spells order (front ++ t ∷ []) (bytes ++ new)
 follows order t new has same len front bytes s =
     let all : drop (record_len order new) new ≡ [] = rw len (drop-length new) in
@@ -59,7 +59,7 @@ first_record order bytes are more = first_of order are.types bytes are.spelled m
   first_of order [] bytes s more = absurd (omega (arith, more, ap length s))
   first_of order (t ∷ ts) bytes s more = s.0
 
--- what is left behind some of the records
+-- what is left after some of the records
 pub record AreLeft (order : Endianness) (types front : List BtfType) (rest : List ℕ) : Type 0 where
   pub others : List BtfType
   pub spelled : Spells order others rest

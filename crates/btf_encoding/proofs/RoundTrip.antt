@@ -157,7 +157,7 @@ number_of-small kinds.DeclTag = omega arith
 number_of-small kinds.TypeTag = omega arith
 number_of-small kinds.Enum64 = omega arith
 
--- the third word of a record, and the words behind it
+-- the third word of a record, and the words after it
 abbrev third_of : BtfType → ℕ
 third_of types.Unknown = 0
 third_of (types.Int t) = t.size
@@ -225,7 +225,7 @@ words_parts (types.DeclTag t) = refl
 words_parts (types.TypeTag t) = refl
 words_parts (types.Enum64 t) = refl
 
--- what stands in a record's first three words, and behind them
+-- what stands in a record's first three words, and after them
 record HeadIs (order : Endianness) (bytes : List ℕ) (t : BtfType) (rest : List ℕ) : Type 0 where
   pub kind_is : kind_at order bytes ≡ kind_of_type t
   pub number_is : kind_number_at order bytes ≡ number_of (kind_of_type t)
@@ -373,7 +373,7 @@ var_linkage-number variables.Global = refl
 var_linkage-number variables.Extern = refl
 var_linkage-number variables.Unknown = refl
 
--- the word behind the first three
+-- the word after the first three
 word_behind : (order : Endianness) (bytes behind : List ℕ) (w : ℕ) → drop 12 bytes ≡ words_bytes order (w ∷ []) ++ behind → w < 2 ^ 32 → word_at order bytes 12 ≡ w
 word_behind order bytes behind w rest lt =
     fourth order bytes ∙ ap (λ (b : List ℕ). word_at order b 0) (rest ∙ append_assoc (word_bytes order w) [] behind) ∙ first order w behind lt

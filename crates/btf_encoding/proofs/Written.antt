@@ -1,4 +1,4 @@
--- What stands behind what was there, word by word and item by item.
+-- What stands after what was there, word by word and item by item.
 use Rattle.std.proofs.Common.{◌≡◌, ℕ, ◌+◌, ◌<◌, ◌^◌, List, [], ◌∷◌, ◌++◌, length, take, get_or, refl, sym, ap, subst, ◌∙◌, arith, length-append, append-nil}
 use Rattle.std.specs.Prelude.{All, Result, Ok, Err, OnOk, OnErr}
 use Rattle.std.specs.List.{flat_map}

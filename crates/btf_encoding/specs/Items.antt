@@ -11,47 +11,69 @@ use Rattle.btf_records.specs.declared.item.DataSecEntry.{DataSecEntry}
 
 -- a member: name, type, offset
 abbrev pub member_in : Endianness → List ℕ → BtfMember
-member_in order bytes = record { name_offset = word_at order bytes 0; btf_type = word_at order bytes 4; offset = word_at order bytes 8 }
+member_in order bytes =
+    record {
+      name_offset = word_at order bytes 0;
+      btf_type = word_at order bytes 4;
+      offset = word_at order bytes 8;
+    }
 
 abbrev pub member_words : BtfMember → List ℕ
 member_words m = m.name_offset ∷ m.btf_type ∷ m.offset ∷ []
 
 -- a variant: name, value
 abbrev pub variant_in : Endianness → List ℕ → BtfEnum
-variant_in order bytes = record { name_offset = word_at order bytes 0; value = word_at order bytes 4 }
+variant_in order bytes =
+    record { name_offset = word_at order bytes 0; value = word_at order bytes 4 }
 
 abbrev pub variant_words : BtfEnum → List ℕ
 variant_words v = v.name_offset ∷ v.value ∷ []
 
 -- a variant of 64 bits: name, low half, high half
 abbrev pub enum64_in : Endianness → List ℕ → BtfEnum64
-enum64_in order bytes = record { name_offset = word_at order bytes 0; value_low = word_at order bytes 4; value_high = word_at order bytes 8 }
+enum64_in order bytes =
+    record {
+      name_offset = word_at order bytes 0;
+      value_low = word_at order bytes 4;
+      value_high = word_at order bytes 8;
+    }
 
 abbrev pub enum64_words : BtfEnum64 → List ℕ
 enum64_words v = v.name_offset ∷ v.value_low ∷ v.value_high ∷ []
 
 -- a parameter: name, type
 abbrev pub param_in : Endianness → List ℕ → BtfParam
-param_in order bytes = record { name_offset = word_at order bytes 0; btf_type = word_at order bytes 4 }
+param_in order bytes =
+    record { name_offset = word_at order bytes 0; btf_type = word_at order bytes 4 }
 
 abbrev pub param_words : BtfParam → List ℕ
 param_words p = p.name_offset ∷ p.btf_type ∷ []
 
 -- an entry of a section: type, offset, size
 abbrev pub entry_in : Endianness → List ℕ → DataSecEntry
-entry_in order bytes = record { btf_type = word_at order bytes 0; offset = word_at order bytes 4; size = word_at order bytes 8 }
+entry_in order bytes =
+    record {
+      btf_type = word_at order bytes 0;
+      offset = word_at order bytes 4;
+      size = word_at order bytes 8;
+    }
 
 abbrev pub entry_words : DataSecEntry → List ℕ
 entry_words e = e.btf_type ∷ e.offset ∷ e.size ∷ []
 
 -- an array's element, index and length
 abbrev pub array_in : Endianness → List ℕ → BtfArray
-array_in order bytes = record { element_type = word_at order bytes 0; index_type = word_at order bytes 4; len = word_at order bytes 8 }
+array_in order bytes =
+    record {
+      element_type = word_at order bytes 0;
+      index_type = word_at order bytes 4;
+      len = word_at order bytes 8;
+    }
 
 abbrev pub array_words : BtfArray → List ℕ
 array_words a = a.element_type ∷ a.index_type ∷ a.len ∷ []
 
--- as many items as asked for, each of as many bytes, one behind the other
+-- as many items as asked for, each of as many bytes, one after the other
 abbrev pub items_in : {T : Type 0} → (List ℕ → T) → ℕ → ℕ → List ℕ → List T
 items_in item size zero bytes = []
 items_in item size (suc n) bytes = item bytes ∷ items_in item size n (drop size bytes)

@@ -1,5 +1,5 @@
 -- The grammar of type records ("Type Encoding"): three words of name, info and size or type, and
--- what each kind has behind them.
+-- what each kind has after them.
 use Rattle.std.specs.Prelude.{◌≡◌, ℕ, ◌+◌, ◌*◌, ◌<◌, ◌≤◌, ◌⊎◌, ◌^◌, List, [], ◌∷◌, ◌++◌, length, drop, All, Option, None, false}
 use Rattle.std.specs.List.{flat_map}
 use Rattle.btf_records.specs.Words.{word_at, words_bytes}
@@ -27,7 +27,7 @@ kind_at order bytes = kind_of (kind_number_at order bytes)
 abbrev pub count_at : Endianness → List ℕ → ℕ
 count_at order bytes = count_in (word_at order bytes 4)
 
--- the other parts of the first three words, and what is behind them
+-- the other parts of the first three words, and what is after them
 abbrev pub name_at : Endianness → List ℕ → ℕ
 name_at order bytes = word_at order bytes 0
 
@@ -40,7 +40,7 @@ third_at order bytes = word_at order bytes 8
 abbrev pub behind_in : List ℕ → List ℕ
 behind_in bytes = drop 12 bytes
 
--- the bytes of a record of a kind behind its first three words
+-- the bytes of a record of a kind after its first three words
 abbrev pub len_behind : BtfKind → ℕ → ℕ
 len_behind kinds.Int count = 4
 len_behind kinds.Array count = 12
@@ -65,33 +65,169 @@ pub record HasRecord (order : Endianness) (bytes : List ℕ) : Type 0 where
 
 -- why they begin with none
 abbrev pub RecordFault : Endianness → List ℕ → BtfError → Type 0
-RecordFault order bytes InvalidTypeInfo = (length bytes < 12) ⊎ ((kind_number_at order bytes < kind_count) × (length bytes < record_len order bytes))
-RecordFault order bytes (InvalidTypeKind kind) = (12 ≤ length bytes) × (kind ≡ kind_number_at order bytes) × (kind_count ≤ kind)
+RecordFault order bytes InvalidTypeInfo =
+    (length bytes < 12)
+    ⊎ ((kind_number_at order bytes < kind_count) × (length bytes < record_len order bytes))
+RecordFault order bytes (InvalidTypeKind kind) =
+    (12 ≤ length bytes) × (kind ≡ kind_number_at order bytes) × (kind_count ≤ kind)
 RecordFault order bytes _ = ⊥
 
 -- the record of a kind that these bytes begin with: the third word of FWD and ARRAY isn't kept,
 -- nor anything of UNKNOWN
 abbrev pub type_as : BtfKind → Endianness → List ℕ → BtfType
 type_as kinds.Unknown order bytes = types.Unknown
-type_as kinds.Int order bytes = types.Int (record { name_offset = name_at order bytes; vlen = count_at order bytes; info = bits_at order bytes; size = third_at order bytes; int_word = word_at order bytes 12 })
-type_as kinds.Ptr order bytes = types.Ptr (record { name_offset = name_at order bytes; vlen = count_at order bytes; info = bits_at order bytes; btf_type = third_at order bytes })
-type_as kinds.Array order bytes = types.Array (record { name_offset = name_at order bytes; vlen = count_at order bytes; info = bits_at order bytes; array = array_in order (behind_in bytes) })
-type_as kinds.Struct order bytes = types.Struct (record { name_offset = name_at order bytes; info = bits_at order bytes; size = third_at order bytes; members = items_in (member_in order) 12 (count_at order bytes) (behind_in bytes) })
-type_as kinds.Union order bytes = types.Union (record { name_offset = name_at order bytes; info = bits_at order bytes; size = third_at order bytes; members = items_in (member_in order) 12 (count_at order bytes) (behind_in bytes); fallback = None })
-type_as kinds.Enum order bytes = types.Enum (record { name_offset = name_at order bytes; info = bits_at order bytes; size = third_at order bytes; variants = items_in (variant_in order) 8 (count_at order bytes) (behind_in bytes) })
-type_as kinds.Fwd order bytes = types.Fwd (record { name_offset = name_at order bytes; vlen = count_at order bytes; info = bits_at order bytes })
-type_as kinds.Typedef order bytes = types.Typedef (record { name_offset = name_at order bytes; vlen = count_at order bytes; info = bits_at order bytes; btf_type = third_at order bytes })
-type_as kinds.Volatile order bytes = types.Volatile (record { name_offset = name_at order bytes; vlen = count_at order bytes; info = bits_at order bytes; btf_type = third_at order bytes })
-type_as kinds.Const order bytes = types.Const (record { name_offset = name_at order bytes; vlen = count_at order bytes; info = bits_at order bytes; btf_type = third_at order bytes })
-type_as kinds.Restrict order bytes = types.Restrict (record { name_offset = name_at order bytes; vlen = count_at order bytes; info = bits_at order bytes; btf_type = third_at order bytes })
-type_as kinds.Func order bytes = types.Func (record { name_offset = name_at order bytes; vlen = count_at order bytes; info = bits_at order bytes; btf_type = third_at order bytes })
-type_as kinds.FuncProto order bytes = types.FuncProto (record { name_offset = name_at order bytes; info = bits_at order bytes; return_type = third_at order bytes; params = items_in (param_in order) 8 (count_at order bytes) (behind_in bytes) })
-type_as kinds.Var order bytes = types.Var (record { name_offset = name_at order bytes; vlen = count_at order bytes; info = bits_at order bytes; btf_type = third_at order bytes; linkage = var_linkage_of (word_at order bytes 12) })
-type_as kinds.DataSec order bytes = types.DataSec (record { name_offset = name_at order bytes; info = bits_at order bytes; size = third_at order bytes; entries = items_in (entry_in order) 12 (count_at order bytes) (behind_in bytes) })
-type_as kinds.Float order bytes = types.Float (record { name_offset = name_at order bytes; vlen = count_at order bytes; info = bits_at order bytes; size = third_at order bytes })
-type_as kinds.DeclTag order bytes = types.DeclTag (record { name_offset = name_at order bytes; vlen = count_at order bytes; info = bits_at order bytes; btf_type = third_at order bytes; index_word = word_at order bytes 12 })
-type_as kinds.TypeTag order bytes = types.TypeTag (record { name_offset = name_at order bytes; vlen = count_at order bytes; info = bits_at order bytes; btf_type = third_at order bytes })
-type_as kinds.Enum64 order bytes = types.Enum64 (record { name_offset = name_at order bytes; info = bits_at order bytes; size = third_at order bytes; variants = items_in (enum64_in order) 12 (count_at order bytes) (behind_in bytes) })
+type_as kinds.Int order bytes =
+    types.Int
+    (record {
+      name_offset = name_at order bytes;
+      vlen = count_at order bytes;
+      info = bits_at order bytes;
+      size = third_at order bytes;
+      int_word = word_at order bytes 12;
+    })
+type_as kinds.Ptr order bytes =
+    types.Ptr
+    (record {
+      name_offset = name_at order bytes;
+      vlen = count_at order bytes;
+      info = bits_at order bytes;
+      btf_type = third_at order bytes;
+    })
+type_as kinds.Array order bytes =
+    types.Array
+    (record {
+      name_offset = name_at order bytes;
+      vlen = count_at order bytes;
+      info = bits_at order bytes;
+      array = array_in order (behind_in bytes);
+    })
+type_as kinds.Struct order bytes =
+    types.Struct
+    (record {
+      name_offset = name_at order bytes;
+      info = bits_at order bytes;
+      size = third_at order bytes;
+      members = items_in (member_in order) 12 (count_at order bytes) (behind_in bytes);
+    })
+type_as kinds.Union order bytes =
+    types.Union
+    (record {
+      name_offset = name_at order bytes;
+      info = bits_at order bytes;
+      size = third_at order bytes;
+      members = items_in (member_in order) 12 (count_at order bytes) (behind_in bytes);
+      fallback = None;
+    })
+type_as kinds.Enum order bytes =
+    types.Enum
+    (record {
+      name_offset = name_at order bytes;
+      info = bits_at order bytes;
+      size = third_at order bytes;
+      variants = items_in (variant_in order) 8 (count_at order bytes) (behind_in bytes);
+    })
+type_as kinds.Fwd order bytes =
+    types.Fwd
+    (record
+    { name_offset = name_at order bytes; vlen = count_at order bytes; info = bits_at order bytes })
+type_as kinds.Typedef order bytes =
+    types.Typedef
+    (record {
+      name_offset = name_at order bytes;
+      vlen = count_at order bytes;
+      info = bits_at order bytes;
+      btf_type = third_at order bytes;
+    })
+type_as kinds.Volatile order bytes =
+    types.Volatile
+    (record {
+      name_offset = name_at order bytes;
+      vlen = count_at order bytes;
+      info = bits_at order bytes;
+      btf_type = third_at order bytes;
+    })
+type_as kinds.Const order bytes =
+    types.Const
+    (record {
+      name_offset = name_at order bytes;
+      vlen = count_at order bytes;
+      info = bits_at order bytes;
+      btf_type = third_at order bytes;
+    })
+type_as kinds.Restrict order bytes =
+    types.Restrict
+    (record {
+      name_offset = name_at order bytes;
+      vlen = count_at order bytes;
+      info = bits_at order bytes;
+      btf_type = third_at order bytes;
+    })
+type_as kinds.Func order bytes =
+    types.Func
+    (record {
+      name_offset = name_at order bytes;
+      vlen = count_at order bytes;
+      info = bits_at order bytes;
+      btf_type = third_at order bytes;
+    })
+type_as kinds.FuncProto order bytes =
+    types.FuncProto
+    (record {
+      name_offset = name_at order bytes;
+      info = bits_at order bytes;
+      return_type = third_at order bytes;
+      params = items_in (param_in order) 8 (count_at order bytes) (behind_in bytes);
+    })
+type_as kinds.Var order bytes =
+    types.Var
+    (record {
+      name_offset = name_at order bytes;
+      vlen = count_at order bytes;
+      info = bits_at order bytes;
+      btf_type = third_at order bytes;
+      linkage = var_linkage_of (word_at order bytes 12);
+    })
+type_as kinds.DataSec order bytes =
+    types.DataSec
+    (record {
+      name_offset = name_at order bytes;
+      info = bits_at order bytes;
+      size = third_at order bytes;
+      entries = items_in (entry_in order) 12 (count_at order bytes) (behind_in bytes);
+    })
+type_as kinds.Float order bytes =
+    types.Float
+    (record {
+      name_offset = name_at order bytes;
+      vlen = count_at order bytes;
+      info = bits_at order bytes;
+      size = third_at order bytes;
+    })
+type_as kinds.DeclTag order bytes =
+    types.DeclTag
+    (record {
+      name_offset = name_at order bytes;
+      vlen = count_at order bytes;
+      info = bits_at order bytes;
+      btf_type = third_at order bytes;
+      index_word = word_at order bytes 12;
+    })
+type_as kinds.TypeTag order bytes =
+    types.TypeTag
+    (record {
+      name_offset = name_at order bytes;
+      vlen = count_at order bytes;
+      info = bits_at order bytes;
+      btf_type = third_at order bytes;
+    })
+type_as kinds.Enum64 order bytes =
+    types.Enum64
+    (record {
+      name_offset = name_at order bytes;
+      info = bits_at order bytes;
+      size = third_at order bytes;
+      variants = items_in (enum64_in order) 12 (count_at order bytes) (behind_in bytes);
+    })
 
 -- the record that the bytes begin with
 abbrev pub type_in : Endianness → List ℕ → BtfType
@@ -104,22 +240,33 @@ words_of types.Unknown = 0 ∷ 0 ∷ 0 ∷ []
 words_of (types.Int t) = t.name_offset ∷ info_of 1 t.vlen t.info ∷ t.size ∷ t.int_word ∷ []
 words_of (types.Ptr t) = t.name_offset ∷ info_of 2 t.vlen t.info ∷ t.btf_type ∷ []
 words_of (types.Array t) = t.name_offset ∷ info_of 3 t.vlen t.info ∷ 0 ∷ array_words t.array
-words_of (types.Struct t) = t.name_offset ∷ info_of 4 (length t.members) t.info ∷ t.size ∷ flat_map member_words t.members
-words_of (types.Union t) = t.name_offset ∷ info_of 5 (length t.members) t.info ∷ t.size ∷ flat_map member_words t.members
-words_of (types.Enum t) = t.name_offset ∷ info_of 6 (length t.variants) t.info ∷ t.size ∷ flat_map variant_words t.variants
+words_of (types.Struct t) =
+    t.name_offset ∷ info_of 4 (length t.members) t.info ∷ t.size ∷ flat_map member_words t.members
+words_of (types.Union t) =
+    t.name_offset ∷ info_of 5 (length t.members) t.info ∷ t.size ∷ flat_map member_words t.members
+words_of (types.Enum t) =
+    t.name_offset ∷ info_of 6 (length t.variants) t.info ∷ t.size
+    ∷ flat_map variant_words t.variants
 words_of (types.Fwd t) = t.name_offset ∷ info_of 7 t.vlen t.info ∷ 0 ∷ []
 words_of (types.Typedef t) = t.name_offset ∷ info_of 8 t.vlen t.info ∷ t.btf_type ∷ []
 words_of (types.Volatile t) = t.name_offset ∷ info_of 9 t.vlen t.info ∷ t.btf_type ∷ []
 words_of (types.Const t) = t.name_offset ∷ info_of 10 t.vlen t.info ∷ t.btf_type ∷ []
 words_of (types.Restrict t) = t.name_offset ∷ info_of 11 t.vlen t.info ∷ t.btf_type ∷ []
 words_of (types.Func t) = t.name_offset ∷ info_of 12 t.vlen t.info ∷ t.btf_type ∷ []
-words_of (types.FuncProto t) = t.name_offset ∷ info_of 13 (length t.params) t.info ∷ t.return_type ∷ flat_map param_words t.params
-words_of (types.Var t) = t.name_offset ∷ info_of 14 t.vlen t.info ∷ t.btf_type ∷ number_of_var_linkage t.linkage ∷ []
-words_of (types.DataSec t) = t.name_offset ∷ info_of 15 (length t.entries) t.info ∷ t.size ∷ flat_map entry_words t.entries
+words_of (types.FuncProto t) =
+    t.name_offset ∷ info_of 13 (length t.params) t.info ∷ t.return_type
+    ∷ flat_map param_words t.params
+words_of (types.Var t) =
+    t.name_offset ∷ info_of 14 t.vlen t.info ∷ t.btf_type ∷ number_of_var_linkage t.linkage ∷ []
+words_of (types.DataSec t) =
+    t.name_offset ∷ info_of 15 (length t.entries) t.info ∷ t.size ∷ flat_map entry_words t.entries
 words_of (types.Float t) = t.name_offset ∷ info_of 16 t.vlen t.info ∷ t.size ∷ []
-words_of (types.DeclTag t) = t.name_offset ∷ info_of 17 t.vlen t.info ∷ t.btf_type ∷ t.index_word ∷ []
+words_of (types.DeclTag t) =
+    t.name_offset ∷ info_of 17 t.vlen t.info ∷ t.btf_type ∷ t.index_word ∷ []
 words_of (types.TypeTag t) = t.name_offset ∷ info_of 18 t.vlen t.info ∷ t.btf_type ∷ []
-words_of (types.Enum64 t) = t.name_offset ∷ info_of 19 (length t.variants) t.info ∷ t.size ∷ flat_map enum64_words t.variants
+words_of (types.Enum64 t) =
+    t.name_offset ∷ info_of 19 (length t.variants) t.info ∷ t.size
+    ∷ flat_map enum64_words t.variants
 
 -- its bytes
 unfoldable pub record_bytes : Endianness → BtfType → List ℕ
@@ -191,25 +338,31 @@ pub record ReadsSame (order : Endianness) (bytes : List ℕ) : Type 0 where
   pub same : (behind : List ℕ) → type_in order (bytes ++ behind) ≡ type_in order bytes
   pub len : (behind : List ℕ) → record_len order (bytes ++ behind) ≡ record_len order bytes
 
--- the bytes begin with these records, one behind the other, and then the rest comes
+-- the bytes begin with these records, one after the other, and then the rest comes
 abbrev pub Begins : Endianness → List BtfType → List ℕ → List ℕ → Type 0
 Begins order [] rest bytes = bytes ≡ rest
-Begins order (t ∷ ts) rest bytes = HasRecord order bytes × (type_in order bytes ≡ t) × Begins order ts rest (drop (record_len order bytes) bytes)
+Begins order (t ∷ ts) rest bytes =
+    HasRecord order bytes
+    × (type_in order bytes ≡ t)
+    × Begins order ts rest (drop (record_len order bytes) bytes)
 
 -- the bytes are these records
 abbrev pub Spells : Endianness → List BtfType → List ℕ → Type 0
 Spells order ts bytes = Begins order ts [] bytes
 
--- wherever the bytes of a record stand, they are read as it, and as no more bytes; written behind
+-- wherever the bytes of a record stand, they are read as it, and as no more bytes; written after
 -- records, they are one more
 pub record ReadsBack (order : Endianness) (t : BtfType) : Type 0 where
   pub begins : (behind : List ℕ) → HasRecord order (record_bytes order t ++ behind)
   pub same : (behind : List ℕ) → type_in order (record_bytes order t ++ behind) ≡ without_fallback t
-  pub len : (behind : List ℕ) → record_len order (record_bytes order t ++ behind) ≡ length (record_bytes order t)
+  pub len : (behind : List ℕ)
+      → record_len order (record_bytes order t ++ behind) ≡ length (record_bytes order t)
   pub alone : ReadsSame order (record_bytes order t)
-  pub follows : (front : List BtfType) (bytes : List ℕ) → Spells order front bytes → Spells order (front ++ without_fallback t ∷ []) (bytes ++ record_bytes order t)
+  pub follows : (front : List BtfType) (bytes : List ℕ)
+      → Spells order front bytes
+      → Spells order (front ++ without_fallback t ∷ []) (bytes ++ record_bytes order t)
 
--- behind some records stands something that begins with none
+-- after some records stands something that begins with none
 pub record TypesFault (order : Endianness) (bytes : List ℕ) (e : BtfError) : Type 0 where
   pub front : List BtfType
   pub rest : List ℕ

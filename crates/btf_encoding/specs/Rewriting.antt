@@ -10,18 +10,19 @@ use Rattle.btf_records.specs.declared.words.Endianness.{Endianness}
 
 -- the words of a record of a kind that aren't kept are as they are written
 abbrev pub is_kept : BtfKind → Endianness → List ℕ → Bool
-is_kept kinds.Unknown order bytes = (name_at order bytes == 0) && ((word_at order bytes 4 == 0) && (third_at order bytes == 0))
+is_kept kinds.Unknown order bytes =
+    (name_at order bytes == 0) && ((word_at order bytes 4 == 0) && (third_at order bytes == 0))
 is_kept kinds.Array order bytes = third_at order bytes == 0
 is_kept kinds.Fwd order bytes = third_at order bytes == 0
 is_kept kinds.Var order bytes = nat_lt (word_at order bytes 12) 4
 is_kept _ order bytes = true
 
--- the bytes are records, one behind the other
+-- the bytes are records, one after the other
 pub record AreRecords (order : Endianness) (bytes : List ℕ) : Type 0 where
   pub types : List BtfType
   pub spelled : Spells order types bytes
 
--- the records that the bytes begin with, up to the rest, are written behind what was there, and are
+-- the records that the bytes begin with, up to the rest, are written after what was there, and are
 -- read again
 pub record AreWrittenUpTo (order : Endianness) (bytes rest old new : List ℕ) : Type 0 where
   pub front : List BtfType
@@ -29,8 +30,12 @@ pub record AreWrittenUpTo (order : Endianness) (bytes rest old new : List ℕ) :
   pub written : new ≡ old ++ flat_map (record_bytes order) front
   pub spelled : Spells order front (flat_map (record_bytes order) front)
 
--- the records that the bytes are, which they are alone, are written behind what was there, and are
+-- the records that the bytes are, which they are alone, are written after what was there, and are
 -- read again
 pub record IsWrittenAgain (order : Endianness) (bytes old new : List ℕ) : Type 0 where
-  pub written : (types : List BtfType) → Spells order types bytes → new ≡ old ++ flat_map (record_bytes order) types
-  pub spelled : (types : List BtfType) → Spells order types bytes → Spells order types (flat_map (record_bytes order) types)
+  pub written : (types : List BtfType)
+      → Spells order types bytes
+      → new ≡ old ++ flat_map (record_bytes order) types
+  pub spelled : (types : List BtfType)
+      → Spells order types bytes
+      → Spells order types (flat_map (record_bytes order) types)

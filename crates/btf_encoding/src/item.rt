@@ -10,7 +10,7 @@ use btf_records::{
 };
 use std::alloc::AllocError;
 
-/// What is spelled by a fixed number of words behind a record's first three: an item of its list,
+/// What is spelled by a fixed number of words after a record's first three: an item of its list,
 /// or its array.
 pub(crate) trait Item: Copy {
     ghost SIZE: { ℕ };
@@ -26,7 +26,7 @@ pub(crate) trait Item: Copy {
         requires { SIZE ≤ length bytes.now }
         ensures { result ≡ item_in order bytes.now };
 
-    /// Writes the item behind what is there.
+    /// Writes the item after what is there.
     fn write(self, order: Endianness, out: &mut Vec<u8>) -> Result<(), AllocError>
         ensures ok { OnOk result (out.new.items ≡ out.old.items ++ words_bytes order (words self)) }
         ensures err { OnErr result (take (length out.old.items) out.new.items ≡ out.old.items) }

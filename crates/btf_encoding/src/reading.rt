@@ -12,7 +12,7 @@ use btf_records::{
 };
 use std::alloc::{AllocError, Global};
 
-/// The bytes behind the first so many.
+/// The bytes after the first `len`.
 pub fn behind(bytes: &[u8], len: usize) -> &[u8]
     requires { len ≤ length bytes.now }
     ensures value { result.now ≡ drop len bytes.now }
@@ -21,7 +21,7 @@ pub fn behind(bytes: &[u8], len: usize) -> &[u8]
     bytes.split_at(len).1
 }
 
-/// The bytes behind a record's first three words, those of its list aside, by the number of its
+/// The bytes after a record's first three words, those of its list aside, by the number of its
 /// kind.
 const FIXED_LEN: [usize; 20] = [0, 4, 0, 12, 0, 0, 0, 0, 0, 0, 0, 0, 0, 0, 4, 0, 0, 4, 0, 0];
 
@@ -30,7 +30,7 @@ const ITEM_LEN: [usize; 20] = [
     0, 0, 0, 0, 12, 12, 8, 0, 0, 0, 0, 0, 0, 8, 0, 12, 0, 0, 0, 12,
 ];
 
-/// The bytes of a record of a kind behind its first three words.
+/// The bytes of a record of a kind after its first three words.
 pub(crate) fn bytes_behind(kind: BtfKind, count: usize) -> usize
     requires { count < 65536 }
     ensures value { result ≡ len_behind kind count }
@@ -61,11 +61,13 @@ pub fn record_len(order: Endianness, bytes: &[u8]) -> Result<usize, BtfError>
     Ok(len)
 }
 
-/// The item at a place in the list behind a record's first three words.
+/// The item at a place in the list after a record's first three words.
 pub(crate) fn item<T: Item>(order: Endianness, bytes: &[u8], index: usize) -> Option<T>
     requires head { 12 ≤ length bytes.now }
     requires whole { 12 + T.SIZE * count_at order bytes.now ≤ length bytes.now }
-    ensures { result ≡ slice_get (items_in (T.item_in order) T.SIZE (count_at order bytes.now) (drop 12 bytes.now)) index }
+    ensures { result
+        ≡ slice_get
+        (items_in (T.item_in order) T.SIZE (count_at order bytes.now) (drop 12 bytes.now)) index }
 {
     let count = (word(order, bytes, 4) % 0x1_0000) as usize;
     if index < count {
@@ -76,11 +78,12 @@ pub(crate) fn item<T: Item>(order: Endianness, bytes: &[u8], index: usize) -> Op
     }
 }
 
-/// The list behind a record's first three words.
+/// The list after a record's first three words.
 fn items<T: Item>(alloc: Global, order: Endianness, bytes: &[u8]) -> Result<Items<T>, AllocError>
     requires head { 12 ≤ length bytes.now }
     requires whole { 12 + T.SIZE * count_at order bytes.now ≤ length bytes.now }
-    ensures { IfOk result (λ items. items ≡ items_in (T.item_in order) T.SIZE (count_at order bytes.now) (drop 12 bytes.now)) }
+    ensures { IfOk result (λ items.
+        items ≡ items_in (T.item_in order) T.SIZE (count_at order bytes.now) (drop 12 bytes.now)) }
 {
     let count = (word(order, bytes, 4) % 0x1_0000) as usize;
     let mut items = Items::new(alloc);

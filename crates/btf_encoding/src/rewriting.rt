@@ -57,7 +57,7 @@ fn split_kept(order: Endianness, bytes: &[u8]) -> (&[u8], &[u8])
     bytes.split_at(bytes.len() - rest.len())
 }
 
-/// Writes the first record, where there is one, by its fields, and answers the bytes behind it.
+/// Writes the first record, where there is one, by its fields, and answers the bytes after it.
 #[tactic(auto, using(crate::proofs::ManyTypes::first_record, crate::proofs::Rewritten::none_yet, crate::proofs::Rewritten::pushed))]
 fn push_first<'a>(
     out: &mut Vec<u8>,
@@ -65,8 +65,10 @@ fn push_first<'a>(
     bytes: &'a [u8],
 ) -> Result<&'a [u8], AllocError>
     requires { AreRecords order bytes.now }
-    ensures written { IfOk result (λ rest. AreWrittenUpTo order bytes.now rest.now out.old.items out.new.items) }
-    ensures shorter { IfOk result (λ rest. (length rest.now ≡ 0) ⊎ (length rest.now < length bytes.now)) }
+    ensures written { IfOk result (λ rest.
+        AreWrittenUpTo order bytes.now rest.now out.old.items out.new.items) }
+    ensures shorter { IfOk result (λ rest.
+        (length rest.now ≡ 0) ⊎ (length rest.now < length bytes.now)) }
     ensures err { OnErr result (out.new.items ≡ out.old.items) }
 {
     if bytes.is_empty() {
@@ -77,7 +79,7 @@ fn push_first<'a>(
     Ok(behind(bytes, len_of(order, bytes)))
 }
 
-/// Writes records behind what is there, as far as memory reaches.
+/// Writes records after what is there, as far as memory reaches.
 #[tactic(auto, using(crate::proofs::Rewritten::none_yet))]
 fn push_records(out: &mut Vec<u8>, order: Endianness, bytes: &[u8]) -> Result<(), AllocError>
     requires { AreRecords order bytes.now }
@@ -93,7 +95,7 @@ fn push_records(out: &mut Vec<u8>, order: Endianness, bytes: &[u8]) -> Result<()
     Ok(())
 }
 
-/// Writes the records that the bytes are behind what is there, each as `push_type` writes it. Those
+/// After what is there, writes the records that the bytes are, each as `push_type` writes it. Those
 /// that are written as they are read are copied, as many at once as stand side by side.
 #[tactic(auto, using(crate::proofs::Rewritten::all_again))]
 pub fn push_types(out: &mut Vec<u8>, order: Endianness, bytes: &[u8]) -> Result<(), AllocError>
@@ -111,10 +113,11 @@ pub fn push_types(out: &mut Vec<u8>, order: Endianness, bytes: &[u8]) -> Result<
     }
 }
 
-/// Writes the record that the bytes begin with behind what is there, as `push_type` writes it.
+/// After what is there, writes the record that the bytes begin with, as `push_type` writes it.
 fn push_read(out: &mut Vec<u8>, order: Endianness, bytes: &[u8]) -> Result<(), AllocError>
     requires { HasRecord order bytes.now }
-    ensures ok { OnOk result (out.new.items ≡ out.old.items ++ record_bytes order (type_in order bytes.now)) }
+    ensures ok { OnOk result
+        (out.new.items ≡ out.old.items ++ record_bytes order (type_in order bytes.now)) }
     ensures read_back { OnOk result (ReadsBack order (type_in order bytes.now)) }
     ensures err { OnErr result (out.new.items ≡ out.old.items) }
 {
@@ -128,7 +131,7 @@ fn push_read(out: &mut Vec<u8>, order: Endianness, bytes: &[u8]) -> Result<(), A
 }
 
 impl<'a> TypeRef<'a> {
-    /// Writes the record's bytes behind what is there, in an order, as `push_type` writes the
+    /// Writes the record's bytes after what is there, in an order, as `push_type` writes the
     /// record. One that is written as it was read is copied.
     #[tactic(auto, using(crate::proofs::CopiedBack::bytes_with))]
     pub fn push_to(&self, out: &mut Vec<u8>, order: Endianness) -> Result<(), AllocError>

@@ -9,7 +9,7 @@ use crate::item::Item;
 use btf_records::{BtfKind, BtfType, Endianness, push_word};
 use std::alloc::AllocError;
 
-/// Writes words behind what is there.
+/// Writes words after what is there.
 fn push_words(out: &mut Vec<u8>, order: Endianness, words: &[u32]) -> Result<(), AllocError>
     ensures ok { OnOk result (out.new.items ≡ out.old.items ++ words_bytes order words.now) }
     ensures fits { OnOk result (All (λ w. w < 2 ^ 32) words.now) }
@@ -21,9 +21,10 @@ fn push_words(out: &mut Vec<u8>, order: Endianness, words: &[u32]) -> Result<(),
     Ok(())
 }
 
-/// Writes items behind what is there.
+/// Writes items after what is there.
 fn push_items<T: Item>(out: &mut Vec<u8>, order: Endianness, items: &[T]) -> Result<(), AllocError>
-    ensures ok { OnOk result (out.new.items ≡ out.old.items ++ words_bytes order (flat_map T.words items.now)) }
+    ensures ok { OnOk result
+        (out.new.items ≡ out.old.items ++ words_bytes order (flat_map T.words items.now)) }
     ensures err { OnErr result (take (length out.old.items) out.new.items ≡ out.old.items) }
     ensures fits { OnOk result (All (λ w. w < 2 ^ 32) (flat_map T.words items.now)) }
 {
@@ -33,7 +34,7 @@ fn push_items<T: Item>(out: &mut Vec<u8>, order: Endianness, items: &[T]) -> Res
     Ok(())
 }
 
-/// Writes a record's words behind what is there, as far as memory reaches.
+/// Writes a record's words after what is there, as far as memory reaches.
 #[tactic(auto, unfolding(crate::specs::Records::record_bytes))]
 fn push_fields(out: &mut Vec<u8>, order: Endianness, t: &BtfType) -> Result<(), AllocError>
     ensures ok { OnOk result (out.new.items ≡ out.old.items ++ record_bytes order t.now) }
@@ -134,7 +135,7 @@ fn push_fields(out: &mut Vec<u8>, order: Endianness, t: &BtfType) -> Result<(), 
     }
 }
 
-/// Writes a record's bytes behind what is there: the third word of `BTF_KIND_FWD` and
+/// Writes a record's bytes after what is there: the third word of `BTF_KIND_FWD` and
 /// `BTF_KIND_ARRAY` as 0, an unknown linkage of a `BTF_KIND_VAR` as 3, `BTF_KIND_UNKN` as zeros.
 pub fn push_type(out: &mut Vec<u8>, order: Endianness, t: &BtfType) -> Result<(), AllocError>
     ensures ok { OnOk result (out.new.items ≡ out.old.items ++ record_bytes order t.now) }

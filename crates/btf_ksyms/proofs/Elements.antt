@@ -15,7 +15,7 @@ pub record HoldsOfFirst {X : Type 0} (P : X → Type 0) (xs : List X) (i : ℕ) 
 none_of_any : {X : Type 0} (fault : X → BtfError → Type 0) (xs : List X) → All (λ x. IsFaultless (fault x)) xs → IsFaultless (λ e. Any (λ x. fault x e) xs)
 none_of_any fault xs each = record { none = λ e any. (each any.0 any.1 any.2).none e (subst (λ x. fault x e) (sym any.3) any.4) }
 
--- of the first so many nothing is wrong, and there are no more
+-- with the first ones nothing is wrong, and there are no more
 pub none_of_all : {X : Type 0} (fault : X → BtfError → Type 0) (xs : List X) (i : ℕ) → HoldsOfFirst (λ x. IsFaultless (fault x)) xs i → length xs ≤ i → IsFaultless (λ e. Any (λ x. fault x e) xs)
 none_of_all fault xs i h k = none_of_any fault xs (subst (All (λ x. IsFaultless (fault x))) (take_all i xs k) h.each)
 

@@ -10,7 +10,7 @@ use Rattle.btf_records.specs.declared.error.BtfError.{BtfError}
 use Rattle.btf_records.specs.declared.types.BtfType.{BtfType}
 use Rattle.btf_records.specs.declared.words.Endianness.{Endianness}
 
--- too many types, with others behind them
+-- too many types, with others after them
 pub too_many_more : (order : Endianness) (front rest : List BtfType) → AreTooMany order front → AreTooMany order (front ++ rest)
 too_many_more order front rest (inl bytes) = inl (omega (arith, bytes, ap length (flat_map-append (record_bytes order) front rest), length-append (flat_map (record_bytes order) front) (flat_map (record_bytes order) rest)))
 too_many_more order front rest (inr count) = inr (omega (arith, count, length-append front rest))

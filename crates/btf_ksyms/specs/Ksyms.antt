@@ -1,6 +1,6 @@
 -- The section `.ksyms` of a table, whose entries are made such as a kernel takes them, as libbpf's
--- bpf_object__collect_externs has it (tools/lib/bpf/libbpf.c), which seeks an integer of 32 bits where one of 4 bytes is
--- sought here.
+-- bpf_object__collect_externs has it (tools/lib/bpf/libbpf.c), which seeks an integer of 32 bits
+-- where one of 4 bytes is sought here.
 use Rattle.std.specs.Prelude.{◌≡◌, ℕ, ◌+◌, ◌*◌, ◌==◌, ◌&&◌, ◌⊎◌, Any, Bool, true, false, not, if◌then◌else◌, List, [], ◌∷◌, ◌++◌, codes, length, Option, Some, None, is_none, unwrap_or}
 use Rattle.std.specs.List.{list_any}
 use Rattle.std.specs.Option.{IsSomeAnd, option_map_or}
@@ -35,9 +35,11 @@ is_kind kinds.Var kinds.Var = true
 is_kind _ _ = false
 
 abbrev pub names_a : BtfKind → Ksyms → DataSecEntry → Bool
-names_a kind k e = option_map_or (λ t. is_kind kind (kind_of_type t)) (record_of_id k.types e.btf_type) false
+names_a kind k e =
+    option_map_or (λ t. is_kind kind (kind_of_type t)) (record_of_id k.types e.btf_type) false
 
--- the integer of 4 bytes that each variable is of: the least, or one that is appended where none is there
+-- the integer of 4 bytes that each variable is of: the least, or one that is appended where none is
+-- there
 abbrev pub is_int4 : BtfType → Bool
 is_int4 t = option_map_or (λ int. int.size == 4) (int_of t) false
 
@@ -52,11 +54,24 @@ abbrev pub int_id : Ksyms → ℕ
 int_id k = unwrap_or (int4_from 1 k.types) (length k.types + 1)
 
 abbrev pub signed_int : ℕ → BtfType
-signed_int name_offset = types.Int (record { name_offset = name_offset; vlen = 0; info = flagged false; size = 4; int_word = int_word_of 1 0 32 })
+signed_int name_offset =
+    types.Int
+    (record {
+      name_offset = name_offset;
+      vlen = 0;
+      info = flagged false;
+      size = 4;
+      int_word = int_word_of 1 0 32;
+    })
 
 -- the entries: a place of 4 bytes for each, and in the place of a function the placeholder
 abbrev pub placed_entry : Ksyms → ℕ → DataSecEntry → DataSecEntry
-placed_entry k index e = record { btf_type = if names_a kinds.Func k e then unwrap_or k.placeholder 0 else e.btf_type; offset = 4 * index; size = 4 }
+placed_entry k index e =
+    record {
+      btf_type = if names_a kinds.Func k e then unwrap_or k.placeholder 0 else e.btf_type;
+      offset = 4 * index;
+      size = 4;
+    }
 
 abbrev pub placed_from : Ksyms → ℕ → List DataSecEntry → List DataSecEntry
 placed_from k index [] = []
@@ -67,9 +82,18 @@ abbrev pub is_named : Ksyms → ℕ → Bool
 is_named k id = list_any (λ e. e.btf_type == id) (section_entries k)
 
 abbrev pub stepped : Ksyms → ℕ → BtfType → BtfType
-stepped k id (types.DataSec t) = if id == k.section then types.DataSec (record t { entries = placed_from k 0 (section_entries k); size = 4 * length (section_entries k) }) else types.DataSec t
-stepped k id (types.Func t) = if is_named k id then types.Func (record t { vlen = 1 }) else types.Func t
-stepped k id (types.Var t) = if is_named k id then types.Var (record t { btf_type = int_id k; linkage = Global }) else types.Var t
+stepped k id (types.DataSec t) =
+    if id == k.section
+    then types.DataSec
+    (record t
+    { entries = placed_from k 0 (section_entries k); size = 4 * length (section_entries k) })
+    else types.DataSec t
+stepped k id (types.Func t) =
+    if is_named k id then types.Func (record t { vlen = 1 }) else types.Func t
+stepped k id (types.Var t) =
+    if is_named k id
+    then types.Var (record t { btf_type = int_id k; linkage = Global })
+    else types.Var t
 stepped k id t = t
 
 -- a record that is left as it is, by its kind and its id
@@ -86,17 +110,19 @@ abbrev pub stepped_from : Ksyms → ℕ → List BtfType → List BtfType
 stepped_from k id [] = []
 stepped_from k id (t ∷ ts) = stepped k id t ∷ stepped_from k (id + 1) ts
 
--- the table behind the step: its types, and what is behind its strings
+-- the table after the step: its types, and what is after its strings
 abbrev pub int_name : List ℕ
 int_name = codes "int"
 
 abbrev pub stepped_types : Ksyms → List BtfType
-stepped_types k = stepped_from k 1 k.types ++ (if adds_int k then signed_int (length k.strings) ∷ [] else [])
+stepped_types k =
+    stepped_from k 1 k.types ++ (if adds_int k then signed_int (length k.strings) ∷ [] else [])
 
 abbrev pub stepped_texts : Ksyms → List ℕ
 stepped_texts k = if adds_int k then int_name ++ 0 ∷ [] else []
 
--- an entry that names no type, neither a function nor a variable, or a function where there is no placeholder
+-- an entry that names no type, neither a function nor a variable, or a function where there is no
+-- placeholder
 abbrev pub is_wrong : Option ℕ → BtfKind → Bool
 is_wrong placeholder kinds.Func = is_none placeholder
 is_wrong placeholder kinds.Var = false
@@ -104,7 +130,9 @@ is_wrong placeholder _ = true
 
 abbrev pub EntryFault : Ksyms → DataSecEntry → BtfError → Type 0
 EntryFault k e (UnknownBtfType id) = (e.btf_type ≡ id) × (record_of_id k.types id ≡ None)
-EntryFault k e InvalidDatasec = IsSomeAnd (record_of_id k.types e.btf_type) (λ t. is_wrong k.placeholder (kind_of_type t) ≡ true)
+EntryFault k e InvalidDatasec =
+    IsSomeAnd (record_of_id k.types e.btf_type) (λ t.
+    is_wrong k.placeholder (kind_of_type t) ≡ true)
 EntryFault k e _ = ⊥
 
 -- the id names no type, or one that is no section
@@ -114,19 +142,30 @@ is_section _ = false
 
 abbrev pub SubjectFault : Ksyms → BtfError → Type 0
 SubjectFault k (UnknownBtfType id) = (k.section ≡ id) × (record_of_id k.types id ≡ None)
-SubjectFault k (UnexpectedBtfType id) = (k.section ≡ id) × IsSomeAnd (record_of_id k.types id) (λ t. is_section (kind_of_type t) ≡ false)
+SubjectFault k (UnexpectedBtfType id) =
+    (k.section ≡ id)
+    × IsSomeAnd (record_of_id k.types id) (λ t. is_section (kind_of_type t) ≡ false)
 SubjectFault k _ = ⊥
 
 -- the table would be greater than 32 bits can count
 abbrev pub IsOverfull : Endianness → Ksyms → BtfError → Type 0
-IsOverfull order k InvalidTypeInfo = TooMany (length (k.strings ++ stepped_texts k)) ⊎ AreTooMany order (stepped_types k)
+IsOverfull order k InvalidTypeInfo =
+    TooMany (length (k.strings ++ stepped_texts k)) ⊎ AreTooMany order (stepped_types k)
 IsOverfull order k _ = ⊥
 
 -- why the step can't be taken
 abbrev pub KsymsFault : Endianness → Ksyms → BtfError → Type 0
-KsymsFault order k e = SubjectFault k e ⊎ Any (λ entry. EntryFault k entry e) (section_entries k) ⊎ IsOverfull order k e
+KsymsFault order k e =
+    SubjectFault k e
+    ⊎ Any (λ entry. EntryFault k entry e) (section_entries k)
+    ⊎ IsOverfull order k e
 
 -- each id's record is that of its rule, and the same where it is left
 pub record StepKeeps (k : Ksyms) (types : List BtfType) : Type 0 where
-  pub each : (id : ℕ) (t : BtfType) → record_of_id k.types id ≡ Some t → record_of_id types id ≡ Some (stepped k id t)
-  pub left : (id : ℕ) (t : BtfType) → record_of_id k.types id ≡ Some t → leaves k id t ≡ true → record_of_id types id ≡ Some t
+  pub each : (id : ℕ) (t : BtfType)
+      → record_of_id k.types id ≡ Some t
+      → record_of_id types id ≡ Some (stepped k id t)
+  pub left : (id : ℕ) (t : BtfType)
+      → record_of_id k.types id ≡ Some t
+      → leaves k id t ≡ true
+      → record_of_id types id ≡ Some t

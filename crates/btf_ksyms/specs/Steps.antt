@@ -9,11 +9,19 @@ use Rattle.btf_ksyms.specs.declared.section.KsymsSection.{KsymsSection}
 use Rattle.btf_ksyms.specs.declared.step.KsymsStep.{KsymsStep}
 
 abbrev pub ksyms_of : KsymsSection → Ksyms
-ksyms_of k = record { types = k.types.now.types; strings = k.strings.now; section = k.section; placeholder = k.placeholder }
+ksyms_of k =
+    record {
+      types = k.types.now.types;
+      strings = k.strings.now;
+      section = k.section;
+      placeholder = k.placeholder;
+    }
 
 -- for each id below the length whether an entry names it
 pub record AreMarks (marks : List Bool) (entries : List DataSecEntry) : Type 0 where
-  pub each : (id : ℕ) → id < length marks → get_or marks id false ≡ list_any (λ e. e.btf_type == id) entries
+  pub each : (id : ℕ)
+      → id < length marks
+      → get_or marks id false ≡ list_any (λ e. e.btf_type == id) entries
 
 -- a step is that of the section: its entries are placed, its marks tell which ids it names
 pub record IsStep (k : Ksyms) (step : KsymsStep) : Type 0 where

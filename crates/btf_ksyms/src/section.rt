@@ -23,8 +23,8 @@ pub struct KsymsSection<'t> {
     pub placeholder: Option<u32>,
 }
 
-/// An entry at its place in the section, with the placeholder where it names a function; and whether it
-/// names a variable.
+/// An entry at its place in the section, with the placeholder where it names a function; and
+/// whether it names a variable.
 fn placed_entry(
     k: &KsymsSection<'_>,
     index: usize,
@@ -67,11 +67,15 @@ pub(crate) fn placed_entries(
     entries: &[DataSecEntry],
 ) -> Result<PlacedEntries, BtfError>
     requires { length entries.now < 65536 }
-    ensures value { IfOk result (λ p. p.entries.items ≡ placed_from (ksyms_of k.now) 0 entries.now) }
+    ensures value { IfOk result (λ p.
+        p.entries.items ≡ placed_from (ksyms_of k.now) 0 entries.now) }
     ensures len { IfOk result (λ p. length p.entries.items ≡ length entries.now) }
-    ensures variables { IfOk result (λ p. p.has_variables ≡ list_any (names_a kinds.Var (ksyms_of k.now)) entries.now) }
-    ensures refused { IfErr result (λ e. e ≢ OutOfMemory → Any (λ entry. EntryFault (ksyms_of k.now) entry e) entries.now) }
-    ensures accepted { OnOk result (IsFaultless (λ e. Any (λ entry. EntryFault (ksyms_of k.now) entry e) entries.now)) }
+    ensures variables { IfOk result (λ p.
+        p.has_variables ≡ list_any (names_a kinds.Var (ksyms_of k.now)) entries.now) }
+    ensures refused { IfErr result (λ e.
+        e ≢ OutOfMemory → Any (λ entry. EntryFault (ksyms_of k.now) entry e) entries.now) }
+    ensures accepted { OnOk result
+        (IsFaultless (λ e. Any (λ entry. EntryFault (ksyms_of k.now) entry e) entries.now)) }
 {
     let mut placed = Vec::with_capacity(alloc, entries.len())?;
     let mut has_variables = false;
@@ -122,7 +126,7 @@ fn mark(marks: &mut Vec<bool>, id: usize)
     }
 }
 
-/// For each id below so many whether an entry names it.
+/// For each id below a count whether an entry names it.
 #[tactic(auto, using(crate::proofs::Marks::no_marks, crate::proofs::Marks::marked_within, crate::proofs::Marks::marked_past, crate::proofs::Marks::all_marks))]
 pub(crate) fn marks(
     alloc: Global,

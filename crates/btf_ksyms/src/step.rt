@@ -17,7 +17,7 @@ use btf_records::{
 };
 use std::alloc::{AllocError, Global};
 
-/// What a table's records become, and the text behind its strings.
+/// What a table's records become, and the text after its strings.
 #[derive(Debug, Drop)]
 pub struct SteppedTable<'a> {
     pub records: TypeRecords<'a>,
@@ -88,7 +88,7 @@ fn leaves(k: &KsymsSection<'_>, step: &KsymsStep, id: usize, t: &TypeRef<'_>) ->
     }
 }
 
-/// Writes what becomes of a record behind what becomes of those before it.
+/// Writes what becomes of a record after what becomes of those before it.
 #[tactic(auto, using(crate::proofs::Left::left_alone))]
 fn step_next(
     alloc: Global,
@@ -100,10 +100,15 @@ fn step_next(
 ) -> Result<(), BtfError>
     requires step { IsStep (ksyms_of k.now) step.now }
     requires within { id < length step.now.marks.items }
-    ensures types { OnOk result (records.new.types ≡ records.old.types ++ stepped (ksyms_of k.now) id t.now ∷ []) }
+    ensures types { OnOk result
+        (records.new.types ≡ records.old.types ++ stepped (ksyms_of k.now) id t.now ∷ []) }
     ensures order { OnOk result (records.new.order ≡ records.old.order) }
     ensures few { OnOk result (AreFew records.new.order records.new.types) }
-    ensures refused { IfErr result (λ e. e ≢ OutOfMemory → (e ≡ InvalidTypeInfo) × AreTooMany records.old.order (records.old.types ++ stepped (ksyms_of k.now) id t.now ∷ [])) }
+    ensures refused { IfErr result (λ e.
+        e ≢ OutOfMemory
+        → (e ≡ InvalidTypeInfo)
+        × AreTooMany records.old.order
+        (records.old.types ++ stepped (ksyms_of k.now) id t.now ∷ [])) }
 {
     if leaves(k, step, id, t) {
         return records.push_copy(t);
@@ -123,10 +128,14 @@ fn step_all(
     requires empty { records.old.types ≡ [] }
     requires step { IsStep (ksyms_of k.now) step.now }
     requires marks { length step.now.marks.items ≡ length (ksyms_of k.now).types + 1 }
-    ensures types { OnOk result (records.new.types ≡ stepped_from (ksyms_of k.now) 1 (ksyms_of k.now).types) }
+    ensures types { OnOk result
+        (records.new.types ≡ stepped_from (ksyms_of k.now) 1 (ksyms_of k.now).types) }
     ensures order { OnOk result (records.new.order ≡ records.old.order) }
     ensures few { OnOk result (AreFew records.new.order records.new.types) }
-    ensures refused { IfErr result (λ e. e ≢ OutOfMemory → (e ≡ InvalidTypeInfo) × AreTooMany records.old.order (stepped_from (ksyms_of k.now) 1 (ksyms_of k.now).types)) }
+    ensures refused { IfErr result (λ e.
+        e ≢ OutOfMemory
+        → (e ≡ InvalidTypeInfo)
+        × AreTooMany records.old.order (stepped_from (ksyms_of k.now) 1 (ksyms_of k.now).types)) }
 {
     let mut index = 0;
     while let Some(t) = k.types.get(index) {
@@ -163,9 +172,12 @@ fn step_of(
     requires few { length entries.now < 65536 }
     requires int { int ≡ int4_from 1 (ksyms_of k.now).types }
     ensures step { IfOk result (λ step. IsStep (ksyms_of k.now) step) }
-    ensures marks { IfOk result (λ step. length step.marks.items ≡ length (ksyms_of k.now).types + 1) }
-    ensures refused { IfErr result (λ e. e ≢ OutOfMemory → Any (λ entry. EntryFault (ksyms_of k.now) entry e) entries.now) }
-    ensures accepted { OnOk result (IsFaultless (λ e. Any (λ entry. EntryFault (ksyms_of k.now) entry e) entries.now)) }
+    ensures marks { IfOk result (λ step.
+        length step.marks.items ≡ length (ksyms_of k.now).types + 1) }
+    ensures refused { IfErr result (λ e.
+        e ≢ OutOfMemory → Any (λ entry. EntryFault (ksyms_of k.now) entry e) entries.now) }
+    ensures accepted { OnOk result
+        (IsFaultless (λ e. Any (λ entry. EntryFault (ksyms_of k.now) entry e) entries.now)) }
 {
     let placed = placed_entries(alloc, k, entries)?;
     let next_id = k.types.len() + 1;
@@ -191,12 +203,17 @@ fn add_int(
     records: &mut TypeRecords<'_>,
 ) -> Result<Vec<u8>, BtfError>
     requires { string_len < 2 ^ 32 }
-    ensures types { OnOk result (records.new.types ≡ records.old.types ++ signed_int string_len ∷ []) }
+    ensures types { OnOk result
+        (records.new.types ≡ records.old.types ++ signed_int string_len ∷ []) }
     ensures order { OnOk result (records.new.order ≡ records.old.order) }
     ensures few { OnOk result (AreFew records.new.order records.new.types) }
     ensures text { IfOk result (λ text. text.items ≡ int_name ++ 0 ∷ []) }
     ensures short { OnOk result (string_len + 4 < 2 ^ 32) }
-    ensures refused { IfErr result (λ e. e ≢ OutOfMemory → (e ≡ InvalidTypeInfo) × (TooMany (string_len + 4) ⊎ AreTooMany records.old.order (records.old.types ++ signed_int string_len ∷ []))) }
+    ensures refused { IfErr result (λ e.
+        e ≢ OutOfMemory
+        → (e ≡ InvalidTypeInfo)
+        × (TooMany (string_len + 4)
+        ⊎ AreTooMany records.old.order (records.old.types ++ signed_int string_len ∷ []))) }
 {
     let text = b"int\0";
     if string_len + text.len() > MOST {
@@ -206,7 +223,7 @@ fn add_int(
     Ok(Vec::from_slice(alloc, text)?)
 }
 
-/// The stepped records, and behind them the integer where it is wanted.
+/// The stepped records, and after them the integer where it is wanted.
 fn with_int<'a>(
     alloc: Global,
     k: &KsymsSection<'_>,
@@ -220,7 +237,8 @@ fn with_int<'a>(
     ensures types { IfOk result (λ s. s.records.types ≡ stepped_types (ksyms_of k.now)) }
     ensures order { IfOk result (λ s. s.records.order ≡ records.entry.order) }
     ensures texts { IfOk result (λ s. s.texts.items ≡ stepped_texts (ksyms_of k.now)) }
-    ensures refused { IfErr result (λ e. e ≢ OutOfMemory → IsOverfull records.entry.order (ksyms_of k.now) e) }
+    ensures refused { IfErr result (λ e.
+        e ≢ OutOfMemory → IsOverfull records.entry.order (ksyms_of k.now) e) }
     ensures accepted { OnOk result (IsFaultless (IsOverfull records.entry.order (ksyms_of k.now))) }
 {
     if !is_added {
@@ -239,8 +257,10 @@ fn stepped_table<'a>(alloc: Global, k: &KsymsSection<'_>) -> Result<SteppedTable
     ensures types { IfOk result (λ s. s.records.types ≡ stepped_types (ksyms_of k.now)) }
     ensures order { IfOk result (λ s. s.records.order ≡ k.now.types.now.order) }
     ensures texts { IfOk result (λ s. s.texts.items ≡ stepped_texts (ksyms_of k.now)) }
-    ensures refused { IfErr result (λ e. e ≢ OutOfMemory → KsymsFault k.now.types.now.order (ksyms_of k.now) e) }
-    ensures accepted { OnOk result (IsFaultless (KsymsFault k.now.types.now.order (ksyms_of k.now))) }
+    ensures refused { IfErr result (λ e.
+        e ≢ OutOfMemory → KsymsFault k.now.types.now.order (ksyms_of k.now) e) }
+    ensures accepted { OnOk result
+        (IsFaultless (KsymsFault k.now.types.now.order (ksyms_of k.now))) }
 {
     let entries = section_entries(alloc, k)?;
     let int = int4_id(k.types);
@@ -252,7 +272,7 @@ fn stepped_table<'a>(alloc: Global, k: &KsymsSection<'_>) -> Result<SteppedTable
     Ok(table)
 }
 
-/// The records of a table behind the step on its section `.ksyms`, and the text behind its strings:
+/// The records of a table after the step on its section `.ksyms`, and the text after its strings:
 /// each entry gets a place of 4 bytes and, where it names a function, names the placeholder; the
 /// functions and variables that it names become global, the variables of the least integer of 4
 /// bytes, which is appended where there is none.
@@ -266,8 +286,10 @@ pub fn fixup_ksyms<'a>(alloc: Global, k: &KsymsSection<'_>) -> Result<SteppedTab
     ensures types { IfOk result (λ s. s.records.types ≡ stepped_types (ksyms_of k.now)) }
     ensures order { IfOk result (λ s. s.records.order ≡ k.now.types.now.order) }
     ensures texts { IfOk result (λ s. s.texts.items ≡ stepped_texts (ksyms_of k.now)) }
-    ensures refused { IfErr result (λ e. e ≢ OutOfMemory → KsymsFault k.now.types.now.order (ksyms_of k.now) e) }
-    ensures accepted { OnOk result (IsFaultless (KsymsFault k.now.types.now.order (ksyms_of k.now))) }
+    ensures refused { IfErr result (λ e.
+        e ≢ OutOfMemory → KsymsFault k.now.types.now.order (ksyms_of k.now) e) }
+    ensures accepted { OnOk result
+        (IsFaultless (KsymsFault k.now.types.now.order (ksyms_of k.now))) }
     ensures keeps { IfOk result (λ s. StepKeeps (ksyms_of k.now) s.records.types) }
 {
     let table = stepped_table(alloc, k)?;

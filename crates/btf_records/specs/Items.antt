@@ -3,7 +3,8 @@ use Rattle.std.specs.Prelude.{ℕ, ◌+◌, ◌*◌, ◌/◌, ◌%◌, ◌^◌, 
 use Rattle.btf_records.specs.declared.item.BtfMember.{BtfMember}
 use Rattle.btf_records.specs.declared.item.BtfEnum64.{BtfEnum64}
 
--- its offset in bits and the size of its bit field, in a record whose flag is set or not ("BTF_KIND_STRUCT")
+-- its offset in bits and the size of its bit field, in a record whose flag is set or not
+-- ("BTF_KIND_STRUCT")
 abbrev pub bit_offset_of : Bool → BtfMember → ℕ
 bit_offset_of flag m = if flag then m.offset % 2 ^ 24 else m.offset
 

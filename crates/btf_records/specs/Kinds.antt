@@ -5,7 +5,9 @@ use Rattle.btf_records.specs.declared.kind.BtfKind.TheVariants.{Unknown, Int, Pt
 
 -- the kinds, from number 0 on
 abbrev pub all_kinds : List BtfKind
-all_kinds = Unknown ∷ Int ∷ Ptr ∷ Array ∷ Struct ∷ Union ∷ Enum ∷ Fwd ∷ Typedef ∷ Volatile ∷ Const ∷ Restrict ∷ Func ∷ FuncProto ∷ Var ∷ DataSec ∷ Float ∷ DeclTag ∷ TypeTag ∷ Enum64 ∷ []
+all_kinds =
+    Unknown ∷ Int ∷ Ptr ∷ Array ∷ Struct ∷ Union ∷ Enum ∷ Fwd ∷ Typedef ∷ Volatile ∷ Const
+    ∷ Restrict ∷ Func ∷ FuncProto ∷ Var ∷ DataSec ∷ Float ∷ DeclTag ∷ TypeTag ∷ Enum64 ∷ []
 
 abbrev pub kind_count : ℕ
 kind_count = 20

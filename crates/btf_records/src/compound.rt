@@ -21,7 +21,13 @@ pub struct Array {
 
 impl Array {
     pub fn new(name_offset: u32, element_type: u32, index_type: u32, len: u32) -> Array
-        ensures { result ≡ record { name_offset = name_offset; vlen = 0; info = flagged false; array = record { element_type = element_type; index_type = index_type; len = len } } }
+        ensures { result
+            ≡ record {
+              name_offset = name_offset;
+              vlen = 0;
+              info = flagged false;
+              array = record { element_type = element_type; index_type = index_type; len = len };
+            } }
     {
         Array {
             name_offset,
@@ -50,7 +56,13 @@ pub struct Struct {
 impl Struct {
     pub fn new(name_offset: u32, members: Vec<BtfMember>, size: u32) -> Struct
         requires { length members.items < 65536 }
-        ensures { result ≡ record { name_offset = name_offset; info = flagged false; size = size; members = members.items } }
+        ensures { result
+            ≡ record {
+              name_offset = name_offset;
+              info = flagged false;
+              size = size;
+              members = members.items;
+            } }
     {
         Struct {
             name_offset,
@@ -77,7 +89,14 @@ pub struct Union {
 impl Union {
     pub fn new(name_offset: u32, members: Vec<BtfMember>, size: u32) -> Union
         requires { length members.items < 65536 }
-        ensures { result ≡ record { name_offset = name_offset; info = flagged false; size = size; members = members.items; fallback = None } }
+        ensures { result
+            ≡ record {
+              name_offset = name_offset;
+              info = flagged false;
+              size = size;
+              members = members.items;
+              fallback = None;
+            } }
     {
         Union {
             name_offset,

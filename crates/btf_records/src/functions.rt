@@ -23,7 +23,13 @@ pub struct Func {
 
 impl Func {
     pub fn new(name_offset: u32, proto: u32, linkage: FuncLinkage) -> Func
-        ensures { result ≡ record { name_offset = name_offset; vlen = number_of_func_linkage linkage; info = flagged false; btf_type = proto } }
+        ensures { result
+            ≡ record {
+              name_offset = name_offset;
+              vlen = number_of_func_linkage linkage;
+              info = flagged false;
+              btf_type = proto;
+            } }
     {
         Func {
             name_offset,
@@ -65,7 +71,13 @@ impl FuncProto {
     /// It has no name.
     pub fn new(params: Vec<BtfParam>, return_type: u32) -> FuncProto
         requires { length params.items < 65536 }
-        ensures { result ≡ record { name_offset = 0; info = flagged false; return_type = return_type; params = params.items } }
+        ensures { result
+            ≡ record {
+              name_offset = 0;
+              info = flagged false;
+              return_type = return_type;
+              params = params.items;
+            } }
     {
         FuncProto {
             name_offset: 0,

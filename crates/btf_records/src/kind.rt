@@ -98,7 +98,9 @@ impl BtfKind {
 impl TryFrom<u32> for BtfKind {
     type Error = BtfError;
 
-    ghost try_from_gives = { λ n r. MatchResult r (λ kind. (n < kind_count) × (kind ≡ kind_of n)) (λ e. (kind_count ≤ n) × (e ≡ InvalidTypeKind n)) };
+    ghost try_from_gives = { λ n r.
+        MatchResult r (λ kind. (n < kind_count) × (kind ≡ kind_of n)) (λ e.
+        (kind_count ≤ n) × (e ≡ InvalidTypeKind n)) };
 
     #[tactic(auto, unfolding(crate::specs::Kinds::kind_of))]
     fn try_from(kind: u32) -> Result<BtfKind, BtfError> {

@@ -20,7 +20,9 @@ pub struct Ptr {
 
 impl Ptr {
     pub fn new(name_offset: u32, btf_type: u32) -> Ptr
-        ensures { result ≡ record { name_offset = name_offset; vlen = 0; info = flagged false; btf_type = btf_type } }
+        ensures { result
+            ≡ record
+            { name_offset = name_offset; vlen = 0; info = flagged false; btf_type = btf_type } }
     {
         Ptr {
             name_offset,
@@ -45,7 +47,8 @@ pub struct Typedef {
 
 impl Typedef {
     pub fn new(name_offset: u32, id: u32) -> Typedef
-        ensures { result ≡ record { name_offset = name_offset; vlen = 0; info = flagged false; btf_type = id } }
+        ensures { result
+            ≡ record { name_offset = name_offset; vlen = 0; info = flagged false; btf_type = id } }
     {
         Typedef {
             name_offset,
@@ -71,7 +74,8 @@ pub struct Volatile {
 impl Volatile {
     /// It has no name.
     pub fn new(id: u32) -> Volatile
-        ensures { result ≡ record { name_offset = 0; vlen = 0; info = flagged false; btf_type = id } }
+        ensures { result
+            ≡ record { name_offset = 0; vlen = 0; info = flagged false; btf_type = id } }
     {
         Volatile {
             name_offset: 0,
@@ -97,7 +101,8 @@ pub struct Const {
 impl Const {
     /// It has no name.
     pub fn new(id: u32) -> Const
-        ensures { result ≡ record { name_offset = 0; vlen = 0; info = flagged false; btf_type = id } }
+        ensures { result
+            ≡ record { name_offset = 0; vlen = 0; info = flagged false; btf_type = id } }
     {
         Const {
             name_offset: 0,
@@ -123,7 +128,8 @@ pub struct Restrict {
 impl Restrict {
     /// It has no name.
     pub fn new(id: u32) -> Restrict
-        ensures { result ≡ record { name_offset = 0; vlen = 0; info = flagged false; btf_type = id } }
+        ensures { result
+            ≡ record { name_offset = 0; vlen = 0; info = flagged false; btf_type = id } }
     {
         Restrict {
             name_offset: 0,
@@ -148,7 +154,9 @@ pub struct TypeTag {
 
 impl TypeTag {
     pub fn new(name_offset: u32, btf_type: u32) -> TypeTag
-        ensures { result ≡ record { name_offset = name_offset; vlen = 0; info = flagged false; btf_type = btf_type } }
+        ensures { result
+            ≡ record
+            { name_offset = name_offset; vlen = 0; info = flagged false; btf_type = btf_type } }
     {
         TypeTag {
             name_offset,
@@ -175,7 +183,14 @@ pub struct DeclTag {
 
 impl DeclTag {
     pub fn new(name_offset: u32, btf_type: u32, component_index: i32) -> DeclTag
-        ensures { result ≡ record { name_offset = name_offset; vlen = 0; info = flagged false; btf_type = btf_type; index_word = cast_unsigned w32 component_index } }
+        ensures { result
+            ≡ record {
+              name_offset = name_offset;
+              vlen = 0;
+              info = flagged false;
+              btf_type = btf_type;
+              index_word = cast_unsigned w32 component_index;
+            } }
     {
         DeclTag {
             name_offset,

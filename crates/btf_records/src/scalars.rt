@@ -27,7 +27,14 @@ pub struct Int {
 impl Int {
     /// Its word holds the offset and 8 times the size modulo 256.
     pub fn new(name_offset: u32, size: u32, encoding: IntEncoding, offset: u32) -> Int
-        ensures { result ≡ record { name_offset = name_offset; vlen = 0; info = flagged false; size = size; int_word = int_word_of (number_of_encoding encoding) offset (8 * size) } }
+        ensures { result
+            ≡ record {
+              name_offset = name_offset;
+              vlen = 0;
+              info = flagged false;
+              size = size;
+              int_word = int_word_of (number_of_encoding encoding) offset (8 * size);
+            } }
     {
         let bits = size % 32 * 8;
         Int {
@@ -74,7 +81,8 @@ pub struct Float {
 
 impl Float {
     pub fn new(name_offset: u32, size: u32) -> Float
-        ensures { result ≡ record { name_offset = name_offset; vlen = 0; info = flagged false; size = size } }
+        ensures { result
+            ≡ record { name_offset = name_offset; vlen = 0; info = flagged false; size = size } }
     {
         Float {
             name_offset,
@@ -100,7 +108,13 @@ impl Enum {
     /// An enum of 4 bytes.
     pub fn new(name_offset: u32, signed: bool, variants: Vec<BtfEnum>) -> Enum
         requires { length variants.items < 65536 }
-        ensures { result ≡ record { name_offset = name_offset; info = flagged signed; size = 4; variants = variants.items } }
+        ensures { result
+            ≡ record {
+              name_offset = name_offset;
+              info = flagged signed;
+              size = 4;
+              variants = variants.items;
+            } }
     {
         Enum {
             name_offset,
@@ -126,7 +140,13 @@ impl Enum64 {
     /// An enum of 8 bytes.
     pub fn new(name_offset: u32, signed: bool, variants: Vec<BtfEnum64>) -> Enum64
         requires { length variants.items < 65536 }
-        ensures { result ≡ record { name_offset = name_offset; info = flagged signed; size = 8; variants = variants.items } }
+        ensures { result
+            ≡ record {
+              name_offset = name_offset;
+              info = flagged signed;
+              size = 8;
+              variants = variants.items;
+            } }
     {
         Enum64 {
             name_offset,

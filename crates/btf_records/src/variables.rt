@@ -23,7 +23,14 @@ pub struct Var {
 
 impl Var {
     pub fn new(name_offset: u32, btf_type: u32, linkage: VarLinkage) -> Var
-        ensures { result ≡ record { name_offset = name_offset; vlen = 0; info = flagged false; btf_type = btf_type; linkage = linkage } }
+        ensures { result
+            ≡ record {
+              name_offset = name_offset;
+              vlen = 0;
+              info = flagged false;
+              btf_type = btf_type;
+              linkage = linkage;
+            } }
     {
         Var {
             name_offset,
@@ -49,7 +56,13 @@ pub struct DataSec {
 impl DataSec {
     pub fn new(name_offset: u32, entries: Vec<DataSecEntry>, size: u32) -> DataSec
         requires { length entries.items < 65536 }
-        ensures { result ≡ record { name_offset = name_offset; info = flagged false; size = size; entries = entries.items } }
+        ensures { result
+            ≡ record {
+              name_offset = name_offset;
+              info = flagged false;
+              size = size;
+              entries = entries.items;
+            } }
     {
         DataSec {
             name_offset,

@@ -38,7 +38,7 @@ pub fn word(order: Endianness, bytes: &[u8], offset: usize) -> u32
     }
 }
 
-/// Writes a word behind what is there.
+/// Writes a word after what is there.
 #[tactic(auto, unfolding(crate::specs::Words::word_bytes))]
 pub fn push_word(out: &mut Vec<u8>, order: Endianness, word: u32) -> Result<(), AllocError>
     ensures ok { OnOk result (out.new.items ≡ out.old.items ++ word_bytes order word) }
@@ -64,7 +64,7 @@ pub fn half_word(order: Endianness, bytes: &[u8], offset: usize) -> u16
     }
 }
 
-/// Writes a half word behind what is there.
+/// Writes a half word after what is there.
 #[tactic(auto, unfolding(crate::specs::Words::half_bytes))]
 pub fn push_half_word(out: &mut Vec<u8>, order: Endianness, half: u16) -> Result<(), AllocError>
     ensures ok { OnOk result (out.new.items ≡ out.old.items ++ half_bytes order half) }

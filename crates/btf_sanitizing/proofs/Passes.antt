@@ -146,7 +146,7 @@ too_much_stays a b InvalidTypeInfo h (inl texts) = inl (omega (arith, h.texts, t
 too_much_stays a b InvalidTypeInfo h (inr types) = inr (omega (arith, h.types, types))
 too_much_stays a b _ h none = none
 
--- ---- the first so many records
+-- ---- the first records
 
 pub record HavePassed (known : Facts) (order : Endianness) (start : Added) (i : ℕ) (a : Added) (done : List BtfType) : Type 0 where
   pub made : done ++ all_rewritten known a (drop i known.types) ≡ all_rewritten known start known.types

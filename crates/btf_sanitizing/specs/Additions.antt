@@ -7,8 +7,8 @@ use Rattle.btf_records.specs.declared.types.BtfType.{BtfType}
 use Rattle.btf_records.specs.declared.types.BtfType.TheVariants.{Int, Var}
 use Rattle.btf_sanitizing.specs.Names.{filler_int_name, filler_name, placeholder_name, replaced}
 
--- behind so many bytes of strings and so many types: texts, types, and the ids of two of these types
--- where they are there
+-- after a number of bytes of strings and a number of types: texts, types, and the ids of two of
+-- these types where they are there
 pub record Added : Type 0 where
   pub string_len : ℕ
   pub type_count : ℕ
@@ -18,7 +18,15 @@ pub record Added : Type 0 where
   pub filler : Option ℕ
 
 abbrev pub nothing_added : ℕ → ℕ → Added
-nothing_added string_len type_count = record { string_len = string_len; type_count = type_count; texts = []; types = []; placeholder = None; filler = None }
+nothing_added string_len type_count =
+    record {
+      string_len = string_len;
+      type_count = type_count;
+      texts = [];
+      types = [];
+      placeholder = None;
+      filler = None;
+    }
 
 -- the offset of the next text, and the id of the next type
 abbrev pub next_offset : Added → ℕ
@@ -40,10 +48,26 @@ with_type t a = record a { types = a.types ++ t ∷ [] }
 
 -- an integer of one byte
 abbrev pub small_int : ℕ → BtfType
-small_int name_offset = Int (record { name_offset = name_offset; vlen = 0; info = flagged false; size = 1; int_word = int_word_of 0 0 8 })
+small_int name_offset =
+    Int
+    (record {
+      name_offset = name_offset;
+      vlen = 0;
+      info = flagged false;
+      size = 1;
+      int_word = int_word_of 0 0 8;
+    })
 
 abbrev pub static_var : ℕ → ℕ → BtfType
-static_var name_offset btf_type = Var (record { name_offset = name_offset; vlen = 0; info = flagged false; btf_type = btf_type; linkage = Static })
+static_var name_offset btf_type =
+    Var
+    (record {
+      name_offset = name_offset;
+      vlen = 0;
+      info = flagged false;
+      btf_type = btf_type;
+      linkage = Static;
+    })
 
 -- a name in which one byte is put in the place of another is appended where it has that byte
 abbrev pub has_byte : ℕ → List ℕ → Bool
@@ -57,7 +81,9 @@ with_renamed from to name a = if has_byte from name then with_text (replaced fro
 
 -- the integer that a member of a rewritten 64-bit enum is of
 abbrev pub with_new_placeholder : Added → Added
-with_new_placeholder a = record (with_type (small_int (next_offset a)) (with_text placeholder_name a)) { placeholder = Some (next_id a) }
+with_new_placeholder a =
+    record (with_type (small_int (next_offset a)) (with_text placeholder_name a))
+    { placeholder = Some (next_id a) }
 
 abbrev pub with_placeholder : Added → Added
 with_placeholder a = if is_some a.placeholder then a else with_new_placeholder a
@@ -70,7 +96,9 @@ abbrev pub with_filler_int : Added → Added
 with_filler_int a = with_type (small_int (next_offset a)) (with_text filler_int_name a)
 
 abbrev pub with_filler_var : ℕ → Added → Added
-with_filler_var int a = record (with_type (static_var (next_offset a) int) (with_text filler_name a)) { filler = Some (next_id a) }
+with_filler_var int a =
+    record (with_type (static_var (next_offset a) int) (with_text filler_name a))
+    { filler = Some (next_id a) }
 
 abbrev pub with_filler : Added → Added
 with_filler a = if is_some a.filler then a else with_filler_var (next_id a) (with_filler_int a)

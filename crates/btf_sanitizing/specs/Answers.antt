@@ -51,7 +51,8 @@ times f (x ∷ xs) = (if is_same x f then 1 else 0) + times f xs
 pub record AreDistinct (fs : List BtfFeature) : Type 0 where
   pub once : (f : BtfFeature) → times f fs ≤ 1
 
--- behind the old answers stand those that calls of the predicate gave, in order, from one of its states to another
+-- after the old answers stand those that calls of the predicate gave, in order, from one of its
+-- states to another
 pub record AreGiven {F : Type 0} (predicate : Mut F (BtfFeature × Unit {0}) Bool) (before : F) (old new : Answers) (after : F) : Type 0 where
   pub more : Answers
   pub appended : new ≡ old ++ more

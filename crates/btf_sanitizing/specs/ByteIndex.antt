@@ -17,7 +17,8 @@ section_names known = record { strings = known.strings; byte = sought known }
 
 -- the byte doesn't stand at an offset of a stretch
 abbrev pub IsStretch : List ℕ → ℕ → Stretch → Type 0
-IsStretch strings byte s = (i d : ℕ) → s.start ≤ i → i < s.end → i < length strings → get_or strings i d ≢ byte
+IsStretch strings byte s =
+    (i d : ℕ) → s.start ≤ i → i < s.end → i < length strings → get_or strings i d ≢ byte
 
 pub record AreStretches (strings : List ℕ) (byte : ℕ) (stretches : List Stretch) : Type 0 where
   pub each : All (IsStretch strings byte) stretches

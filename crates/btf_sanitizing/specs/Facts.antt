@@ -10,8 +10,8 @@ use Rattle.btf_parts.specs.Ids.{record_of_id}
 use Rattle.btf_records.specs.declared.feature.BtfFeature.{BtfFeature}
 use Rattle.btf_records.specs.declared.types.BtfType.{BtfType}
 
--- what is granted, the table's strings and types as they were, and by name the sizes of the object's sections and
--- the offsets of its symbols
+-- what is granted, the table's strings and types as they were, and by name the sizes of the
+-- object's sections and the offsets of its symbols
 pub record Facts : Type 0 where
   pub grants : BtfFeature → Bool
   pub strings : List ℕ

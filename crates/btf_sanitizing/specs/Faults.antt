@@ -18,25 +18,38 @@ use Rattle.btf_sanitizing.specs.Rewritten.{is_static}
 
 -- the name of the symbol of a variable that isn't static
 abbrev pub symbol_name : BtfType → Option ℕ
-symbol_name t = option_and_then (λ v. if is_static v.linkage then None else Some v.name_offset) (var_of t)
+symbol_name t =
+    option_and_then (λ v. if is_static v.linkage then None else Some v.name_offset) (var_of t)
 
--- an entry of a section whose size is the object's to say: it names no variable, or one whose symbol isn't there or
--- lies too far
+-- an entry of a section whose size is the object's to say: it names no variable, or one whose
+-- symbol isn't there or lies too far
 abbrev pub PlaceFault : Facts → DataSecEntry → BtfError → Type 0
 PlaceFault known e (UnknownBtfType id) = (e.btf_type ≡ id) × (type_at known id ≡ None)
-PlaceFault known e (InvalidStringOffset offset) = IsSomeAnd (type_at known e.btf_type) (λ t. (symbol_name t ≡ Some offset) × (text_at known.strings offset ≡ None))
-PlaceFault known e (SymbolOffsetNotFound name) = IsSomeAnd (type_at known e.btf_type) (λ t. IsSomeAnd (symbol_name t) (λ offset. (text_at known.strings offset ≡ Some (string_bytes name)) × (known.offsets (string_bytes name) ≡ None)))
-PlaceFault known e InvalidDatasec = IsSomeAnd (type_at known e.btf_type) (λ t. (var_of t ≡ None) ⊎ IsSomeAnd (symbol_name t) (λ offset. IsSomeAnd (text_at known.strings offset) (λ name. IsSomeAnd (known.offsets name) TooMany)))
+PlaceFault known e (InvalidStringOffset offset) =
+    IsSomeAnd (type_at known e.btf_type) (λ t.
+    (symbol_name t ≡ Some offset) × (text_at known.strings offset ≡ None))
+PlaceFault known e (SymbolOffsetNotFound name) =
+    IsSomeAnd (type_at known e.btf_type) (λ t. IsSomeAnd (symbol_name t) (λ offset.
+    (text_at known.strings offset ≡ Some (string_bytes name))
+    × (known.offsets (string_bytes name) ≡ None)))
+PlaceFault known e InvalidDatasec =
+    IsSomeAnd (type_at known e.btf_type) (λ t.
+    (var_of t ≡ None)
+    ⊎ IsSomeAnd (symbol_name t) (λ offset.
+    IsSomeAnd (text_at known.strings offset) (λ name. IsSomeAnd (known.offsets name) TooMany)))
 PlaceFault known e _ = ⊥
 
 -- the size of such a section isn't there, or is too great
 abbrev pub SizeFault : Facts → List ℕ → BtfError → Type 0
-SizeFault known name (UnknownSectionSize section) = (string_bytes section ≡ name) × (known.sizes name ≡ None)
+SizeFault known name (UnknownSectionSize section) =
+    (string_bytes section ≡ name) × (known.sizes name ≡ None)
 SizeFault known name InvalidDatasec = IsSomeAnd (known.sizes name) TooMany
 SizeFault known name _ = ⊥
 
 abbrev pub UnsizedFault : Facts → DataSec → BtfError → Type 0
-UnsizedFault known t e = IsSomeAnd (text_at known.strings t.name_offset) (λ name. SizeFault known name e) ⊎ Any (λ entry. PlaceFault known entry e) t.entries
+UnsizedFault known t e =
+    IsSomeAnd (text_at known.strings t.name_offset) (λ name. SizeFault known name e)
+    ⊎ Any (λ entry. PlaceFault known entry e) t.entries
 
 -- a member of the struct that is written for a section: it names no type, or lies too far
 abbrev pub MemberFault : Facts → DataSecEntry → BtfError → Type 0
@@ -46,7 +59,8 @@ MemberFault known e _ = ⊥
 
 -- a name that must be read and can't
 abbrev pub NameFault : Facts → ℕ → BtfError → Type 0
-NameFault known name_offset (InvalidStringOffset offset) = (name_offset ≡ offset) × (text_at known.strings offset ≡ None)
+NameFault known name_offset (InvalidStringOffset offset) =
+    (name_offset ≡ offset) × (text_at known.strings offset ≡ None)
 NameFault known name_offset _ = ⊥
 
 abbrev pub SectionFault : Facts → DataSec → BtfError → Type 0
@@ -61,5 +75,6 @@ IsTooMuch a _ = ⊥
 
 abbrev pub KindFault : Facts → BtfType → BtfError → Type 0
 KindFault known (types.DataSec t) e = SectionFault known t e
-KindFault known (types.Func t) e = (known.grants feature.Func ≡ true) × (t.vlen ≡ 1) × NameFault known t.name_offset e
+KindFault known (types.Func t) e =
+    (known.grants feature.Func ≡ true) × (t.vlen ≡ 1) × NameFault known t.name_offset e
 KindFault known _ e = ⊥

@@ -15,13 +15,15 @@ abbrev pub came_unsized : BtfType → Bool
 came_unsized (types.DataSec t) = t.size == 0
 came_unsized _ = true
 
--- the features that a record needs which came as this one: a section without entries that came with a size needs no
--- more than one with entries
+-- the features that a record needs which came as this one: a section without entries that came with
+-- a size needs no more than one with entries
 abbrev pub needed_after : BtfType → BtfType → List BtfFeature
 needed_after t (types.Func r) = feature.Func ∷ (if r.vlen == 1 then feature.FuncGlobal ∷ [] else [])
 needed_after t (types.FuncProto r) = feature.Func ∷ []
 needed_after t (types.Var r) = feature.DataSec ∷ []
-needed_after t (types.DataSec r) = feature.DataSec ∷ (if (length r.entries == 0) && came_unsized t then feature.DataSecZero ∷ [] else [])
+needed_after t (types.DataSec r) =
+    feature.DataSec
+    ∷ (if (length r.entries == 0) && came_unsized t then feature.DataSecZero ∷ [] else [])
 needed_after t (types.Float r) = feature.Float ∷ []
 needed_after t (types.DeclTag r) = feature.DeclTag ∷ []
 needed_after t (types.TypeTag r) = feature.TypeTag ∷ []
@@ -44,9 +46,14 @@ pub record Becomes (known : Facts) (types : List BtfType) (id : ℕ) (t : BtfTyp
   pub here : record_of_id types id ≡ Some (rewritten known behind t)
   pub granted : AllGranted known.grants (needed_after t (rewritten known behind t))
 
--- so does each id's, and it is the same where it stays; behind these records stand types that need granted features
--- alone
+-- so does each id's, and it is the same where it stays; after these records stand types that need
+-- granted features alone
 pub record Keeps (known : Facts) (types : List BtfType) : Type 0 where
-  pub each : (id : ℕ) (t : BtfType) → record_of_id known.types id ≡ Some t → Becomes known types id t
-  pub left : (id : ℕ) (t : BtfType) → record_of_id known.types id ≡ Some t → stays known t ≡ true → record_of_id types id ≡ Some t
+  pub each : (id : ℕ) (t : BtfType)
+      → record_of_id known.types id ≡ Some t
+      → Becomes known types id t
+  pub left : (id : ℕ) (t : BtfType)
+      → record_of_id known.types id ≡ Some t
+      → stays known t ≡ true
+      → record_of_id types id ≡ Some t
   pub added : EachGranted known.grants (drop (length known.types) types)

@@ -8,10 +8,14 @@ use Rattle.btf_records.specs.declared.item.BtfParam.{BtfParam}
 abbrev pub replaced : ℕ → ℕ → List ℕ → List ℕ
 replaced from to = map (λ b. if b == from then to else b)
 
--- the functions that compilers call on their own. Kernels verify a global function apart from its callers, whose bounds
--- these need, so they are made static.
+-- the functions that compilers call on their own. Kernels verify a global function apart from its
+-- callers, whose bounds these need, so they are made static.
 abbrev pub is_memory_function : List ℕ → Bool
-is_memory_function name = pointwise nat_eq name (codes "memset") || pointwise nat_eq name (codes "memcpy") || pointwise nat_eq name (codes "memmove") || pointwise nat_eq name (codes "memcmp")
+is_memory_function name =
+    pointwise nat_eq name (codes "memset")
+    || pointwise nat_eq name (codes "memcpy")
+    || pointwise nat_eq name (codes "memmove")
+    || pointwise nat_eq name (codes "memcmp")
 
 -- the name of a parameter that has none, by its place from 0 on
 abbrev pub param_name : ℕ → List ℕ
@@ -21,15 +25,23 @@ param_name index = codes "param" ++ decimal index
 abbrev pub is_nameless : BtfParam → Bool
 is_nameless p = (p.name_offset == 0) && not (p.btf_type == 0)
 
--- parameters from an index on, those without a name named by texts that begin at this offset, one behind the other
+-- parameters from an index on, those without a name named by texts that begin at this offset, one
+-- after the other
 abbrev pub named_params : ℕ → ℕ → List BtfParam → List BtfParam
 named_params index offset [] = []
-named_params index offset (p ∷ ps) = if is_nameless p then record p { name_offset = offset } ∷ named_params (index + 1) (offset + length (param_name index) + 1) ps else p ∷ named_params (index + 1) offset ps
+named_params index offset (p ∷ ps) =
+    if is_nameless p
+    then record p { name_offset = offset }
+    ∷ named_params (index + 1) (offset + length (param_name index) + 1) ps
+    else p ∷ named_params (index + 1) offset ps
 
 -- those texts
 abbrev pub param_texts : ℕ → List BtfParam → List ℕ
 param_texts index [] = []
-param_texts index (p ∷ ps) = if is_nameless p then param_name index ++ 0 ∷ param_texts (index + 1) ps else param_texts (index + 1) ps
+param_texts index (p ∷ ps) =
+    if is_nameless p
+    then param_name index ++ 0 ∷ param_texts (index + 1) ps
+    else param_texts (index + 1) ps
 
 -- the types that are appended are so named
 abbrev pub placeholder_name : List ℕ

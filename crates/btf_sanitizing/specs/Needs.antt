@@ -1,6 +1,6 @@
--- The features of a kernel that a record needs. libbpf detects them as FEAT_BTF_FUNC, FEAT_BTF_GLOBAL_FUNC,
--- FEAT_BTF_DATASEC, FEAT_BTF_FLOAT, FEAT_BTF_DECL_TAG, FEAT_BTF_TYPE_TAG and FEAT_BTF_ENUM64
--- (tools/lib/bpf/features.c).
+-- The features of a kernel that a record needs. libbpf detects them as FEAT_BTF_FUNC,
+-- FEAT_BTF_GLOBAL_FUNC, FEAT_BTF_DATASEC, FEAT_BTF_FLOAT, FEAT_BTF_DECL_TAG, FEAT_BTF_TYPE_TAG and
+-- FEAT_BTF_ENUM64 (tools/lib/bpf/features.c).
 use Rattle.std.specs.Prelude.{◌≡◌, ℕ, ◌==◌, ◌&&◌, Bool, false, not, if◌then◌else◌, List, [], ◌∷◌, ◌++◌, flat_map, Option}
 use Rattle.std.specs.Option.{option_map_or}
 use Rattle.string_table.specs.Texts.{text_at}
@@ -16,7 +16,8 @@ use Rattle.btf_sanitizing.specs.Names.{is_memory_function}
 
 -- a function of global linkage, whose name can be read and isn't one that is made static
 abbrev pub stays_global : Option (List ℕ) → ℕ → Bool
-stays_global text linkage = (linkage == 1) && option_map_or (λ name. not (is_memory_function name)) text false
+stays_global text linkage =
+    (linkage == 1) && option_map_or (λ name. not (is_memory_function name)) text false
 
 -- a section of no size and without variables
 abbrev pub is_empty_section : BtfType → Bool
@@ -24,10 +25,16 @@ is_empty_section t = option_map_or (λ size. size == 0) (size_of t) false && (co
 
 -- what a record of a kind needs, in the order in which it is asked, where this is granted
 abbrev pub needs_as : BtfKind → (BtfFeature → Bool) → List ℕ → BtfType → List BtfFeature
-needs_as kinds.Func grants strings t = feature.Func ∷ (if grants feature.Func && stays_global (text_at strings (name_offset_of t)) (count_of t) then feature.FuncGlobal ∷ [] else [])
+needs_as kinds.Func grants strings t =
+    feature.Func
+    ∷ (if grants feature.Func && stays_global (text_at strings (name_offset_of t)) (count_of t)
+    then feature.FuncGlobal ∷ []
+    else [])
 needs_as kinds.FuncProto grants strings t = feature.Func ∷ []
 needs_as kinds.Var grants strings t = feature.DataSec ∷ []
-needs_as kinds.DataSec grants strings t = feature.DataSec ∷ (if grants feature.DataSec && is_empty_section t then feature.DataSecZero ∷ [] else [])
+needs_as kinds.DataSec grants strings t =
+    feature.DataSec
+    ∷ (if grants feature.DataSec && is_empty_section t then feature.DataSecZero ∷ [] else [])
 needs_as kinds.Float grants strings t = feature.Float ∷ []
 needs_as kinds.DeclTag grants strings t = feature.DeclTag ∷ []
 needs_as kinds.TypeTag grants strings t = feature.TypeTag ∷ []
@@ -44,12 +51,19 @@ pub record AreQuestions (strings : List ℕ) (ts : List BtfType) (answers : Answ
 
 -- the same as far as these records go, whatever is asked later
 pub record AreQuestionsSoFar (strings : List ℕ) (ts : List BtfType) (answers : Answers) : Type 0 where
-  pub asked : (later : Answers) → features answers ≡ noted_all [] (flat_map (needs_of (granted (answers ++ later)) strings) ts)
+  pub asked : (later : Answers)
+      → features answers
+      ≡ noted_all [] (flat_map (needs_of (granted (answers ++ later)) strings) ts)
 
--- this feature is asked, and where it is granted and more is needed, another, behind the old questions
+-- this feature is asked, and where it is granted and more is needed, another, after the old
+-- questions
 pub record AsksBoth (first : BtfFeature) (more : Bool) (second : BtfFeature) (old new : Answers) : Type 0 where
-  pub asked : (later : Answers) → features new ≡ noted_all (features old) (first ∷ (if granted (new ++ later) first && more then second ∷ [] else []))
+  pub asked : (later : Answers)
+      → features new
+      ≡ noted_all (features old)
+      (first ∷ (if granted (new ++ later) first && more then second ∷ [] else []))
 
--- what one record needs is asked, behind the old questions
+-- what one record needs is asked, after the old questions
 pub record AsksFor (strings : List ℕ) (t : BtfType) (old new : Answers) : Type 0 where
-  pub asked : (later : Answers) → features new ≡ noted_all (features old) (needs_of (granted (new ++ later)) strings t)
+  pub asked : (later : Answers)
+      → features new ≡ noted_all (features old) (needs_of (granted (new ++ later)) strings t)

@@ -19,7 +19,8 @@ abbrev pub stays_as : BtfKind → Facts → BtfType → Bool
 stays_as kinds.Ptr known t = name_offset_of t == 0
 stays_as kinds.Var known t = known.grants feature.DataSec
 stays_as kinds.DataSec known t = false
-stays_as kinds.FuncProto known t = known.grants feature.Func && not (list_any is_nameless (params_of t))
+stays_as kinds.FuncProto known t =
+    known.grants feature.Func && not (list_any is_nameless (params_of t))
 stays_as kinds.Func known t = known.grants feature.Func && not (count_of t == 1)
 stays_as kinds.Float known t = known.grants feature.Float
 stays_as kinds.DeclTag known t = known.grants feature.DeclTag

@@ -13,7 +13,7 @@ use btf_records::{BtfError, BtfType, Int, IntEncoding, Var, VarLinkage};
 use std::alloc::Global;
 use std::marker::Model;
 
-/// Texts and types that are appended behind a table's own.
+/// Texts and types that are appended after a table's own.
 #[derive(Debug, Drop)]
 pub struct Additions {
     string_len: usize,
@@ -30,13 +30,23 @@ impl Model for Additions {
 
     ghost Value = { Added };
 
-    ghost view = { λ a. record { string_len = a.string_len; type_count = a.type_count; texts = a.texts.items; types = a.types.items; placeholder = a.placeholder; filler = a.filler } };
+    ghost view = { λ a.
+        record {
+          string_len = a.string_len;
+          type_count = a.type_count;
+          texts = a.texts.items;
+          types = a.types.items;
+          placeholder = a.placeholder;
+          filler = a.filler;
+        } };
 
-    ghost invariant = { λ a. (a.string_len + length a.texts.items < 2 ^ 32) × (a.type_count + length a.types.items < 2 ^ 32) };
+    ghost invariant = { λ a.
+        (a.string_len + length a.texts.items < 2 ^ 32)
+        × (a.type_count + length a.types.items < 2 ^ 32) };
 }
 
 impl Additions {
-    /// Nothing, behind so many bytes of strings and so many types.
+    /// Nothing, after as many bytes of strings and as many types as given.
     pub fn new(alloc: Global, string_len: usize, type_count: usize) -> Additions
         requires strings { string_len < 2 ^ 32 }
         requires types { type_count < 2 ^ 32 }
@@ -52,7 +62,7 @@ impl Additions {
         }
     }
 
-    /// The texts, one behind the other, and the types.
+    /// The texts, one after the other, and the types.
     pub(crate) fn into_parts(self) -> (Vec<u8>, Vec<BtfType>)
         ensures texts { result.0.items ≡ self.texts }
         ensures types { result.1.items ≡ self.types }
@@ -71,7 +81,8 @@ impl Additions {
     pub(crate) fn add_text(&mut self, text: &[u8]) -> Result<u32, BtfError>
         ensures offset { IfOk result (λ offset. offset ≡ next_offset self.old) }
         ensures added { OnOk result (self.new ≡ with_text text.now self.old) }
-        ensures refused { IfErr result (λ e. e ≢ OutOfMemory → IsTooMuch (with_text text.now self.old) e) }
+        ensures refused { IfErr result (λ e.
+            e ≢ OutOfMemory → IsTooMuch (with_text text.now self.old) e) }
     {
         let offset = self.string_len + self.texts.len();
         if text.len() >= MOST - offset {
@@ -96,8 +107,8 @@ impl Additions {
         Ok(id as u32)
     }
 
-    /// Appends a name with a byte in the place of the one that is sought, and answers its offset; the
-    /// name's own where it doesn't have that byte.
+    /// Appends a name with a byte in the place of the one that is sought, and answers its offset;
+    /// the name's own where it doesn't have that byte.
     pub(crate) fn rename(
         &mut self,
         names: &ByteIndex<'_>,
@@ -106,9 +117,11 @@ impl Additions {
         to: u8,
     ) -> Result<u32, BtfError>
         requires { text_at names.now.strings name_offset ≡ Some name.now }
-        ensures offset { IfOk result (λ offset. offset ≡ renamed_offset names.now.byte name.now name_offset self.old) }
+        ensures offset { IfOk result (λ offset.
+            offset ≡ renamed_offset names.now.byte name.now name_offset self.old) }
         ensures added { OnOk result (self.new ≡ with_renamed names.now.byte to name.now self.old) }
-        ensures refused { IfErr result (λ e. e ≢ OutOfMemory → IsTooMuch (with_renamed names.now.byte to name.now self.old) e) }
+        ensures refused { IfErr result (λ e.
+            e ≢ OutOfMemory → IsTooMuch (with_renamed names.now.byte to name.now self.old) e) }
     {
         if !names.is_in(name, name_offset) {
             return Ok(name_offset);
@@ -122,7 +135,8 @@ impl Additions {
     pub(crate) fn placeholder(&mut self) -> Result<u32, BtfError>
         ensures id { IfOk result (λ id. id ≡ placeholder_id self.old) }
         ensures added { OnOk result (self.new ≡ with_placeholder self.old) }
-        ensures refused { IfErr result (λ e. e ≢ OutOfMemory → IsTooMuch (with_placeholder self.old) e) }
+        ensures refused { IfErr result (λ e.
+            e ≢ OutOfMemory → IsTooMuch (with_placeholder self.old) e) }
     {
         if let Some(id) = self.placeholder {
             return Ok(id);

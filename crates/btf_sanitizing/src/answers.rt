@@ -59,7 +59,8 @@ fn ask<F: FnMut(BtfFeature) -> bool>(
     requires distinct { AreDistinct (features answers.old.items) }
     ensures callable { F.IsAlwaysCallable predicate.new }
     ensures distinct { AreDistinct (features answers.new.items) }
-    ensures given { AreGiven F.FnMut predicate.old answers.old.items answers.new.items predicate.new }
+    ensures given { AreGiven F.FnMut predicate.old answers.old.items answers.new.items
+        predicate.new }
     ensures noted { features answers.new.items ≡ noted (features answers.old.items) feature }
     ensures settled { Settles answers.new.items feature result }
 {
@@ -82,8 +83,10 @@ fn ask_one<F: FnMut(BtfFeature) -> bool>(
     requires distinct { AreDistinct (features answers.old.items) }
     ensures callable { F.IsAlwaysCallable predicate.new }
     ensures distinct { AreDistinct (features answers.new.items) }
-    ensures given { AreGiven F.FnMut predicate.old answers.old.items answers.new.items predicate.new }
-    ensures asked { features answers.new.items ≡ noted_all (features answers.old.items) (if is_needed then feature ∷ [] else []) }
+    ensures given { AreGiven F.FnMut predicate.old answers.old.items answers.new.items
+        predicate.new }
+    ensures asked { features answers.new.items
+        ≡ noted_all (features answers.old.items) (if is_needed then feature ∷ [] else []) }
 {
     if is_needed {
         let _granted = ask(answers, predicate, feature);
@@ -102,7 +105,8 @@ fn ask_both<F: FnMut(BtfFeature) -> bool>(
     requires distinct { AreDistinct (features answers.old.items) }
     ensures callable { F.IsAlwaysCallable predicate.new }
     ensures distinct { AreDistinct (features answers.new.items) }
-    ensures given { AreGiven F.FnMut predicate.old answers.old.items answers.new.items predicate.new }
+    ensures given { AreGiven F.FnMut predicate.old answers.old.items answers.new.items
+        predicate.new }
     ensures asked { AsksBoth first more second answers.old.items answers.new.items }
 {
     if !ask(answers, predicate, first) {
@@ -145,7 +149,8 @@ fn ask_for<F: FnMut(BtfFeature) -> bool>(
     requires distinct { AreDistinct (features answers.old.items) }
     ensures callable { F.IsAlwaysCallable predicate.new }
     ensures distinct { AreDistinct (features answers.new.items) }
-    ensures given { AreGiven F.FnMut predicate.old answers.old.items answers.new.items predicate.new }
+    ensures given { AreGiven F.FnMut predicate.old answers.old.items answers.new.items
+        predicate.new }
     ensures asked { AsksFor strings.now t.now answers.old.items answers.new.items }
 {
     match t.kind() {

@@ -9,7 +9,7 @@ use crate::names::has_byte;
 use std::alloc::{AllocError, Global};
 use std::marker::Model;
 
-/// Names of so many bytes are looked through each time.
+/// The most bytes that a name has which is looked through each time.
 pub(crate) const SHORT: usize = 256;
 
 /// From one offset up to another the byte doesn't stand.
@@ -19,8 +19,8 @@ pub(crate) struct Stretch {
     pub(crate) end: usize,
 }
 
-/// The strings of a table and a byte, with the stretches of the strings where the byte doesn't stand,
-/// so that a long name is looked through once, however many sections have it.
+/// The strings of a table and a byte, with the stretches of the strings where the byte doesn't
+/// stand, so that a long name is looked through once, however many sections have it.
 #[derive(Debug, Drop)]
 pub(crate) struct ByteIndex<'s> {
     strings: &'s [u8],
@@ -104,10 +104,11 @@ impl<'s> ByteIndex<'s> {
         self.stretches.get(index).copied()
     }
 
-    /// Whether the byte stands among so many bytes from an offset on, where a stretch tells.
+    /// Whether the byte stands among the next `len` bytes from an offset on, where a stretch tells.
     #[tactic(auto, using(crate::proofs::Stretches::none_within, crate::proofs::Stretches::one_within))]
     fn found(&self, offset: usize, len: usize) -> Option<bool>
-        ensures { IfSome result (λ found. found ≡ has_byte self.now.byte (take len (drop offset self.now.strings))) }
+        ensures { IfSome result (λ found.
+            found ≡ has_byte self.now.byte (take len (drop offset self.now.strings))) }
     {
         let stretch = self.last_up_to(offset)?;
         if offset < stretch.start {

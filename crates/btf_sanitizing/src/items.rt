@@ -48,7 +48,8 @@ pub(crate) fn members_of_variants(
     placeholder: u32,
     variants: &[BtfEnum64],
 ) -> Result<Vec<BtfMember>, AllocError>
-    ensures value { IfOk result (λ members. members.items ≡ map (member_of_variant placeholder) variants.now) }
+    ensures value { IfOk result (λ members.
+        members.items ≡ map (member_of_variant placeholder) variants.now) }
     ensures len { IfOk result (λ members. length members.items ≡ length variants.now) }
 {
     let mut members = Vec::with_capacity(alloc, variants.len())?;

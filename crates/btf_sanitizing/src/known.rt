@@ -69,7 +69,8 @@ impl<'t, 'm, 'n> Known<'t, 'm, 'n> {
 
     /// The name at an offset of the strings, where it must be read.
     pub(crate) fn name_at(&self, offset: u32) -> Result<&'t str, BtfError>
-        ensures value { IfOk result (λ name. text_at (facts_of self.now).strings offset ≡ Some name.now) }
+        ensures value { IfOk result (λ name.
+            text_at (facts_of self.now).strings offset ≡ Some name.now) }
         ensures refused { IfErr result (NameFault (facts_of self.now) offset) }
         ensures accepted { OnOk result (IsFaultless (NameFault (facts_of self.now) offset)) }
     {

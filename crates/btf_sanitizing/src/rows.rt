@@ -47,7 +47,14 @@ pub(crate) fn rewritten_func(known: &Known<'_, '_, '_>, t: Func) -> Result<BtfTy
 
 /// The enum that stands for a `BTF_KIND_FUNC_PROTO` where the kernel has none.
 pub(crate) fn enum_of_signature(alloc: Global, t: &FuncProto) -> Result<Enum, AllocError>
-    ensures { IfOk result (λ r. r ≡ record { name_offset = t.now.name_offset; info = flagged false; size = 4; variants = map variant_of_param t.now.params }) }
+    ensures { IfOk result (λ r.
+        r
+        ≡ record {
+          name_offset = t.now.name_offset;
+          info = flagged false;
+          size = 4;
+          variants = map variant_of_param t.now.params;
+        }) }
 {
     let variants = variants_of_params(alloc, t.params.as_slice())?;
     Ok(Enum::new(t.name_offset, false, variants))
@@ -60,7 +67,15 @@ pub(crate) fn union_of_enum64(
     placeholder: u32,
     t: Enum64,
 ) -> Result<Union, AllocError>
-    ensures { IfOk result (λ r. r ≡ record { name_offset = t.name_offset; info = flagged false; size = t.size; members = map (member_of_variant placeholder) t.variants; fallback = Some (record { signed = t.info.flag; variants = t.variants }) }) }
+    ensures { IfOk result (λ r.
+        r
+        ≡ record {
+          name_offset = t.name_offset;
+          info = flagged false;
+          size = t.size;
+          members = map (member_of_variant placeholder) t.variants;
+          fallback = Some (record { signed = t.info.flag; variants = t.variants });
+        }) }
 {
     let members = members_of_variants(alloc, placeholder, t.variants.as_slice())?;
     Ok(Union {
@@ -79,9 +94,12 @@ fn rewritten_signature(
     additions: &mut Additions,
     t: FuncProto,
 ) -> Result<BtfType, BtfError>
-    ensures value { IfOk result (λ r. r ≡ rewritten_signature (facts_of known.now) additions.old t) }
-    ensures added { OnOk result (additions.new ≡ after_signature (facts_of known.now) additions.old t) }
-    ensures refused { IfErr result (λ e. e ≢ OutOfMemory → IsTooMuch (after_signature (facts_of known.now) additions.old t) e) }
+    ensures value { IfOk result (λ r.
+        r ≡ rewritten_signature (facts_of known.now) additions.old t) }
+    ensures added { OnOk result
+        (additions.new ≡ after_signature (facts_of known.now) additions.old t) }
+    ensures refused { IfErr result (λ e.
+        e ≢ OutOfMemory → IsTooMuch (after_signature (facts_of known.now) additions.old t) e) }
 {
     if !known.grants(BtfFeature::Func) {
         return Ok(BtfType::Enum(enum_of_signature(alloc, &t)?));
@@ -102,7 +120,8 @@ fn rewritten_enum64(
 ) -> Result<BtfType, BtfError>
     ensures value { IfOk result (λ r. r ≡ rewritten_enum64 (facts_of known.now) additions.old t) }
     ensures added { OnOk result (additions.new ≡ after_enum64 (facts_of known.now) additions.old) }
-    ensures refused { IfErr result (λ e. e ≢ OutOfMemory → IsTooMuch (after_enum64 (facts_of known.now) additions.old) e) }
+    ensures refused { IfErr result (λ e.
+        e ≢ OutOfMemory → IsTooMuch (after_enum64 (facts_of known.now) additions.old) e) }
 {
     if known.grants(BtfFeature::Enum64) {
         return Ok(BtfType::Enum64(t));
@@ -142,12 +161,12 @@ fn rewritten_alone(known: &Known<'_, '_, '_>, additions: &Additions, t: BtfType)
     }
 }
 
-/// What becomes of a record, behind what is added before it.
+/// What becomes of a record, after what is added before it.
 ///
 /// `InvalidStringOffset` where a name must be read and can't be, `UnknownBtfType` and
 /// `InvalidDatasec` where an entry of a section names no type, no variable or one too far away,
-/// `UnknownSectionSize` and `SymbolOffsetNotFound` where the object doesn't say what a section lacks,
-/// `InvalidTypeInfo` where more is added than 32 bits can count.
+/// `UnknownSectionSize` and `SymbolOffsetNotFound` where the object doesn't say what a section
+/// lacks, `InvalidTypeInfo` where more is added than 32 bits can count.
 pub fn rewritten(
     alloc: Global,
     known: &Known<'_, '_, '_>,
@@ -158,7 +177,10 @@ pub fn rewritten(
     requires { names.now ≡ section_names (facts_of known.now) }
     ensures value { IfOk result (λ r. r ≡ rewritten (facts_of known.now) additions.old t) }
     ensures added { OnOk result (additions.new ≡ after (facts_of known.now) additions.old t) }
-    ensures refused { IfErr result (λ e. e ≢ OutOfMemory → KindFault (facts_of known.now) t e ⊎ IsTooMuch (after (facts_of known.now) additions.old t) e) }
+    ensures refused { IfErr result (λ e.
+        e ≢ OutOfMemory
+        → KindFault (facts_of known.now) t e
+        ⊎ IsTooMuch (after (facts_of known.now) additions.old t) e) }
     ensures accepted { OnOk result (IsFaultless (KindFault (facts_of known.now) t)) }
 {
     match t {

@@ -44,10 +44,13 @@ pub(crate) fn members_of_entries(
     known: &Known<'_, '_, '_>,
     entries: &[DataSecEntry],
 ) -> Result<Vec<BtfMember>, BtfError>
-    ensures value { IfOk result (λ members. members.items ≡ map (member_of_entry (facts_of known.now)) entries.now) }
+    ensures value { IfOk result (λ members.
+        members.items ≡ map (member_of_entry (facts_of known.now)) entries.now) }
     ensures len { IfOk result (λ members. length members.items ≡ length entries.now) }
-    ensures refused { IfErr result (λ e. e ≢ OutOfMemory → Any (λ entry. MemberFault (facts_of known.now) entry e) entries.now) }
-    ensures accepted { OnOk result (IsFaultless (λ e. Any (λ entry. MemberFault (facts_of known.now) entry e) entries.now)) }
+    ensures refused { IfErr result (λ e.
+        e ≢ OutOfMemory → Any (λ entry. MemberFault (facts_of known.now) entry e) entries.now) }
+    ensures accepted { OnOk result
+        (IsFaultless (λ e. Any (λ entry. MemberFault (facts_of known.now) entry e) entries.now)) }
 {
     let mut members = Vec::with_capacity(alloc, entries.len())?;
     for entry in entries {
@@ -63,7 +66,8 @@ fn placed(
     entry: DataSecEntry,
 ) -> Result<DataSecEntry, BtfError>
     ensures value { IfOk result (λ e. e ≡ placed (facts_of known.now) entry) }
-    ensures refused { IfErr result (λ e. e ≢ OutOfMemory → PlaceFault (facts_of known.now) entry e) }
+    ensures refused { IfErr result (λ e.
+        e ≢ OutOfMemory → PlaceFault (facts_of known.now) entry e) }
     ensures accepted { OnOk result (IsFaultless (PlaceFault (facts_of known.now) entry)) }
 {
     let type_id = entry.btf_type;
@@ -100,8 +104,10 @@ pub(crate) fn placed_entries(
 ) -> Result<Vec<DataSecEntry>, BtfError>
     ensures value { IfOk result (λ p. p.items ≡ map (placed (facts_of known.now)) entries.now) }
     ensures len { IfOk result (λ p. length p.items ≡ length entries.now) }
-    ensures refused { IfErr result (λ e. e ≢ OutOfMemory → Any (λ entry. PlaceFault (facts_of known.now) entry e) entries.now) }
-    ensures accepted { OnOk result (IsFaultless (λ e. Any (λ entry. PlaceFault (facts_of known.now) entry e) entries.now)) }
+    ensures refused { IfErr result (λ e.
+        e ≢ OutOfMemory → Any (λ entry. PlaceFault (facts_of known.now) entry e) entries.now) }
+    ensures accepted { OnOk result
+        (IsFaultless (λ e. Any (λ entry. PlaceFault (facts_of known.now) entry e) entries.now)) }
 {
     let mut placed_entries = Vec::with_capacity(alloc, entries.len())?;
     for entry in entries {
@@ -117,7 +123,8 @@ pub(crate) fn section_size(
     name: &str,
 ) -> Result<u32, BtfError>
     ensures value { IfOk result (λ size. size ≡ section_size (facts_of known.now) name.now) }
-    ensures refused { IfErr result (λ e. e ≢ OutOfMemory → SizeFault (facts_of known.now) name.now e) }
+    ensures refused { IfErr result (λ e.
+        e ≢ OutOfMemory → SizeFault (facts_of known.now) name.now e) }
     ensures accepted { OnOk result (IsFaultless (SizeFault (facts_of known.now) name.now)) }
 {
     let Some(size) = known.size_of(name) else {
@@ -141,8 +148,12 @@ fn struct_of_section(
     requires names { names.now ≡ record { strings = (facts_of known.now).strings; byte = 46 } }
     ensures value { IfOk result (λ r. r ≡ section_struct (facts_of known.now) additions.old t.now) }
     ensures added { OnOk result (additions.new ≡ with_renamed 46 95 name.now additions.old) }
-    ensures refused { IfErr result (λ e. e ≢ OutOfMemory → Any (λ entry. MemberFault (facts_of known.now) entry e) t.now.entries ⊎ IsTooMuch (with_renamed 46 95 name.now additions.old) e) }
-    ensures accepted { OnOk result (IsFaultless (λ e. Any (λ entry. MemberFault (facts_of known.now) entry e) t.now.entries)) }
+    ensures refused { IfErr result (λ e.
+        e ≢ OutOfMemory
+        → Any (λ entry. MemberFault (facts_of known.now) entry e) t.now.entries
+        ⊎ IsTooMuch (with_renamed 46 95 name.now additions.old) e) }
+    ensures accepted { OnOk result
+        (IsFaultless (λ e. Any (λ entry. MemberFault (facts_of known.now) entry e) t.now.entries)) }
 {
     let members = members_of_entries(alloc, known, t.entries.as_slice())?;
     let name_offset = additions.rename(names, name, t.name_offset, b'_')?;
@@ -158,8 +169,10 @@ fn sized(
 ) -> Result<DataSec, BtfError>
     requires { text_at (facts_of known.now).strings t.name_offset ≡ Some name.now }
     ensures value { IfOk result (λ r. r ≡ sized (facts_of known.now) t) }
-    ensures refused { IfErr result (λ e. e ≢ OutOfMemory → (t.size ≡ 0) × UnsizedFault (facts_of known.now) t e) }
-    ensures accepted { OnOk result (IsFaultless (λ e. (t.size ≡ 0) × UnsizedFault (facts_of known.now) t e)) }
+    ensures refused { IfErr result (λ e.
+        e ≢ OutOfMemory → (t.size ≡ 0) × UnsizedFault (facts_of known.now) t e) }
+    ensures accepted { OnOk result
+        (IsFaultless (λ e. (t.size ≡ 0) × UnsizedFault (facts_of known.now) t e)) }
 {
     if t.size != 0 {
         return Ok(t);
@@ -198,9 +211,14 @@ fn granted_section(
     requires name { text_at (facts_of known.now).strings t.name_offset ≡ Some name.now }
     requires names { names.now ≡ record { strings = (facts_of known.now).strings; byte = 47 } }
     ensures value { IfOk result (λ r. r ≡ granted_section (facts_of known.now) additions.old t) }
-    ensures added { OnOk result (additions.new ≡ after_granted (facts_of known.now) additions.old t) }
-    ensures refused { IfErr result (λ e. e ≢ OutOfMemory → ((t.size ≡ 0) × UnsizedFault (facts_of known.now) t e) ⊎ IsTooMuch (after_granted (facts_of known.now) additions.old t) e) }
-    ensures accepted { OnOk result (IsFaultless (λ e. (t.size ≡ 0) × UnsizedFault (facts_of known.now) t e)) }
+    ensures added { OnOk result
+        (additions.new ≡ after_granted (facts_of known.now) additions.old t) }
+    ensures refused { IfErr result (λ e.
+        e ≢ OutOfMemory
+        → ((t.size ≡ 0) × UnsizedFault (facts_of known.now) t e)
+        ⊎ IsTooMuch (after_granted (facts_of known.now) additions.old t) e) }
+    ensures accepted { OnOk result
+        (IsFaultless (λ e. (t.size ≡ 0) × UnsizedFault (facts_of known.now) t e)) }
 {
     let is_filled = t.size == 0 && t.entries.is_empty() && !known.grants(BtfFeature::DataSecZero);
     let name_offset = additions.rename(names, name, t.name_offset, b'.')?;
@@ -230,8 +248,12 @@ pub(crate) fn rewritten_section(
 ) -> Result<BtfType, BtfError>
     requires { names.now ≡ section_names (facts_of known.now) }
     ensures value { IfOk result (λ r. r ≡ rewritten_section (facts_of known.now) additions.old t) }
-    ensures added { OnOk result (additions.new ≡ after_section (facts_of known.now) additions.old t) }
-    ensures refused { IfErr result (λ e. e ≢ OutOfMemory → SectionFault (facts_of known.now) t e ⊎ IsTooMuch (after_section (facts_of known.now) additions.old t) e) }
+    ensures added { OnOk result
+        (additions.new ≡ after_section (facts_of known.now) additions.old t) }
+    ensures refused { IfErr result (λ e.
+        e ≢ OutOfMemory
+        → SectionFault (facts_of known.now) t e
+        ⊎ IsTooMuch (after_section (facts_of known.now) additions.old t) e) }
     ensures accepted { OnOk result (IsFaultless (SectionFault (facts_of known.now) t)) }
 {
     let name = known.name_at(t.name_offset)?;

@@ -17,9 +17,17 @@ fn named_param(
     index: usize,
     param: BtfParam,
 ) -> Result<BtfParam, BtfError>
-    ensures value { IfOk result (λ p. p ≡ (if is_nameless param then record param { name_offset = next_offset additions.old } else param)) }
-    ensures added { OnOk result (additions.new ≡ with_texts (if is_nameless param then param_name index ++ 0 ∷ [] else []) additions.old) }
-    ensures refused { IfErr result (λ e. e ≢ OutOfMemory → (is_nameless param ≡ true) × IsTooMuch (with_text (param_name index) additions.old) e) }
+    ensures value { IfOk result (λ p.
+        p
+        ≡ (if is_nameless param
+        then record param { name_offset = next_offset additions.old }
+        else param)) }
+    ensures added { OnOk result
+        (additions.new
+        ≡ with_texts (if is_nameless param then param_name index ++ 0 ∷ [] else []) additions.old) }
+    ensures refused { IfErr result (λ e.
+        e ≢ OutOfMemory
+        → (is_nameless param ≡ true) × IsTooMuch (with_text (param_name index) additions.old) e) }
 {
     if !is_nameless(param) {
         return Ok(param);
@@ -38,10 +46,13 @@ pub(crate) fn named_params(
     additions: &mut Additions,
     params: &[BtfParam],
 ) -> Result<Vec<BtfParam>, BtfError>
-    ensures value { IfOk result (λ named. named.items ≡ named_params 0 (next_offset additions.old) params.now) }
+    ensures value { IfOk result (λ named.
+        named.items ≡ named_params 0 (next_offset additions.old) params.now) }
     ensures len { IfOk result (λ named. length named.items ≡ length params.now) }
-    ensures added { OnOk result (additions.new ≡ with_texts (param_texts 0 params.now) additions.old) }
-    ensures refused { IfErr result (λ e. e ≢ OutOfMemory → IsTooMuch (with_texts (param_texts 0 params.now) additions.old) e) }
+    ensures added { OnOk result
+        (additions.new ≡ with_texts (param_texts 0 params.now) additions.old) }
+    ensures refused { IfErr result (λ e.
+        e ≢ OutOfMemory → IsTooMuch (with_texts (param_texts 0 params.now) additions.old) e) }
 {
     let mut named = Vec::with_capacity(alloc, params.len())?;
     for (index, param) in params.iter().enumerate() {

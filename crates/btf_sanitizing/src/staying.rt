@@ -27,8 +27,8 @@ fn has_nameless(t: &TypeRef<'_>) -> bool
     false
 }
 
-/// Whether a record stays as it is, with nothing added for it, as its first words and its parameters
-/// tell.
+/// Whether a record stays as it is, with nothing added for it, as its first words and its
+/// parameters tell.
 pub(crate) fn stays(known: &Known<'_, '_, '_>, t: &TypeRef<'_>) -> bool
     ensures { result ≡ stays (facts_of known.now) t.now }
 {

@@ -65,7 +65,7 @@ fn section_names<'s>(
     Ok(ByteIndex::empty(alloc, strings, sought(known)))
 }
 
-/// Copies a record that stays behind what becomes of those before it.
+/// Copies a record that stays, after what becomes of those before it.
 #[tactic(auto, using(crate::proofs::Stays::stays_alone))]
 fn keep(
     known: &Known<'_, '_, '_>,
@@ -74,18 +74,21 @@ fn keep(
     t: &TypeRef<'_>,
 ) -> Result<(), BtfError>
     requires { stays (facts_of known.now) t.now ≡ true }
-    ensures types { OnOk result (records.new.types ≡ records.old.types ++ rewritten (facts_of known.now) additions.now t.now ∷ []) }
+    ensures types { OnOk result
+        (records.new.types
+        ≡ records.old.types ++ rewritten (facts_of known.now) additions.now t.now ∷ []) }
     ensures order { OnOk result (records.new.order ≡ records.old.order) }
     ensures added { OnOk result (additions.now ≡ after (facts_of known.now) additions.now t.now) }
     ensures few { OnOk result (AreFew records.new.order records.new.types) }
-    ensures refused { IfErr result (λ e. e ≢ OutOfMemory → NextFault (facts_of known.now) records.old additions.now t.now e) }
+    ensures refused { IfErr result (λ e.
+        e ≢ OutOfMemory → NextFault (facts_of known.now) records.old additions.now t.now e) }
     ensures accepted { OnOk result (IsFaultless (KindFault (facts_of known.now) t.now)) }
 {
     records.push_copy(t)?;
     Ok(())
 }
 
-/// Writes what becomes of a record behind what becomes of those before it.
+/// Writes what becomes of a record after what becomes of those before it.
 fn rewrite_next(
     alloc: Global,
     known: &Known<'_, '_, '_>,
@@ -95,11 +98,14 @@ fn rewrite_next(
     t: &TypeRef<'_>,
 ) -> Result<(), BtfError>
     requires { names.now ≡ section_names (facts_of known.now) }
-    ensures types { OnOk result (records.new.types ≡ records.old.types ++ rewritten (facts_of known.now) additions.old t.now ∷ []) }
+    ensures types { OnOk result
+        (records.new.types
+        ≡ records.old.types ++ rewritten (facts_of known.now) additions.old t.now ∷ []) }
     ensures order { OnOk result (records.new.order ≡ records.old.order) }
     ensures added { OnOk result (additions.new ≡ after (facts_of known.now) additions.old t.now) }
     ensures few { OnOk result (AreFew records.new.order records.new.types) }
-    ensures refused { IfErr result (λ e. e ≢ OutOfMemory → NextFault (facts_of known.now) records.old additions.old t.now e) }
+    ensures refused { IfErr result (λ e.
+        e ≢ OutOfMemory → NextFault (facts_of known.now) records.old additions.old t.now e) }
     ensures accepted { OnOk result (IsFaultless (KindFault (facts_of known.now) t.now)) }
 {
     if stays(known, t) {
@@ -121,12 +127,18 @@ fn rewrite_all(
 ) -> Result<(), BtfError>
     requires none { records.old.types ≡ [] }
     requires names { names.now ≡ section_names (facts_of known.now) }
-    ensures types { OnOk result (records.new.types ≡ all_rewritten (facts_of known.now) additions.old (facts_of known.now).types) }
+    ensures types { OnOk result
+        (records.new.types
+        ≡ all_rewritten (facts_of known.now) additions.old (facts_of known.now).types) }
     ensures order { OnOk result (records.new.order ≡ records.old.order) }
-    ensures added { OnOk result (additions.new ≡ after_all (facts_of known.now) additions.old (facts_of known.now).types) }
+    ensures added { OnOk result
+        (additions.new ≡ after_all (facts_of known.now) additions.old (facts_of known.now).types) }
     ensures few { OnOk result (AreFew records.new.order records.new.types) }
-    ensures refused { IfErr result (λ e. e ≢ OutOfMemory → AnyFault (facts_of known.now) records.old.order additions.old e) }
-    ensures accepted { OnOk result (IsFaultless (λ e. Any (λ t. KindFault (facts_of known.now) t e) (facts_of known.now).types)) }
+    ensures refused { IfErr result (λ e.
+        e ≢ OutOfMemory → AnyFault (facts_of known.now) records.old.order additions.old e) }
+    ensures accepted { OnOk result
+        (IsFaultless (λ e.
+        Any (λ t. KindFault (facts_of known.now) t e) (facts_of known.now).types)) }
 {
     let mut index = 0;
     while let Some(t) = known.types.get(index) {
@@ -136,14 +148,16 @@ fn rewrite_all(
     Ok(())
 }
 
-/// Adds types behind the others.
+/// Adds types after the others.
 #[tactic(auto, using(crate::proofs::Passes::too_many_next))]
 fn push_all(records: &mut TypeRecords<'_>, types: Vec<BtfType>) -> Result<(), BtfError>
     requires { AreFew records.old.order records.old.types }
     ensures types { OnOk result (records.new.types ≡ records.old.types ++ types.items) }
     ensures order { OnOk result (records.new.order ≡ records.old.order) }
     ensures few { OnOk result (AreFew records.new.order records.new.types) }
-    ensures refused { IfErr result (λ e. e ≢ OutOfMemory → (e ≡ InvalidTypeInfo) × AreTooMany records.old.order (records.old.types ++ types.items)) }
+    ensures refused { IfErr result (λ e.
+        e ≢ OutOfMemory
+        → (e ≡ InvalidTypeInfo) × AreTooMany records.old.order (records.old.types ++ types.items)) }
 {
     for t in types {
         records.push(t)?;
@@ -151,7 +165,7 @@ fn push_all(records: &mut TypeRecords<'_>, types: Vec<BtfType>) -> Result<(), Bt
     Ok(())
 }
 
-/// What a table's records become, and the texts behind its strings.
+/// What a table's records become, and the texts after its strings.
 #[derive(Debug, Drop)]
 pub struct SanitizedTable<'a> {
     pub records: TypeRecords<'a>,
@@ -166,9 +180,12 @@ fn rewritten_table<'a>(
     requires { length (facts_of known.now).strings < 2 ^ 32 }
     ensures types { IfOk result (λ s. s.records.types ≡ sanitized_types (facts_of known.now)) }
     ensures order { IfOk result (λ s. s.records.order ≡ known.now.types.now.order) }
-    ensures strings { IfOk result (λ s. (facts_of known.now).strings ++ s.texts.items ≡ sanitized_strings (facts_of known.now)) }
-    ensures refused { IfErr result (λ e. e ≢ OutOfMemory → SanitizingFault known.now.types.now.order (facts_of known.now) e) }
-    ensures accepted { OnOk result (IsFaultless (SanitizingFault known.now.types.now.order (facts_of known.now))) }
+    ensures strings { IfOk result (λ s.
+        (facts_of known.now).strings ++ s.texts.items ≡ sanitized_strings (facts_of known.now)) }
+    ensures refused { IfErr result (λ e.
+        e ≢ OutOfMemory → SanitizingFault known.now.types.now.order (facts_of known.now) e) }
+    ensures accepted { OnOk result
+        (IsFaultless (SanitizingFault known.now.types.now.order (facts_of known.now))) }
 {
     let mut additions = Additions::new(alloc, known.strings.len(), known.types.len());
     let mut records = TypeRecords::new(alloc, known.types.order());
@@ -179,14 +196,15 @@ fn rewritten_table<'a>(
     Ok(SanitizedTable { records, texts })
 }
 
-/// The records of a table of which only granted features are left, each under its id, and behind
-/// them the types that are added; the texts that are added behind its strings. What is left needs
+/// The records of a table of which only granted features are left, each under its id, and after
+/// them the types that are added; the texts that are added after its strings. What is left needs
 /// granted features alone.
 ///
 /// `InvalidStringOffset` where a name must be read and can't be, `UnknownBtfType` and
 /// `InvalidDatasec` where an entry of a section names no type, no variable or one too far away,
-/// `UnknownSectionSize` and `SymbolOffsetNotFound` where the object doesn't say what a section lacks,
-/// `InvalidTypeInfo` where the strings, the types, or their bytes are more than 32 bits can count.
+/// `UnknownSectionSize` and `SymbolOffsetNotFound` where the object doesn't say what a section
+/// lacks, `InvalidTypeInfo` where the strings, the types, or their bytes are more than 32 bits can
+/// count.
 pub fn sanitize<'a>(
     alloc: Global,
     known: &Known<'_, '_, '_>,
@@ -194,9 +212,12 @@ pub fn sanitize<'a>(
     requires { length (facts_of known.now).strings < 2 ^ 32 }
     ensures types { IfOk result (λ s. s.records.types ≡ sanitized_types (facts_of known.now)) }
     ensures order { IfOk result (λ s. s.records.order ≡ known.now.types.now.order) }
-    ensures strings { IfOk result (λ s. (facts_of known.now).strings ++ s.texts.items ≡ sanitized_strings (facts_of known.now)) }
-    ensures refused { IfErr result (λ e. e ≢ OutOfMemory → SanitizingFault known.now.types.now.order (facts_of known.now) e) }
-    ensures accepted { OnOk result (IsFaultless (SanitizingFault known.now.types.now.order (facts_of known.now))) }
+    ensures strings { IfOk result (λ s.
+        (facts_of known.now).strings ++ s.texts.items ≡ sanitized_strings (facts_of known.now)) }
+    ensures refused { IfErr result (λ e.
+        e ≢ OutOfMemory → SanitizingFault known.now.types.now.order (facts_of known.now) e) }
+    ensures accepted { OnOk result
+        (IsFaultless (SanitizingFault known.now.types.now.order (facts_of known.now))) }
     ensures keeps { IfOk result (λ s. Keeps (facts_of known.now) s.records.types) }
 {
     let table = rewritten_table(alloc, known)?;

@@ -14,7 +14,8 @@ use Rattle.clap.specs.declared.builder.value_parser.ValueParser.TheVariants.{Nam
 abbrev pub IsOption : Arg → Type 0
 IsOption a = IsPlainArg a × (a.global ≡ false) × (bytes_eq a.id.now (codes "OBJECT") ≡ false)
 
--- ---- the options, each under its long name: with a value, with one each time that it is given, and without one
+-- ---- the options, each under its long name: with a value, with one each time that it is given,
+-- and without one
 
 abbrev pub valued : List ℕ → Rule
 valued id = record (new_rule id) { long = Some id; action = Some Set; value_names = 1 }

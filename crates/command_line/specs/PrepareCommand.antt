@@ -9,7 +9,8 @@ use Rattle.run_settings.specs.Features.{feature_names}
 
 -- with what says which parts the kernel lacks
 abbrev pub lack_rules : ValueParser → List Rule
-lack_rules feature = record (repeated (codes "deny")) { parser = Some feature } ∷ flag (codes "older-helpers") ∷ []
+lack_rules feature =
+    record (repeated (codes "deny")) { parser = Some feature } ∷ flag (codes "older-helpers") ∷ []
 
 pub record HasLacks (app new : App) : Type 0 where
   pub feature : ValueParser

@@ -25,7 +25,8 @@ pub record IsPrepareLine (words : List (List ℕ)) (line : Arguments) : Type 0 w
   pub types : map (λ name. name.now) line.types.items ≡ values_found matches (codes "types")
   pub types_order : line.types_order ≡ order_named (value_found matches (codes "types-order"))
   pub symbols : option_map (λ name. name.now) line.symbols ≡ value_found matches (codes "symbols")
-  pub settings : option_map (λ name. name.now) line.settings ≡ value_found matches (codes "settings")
+  pub settings : option_map (λ name. name.now) line.settings
+      ≡ value_found matches (codes "settings")
   pub rewrite_first : IsFlag matches (codes "rewrite-first") line.rewrite_first
   pub notes : IsFlag matches (codes "notes") line.notes
   pub older_helpers : IsFlag matches (codes "older-helpers") line.has_older_helpers

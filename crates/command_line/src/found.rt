@@ -32,7 +32,8 @@ pub(crate) fn values_of<'w>(
     matches: &ArgMatches<'w>,
     id: &str,
 ) -> Result<Vec<&'w str>, AllocError>
-    ensures { IfOk result (λ values. map (λ value. value.now) values.items ≡ values_found matches.now id.now) }
+    ensures { IfOk result (λ values.
+        map (λ value. value.now) values.items ≡ values_found matches.now id.now) }
 {
     match matches.get_strs(id) {
         Some(values) => Vec::from_slice(alloc, values),

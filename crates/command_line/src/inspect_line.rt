@@ -39,8 +39,8 @@ fn matches_of<'w>(alloc: Global, words: &'w [String]) -> Result<ArgMatches<'w>, 
 ///
 /// # Errors
 ///
-/// [`LineError::Fault`] where the words are others, and [`LineError::Asked`] where they ask for the help or
-/// the version.
+/// [`LineError::Fault`] where the words are others, and [`LineError::Asked`] where they ask for the
+/// help or the version.
 pub fn inspect_arguments<'w>(
     alloc: Global,
     words: &'w [String],

@@ -55,7 +55,8 @@ pub(crate) fn with_option<'a>(
     requires object { TakesObject command }
     requires option { IsOption option }
     ensures object { IfOk result TakesObject }
-    ensures shape { IfOk result (λ r. app_of r ≡ with_rule (app_of command.entry) (rule_of option.entry)) }
+    ensures shape { IfOk result (λ r.
+        app_of r ≡ with_rule (app_of command.entry) (rule_of option.entry)) }
 {
     let command = command.arg(option)?;
     Ok(command)

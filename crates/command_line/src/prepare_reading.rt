@@ -27,7 +27,8 @@ fn matches_of<'w>(alloc: Global, words: &'w [String]) -> Result<ArgMatches<'w>, 
 /// The features of these names.
 fn features_of(alloc: Global, names: &[&str]) -> Result<Vec<BtfFeature>, AllocError>
     requires { All (λ name. is_some (feature_named name.now) ≡ true) names.now }
-    ensures { IfOk result (λ features. map Some features.items ≡ map (λ name. feature_named name.now) names.now) }
+    ensures { IfOk result (λ features.
+        map Some features.items ≡ map (λ name. feature_named name.now) names.now) }
 {
     let mut features = Vec::new(alloc);
     for name in names {
@@ -40,8 +41,8 @@ fn features_of(alloc: Global, names: &[&str]) -> Result<Vec<BtfFeature>, AllocEr
 ///
 /// # Errors
 ///
-/// [`LineError::Fault`] where the words are others, and [`LineError::Asked`] where they ask for the help or
-/// the version.
+/// [`LineError::Fault`] where the words are others, and [`LineError::Asked`] where they ask for the
+/// help or the version.
 pub fn arguments<'w>(alloc: Global, words: &'w [String]) -> Result<Arguments<'w>, LineError>
     ensures { IfOk result (IsPrepareLine (map string_bytes words.now)) }
 {

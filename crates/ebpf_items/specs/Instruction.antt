@@ -28,11 +28,14 @@ slot_of bytes = record {
 }
 
 abbrev pub bytes_of : bpf_insn → List ℕ
-bytes_of slot = slot.code ∷ slot.registers ∷ to_le_bytes w16 (cast_unsigned w16 slot.off) ++ to_le_bytes w32 (cast_unsigned w32 slot.imm)
+bytes_of slot =
+    slot.code ∷ slot.registers ∷ to_le_bytes w16 (cast_unsigned w16 slot.off)
+    ++ to_le_bytes w32 (cast_unsigned w32 slot.imm)
 
 -- a call of a function of the program (BPF_PSEUDO_CALL)
 abbrev pub is_pseudo_call : bpf_insn → Bool
-is_pseudo_call slot = slot.code == 0x85 && src_reg_of slot == 1 && dst_reg_of slot == 0 && int_eq slot.off (pos 0)
+is_pseudo_call slot =
+    slot.code == 0x85 && src_reg_of slot == 1 && dst_reg_of slot == 0 && int_eq slot.off (pos 0)
 
 -- as many slots as asked for, eight bytes each
 abbrev pub slots_in : List ℕ → ℕ → List bpf_insn
@@ -63,4 +66,6 @@ calls_newer_helper slot = is_helper_call slot && is_some (older_helper slot.imm)
 -- the slot with the older helper in place of the newer one
 abbrev pub with_older_helper : bpf_insn → bpf_insn
 with_older_helper slot =
-    if is_helper_call slot then record slot { imm = unwrap_or (older_helper slot.imm) slot.imm } else slot
+    if is_helper_call slot
+    then record slot { imm = unwrap_or (older_helper slot.imm) slot.imm }
+    else slot

@@ -18,6 +18,6 @@ abbrev pub with_contents : Map → Vec ℕ Global → Map
 with_contents (Legacy m) contents = Legacy (record m { contents = contents })
 with_contents (Btf m) contents = Btf (record m { contents = contents })
 
--- the map ends with the bytes that were last left behind the reference, and else as it was
+-- the map ends with the bytes that the reference led to at last, and else as it was
 abbrev pub LendsContents : MutBor Map → MutBor (Vec ℕ Global) → Fml
 LendsContents map contents = Lends the_row bytes_row map contents (with_contents map.now)

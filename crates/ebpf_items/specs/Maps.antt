@@ -15,7 +15,8 @@ use Rattle.ebpf_items.specs.declared.maps.Map.TheVariants.{Legacy, Btf}
 
 -- the way of pinning that a number names
 abbrev pub pinning_of : ℕ → Option PinningType
-pinning_of value = if value == 0 then Some pinning.None else if value == 1 then Some pinning.ByName else None
+pinning_of value =
+    if value == 0 then Some pinning.None else if value == 1 then Some pinning.ByName else None
 
 -- the way of pinning that a map's definition names: other numbers count as none
 abbrev pub pinning_or_none : ℕ → PinningType
@@ -178,4 +179,5 @@ words_of_info info pinning = record {
 }
 
 abbrev pub view_of_info : bpf_map_info → PinningType → MapView
-view_of_info info pinning = bare_view (if info.btf_value_type_id == 0 then false else true) (words_of_info info pinning)
+view_of_info info pinning =
+    bare_view (if info.btf_value_type_id == 0 then false else true) (words_of_info info pinning)

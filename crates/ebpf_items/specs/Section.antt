@@ -19,7 +19,8 @@ pub record IsSectionOf (view : View) (section : Section) : Type 0 where
 -- refused where the name or the bytes can't be read
 abbrev pub IsUnreadable : View → ParseError → Type 0
 IsUnreadable view error =
-    ((error ≡ SectionError view.index Name) × (view.name ≡ None)) ⊎ ((error ≡ SectionError view.index SectionData) × (view.contents ≡ None))
+    ((error ≡ SectionError view.index Name) × (view.name ≡ None))
+    ⊎ ((error ≡ SectionError view.index SectionData) × (view.contents ≡ None))
 
 abbrev pub Reads : View → Result Section ParseError → Type 0
 Reads view result = MatchResult result (IsSectionOf view) (IsUnreadable view)

@@ -43,7 +43,8 @@ impl TryFrom<u32> for PinningType {
 
     ghost use Rattle.ebpf_items.specs.declared.maps.PinningError.TheVariants.{Unsupported};
 
-    ghost try_from_gives = { λ value r. (result_ok r ≡ pinning_of value) × IfErr r (λ e. e ≡ Unsupported value) };
+    ghost try_from_gives = { λ value r.
+        (result_ok r ≡ pinning_of value) × IfErr r (λ e. e ≡ Unsupported value) };
 
     fn try_from(value: u32) -> Result<PinningType, PinningError> {
         match value {
@@ -210,7 +211,9 @@ impl BtfMap {
         section_index: usize,
         symbol_index: usize,
     ) -> BtfMap
-        ensures { map_view (Map.Btf result) ≡ btf_map_view (btf_words def) (option_map btf_words inner_def) section_index symbol_index }
+        ensures { map_view (Map.Btf result)
+            ≡ btf_map_view (btf_words def) (option_map btf_words inner_def) section_index
+            symbol_index }
     {
         BtfMap {
             def,
@@ -241,7 +244,20 @@ impl Map {
         max_entries: u32,
         flags: u32,
     ) -> Map
-        ensures { map_view result ≡ bare_view false (record { map_type = map_type; key_size = key_size; value_size = value_size; max_entries = max_entries; map_flags = flags; map_extra = 0; pinning = PinningType.None; id = 0; btf_key_type_id = 0; btf_value_type_id = 0 }) }
+        ensures { map_view result
+            ≡ bare_view false
+            (record {
+              map_type = map_type;
+              key_size = key_size;
+              value_size = value_size;
+              max_entries = max_entries;
+              map_flags = flags;
+              map_extra = 0;
+              pinning = PinningType.None;
+              id = 0;
+              btf_key_type_id = 0;
+              btf_value_type_id = 0;
+            }) }
     {
         let def = bpf_map_def {
             map_type,

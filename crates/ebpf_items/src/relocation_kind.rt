@@ -65,7 +65,9 @@ const RELOCATION_KINDS: [RelocationKind; 12] = [
 impl TryFrom<u32> for RelocationKind {
     type Error = BtfError;
 
-    ghost try_from_gives = { λ kind r. (result_ok r ≡ slice_get relocation_kinds kind) × IfErr r (λ e. e ≡ InvalidRelocationKind kind) };
+    ghost try_from_gives = { λ kind r.
+        (result_ok r ≡ slice_get relocation_kinds kind)
+        × IfErr r (λ e. e ≡ InvalidRelocationKind kind) };
 
     fn try_from(kind: u32) -> Result<RelocationKind, BtfError> {
         kind_numbered(kind).ok_or(BtfError::InvalidRelocationKind { kind })

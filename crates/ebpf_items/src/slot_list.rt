@@ -293,8 +293,10 @@ impl<'a> Iterator for SlotIter<'a> {
 
 /// The slots that bytes hold, or `InvalidProgramCode` where those aren't whole slots.
 pub fn copy_instructions(alloc: Global, bytes: &[u8]) -> Result<Vec<bpf_insn>, ParseError>
-    ensures value { IfOk result (λ slots. (length bytes.now % 8 ≡ 0) × (slots.items ≡ slots_of bytes.now)) }
-    ensures refused { IfErr result (λ e. e ≢ OutOfMemory → (e ≡ InvalidProgramCode) × (length bytes.now % 8 ≢ 0)) }
+    ensures value { IfOk result (λ slots.
+        (length bytes.now % 8 ≡ 0) × (slots.items ≡ slots_of bytes.now)) }
+    ensures refused { IfErr result (λ e.
+        e ≢ OutOfMemory → (e ≡ InvalidProgramCode) × (length bytes.now % 8 ≢ 0)) }
 {
     let Some(slots) = Slots::borrowed(alloc, bytes) else {
         return Err(ParseError::InvalidProgramCode);

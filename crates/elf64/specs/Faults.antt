@@ -11,10 +11,15 @@ use Rattle.elf64.specs.Sections.{section_names_in}
 use Rattle.elf64.specs.Symbols.{symbol_entry, symbol_table_index, symbol_names_in}
 use Rattle.elf64.specs.Relocations.{is_relocation_table, entry_size}
 
--- section headers of another size, none at all, a table past the end, or no section that holds the names
+-- section headers of another size, none at all, a table past the end, or no section that holds the
+-- names
 abbrev pub IsBadSectionTable : List ℕ → FileHeader → Type 0
 IsBadSectionTable bytes header =
-    (header.section_headers_offset ≢ 0) × ((header.section_header_size ≢ 64) ⊎ (header.section_count ≡ 0) ⊎ (table_in bytes header ≡ None) ⊎ IsSomeAnd (table_in bytes header) (λ table. section_names_in bytes header table ≡ None))
+    (header.section_headers_offset ≢ 0)
+    × ((header.section_header_size ≢ 64)
+    ⊎ (header.section_count ≡ 0)
+    ⊎ (table_in bytes header ≡ None)
+    ⊎ IsSomeAnd (table_in bytes header) (λ table. section_names_in bytes header table ≡ None))
 
 -- a symbol other than symbol 0 whose st_shndx is SHN_XINDEX
 pub record HasExtendedIndex (order : ByteOrder) (entries : List ℕ) : Type 0 where
@@ -23,15 +28,22 @@ pub record HasExtendedIndex (order : ByteOrder) (entries : List ℕ) : Type 0 wh
   pub within : index < length entries / 24
   pub extended : (symbol_entry order entries index).section ≡ 0xffff
 
--- entries past the end, or cut off, no names in the file, or a symbol with an extended section index
+-- entries past the end, or cut off, no names in the file, or a symbol with an extended section
+-- index
 abbrev pub IsBadSymbolTable : List ℕ → ByteOrder → List ℕ → SectionHeader → Type 0
 IsBadSymbolTable bytes order table header =
-    (bytes_at bytes header.offset header.size ≡ None) ⊎ (header.size % 24 ≢ 0) ⊎ (symbol_names_in bytes order table header ≡ None) ⊎ IsSomeAnd (bytes_at bytes header.offset header.size) (HasExtendedIndex order)
+    (bytes_at bytes header.offset header.size ≡ None)
+    ⊎ (header.size % 24 ≢ 0)
+    ⊎ (symbol_names_in bytes order table header ≡ None)
+    ⊎ IsSomeAnd (bytes_at bytes header.offset header.size) (HasExtendedIndex order)
 
--- a relocation section of the symbol table of an index, with no target section, entries past the end, or cut off
+-- a relocation section of the symbol table of an index, with no target section, entries past the
+-- end, or cut off
 pub record IsBadRelocationTable (bytes : List ℕ) (order : ByteOrder) (table : List ℕ) (symbol_table : ℕ) (header : SectionHeader) : Type 0 where
   pub belongs : is_relocation_table symbol_table header ≡ true
-  pub bad : (section_at order table header.info ≡ None) ⊎ (bytes_at bytes header.offset header.size ≡ None) ⊎ (header.size % entry_size header ≢ 0)
+  pub bad : (section_at order table header.info ≡ None)
+      ⊎ (bytes_at bytes header.offset header.size ≡ None)
+      ⊎ (header.size % entry_size header ≢ 0)
 
 -- a bad relocation section of the symbol table of an index
 pub record HasBadRelocationTable (bytes : List ℕ) (order : ByteOrder) (table : List ℕ) (symbol_table : ℕ) : Type 0 where
@@ -42,11 +54,13 @@ pub record HasBadRelocationTable (bytes : List ℕ) (order : ByteOrder) (table :
 
 -- a condition on the section header table of a file
 abbrev pub OnTable : List ℕ → (ByteOrder → List ℕ → Type 0) → Type 0
-OnTable bytes P = IsSomeAnd (header_of bytes) (λ header. IsSomeAnd (table_in bytes header) (P header.order))
+OnTable bytes P =
+    IsSomeAnd (header_of bytes) (λ header. IsSomeAnd (table_in bytes header) (P header.order))
 
 -- a condition on the first symbol table of a file, by its index
 abbrev pub OnSymbolTable : List ℕ → (ByteOrder → List ℕ → ℕ → Type 0) → Type 0
-OnSymbolTable bytes P = OnTable bytes (λ order table. IsSomeAnd (symbol_table_index order table) (P order table))
+OnSymbolTable bytes P =
+    OnTable bytes (λ order table. IsSomeAnd (symbol_table_index order table) (P order table))
 
 -- a fault of the file; a section's bytes and a name are judged when they are asked for
 abbrev pub HasFault : List ℕ → ElfError → Type 0
@@ -54,7 +68,9 @@ HasFault bytes NotElf = is_elf bytes ≡ false
 HasFault bytes UnsupportedClass = (is_elf bytes ≡ true) × (is_elf64 bytes ≡ false)
 HasFault bytes UnsupportedOrder = (is_elf64 bytes ≡ true) × (order_of bytes ≡ None)
 HasFault bytes BadSectionTable = IsSomeAnd (header_of bytes) (IsBadSectionTable bytes)
-HasFault bytes BadSymbolTable = OnSymbolTable bytes (λ order table index. IsBadSymbolTable bytes order table (section_header order table index))
+HasFault bytes BadSymbolTable =
+    OnSymbolTable bytes (λ order table index.
+    IsBadSymbolTable bytes order table (section_header order table index))
 HasFault bytes BadRelocationTable = OnSymbolTable bytes (HasBadRelocationTable bytes)
 HasFault bytes SectionData = ⊥
 HasFault bytes Name = ⊥

@@ -41,11 +41,14 @@ file_header bytes order = record {
 abbrev pub header_of : List ℕ → Option FileHeader
 header_of bytes = option_map (file_header bytes) (order_of bytes)
 
--- the bytes of the section header table, where it has headers of 64 bytes in the file: none where e_shoff is 0
+-- the bytes of the section header table, where it has headers of 64 bytes in the file: none where
+-- e_shoff is 0
 abbrev pub table_in : List ℕ → FileHeader → Option (List ℕ)
 table_in bytes header =
     if header.section_headers_offset == 0 then Some [] else
-    if header.section_header_size == 64 then bytes_at bytes header.section_headers_offset (64 * header.section_count) else None
+    if header.section_header_size == 64
+    then bytes_at bytes header.section_headers_offset (64 * header.section_count)
+    else None
 
 -- the fields of the section header of an index
 unfoldable pub section_header : ByteOrder → List ℕ → ℕ → SectionHeader
@@ -67,7 +70,9 @@ header_count table = length table / 64
 -- the section of an index, where there is one: index 0 is none
 abbrev pub section_at : ByteOrder → List ℕ → ℕ → Option SectionHeader
 section_at order table index =
-    if index == 0 || nat_le (header_count table) index then None else Some (section_header order table index)
+    if index == 0 || nat_le (header_count table) index
+    then None
+    else Some (section_header order table index)
 
 -- the indexes of the sections
 abbrev pub section_indexes : List ℕ → List ℕ

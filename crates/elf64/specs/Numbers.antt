@@ -15,4 +15,5 @@ number_at width order bytes at = number order width (take (byte_len width) (drop
 
 -- the bytes from an offset on, as many as asked for, where they don't go past the end
 abbrev pub bytes_at : List ℕ → ℕ → ℕ → Option (List ℕ)
-bytes_at bytes at len = if nat_lt (length bytes) (at + len) then None else Some (take len (drop at bytes))
+bytes_at bytes at len =
+    if nat_lt (length bytes) (at + len) then None else Some (take len (drop at bytes))

@@ -26,20 +26,25 @@ width_in info = if info % 2 ^ 32 == 1 then 64 else if info % 2 ^ 32 == 10 then 3
 
 -- a relocation, by r_offset and r_info
 unfoldable pub relocation_from : ℕ → ℕ → Relocation
-relocation_from offset info = record { offset = offset; symbol = symbol_in info; width = width_in info }
+relocation_from offset info =
+    record { offset = offset; symbol = symbol_in info; width = width_in info }
 
 -- the relocation at an offset of a relocation section's bytes
 abbrev pub relocation_at : ByteOrder → List ℕ → ℕ → Relocation
-relocation_at order entries at = relocation_from (number_at w64 order entries at) (number_at w64 order entries (at + 8))
+relocation_at order entries at =
+    relocation_from (number_at w64 order entries at) (number_at w64 order entries (at + 8))
 
 -- the size of an entry: SHT_RELA has an addend, which isn't read
 abbrev pub entry_size : SectionHeader → ℕ
 entry_size header = if header.kind == 4 then 24 else 16
 
--- a section of type SHT_RELA or SHT_REL that belongs to the symbol table of an index and has a target
+-- a section of type SHT_RELA or SHT_REL that belongs to the symbol table of an index and has a
+-- target
 abbrev pub is_relocation_table : ℕ → SectionHeader → Bool
 is_relocation_table symbol_table header =
-    ((header.kind == 4) || (header.kind == 9)) && (header.link == symbol_table) && not (header.info == 0)
+    ((header.kind == 4) || (header.kind == 9))
+    && (header.link == symbol_table)
+    && not (header.info == 0)
 
 -- the entries of some indexes in a relocation section's bytes
 abbrev pub entries_at : ByteOrder → ℕ → List ℕ → List ℕ → List Relocation
@@ -47,7 +52,8 @@ entries_at order size entries indexes = map (λ i. relocation_at order entries (
 
 -- the entries of a relocation section's bytes, in order
 abbrev pub entries_in : ByteOrder → ℕ → List ℕ → List Relocation
-entries_in order size entries = entries_at order size entries (range_with_len 0 (length entries / size))
+entries_in order size entries =
+    entries_at order size entries (range_with_len 0 (length entries / size))
 
 -- as many entries from an index on lie within some bytes
 pub record AreEntriesWithin (size next left len : ℕ) : Type 0 where
@@ -63,26 +69,41 @@ pub record RelocationSection : Type 0 where
 unfoldable pub relocation_section_from : List ℕ → ByteOrder → SectionHeader → RelocationSection
 relocation_section_from bytes order header = record {
   target = header.info;
-  relocations = entries_in order (entry_size header) (unwrap_or (bytes_at bytes header.offset header.size) []);
+  relocations =
+      entries_in order (entry_size header)
+      (unwrap_or (bytes_at bytes header.offset header.size) []);
 }
 
 -- the relocation sections of a symbol table among the sections of some indexes
-abbrev pub relocation_sections_at : List ℕ → ByteOrder → List ℕ → ℕ → List ℕ → List RelocationSection
+abbrev pub relocation_sections_at : List ℕ
+    → ByteOrder
+    → List ℕ
+    → ℕ
+    → List ℕ
+    → List RelocationSection
 relocation_sections_at bytes order table symbol_table indexes =
-    map (relocation_section_from bytes order) (filter (is_relocation_table symbol_table) (map (section_header order table) indexes))
+    map (relocation_section_from bytes order)
+    (filter (is_relocation_table symbol_table) (map (section_header order table) indexes))
 
 abbrev pub relocation_sections_in : List ℕ → ByteOrder → List ℕ → List RelocationSection
 relocation_sections_in bytes order table =
-    unwrap_or (option_map (λ symbol_table. relocation_sections_at bytes order table symbol_table (section_indexes table)) (symbol_table_index order table)) []
+    unwrap_or
+    (option_map
+    (λ symbol_table. relocation_sections_at bytes order table symbol_table (section_indexes table))
+    (symbol_table_index order table)) []
 
 -- the relocation sections of a file's symbol table, in order of index
 unfoldable pub relocation_sections_of : List ℕ → List RelocationSection
 relocation_sections_of bytes =
-    unwrap_or (option_and_then (λ header. option_map (relocation_sections_in bytes header.order) (table_in bytes header)) (header_of bytes)) []
+    unwrap_or
+    (option_and_then
+    (λ header. option_map (relocation_sections_in bytes header.order) (table_in bytes header))
+    (header_of bytes)) []
 
 -- the relocations that some relocation sections hold for a target
 abbrev pub relocations_to : ℕ → List RelocationSection → List Relocation
-relocations_to target sections = flat_map (λ s. s.relocations) (filter (λ s. s.target == target) sections)
+relocations_to target sections =
+    flat_map (λ s. s.relocations) (filter (λ s. s.target == target) sections)
 
 -- the relocations of the section of an index, by relocation section and then by entry
 unfoldable pub relocations_of : List ℕ → ℕ → List Relocation

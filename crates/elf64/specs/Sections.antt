@@ -9,7 +9,8 @@ use Rattle.elf64.specs.Numbers.{bytes_at}
 use Rattle.elf64.specs.Headers.{header_of, table_in, section_header, section_at, section_indexes}
 use Rattle.elf64.specs.Names.{name_in}
 
--- what a section shows: its name and contents where they can be read, and where in the names its name begins
+-- what a section shows: its name and contents where they can be read, and where in the names its
+-- name begins
 pub record Section : Type 0 where
   pub index : ℕ
   pub name_offset : ℕ
@@ -21,11 +22,13 @@ pub record Section : Type 0 where
 
 -- the bytes of a section in the file, where it has some there: one of type SHT_NOBITS has none
 abbrev pub file_bytes_in : List ℕ → SectionHeader → Option (List ℕ)
-file_bytes_in bytes header = if header.kind == 8 then None else bytes_at bytes header.offset header.size
+file_bytes_in bytes header =
+    if header.kind == 8 then None else bytes_at bytes header.offset header.size
 
 -- the contents of a section: empty for SHT_NOBITS
 abbrev pub contents_in : List ℕ → SectionHeader → Option (List ℕ)
-contents_in bytes header = if header.kind == 8 then Some [] else bytes_at bytes header.offset header.size
+contents_in bytes header =
+    if header.kind == 8 then Some [] else bytes_at bytes header.offset header.size
 
 -- the section of e_shstrndx, which holds the sections' names, as far as its bytes lie in the file
 abbrev pub section_names_in : List ℕ → FileHeader → List ℕ → Option (List ℕ)
@@ -50,21 +53,27 @@ section_from bytes names index header = record {
 
 -- the sections of some indexes
 abbrev pub sections_at : List ℕ → ByteOrder → List ℕ → Option (List ℕ) → List ℕ → List Section
-sections_at bytes order table names indexes = map (λ i. section_from bytes names i (section_header order table i)) indexes
+sections_at bytes order table names indexes =
+    map (λ i. section_from bytes names i (section_header order table i)) indexes
 
 abbrev pub sections_in : List ℕ → FileHeader → List ℕ → List Section
 sections_in bytes header table =
-    sections_at bytes header.order table (section_names_in bytes header table) (section_indexes table)
+    sections_at bytes header.order table (section_names_in bytes header table)
+    (section_indexes table)
 
 -- the sections of a file, in order of index, without section 0
 unfoldable pub sections_of : List ℕ → List Section
 sections_of bytes =
-    unwrap_or (option_and_then (λ header. option_map (sections_in bytes header) (table_in bytes header)) (header_of bytes)) []
+    unwrap_or
+    (option_and_then (λ header. option_map (sections_in bytes header) (table_in bytes header))
+    (header_of bytes)) []
 
 -- the bytes that hold the names of a file's sections
 unfoldable pub section_names_of : List ℕ → Option (List ℕ)
 section_names_of bytes =
-    option_and_then (λ header. option_and_then (section_names_in bytes header) (table_in bytes header)) (header_of bytes)
+    option_and_then
+    (λ header. option_and_then (section_names_in bytes header) (table_in bytes header))
+    (header_of bytes)
 
 -- whether a section has a name
 abbrev pub has_name : List ℕ → Section → Bool

@@ -1,4 +1,5 @@
--- The symbols of a file: the entries of its first symbol table (ELF-64 object file format, Symbol Table).
+-- The symbols of a file: the entries of its first symbol table (ELF-64 object file format, Symbol
+-- Table).
 use Rattle.std.specs.Prelude.{◌≡◌, ◌≤◌, ◌<◌, IfSome, ℕ, ◌+◌, ◌-◌, ◌*◌, ◌/◌, ◌%◌, List, [], length, map, find, slice_index, nat_lt, ◌==◌, ◌&&◌, ◌||◌, not, Bool, if◌then◌else◌, Option, Some, None, is_some, unwrap_or, option_and_then}
 use Rattle.std.specs.Option.{option_map}
 use Rattle.std.specs.List.{range_with_len}
@@ -13,7 +14,8 @@ use Rattle.elf64.specs.Headers.{header_of, table_in, section_header, section_at,
 use Rattle.elf64.specs.Sections.{file_bytes_in}
 use Rattle.elf64.specs.Names.{name_in}
 
--- what a symbol shows: its name where it can be read, where in the names that begins, its section where it has one
+-- what a symbol shows: its name where it can be read, where in the names that begins, its section
+-- where it has one
 pub record Symbol : Type 0 where
   pub index : ℕ
   pub name_offset : ℕ
@@ -45,7 +47,8 @@ type_of entry = entry.info % 16
 
 -- st_shndx is no section where it is SHN_UNDEF or reserved, from SHN_LORESERVE on
 abbrev pub section_of : SymbolEntry → Option ℕ
-section_of entry = if (entry.section == 0) || not (nat_lt entry.section 0xff00) then None else Some entry.section
+section_of entry =
+    if (entry.section == 0) || not (nat_lt entry.section 0xff00) then None else Some entry.section
 
 -- STT_OBJECT 1, STT_FUNC 2, STT_SECTION 3, STT_FILE 4, STT_COMMON 5, STT_TLS 6, STT_GNU_IFUNC 10
 abbrev pub kind_of : ℕ → SymbolKind
@@ -56,10 +59,14 @@ kind_of type =
     if type == 4 then File else
     if type == 6 then Tls else Unknown
 
--- a definition stands in a section, and is a function, an object, or of no type (STT_NOTYPE 0) but with a size
+-- a definition stands in a section, and is a function, an object, or of no type (STT_NOTYPE 0) but
+-- with a size
 abbrev pub is_defined : SymbolEntry → Bool
 is_defined entry =
-    is_some (section_of entry) && ((type_of entry == 1) || (type_of entry == 2) || ((type_of entry == 0) && not (entry.size == 0)))
+    is_some (section_of entry)
+    && ((type_of entry == 1)
+    || (type_of entry == 2)
+    || ((type_of entry == 0) && not (entry.size == 0)))
 
 -- a symbol, by the names' bytes and its entry
 unfoldable pub symbol_from : Option (List ℕ) → ℕ → SymbolEntry → Symbol
@@ -78,7 +85,8 @@ symbol_from names index entry = record {
 
 -- the index of the first section of type SHT_SYMTAB
 abbrev pub symbol_table_index : ByteOrder → List ℕ → Option ℕ
-symbol_table_index order table = find (λ i. (section_header order table i).kind == 2) (section_indexes table)
+symbol_table_index order table =
+    find (λ i. (section_header order table i).kind == 2) (section_indexes table)
 
 -- the index of the first symbol table, whose header lies in the section header table
 pub record IsSymbolTable (order : ByteOrder) (table : List ℕ) (index : Option ℕ) : Type 0 where
@@ -87,7 +95,8 @@ pub record IsSymbolTable (order : ByteOrder) (table : List ℕ) (index : Option 
 
 -- the bytes of the string table that a symbol table is linked to
 abbrev pub symbol_names_in : List ℕ → ByteOrder → List ℕ → SectionHeader → Option (List ℕ)
-symbol_names_in bytes order table header = option_and_then (file_bytes_in bytes) (section_at order table header.link)
+symbol_names_in bytes order table header =
+    option_and_then (file_bytes_in bytes) (section_at order table header.link)
 
 -- the entries' bytes
 abbrev pub symbol_entries_in : List ℕ → SectionHeader → List ℕ
@@ -95,27 +104,36 @@ symbol_entries_in bytes header = unwrap_or (bytes_at bytes header.offset header.
 
 -- the symbols of some indexes
 abbrev pub symbols_at : ByteOrder → List ℕ → Option (List ℕ) → List ℕ → List Symbol
-symbols_at order entries names indexes = map (λ i. symbol_from names i (symbol_entry order entries i)) indexes
+symbols_at order entries names indexes =
+    map (λ i. symbol_from names i (symbol_entry order entries i)) indexes
 
 -- the symbols of a symbol table, without symbol 0
 abbrev pub symbols_from : List ℕ → ByteOrder → List ℕ → SectionHeader → List Symbol
 symbols_from bytes order table header =
-    symbols_at order (symbol_entries_in bytes header) (symbol_names_in bytes order table header) (range_with_len 1 (length (symbol_entries_in bytes header) / 24 - 1))
+    symbols_at order (symbol_entries_in bytes header) (symbol_names_in bytes order table header)
+    (range_with_len 1 (length (symbol_entries_in bytes header) / 24 - 1))
 
 abbrev pub symbols_in : List ℕ → ByteOrder → List ℕ → List Symbol
 symbols_in bytes order table =
-    unwrap_or (option_map (λ i. symbols_from bytes order table (section_header order table i)) (symbol_table_index order table)) []
+    unwrap_or
+    (option_map (λ i. symbols_from bytes order table (section_header order table i))
+    (symbol_table_index order table)) []
 
 -- the symbols of a file, in order of index
 unfoldable pub symbols_of : List ℕ → List Symbol
 symbols_of bytes =
-    unwrap_or (option_and_then (λ header. option_map (symbols_in bytes header.order) (table_in bytes header)) (header_of bytes)) []
+    unwrap_or
+    (option_and_then (λ header. option_map (symbols_in bytes header.order) (table_in bytes header))
+    (header_of bytes)) []
 
 -- the bytes that hold the names of a file's symbols: none without a symbol table
 abbrev pub symbol_names_for : List ℕ → ByteOrder → List ℕ → Option (List ℕ)
 symbol_names_for bytes order table =
-    option_and_then (λ i. symbol_names_in bytes order table (section_header order table i)) (symbol_table_index order table)
+    option_and_then (λ i. symbol_names_in bytes order table (section_header order table i))
+    (symbol_table_index order table)
 
 unfoldable pub symbol_names_of : List ℕ → Option (List ℕ)
 symbol_names_of bytes =
-    option_and_then (λ header. option_and_then (symbol_names_for bytes header.order) (table_in bytes header)) (header_of bytes)
+    option_and_then
+    (λ header. option_and_then (symbol_names_for bytes header.order) (table_in bytes header))
+    (header_of bytes)

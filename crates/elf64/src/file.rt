@@ -40,7 +40,9 @@ impl<'a> Model for ElfFile<'a> {
 
     ghost view = { λ f. f.bytes.now };
 
-    ghost invariant = { λ f. HasHeaders f.bytes.now f.header f.table.now × IsSymbolTable f.header.order f.table.now f.symbol_table };
+    ghost invariant = { λ f.
+        HasHeaders f.bytes.now f.header f.table.now
+        × IsSymbolTable f.header.order f.table.now f.symbol_table };
 }
 
 impl<'a> ElfFile<'a> {
@@ -99,7 +101,8 @@ impl<'a> ElfFile<'a> {
     pub fn sections(&self) -> Sections<'a>
         ensures value { result ≡ sections_of self.now }
         ensures numbered { AreNumbered (sections_of self.now) (λ s. s.index) }
-        ensures named { AreNamed (section_names_of self.now) (sections_of self.now) (λ s. s.name) (λ s. s.name_offset) }
+        ensures named { AreNamed (section_names_of self.now) (sections_of self.now) (λ s. s.name)
+            (λ s. s.name_offset) }
         ensures countable { length result < 2 ^ 64 }
     {
         Sections::new(self.bytes, self.order(), self.table, self.section_names())
@@ -123,7 +126,8 @@ impl<'a> ElfFile<'a> {
     pub fn symbols(&self) -> Symbols<'a>
         ensures value { result ≡ symbols_of self.now }
         ensures numbered { AreNumbered (symbols_of self.now) (λ s. s.index) }
-        ensures named { AreNamed (symbol_names_of self.now) (symbols_of self.now) (λ s. s.name) (λ s. s.name_offset) }
+        ensures named { AreNamed (symbol_names_of self.now) (symbols_of self.now) (λ s. s.name)
+            (λ s. s.name_offset) }
         ensures countable { length result < 2 ^ 64 }
     {
         let order = self.order();

@@ -46,9 +46,13 @@ impl<'a> Model for RelocationSections<'a> {
 
     ghost Value = { List RelocationSection };
 
-    ghost view = { λ s. relocation_sections_at s.bytes.now s.order s.table.now s.symbol_table (range_with_len s.next s.left) };
+    ghost view = { λ s.
+        relocation_sections_at s.bytes.now s.order s.table.now s.symbol_table
+        (range_with_len s.next s.left) };
 
-    ghost invariant = { λ s. (0 < s.left → 64 * (s.next + s.left) ≤ length s.table.now) × (length s.table.now < 2 ^ 64) };
+    ghost invariant = { λ s.
+        (0 < s.left → 64 * (s.next + s.left) ≤ length s.table.now)
+        × (length s.table.now < 2 ^ 64) };
 }
 
 impl<'a> Iterator for RelocationSections<'a> {
@@ -83,7 +87,9 @@ impl<'a> RelocationSections<'a> {
         table: &'a [u8],
         symbol_table: usize,
     ) -> RelocationSections<'a>
-        ensures value { result ≡ relocation_sections_at bytes.now order table.now symbol_table (section_indexes table.now) }
+        ensures value { result
+            ≡ relocation_sections_at bytes.now order table.now symbol_table
+            (section_indexes table.now) }
         ensures countable { length result < 2 ^ 64 }
     {
         RelocationSections {

@@ -78,7 +78,8 @@ impl<'a> SectionView<'a> {
     /// the names. Looks at each byte of it.
     #[tactic(auto, unfolding(crate::specs::Sections::section_from))]
     pub fn name(&self) -> Result<&'a str, ElfError>
-        ensures { MatchResult result (λ s. self.now.name ≡ Some s.now) (λ e. (e ≡ ElfError.Name) × (self.now.name ≡ None)) }
+        ensures { MatchResult result (λ s. self.now.name ≡ Some s.now) (λ e.
+            (e ≡ ElfError.Name) × (self.now.name ≡ None)) }
     {
         let Some(names) = self.names else {
             return Err(ElfError::Name);
@@ -101,7 +102,8 @@ impl<'a> SectionView<'a> {
     /// past the end of the file.
     #[tactic(auto, unfolding(crate::specs::Sections::section_from))]
     pub fn data(&self) -> Result<&'a [u8], ElfError>
-        ensures { MatchResult result (λ b. self.now.contents ≡ Some b.now) (λ e. (e ≡ ElfError.SectionData) × (self.now.contents ≡ None)) }
+        ensures { MatchResult result (λ b. self.now.contents ≡ Some b.now) (λ e.
+            (e ≡ ElfError.SectionData) × (self.now.contents ≡ None)) }
     {
         match contents(self.bytes, &self.header) {
             Some(bytes) => Ok(bytes),
@@ -154,7 +156,9 @@ impl<'a> Model for Sections<'a> {
 
     ghost Value = { List Section };
 
-    ghost view = { λ s. sections_at s.bytes.now s.order s.table.now (option_copied s.names) (range_with_len s.next s.left) };
+    ghost view = { λ s.
+        sections_at s.bytes.now s.order s.table.now (option_copied s.names)
+        (range_with_len s.next s.left) };
 
     ghost invariant = { λ s. 0 < s.left → 64 * (s.next + s.left) ≤ length s.table.now };
 }
@@ -190,7 +194,9 @@ impl<'a> Sections<'a> {
         table: &'a [u8],
         names: Option<&'a [u8]>,
     ) -> Sections<'a>
-        ensures value { result ≡ sections_at bytes.now order table.now (option_copied names.entry) (section_indexes table.now) }
+        ensures value { result
+            ≡ sections_at bytes.now order table.now (option_copied names.entry)
+            (section_indexes table.now) }
         ensures countable { length result < 2 ^ 64 }
     {
         Sections {

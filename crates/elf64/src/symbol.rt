@@ -112,7 +112,8 @@ impl<'a> SymbolView<'a> {
     /// table's string table. Looks at each byte of it.
     #[tactic(auto, unfolding(crate::specs::Symbols::symbol_from))]
     pub fn name(&self) -> Result<&'a str, ElfError>
-        ensures { MatchResult result (λ s. self.now.name ≡ Some s.now) (λ e. (e ≡ ElfError.Name) × (self.now.name ≡ None)) }
+        ensures { MatchResult result (λ s. self.now.name ≡ Some s.now) (λ e.
+            (e ≡ ElfError.Name) × (self.now.name ≡ None)) }
     {
         let Some(names) = self.names else {
             return Err(ElfError::Name);
@@ -204,7 +205,8 @@ impl<'a> Model for Symbols<'a> {
 
     ghost Value = { List Symbol };
 
-    ghost view = { λ s. symbols_at s.order s.entries.now (option_copied s.names) (range_with_len s.next s.left) };
+    ghost view = { λ s.
+        symbols_at s.order s.entries.now (option_copied s.names) (range_with_len s.next s.left) };
 
     ghost invariant = { λ s. 0 < s.left → 24 * (s.next + s.left) ≤ length s.entries.now };
 }
@@ -234,7 +236,9 @@ impl<'a> Iterator for Symbols<'a> {
 impl<'a> Symbols<'a> {
     /// The symbols of a symbol table's bytes, with its string table.
     pub(crate) fn new(order: ByteOrder, entries: &'a [u8], names: Option<&'a [u8]>) -> Symbols<'a>
-        ensures value { result ≡ symbols_at order entries.now (option_copied names.entry) (range_with_len 1 (length entries.now / 24 - 1)) }
+        ensures value { result
+            ≡ symbols_at order entries.now (option_copied names.entry)
+            (range_with_len 1 (length entries.now / 24 - 1)) }
         ensures countable { length result < 2 ^ 64 }
     {
         Symbols {

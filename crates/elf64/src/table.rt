@@ -63,7 +63,10 @@ pub(crate) fn symbol_table_index(order: ByteOrder, table: &[u8]) -> Option<usize
 pub(crate) fn check_file_header(bytes: &[u8]) -> Result<FileHeader, ElfError>
     ensures value { IfOk result (λ h. header_of bytes.now ≡ Some h) }
     ensures order { IfOk result (λ h. order_of bytes.now ≡ Some h.order) }
-    ensures accepted { IfOk result (λ _. (HasFault bytes.now ElfError.NotElf → ⊥) × (HasFault bytes.now ElfError.UnsupportedClass → ⊥) × (HasFault bytes.now ElfError.UnsupportedOrder → ⊥)) }
+    ensures accepted { IfOk result (λ _.
+        (HasFault bytes.now ElfError.NotElf → ⊥)
+        × (HasFault bytes.now ElfError.UnsupportedClass → ⊥)
+        × (HasFault bytes.now ElfError.UnsupportedOrder → ⊥)) }
     ensures refused { IfErr result (HasFault bytes.now) }
 {
     if bytes.len() < FILE_HEADER_SIZE || bytes[..4] != [0x7f, b'E', b'L', b'F'] {
@@ -87,7 +90,8 @@ pub(crate) fn check_section_table<'a>(
 ) -> Result<&'a [u8], ElfError>
     ensures value { IfOk result (λ t. table_in bytes.entry.now header.now ≡ Some t.now) }
     ensures accepted { IfOk result (λ _. IsBadSectionTable bytes.entry.now header.now → ⊥) }
-    ensures refused { IfErr result (λ e. (e ≡ ElfError.BadSectionTable) × IsBadSectionTable bytes.entry.now header.now) }
+    ensures refused { IfErr result (λ e.
+        (e ≡ ElfError.BadSectionTable) × IsBadSectionTable bytes.entry.now header.now) }
 {
     let Some(table) = section_table(bytes, header) else {
         return Err(ElfError::BadSectionTable);
@@ -120,8 +124,10 @@ pub(crate) fn check_symbol_table(
     table: &[u8],
     header: &SectionHeader,
 ) -> Result<(), ElfError>
-    ensures accepted { IfOk result (λ _. IsBadSymbolTable bytes.now order table.now header.now → ⊥) }
-    ensures refused { IfErr result (λ e. (e ≡ ElfError.BadSymbolTable) × IsBadSymbolTable bytes.now order table.now header.now) }
+    ensures accepted { IfOk result (λ _.
+        IsBadSymbolTable bytes.now order table.now header.now → ⊥) }
+    ensures refused { IfErr result (λ e.
+        (e ≡ ElfError.BadSymbolTable) × IsBadSymbolTable bytes.now order table.now header.now) }
 {
     let Some(entries) = bytes_at(bytes, header.offset, header.size) else {
         return Err(ElfError::BadSymbolTable);
@@ -147,7 +153,8 @@ fn is_bad_relocation_table(
     symbol_table: usize,
     header: &SectionHeader,
 ) -> bool
-    ensures { IsTrue result ↔ IsBadRelocationTable bytes.now order table.now symbol_table header.now }
+    ensures { IsTrue result ↔ IsBadRelocationTable bytes.now order table.now symbol_table
+        header.now }
 {
     if !is_relocation_table(symbol_table, header) {
         return false;
@@ -164,8 +171,11 @@ pub(crate) fn check_relocation_tables(
     table: &[u8],
     symbol_table: usize,
 ) -> Result<(), ElfError>
-    ensures accepted { IfOk result (λ _. HasBadRelocationTable bytes.now order table.now symbol_table → ⊥) }
-    ensures refused { IfErr result (λ e. (e ≡ ElfError.BadRelocationTable) × HasBadRelocationTable bytes.now order table.now symbol_table) }
+    ensures accepted { IfOk result (λ _.
+        HasBadRelocationTable bytes.now order table.now symbol_table → ⊥) }
+    ensures refused { IfErr result (λ e.
+        (e ≡ ElfError.BadRelocationTable)
+        × HasBadRelocationTable bytes.now order table.now symbol_table) }
 {
     let count = section_header_count(table);
     for index in 1..count {

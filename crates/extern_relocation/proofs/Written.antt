@@ -36,7 +36,7 @@ abbrev first_in : bpf_insn → Outcome Fault → bpf_insn
 first_in d (Written w) = w.first
 first_in d _ = d
 
--- what stood behind an option, or a test
+-- what stood after an option, or a test
 behind : {A : Type 0} (o : Option A) (h : A → Outcome Fault) (d : Outcome Fault) (w : Write) → (d ≡ Written w → ⊥) → option_map_or h o d ≡ Written w → (a : A) × (o ≡ Some a) × (h a ≡ Written w)
 behind None h d w never e = absurd (never e)
 behind (Some a) h d w never e = (a, refl, e)

@@ -81,7 +81,7 @@ self_call_flat = refl
 self_call_source : source_run again (true ∷ true ∷ true ∷ []) (record { key = f; slot = pos 0 } ∷ []) ≡ Shows self_call_called (Shows self_call_called (Shows self_call_called (Ends Cut)))
 self_call_source = refl
 
--- a call of a function without slots, whose copy begins behind the last slot
+-- a call of a function without slots, whose copy begins after the last slot
 abbrev none : Table
 none = record {
   slots = λ k. cond (eqb k.1 0) (call (negsuc 0) ∷ exit ∷ []) [];

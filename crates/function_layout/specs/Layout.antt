@@ -1,5 +1,5 @@
--- How a program is laid out whose functions are linked to it: which functions are copied, in which order, where each copy
--- begins, and the program's slots.
+-- How a program is laid out whose functions are linked to it: which functions are copied, in which
+-- order, where each copy begins, and the program's slots.
 use Rattle.std.specs.Prelude.{◌≡◌, ℕ, ◌+◌, Bool, true, false, if◌then◌else◌, List, [], ◌∷◌, ◌++◌, length, Option, Some, None, slice_get, pos, ◌-ℤ◌}
 use Rattle.std.specs.Ordering.{ordering_then, nat_cmp, is_eq}
 use Rattle.std.specs.declared.cmp.Ordering.{Ordering}
@@ -93,10 +93,12 @@ abbrev pub marked : Bool → bpf_insn → bpf_insn
 marked true s = s
 marked false s = with_src_reg s 4
 
--- a reference at a position, to the copy that begins at a slot: the distance counts from the next position
+-- a reference at a position, to the copy that begins at a slot: the distance counts from the next
+-- position
 abbrev pub aimed : Option ℕ → ℕ → bpf_insn → bpf_insn
 aimed None p s = s
-aimed (Some start) p s = record (marked (is_pseudo_call s) s) { imm = (pos start -ℤ pos p) -ℤ pos 1 }
+aimed (Some start) p s =
+    record (marked (is_pseudo_call s) s) { imm = (pos start -ℤ pos p) -ℤ pos 1 }
 
 -- what stands for a slot at a position
 abbrev pub placed : Table → Key → List Key → Option Key → ℕ → bpf_insn → bpf_insn
@@ -106,12 +108,14 @@ placed t own ks (Some key) p s = aimed (start_of t own ks key) p s
 -- the slots of the copy that begins at b, from slot i on
 abbrev pub copy_of : Table → Key → List Key → Key → ℕ → ℕ → List bpf_insn → List bpf_insn
 copy_of t own ks k b i [] = []
-copy_of t own ks k b i (s ∷ ss) = placed t own ks (ref_at t k i) (b + i) s ∷ copy_of t own ks k b (i + 1) ss
+copy_of t own ks k b i (s ∷ ss) =
+    placed t own ks (ref_at t k i) (b + i) s ∷ copy_of t own ks k b (i + 1) ss
 
 -- the first copies of a program whose appended copies are all
 abbrev pub copies_of : Table → Key → List Key → List Key → List bpf_insn
 copies_of t own all [] = copy_of t own all own 0 0 (t.slots own)
-copies_of t own all (k ∷ ks) = copies_of t own all ks ++ copy_of t own all k (end_of t own ks) 0 (t.slots k)
+copies_of t own all (k ∷ ks) =
+    copies_of t own all ks ++ copy_of t own all k (end_of t own ks) 0 (t.slots k)
 
 -- the slots of a program
 abbrev pub linked : Table → Key → List Key → List bpf_insn

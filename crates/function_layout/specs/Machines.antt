@@ -1,11 +1,13 @@
--- Which slots a program visits on a list of decisions about its branches: by its functions with a stack of calls, and by its
--- linked slots (kernel documentation, instruction-set.rst, Jump instructions).
+-- Which slots a program visits on a list of decisions about its branches: by its functions with a
+-- stack of calls, and by its linked slots (kernel documentation, instruction-set.rst, Jump
+-- instructions).
 use Rattle.std.specs.Prelude.{◌≡◌, ℕ, ◌-◌, ◌%◌, ◌==◌, nat_lt, Bool, true, false, ◌||◌, if◌then◌else◌, List, [], ◌∷◌, length, Option, Some, None, slice_get, ℤ, pos, negsuc, ◌+ℤ◌}
 use Rattle.ebpf_items.specs.declared.instruction.bpf_insn.{bpf_insn}
 use Rattle.ebpf_items.specs.Instruction.{dst_reg_of, is_pseudo_call}
 use Rattle.function_layout.specs.Layout.{Key, Table, ref_at, start_of, end_of}
 
--- a run ends because no decision is left, because it is at no slot that may run, or because the program is left
+-- a run ends because no decision is left, because it is at no slot that may run, or because the
+-- program is left
 pub data Ending : Type 0 where
   Cut : Ending
   Outside : Ending
@@ -34,7 +36,9 @@ move_of s taken =
     else (if s.code == 0x18 then By (pos 2)
     else (if s.code == 0x05 then By (pos 1 +ℤ s.off)
     else (if s.code == 0x06 then By (pos 1 +ℤ s.imm)
-    else (if is_jump s.code then (if taken then By (pos 1 +ℤ s.off) else By (pos 1)) else By (pos 1))))))
+    else (if is_jump s.code
+    then (if taken then By (pos 1 +ℤ s.off) else By (pos 1))
+    else By (pos 1))))))
 
 -- the slot of a whole number
 abbrev pub slot_at : List bpf_insn → ℤ → Option bpf_insn
@@ -86,18 +90,26 @@ source_move go Leave r f fs = source_leave go fs
 source_move go Call r f fs = source_call go r f fs
 source_move go (By z) r f fs = go (record f { slot = f.slot +ℤ z } ∷ fs)
 
-abbrev pub source_show : SourceRun → Bool → Option bpf_insn → Option Key → Frame → List Frame → Trace SourceEvent
+abbrev pub source_show : SourceRun
+    → Bool
+    → Option bpf_insn
+    → Option Key
+    → Frame
+    → List Frame
+    → Trace SourceEvent
 source_show go d None r f fs = Ends Outside
 source_show go d (Some s) r f fs =
     if may_run s r
-    then Shows (record { key = f.key; number = nat_of f.slot; slot = s; target = r }) (source_move go (move_of s d) r f fs)
+    then Shows (record { key = f.key; number = nat_of f.slot; slot = s; target = r })
+    (source_move go (move_of s d) r f fs)
     else Ends Outside
 
 abbrev pub source_step : Table → SourceRun → Bool → SourceRun
 source_step t go d [] = Ends Outside
-source_step t go d (f ∷ fs) = source_show go d (slot_at (t.slots f.key) f.slot) (ref_at t f.key (nat_of f.slot)) f fs
+source_step t go d (f ∷ fs) =
+    source_show go d (slot_at (t.slots f.key) f.slot) (ref_at t f.key (nat_of f.slot)) f fs
 
--- the run of functions, the calling ones behind the one that runs
+-- the run of functions, the calling ones after the one that runs
 abbrev pub source_run : Table → List Bool → SourceRun
 source_run t [] fs = Ends Cut
 source_run t (d ∷ ds) fs = source_step t (source_run t ds) d fs
@@ -121,16 +133,27 @@ pub record Place : Type 0 where
   pub number : ℕ
 
 abbrev pub place_of : Table → Key → List Key → ℕ → Option Place
-place_of t own [] p = if nat_lt p (length (t.slots own)) then Some (record { key = own; number = p }) else None
+place_of t own [] p =
+    if nat_lt p (length (t.slots own)) then Some (record { key = own; number = p }) else None
 place_of t own (k ∷ ks) p =
     if nat_lt p (end_of t own ks) then place_of t own ks p
-    else (if nat_lt p (end_of t own (k ∷ ks)) then Some (record { key = k; number = p - end_of t own ks }) else None)
+    else
+    (if nat_lt p (end_of t own (k ∷ ks))
+    then Some (record { key = k; number = p - end_of t own ks })
+    else None)
 
-abbrev pub flat_show : FlatRun → Bool → Option bpf_insn → Option Place → ℤ → List ℤ → Trace FlatEvent
+abbrev pub flat_show : FlatRun
+    → Bool
+    → Option bpf_insn
+    → Option Place
+    → ℤ
+    → List ℤ
+    → Trace FlatEvent
 flat_show go d None at p ps = Ends Outside
 flat_show go d (Some s) None p ps = Ends Outside
 flat_show go d (Some s) (Some at) p ps =
-    Shows (record { key = at.key; number = at.number; position = nat_of p; slot = s }) (flat_move go (move_of s d) s p ps)
+    Shows (record { key = at.key; number = at.number; position = nat_of p; slot = s })
+    (flat_move go (move_of s d) s p ps)
 
 -- the run of a program's slots
 abbrev pub flat_run : Table → Key → List Key → List bpf_insn → List Bool → FlatRun
@@ -144,12 +167,15 @@ ends_outside (Ends Outside) = true
 ends_outside (Ends Done) = false
 ends_outside (Shows e rest) = ends_outside rest
 
--- A slot that refers to nothing is the same. One that refers to a function has the same code, destination and offset, and the
--- appended copy of the function begins where it points to.
+-- A slot that refers to nothing is the same. One that refers to a function has the same code,
+-- destination and offset, and the appended copy of the function begins where it points to.
 abbrev pub SameSlot : Table → Key → List Key → Option Key → ℕ → bpf_insn → bpf_insn → Type 0
 SameSlot t own ks None p a b = a ≡ b
 SameSlot t own ks (Some key) p a b =
-    (a.code ≡ b.code) × (dst_reg_of a ≡ dst_reg_of b) × (a.off ≡ b.off) × ((start : ℕ) × (start_of t own ks key ≡ Some start) × (pos start ≡ (pos p +ℤ pos 1) +ℤ b.imm))
+    (a.code ≡ b.code)
+    × (dst_reg_of a ≡ dst_reg_of b)
+    × (a.off ≡ b.off)
+    × ((start : ℕ) × (start_of t own ks key ≡ Some start) × (pos start ≡ (pos p +ℤ pos 1) +ℤ b.imm))
 
 pub record SameEvent (t : Table) (own : Key) (ks : List Key) (a : SourceEvent) (b : FlatEvent) : Type 0 where
   pub key : a.key ≡ b.key
@@ -163,6 +189,10 @@ Agree t own ks (Shows a s) (Shows b f) = SameEvent t own ks a b × Agree t own k
 Agree t own ks (Ends e) (Shows b f) = ⊥
 Agree t own ks (Shows a s) (Ends e) = ⊥
 
--- for each list of decisions on which the functions' run doesn't end outside, a program's slots are visited alike
+-- for each list of decisions on which the functions' run doesn't end outside, a program's slots are
+-- visited alike
 pub record VisitsSame (t : Table) (own : Key) (ks : List Key) (code : List bpf_insn) : Type 0 where
-  pub each : (ds : List Bool) → ends_outside (source_run t ds (record { key = own; slot = pos 0 } ∷ [])) ≡ false → Agree t own ks (source_run t ds (record { key = own; slot = pos 0 } ∷ [])) (flat_run t own ks code ds (pos 0) [])
+  pub each : (ds : List Bool)
+      → ends_outside (source_run t ds (record { key = own; slot = pos 0 } ∷ [])) ≡ false
+      → Agree t own ks (source_run t ds (record { key = own; slot = pos 0 } ∷ []))
+      (flat_run t own ks code ds (pos 0) [])

@@ -1,5 +1,5 @@
--- Programs that are renamed after they were linked: in each slot that calls a newer helper an older one takes its place, for
--- kernels that lack the newer one.
+-- Programs that are renamed after they were linked: in each slot that calls a newer helper an older
+-- one takes its place, for kernels that lack the newer one.
 use Rattle.std.specs.Prelude.{◌≡◌, ℕ, ◌+◌, List, [], ◌∷◌, Option, Some, None, map}
 use Rattle.ebpf_items.specs.declared.instruction.bpf_insn.{bpf_insn}
 use Rattle.ebpf_items.specs.Instruction.{with_older_helper}

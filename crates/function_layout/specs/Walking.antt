@@ -1,4 +1,5 @@
--- A walk over references, depth first: its frames are the functions whose references are being followed, the last one first.
+-- A walk over references, depth first: its frames are the functions whose references are being
+-- followed, the last one first.
 use Rattle.std.specs.Prelude.{◌≡◌, ◌+◌, ◌≤◌, ℕ, List, [], ◌∷◌, ◌++◌, length, Some, None, is_some}
 use Rattle.function_layout.specs.Layout.{Key, Table, has, first_open, back, path, IsOrder, IsLayout, start_of, end_of, copies_of}
 
@@ -10,17 +11,30 @@ pub record OnWay (t : Table) (own : Key) (ks fs : List Key) : Type 0 where
 -- what a walk rests on
 pub record WalkLaws : Type 0 where
   pub start : (t : Table) (own : Key) → OnWay t own [] (own ∷ [])
-  pub pop : (t : Table) (own : Key) (ks fs : List Key) (c : Key) → OnWay t own ks (c ∷ fs) → first_open (has ks) (t.refs c) ≡ None → OnWay t own ks fs
-  pub push : (t : Table) (own : Key) (ks fs : List Key) (c k : Key) → OnWay t own ks (c ∷ fs) → first_open (has ks) (t.refs c) ≡ Some k → OnWay t own (k ∷ ks) (k ∷ c ∷ fs)
+  pub pop : (t : Table) (own : Key) (ks fs : List Key) (c : Key)
+      → OnWay t own ks (c ∷ fs)
+      → first_open (has ks) (t.refs c) ≡ None
+      → OnWay t own ks fs
+  pub push : (t : Table) (own : Key) (ks fs : List Key) (c k : Key)
+      → OnWay t own ks (c ∷ fs)
+      → first_open (has ks) (t.refs c) ≡ Some k
+      → OnWay t own (k ∷ ks) (k ∷ c ∷ fs)
   pub end : (t : Table) (own : Key) (ks : List Key) → OnWay t own ks [] → IsLayout t own ks
 
 -- an order is what a layout begins with
 pub record OrderLaws : Type 0 where
-  pub front : (t : Table) (own : Key) (a b : List Key) → IsOrder t own a → IsLayout t own b → (c : List Key) × (b ≡ c ++ a)
+  pub front : (t : Table) (own : Key) (a b : List Key)
+      → IsOrder t own a
+      → IsLayout t own b
+      → (c : List Key) × (b ≡ c ++ a)
   pub back : (t : Table) (own : Key) (c a : List Key) → IsOrder t own (c ++ a) → IsOrder t own a
 
 -- where copies begin and end
 pub record PlaceLaws : Type 0 where
-  pub ends : (t : Table) (own : Key) (all ks : List Key) → length (copies_of t own all ks) ≡ end_of t own ks
-  pub starts : (t : Table) (own : Key) (ks : List Key) (k : Key) (start : ℕ) → start_of t own ks k ≡ Some start → start + length (t.slots k) ≤ end_of t own ks
-  pub appended : (t : Table) (own : Key) (ks : List Key) (k : Key) → is_some (start_of t own ks k) ≡ has ks k
+  pub ends : (t : Table) (own : Key) (all ks : List Key)
+      → length (copies_of t own all ks) ≡ end_of t own ks
+  pub starts : (t : Table) (own : Key) (ks : List Key) (k : Key) (start : ℕ)
+      → start_of t own ks k ≡ Some start
+      → start + length (t.slots k) ≤ end_of t own ks
+  pub appended : (t : Table) (own : Key) (ks : List Key) (k : Key)
+      → is_some (start_of t own ks k) ≡ has ks k

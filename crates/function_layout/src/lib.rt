@@ -1,9 +1,10 @@
 //! How a program is laid out whose functions are linked to it, and what holds of such a layout.
 //!
-//! A kernel takes a program as one list of slots, so that copies of the functions that it calls stand behind its own. The
-//! definitions say which copies these are, where each begins and what becomes of the slots; two machines say which slots are
-//! visited, by functions that call each other with a stack, and by the list of slots. The functions here compute nothing:
-//! their contracts are the theorems.
+//! A kernel takes a program as one list of slots, so that copies of the functions that it calls
+//! stand after its own. The definitions say which copies these are, where each begins and what
+//! becomes of the slots; two machines say which slots are visited, by functions that call each
+//! other with a stack, and by the list of slots. The functions here compute nothing: their
+//! contracts are the theorems.
 #![tactic(auto)]
 
 ghost use Rattle.function_layout.specs.Copies.{SlotsAreCopied};
@@ -16,21 +17,22 @@ pub fn layout_is_unique()
     ensures { LayoutIsUnique }
 {}
 
-/// The copies that a layout appends are those of the functions that chains of references lead to from the program's own, each
-/// once.
+/// The copies that a layout appends are those of the functions that chains of references lead to
+/// from the program's own, each once.
 pub fn reached_are_appended()
     ensures { ReachedAreAppended }
 {}
 
-/// For every list of decisions about branches on which the functions, run with a stack of calls, don't end outside, the linked
-/// slots are visited in the same order with the same end.
+/// For every list of decisions about branches on which the functions, run with a stack of calls,
+/// don't end outside, the linked slots are visited in the same order with the same end.
 pub fn linked_visits_same()
     ensures { LinkedVisitsSame }
 {}
 
-/// A program in which older helpers take the place of newer ones after it was linked has the slots that its layout gives for
-/// functions with older helpers in their slots that refer to no function. For every list of decisions about branches on which
-/// these functions, run with a stack of calls, don't end outside, its slots are visited in the same order with the same end.
+/// A program in which older helpers take the place of newer ones after it was linked has the slots
+/// that its layout gives for functions with older helpers in their slots that refer to no function.
+/// For every list of decisions about branches on which these functions, run with a stack of calls,
+/// don't end outside, its slots are visited in the same order with the same end.
 pub fn renamed_visits_same()
     ensures { RenamedVisitsSame }
 {}
@@ -55,12 +57,13 @@ pub fn order_laws()
     ensures { OrderLaws }
 {}
 
-/// Copies stand one behind the other.
+/// Copies stand one after the other.
 pub fn place_laws()
     ensures { PlaceLaws }
 {}
 
-/// Each slot of a function that is copied to a program stands in the copy, as it is where it refers to no function.
+/// Each slot of a function that is copied to a program stands in the copy, as it is where it refers
+/// to no function.
 pub fn slots_are_copied()
     ensures { SlotsAreCopied }
 {}

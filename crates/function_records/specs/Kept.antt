@@ -16,7 +16,7 @@ section_content extension name = record {
   lines = unwrap_or (records_of extension.strings name extension.lines) [];
 }
 
--- whether a slot is one of so many from another on
+-- whether a slot is one of a number from another on
 abbrev pub is_within : ℕ → ℕ → ℕ → Bool
 is_within start slots slot = nat_le start slot && nat_lt (slot - start) slots
 

@@ -191,8 +191,9 @@ impl<'e> SectionRecords<'e> {
         Ok(FuncSecInfo::from_records(kept))
     }
 
-    /// The records of lines that begin at one of so many slots from one on, in order; their slots
-    /// are counted from that one where they are to be relative, else from the section's start.
+    /// The records of lines that begin at one of a number of slots from one on, in order; their
+    /// slots are counted from that one where they are to be relative, else from the section's
+    /// start.
     pub fn lines_in<'a>(
         &self,
         alloc: Global,

@@ -25,7 +25,7 @@ pub(crate) fn order_by_slot(places: &mut Vec<IndexedSlot>) -> Result<(), AllocEr
     Ok(())
 }
 
-/// The stretch of so many slots from one on.
+/// The stretch of a number of slots from one on.
 fn stretch(places: &[IndexedSlot], from: u64, count: u64) -> &[IndexedSlot]
     requires { IsNonDecreasingBy (λ (p : IndexedSlot). p.slot) places.now }
     ensures { result.now ≡ filter (λ p. is_within from count p.slot) places.now }
@@ -48,7 +48,7 @@ fn indexes_of(alloc: Global, places: &[IndexedSlot]) -> Result<Vec<u32>, AllocEr
     Ok(indexes)
 }
 
-/// The indexes of the records that begin at one of so many slots from one on, rising.
+/// The indexes of the records that begin at one of a number of slots from one on, rising.
 pub(crate) fn indexes_within(
     alloc: Global,
     places: &[IndexedSlot],

@@ -48,7 +48,8 @@ other_kind = refl
 without_section : target_by (by 32 (symbol_of kind.Text None 0)) (pos 0) ≡ UnknownSymbol 2
 without_section = refl
 
--- a call without a relocation, at the second slot of a function 8 bytes behind its section's beginning
+-- a call without a relocation, at the second slot of a function 8 bytes after its section's
+-- beginning
 abbrev caller : FunctionContent
 caller = record {
   address = 8;

@@ -65,7 +65,10 @@ impl GlobalValues {
     ///
     /// `AllocError`, where memory is wanted; the values are as before then.
     pub fn set(&mut self, name: &str, bytes: &[u8], must_exist: bool) -> Result<(), AllocError>
-        ensures ok { OnOk result (self.new ≡ insert_entry (slice_cmp nat_cmp) self.old name.now (record { bytes = bytes.now; must_exist = must_exist })) }
+        ensures ok { OnOk result
+            (self.new
+            ≡ insert_entry (slice_cmp nat_cmp) self.old name.now
+            (record { bytes = bytes.now; must_exist = must_exist })) }
         ensures err { OnErr result (self.new ≡ self.old) }
     {
         let name = String::from_str(self.alloc, name)?;

@@ -42,7 +42,7 @@ pub same_bytes : (name : List ℕ) → bytes_eq name name ≡ true
 same_bytes [] = refl
 same_bytes (x ∷ xs) = rw (eq_self x) (same_bytes xs)
 
--- what is said in one more line comes behind
+-- what is said in one more line comes at the end
 pub said_more : (name : List ℕ) (lines more : List (List ℕ)) (line : List ℕ) → said name (lines ++ line ∷ more) ≡ said name lines ++ (said_in name line ++ said name more)
 said_more name lines more line = flat_map-append (said_in name) lines (line ∷ more)
 

@@ -208,7 +208,7 @@ wanted_as P Q from failed text (error.UnreadableAddress name) h = (from name.now
 wanted_as P Q from failed text (error.Ambiguous name first second) h = (from name.now h.0, h.1)
 wanted_as P Q from failed text error.OutOfMemory h = h
 
--- a line is refused behind others
+-- a line is refused after others
 pub refused_behind : (old between : Reading) (bytes rest line more : List ℕ) (e : SymbolsError) → TakesAllBut old bytes rest between → rest ≡ line ++ 10 ∷ more → Refuses between (line ++ 10 ∷ []) e → Refuses old bytes e
 refused_behind old between bytes rest line more e before split refuses = record {
   stands = λ other failed text later read.

@@ -3,7 +3,12 @@ use Rattle.std.specs.Prelude.{ℕ, ◌+◌, ◌-◌, ◌*◌, ◌^◌, ◌&&◌,
 
 -- the value of a hexadecimal digit of either case
 abbrev pub hex_digit : ℕ → Option ℕ
-hex_digit b = if nat_le 48 b && nat_le b 57 then Some (b - 48) else (if nat_le 97 b && nat_le b 102 then Some (b - 87) else (if nat_le 65 b && nat_le b 70 then Some (b - 55) else None))
+hex_digit b =
+    if nat_le 48 b && nat_le b 57
+    then Some (b - 48)
+    else (if nat_le 97 b && nat_le b 102
+    then Some (b - 87)
+    else (if nat_le 65 b && nat_le b 70 then Some (b - 55) else None))
 
 -- one more digit, as far as 64 bits hold the number
 abbrev pub with_digit : ℕ → ℕ → Option ℕ
@@ -12,7 +17,8 @@ with_digit n digit = if nat_lt (16 * n + digit) (2 ^ 64) then Some (16 * n + dig
 -- the number that n and then more digits write
 abbrev pub hex_after : ℕ → List ℕ → Option ℕ
 hex_after n [] = Some n
-hex_after n (b ∷ bs) = option_and_then (λ m. hex_after m bs) (option_and_then (with_digit n) (hex_digit b))
+hex_after n (b ∷ bs) =
+    option_and_then (λ m. hex_after m bs) (option_and_then (with_digit n) (hex_digit b))
 
 -- one digit or more
 abbrev pub hex_number : List ℕ → Option ℕ

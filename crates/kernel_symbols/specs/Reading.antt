@@ -34,12 +34,15 @@ pub record AreWanted (names : List (Bor (List ℕ))) (entries : List (Bor (List 
   pub among : (name : List ℕ) → is_some (under entries name) ≡ is_among names name
 
 pub record HasNoAddress (entries : List (Bor (List ℕ) × Wanted)) : Type 0 where
-  pub none : (name : List ℕ) → IfSome (under entries name) (λ w. (w.name.now ≡ name) × (w.address ≡ None))
+  pub none : (name : List ℕ)
+      → IfSome (under entries name) (λ w. (w.name.now ≡ name) × (w.address ≡ None))
 
--- the address of a wanted name after a line that says this one: the first is kept, and another is refused
+-- the address of a wanted name after a line that says this one: the first is kept, and another is
+-- refused
 abbrev pub settled_beside : Wanted → ℕ → Option ℕ → Result (Option ℕ) SymbolsError
 settled_beside w address None = Ok (Some address)
-settled_beside w address (Some first) = if first == address then Ok (Some first) else Err (Ambiguous w.name first address)
+settled_beside w address (Some first) =
+    if first == address then Ok (Some first) else Err (Ambiguous w.name first address)
 
 abbrev pub settled : Wanted → Option ℕ → Result (Option ℕ) SymbolsError
 settled w None = Err (UnreadableAddress w.name)
@@ -54,9 +57,12 @@ pub record TakesLine (old new : List (Bor (List ℕ) × Wanted)) (line : List �
   pub settled : (lines : List (List ℕ)) → AreSettled old lines → AreSettled new (lines ++ line ∷ [])
   pub names : SameNames old new
 
--- one more line is refused: the fault stands whatever lines come behind it
+-- one more line is refused: the fault stands whatever lines come after it
 pub record RefusesLine (old : List (Bor (List ℕ) × Wanted)) (line : List ℕ) (e : SymbolsError) : Type 0 where
-  pub stands : e ≢ OutOfMemory → (failed : Bool) (lines more : List (List ℕ)) → AreSettled old lines → LinesFault failed (IsWantedIn old) (lines ++ line ∷ more) e
+  pub stands : e ≢ OutOfMemory
+      → (failed : Bool) (lines more : List (List ℕ))
+      → AreSettled old lines
+      → LinesFault failed (IsWantedIn old) (lines ++ line ∷ more) e
 
 abbrev pub is_break : ℕ → Bool
 is_break b = b == 10
@@ -100,7 +106,10 @@ pub record Takes (old : Reading) (bytes : List ℕ) (new : Reading) : Type 0 whe
   pub names : SameNames (entries_of old) (entries_of new)
 
 pub record Refuses (old : Reading) (bytes : List ℕ) (e : SymbolsError) : Type 0 where
-  pub stands : e ≢ OutOfMemory → (failed : Bool) (text more : List ℕ) → HasRead text old → TextFault failed (IsWantedIn (entries_of old)) ((text ++ bytes) ++ more) e
+  pub stands : e ≢ OutOfMemory
+      → (failed : Bool) (text more : List ℕ)
+      → HasRead text old
+      → TextFault failed (IsWantedIn (entries_of old)) ((text ++ bytes) ++ more) e
 
 -- the reader's bytes are lost so far, and taken
 pub record ReadsSome (known left : Option (List ℕ)) (old new : Reading) : Type 0 where
@@ -121,18 +130,26 @@ pub record StandsBehind (known : Option (List ℕ)) (failed : Bool) (old : Readi
   pub stands : TextFault failed (IsWantedIn (entries_of old)) (text ++ more) e
 
 pub record RefusesReader (known : Option (List ℕ)) (failed : Bool) (old : Reading) (e : SymbolsError) : Type 0 where
-  pub behind : e ≢ OutOfMemory → (text : List ℕ) → HasRead text old → StandsBehind known failed old text e
+  pub behind : e ≢ OutOfMemory
+      → (text : List ℕ)
+      → HasRead text old
+      → StandsBehind known failed old text e
 
 -- what was read is the whole text
 pub record Finishes (old : Reading) (found : Addresses) : Type 0 where
-  pub settled : (text : List ℕ) → HasRead text old → AreSettled found.by_name.entries (lines_of text)
+  pub settled : (text : List ℕ)
+      → HasRead text old
+      → AreSettled found.by_name.entries (lines_of text)
   pub names : SameNames (entries_of old) found.by_name.entries
 
 pub record CannotFinish (old : Reading) (e : SymbolsError) : Type 0 where
-  pub stands : e ≢ OutOfMemory → (failed : Bool) (text : List ℕ) → HasRead text old → TextFault failed (IsWantedIn (entries_of old)) text e
+  pub stands : e ≢ OutOfMemory
+      → (failed : Bool) (text : List ℕ)
+      → HasRead text old
+      → TextFault failed (IsWantedIn (entries_of old)) text e
 
--- why the addresses of these names can't be had from a reader with these bytes, which failed or didn't: the fault stands in
--- its text
+-- why the addresses of these names can't be had from a reader with these bytes, which failed or
+-- didn't: the fault stands in its text
 pub record ReaderFault (names : List (Bor (List ℕ))) (known : Option (List ℕ)) (failed : Bool) (e : SymbolsError) : Type 0 where
   pub text : List ℕ
   pub given : IsGiven known text

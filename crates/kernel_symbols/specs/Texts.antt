@@ -1,5 +1,5 @@
--- What a text of kernel symbols says: a line for each symbol, of its address, its kind and its name, as /proc/kallsyms
--- writes them (kernel/kallsyms.c, "s_show").
+-- What a text of kernel symbols says: a line for each symbol, of its address, its kind and its
+-- name, as /proc/kallsyms writes them (kernel/kallsyms.c, "s_show").
 use Rattle.std.specs.Prelude.{◌≡◌, ℕ, Bool, true, false, ◌==◌, ◌⊎◌, not, if◌then◌else◌, List, [], ◌∷◌, Option, None, Some, IfSome, is_none, slice_get}
 use Rattle.std.specs.Borrow.{Bor}
 use Rattle.std.specs.List.{flat_map, list_any}
@@ -14,7 +14,8 @@ unfoldable pub lines_of : List ℕ → List (List ℕ)
 lines_of [] = []
 lines_of (x ∷ xs) = if x == 10 then [] ∷ lines_of xs else onto_first x (lines_of xs)
 
--- what the address word of a line says of a name: nothing where the line is another's; an unreadable address is `None`
+-- what the address word of a line says of a name: nothing where the line is another's; an
+-- unreadable address is `None`
 abbrev pub said_by : List ℕ → Option (List ℕ × List ℕ) → List (Option ℕ)
 said_by name None = []
 said_by name (Some entry) = if bytes_eq entry.1 name then address_in entry.0 ∷ [] else []
@@ -54,14 +55,20 @@ has_address said address = list_any (λ a. a == address) (addresses_in said)
 
 -- lines say a first address, and another
 abbrev pub AreTwo : List (Option ℕ) → ℕ → ℕ → Type 0
-AreTwo said first second = (slice_get (addresses_in said) 0 ≡ Some first) × (has_address said second ≡ true) × ((first == second) ≡ false)
+AreTwo said first second =
+    (slice_get (addresses_in said) 0 ≡ Some first)
+    × (has_address said second ≡ true)
+    × ((first == second) ≡ false)
 
--- why the addresses of these names can't be had from lines: the reader failed or a line isn't UTF-8; a name's address can't
--- be read; a name has two addresses
+-- why the addresses of these names can't be had from lines: the reader failed or a line isn't
+-- UTF-8; a name's address can't be read; a name has two addresses
 abbrev pub LinesFault : Bool → (List ℕ → Type 0) → List (List ℕ) → SymbolsError → Type 0
-LinesFault failed IsWanted lines (error.Access e) = (failed ≡ true) ⊎ (list_any is_foreign lines ≡ true)
-LinesFault failed IsWanted lines (error.UnreadableAddress name) = IsWanted name.now × (has_unreadable (said name.now lines) ≡ true)
-LinesFault failed IsWanted lines (error.Ambiguous name first second) = IsWanted name.now × AreTwo (said name.now lines) first second
+LinesFault failed IsWanted lines (error.Access e) =
+    (failed ≡ true) ⊎ (list_any is_foreign lines ≡ true)
+LinesFault failed IsWanted lines (error.UnreadableAddress name) =
+    IsWanted name.now × (has_unreadable (said name.now lines) ≡ true)
+LinesFault failed IsWanted lines (error.Ambiguous name first second) =
+    IsWanted name.now × AreTwo (said name.now lines) first second
 LinesFault failed IsWanted lines error.OutOfMemory = ⊥
 
 abbrev pub TextFault : Bool → (List ℕ → Type 0) → List ℕ → SymbolsError → Type 0

@@ -23,4 +23,6 @@ mark name = length name % 32 * 8 + slice_index name (length name - 1) % 8
 -- each wanted name is marked
 pub record AreMarked (entries : List (Bor (List ℕ) × Wanted)) (is_wanted : List Bool) : Type 0 where
   pub long : length is_wanted ≡ 256
-  pub each : (name : List ℕ) → is_some (under entries name) ≡ true → slice_index_or is_wanted (mark name) false ≡ true
+  pub each : (name : List ℕ)
+      → is_some (under entries name) ≡ true
+      → slice_index_or is_wanted (mark name) false ≡ true

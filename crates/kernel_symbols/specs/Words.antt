@@ -1,5 +1,5 @@
--- Words of a text between white space: the characters that the Unicode standard gives the property White_Space, as UTF-8
--- writes them.
+-- Words of a text between white space: the characters that the Unicode standard gives the property
+-- White_Space, as UTF-8 writes them.
 use Rattle.std.specs.Prelude.{◌≡◌, ℕ, zero, suc, ◌-◌, ◌<◌, ◌≤◌, drop, Bool, true, false, ◌&&◌, ◌||◌, ◌==◌, nat_le, nat_lt, if◌then◌else◌, List, [], ◌∷◌, filter, slice_index, Option, None, Some}
 use Rattle.std.specs.Borrow.{Bor}
 use Rattle.std.specs.Int.{trailing_zeros, w64}
@@ -23,22 +23,37 @@ is_general_space b c = ((b == 128) && ends_general_space c) || ((b == 129) && (c
 
 -- U+1680, U+2000 to U+205F and U+3000
 abbrev pub is_wide_space : ℕ → ℕ → ℕ → Bool
-is_wide_space a b c = ((a == 225) && (b == 154) && (c == 128)) || ((a == 226) && is_general_space b c) || ((a == 227) && (b == 128) && (c == 128))
+is_wide_space a b c =
+    ((a == 225) && (b == 154) && (c == 128))
+    || ((a == 226) && is_general_space b c)
+    || ((a == 227) && (b == 128) && (c == 128))
 
--- how many bytes the white space character has with which these bytes begin; 0 where they begin with none
+-- how many bytes the white space character has with which these bytes begin; 0 where they begin
+-- with none
 unfoldable pub space_len : List ℕ → ℕ
-space_len bytes = if is_ascii_space (slice_index bytes 0) then 1 else (if is_latin_space (slice_index bytes 0) (slice_index bytes 1) then 2 else (if is_wide_space (slice_index bytes 0) (slice_index bytes 1) (slice_index bytes 2) then 3 else 0))
+space_len bytes =
+    if is_ascii_space (slice_index bytes 0)
+    then 1
+    else (if is_latin_space (slice_index bytes 0) (slice_index bytes 1)
+    then 2
+    else (if is_wide_space (slice_index bytes 0) (slice_index bytes 1) (slice_index bytes 2)
+    then 3
+    else 0))
 
 -- a byte goes onto the first of some pieces
 abbrev pub onto_first : ℕ → List (List ℕ) → List (List ℕ)
 onto_first x [] = (x ∷ []) ∷ []
 onto_first x (piece ∷ pieces) = (x ∷ piece) ∷ pieces
 
--- what stands between white space, empty pieces too; so many of the bytes still belong to a white space character
+-- what stands between white space, empty pieces too; that many of the bytes still belong to a white
+-- space character
 unfoldable pub pieces_behind : ℕ → List ℕ → List (List ℕ)
 pieces_behind skipped [] = [] ∷ []
 pieces_behind (suc skipped) (x ∷ xs) = pieces_behind skipped xs
-pieces_behind zero (x ∷ xs) = if space_len (x ∷ xs) == 0 then onto_first x (pieces_behind 0 xs) else [] ∷ pieces_behind (space_len (x ∷ xs) - 1) xs
+pieces_behind zero (x ∷ xs) =
+    if space_len (x ∷ xs) == 0
+    then onto_first x (pieces_behind 0 xs)
+    else [] ∷ pieces_behind (space_len (x ∷ xs) - 1) xs
 
 abbrev pub is_word : List ℕ → Bool
 is_word [] = false
@@ -59,7 +74,7 @@ pub record ArePlain (bytes : List ℕ) (start end : ℕ) : Type 0 where
 abbrev pub first_set : ℕ → ℕ
 first_set mask = if mask == 0 then 16 else trailing_zeros w64 mask
 
--- no white space begins at the first so many bytes
+-- no white space begins at any of the first bytes, as many as given
 abbrev pub IsPlain : ℕ → List ℕ → Type 0
 IsPlain n bytes = (k : ℕ) → k < n → space_len (drop k bytes) ≡ 0
 

@@ -38,7 +38,8 @@ fn hex_number(digits: &[u8]) -> Option<u64>
     Some(value)
 }
 
-/// The address that a word writes: a number of 64 bits in hexadecimal digits, after an optional `+`.
+/// The address that a word writes: a number of 64 bits in hexadecimal digits, after an optional
+/// `+`.
 #[tactic(auto, unfolding(crate::specs::Addresses::address_in))]
 pub(crate) fn address_in(word: &[u8]) -> Option<u64>
     ensures { result ≡ address_in word.now }

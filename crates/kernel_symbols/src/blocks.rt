@@ -5,7 +5,7 @@ ghost use Rattle.kernel_symbols.specs.Words.{ArePlain, first_set};
 
 use std::simd::prelude::*;
 
-/// So many bytes are looked at in one step.
+/// How many bytes are looked at in one step.
 const BLOCK: usize = 16;
 
 /// The place of the lowest bit that is set; 16 where none is.
@@ -32,8 +32,8 @@ fn plain_in_block(bytes: &[u8], at: usize) -> usize
     first_set(stops.to_bitmask())
 }
 
-/// How many bytes of the last block and of all before it stand at the front and are plain, where those
-/// of whole blocks are.
+/// How many bytes of the last block and of all before it stand at the front and are plain, where
+/// those of whole blocks are.
 #[tactic(auto, using(crate::proofs::WordLemmas::plain_last))]
 fn plain_to_last_block(bytes: &[u8], len: usize) -> usize
     requires within { len ≤ length bytes.now }
@@ -49,8 +49,8 @@ fn plain_to_last_block(bytes: &[u8], len: usize) -> usize
     last + plain_in_block(bytes, last)
 }
 
-/// How many bytes at the front are seen to be plain by going over blocks, the last of which may begin
-/// in the one before it. Fewer bytes than a block has aren't looked at.
+/// How many bytes at the front are seen to be plain by going over blocks, the last of which may
+/// begin in the one before it. Fewer bytes than a block has aren't looked at.
 pub(crate) fn plain_blocks(bytes: &[u8]) -> usize
     ensures within { result ≤ length bytes.now }
     ensures plain { ArePlain bytes.now 0 result }

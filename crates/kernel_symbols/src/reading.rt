@@ -17,7 +17,8 @@ use std::alloc::{AllocError, Global};
 use std::io::BufRead;
 use watched::{TakeBytes, Watched};
 
-/// Wanted symbols as far as a text was read, and the beginning of a line whose end is still to come.
+/// Wanted symbols as far as a text was read, and the beginning of a line whose end is still to
+/// come.
 #[derive(Drop)]
 pub(crate) struct Reading<'a> {
     pub(crate) by_name: WantedByName<'a>,
@@ -26,7 +27,10 @@ pub(crate) struct Reading<'a> {
 
 /// Where the first NL stands.
 fn line_end(bytes: &[u8]) -> Option<usize>
-    ensures { MatchOption result (IsUnbroken bytes.now) (λ at. (at < length bytes.now) × IsUnbroken (take at bytes.now) × (bytes.now ≡ take at bytes.now ++ 10 ∷ drop (at + 1) bytes.now)) }
+    ensures { MatchOption result (IsUnbroken bytes.now) (λ at.
+        (at < length bytes.now)
+        × IsUnbroken (take at bytes.now)
+        × (bytes.now ≡ take at bytes.now ++ 10 ∷ drop (at + 1) bytes.now)) }
 {
     memchr(b'\n', bytes)
 }
@@ -111,9 +115,16 @@ fn read_on<'a, R: BufRead>(
     reading: &mut Reading<'a>,
     symbols: &mut Watched<R>,
 ) -> Result<bool, SymbolsError<'a>>
-    ensures taken { IfOk result (λ more. more ≡ true → ReadsSome (R.remaining (watched_inner symbols.old)) (R.remaining (watched_inner symbols.new)) reading.old reading.new) }
-    ensures end { IfOk result (λ more. more ≡ false → (reading.new ≡ reading.old) × IsAtEnd (R.remaining (watched_inner symbols.old))) }
-    ensures refused { IfErr result (RefusesReader (R.remaining (watched_inner symbols.old)) (has_failed symbols.new) reading.old) }
+    ensures taken { IfOk result (λ more.
+        more ≡ true
+        → ReadsSome (R.remaining (watched_inner symbols.old))
+        (R.remaining (watched_inner symbols.new)) reading.old reading.new) }
+    ensures end { IfOk result (λ more.
+        more ≡ false
+        → (reading.new ≡ reading.old) × IsAtEnd (R.remaining (watched_inner symbols.old))) }
+    ensures refused { IfErr result
+        (RefusesReader (R.remaining (watched_inner symbols.old)) (has_failed symbols.new)
+        reading.old) }
     ensures sound { OnOk result (has_failed symbols.new ≡ false) }
     ensures calls { OnOk result (calls_left symbols.new < calls_left symbols.old) }
 {
@@ -128,8 +139,11 @@ fn read_all<'a, R: BufRead>(
     reading: &mut Reading<'a>,
     symbols: &mut Watched<R>,
 ) -> Result<(), SymbolsError<'a>>
-    ensures taken { OnOk result (ReadsWhole (R.remaining (watched_inner symbols.old)) reading.old reading.new) }
-    ensures refused { IfErr result (RefusesReader (R.remaining (watched_inner symbols.old)) (has_failed symbols.new) reading.old) }
+    ensures taken { OnOk result
+        (ReadsWhole (R.remaining (watched_inner symbols.old)) reading.old reading.new) }
+    ensures refused { IfErr result
+        (RefusesReader (R.remaining (watched_inner symbols.old)) (has_failed symbols.new)
+        reading.old) }
     ensures sound { OnOk result (has_failed symbols.new ≡ false) }
 {
     let mut is_more = true;
@@ -149,7 +163,10 @@ pub fn read_addresses<'a, R: BufRead>(
     symbols: &mut Watched<R>,
 ) -> Result<Addresses<'a>, SymbolsError<'a>>
     ensures found { IfOk result (AreAddresses names.now (R.remaining (watched_inner symbols.old))) }
-    ensures refused { IfErr result (λ e. e ≢ OutOfMemory → ReaderFault names.now (R.remaining (watched_inner symbols.old)) (has_failed symbols.new) e) }
+    ensures refused { IfErr result (λ e.
+        e ≢ OutOfMemory
+        → ReaderFault names.now (R.remaining (watched_inner symbols.old)) (has_failed symbols.new)
+        e) }
     ensures sound { OnOk result (has_failed symbols.new ≡ false) }
 {
     let mut reading = Reading::new(alloc, names)?;

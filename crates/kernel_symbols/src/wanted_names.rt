@@ -9,7 +9,7 @@ use std::alloc::{AllocError, Global};
 use std::collections::BTreeMap;
 use std::marker::Model;
 
-/// So many marks there are.
+/// How many marks there are.
 const MARKS: usize = 256;
 
 /// The mark of a name: a number by its length and its last byte.
@@ -29,8 +29,8 @@ fn mark(name: &[u8]) -> usize
 #[derive(Drop)]
 pub(crate) struct WantedByName<'a> {
     by_name: BTreeMap<&'a [u8], Wanted<'a>>,
-    /// Whether a wanted name has each mark. Most names of a text have a mark that none has, and need no
-    /// look-up.
+    /// Whether a wanted name has each mark. Most names of a text have a mark that none has, and
+    /// need no look-up.
     is_wanted: [bool; MARKS],
 }
 
@@ -49,7 +49,12 @@ impl<'a> Model for WantedByName<'a> {
 
 /// Puts a symbol in place under its name.
 fn want<'a>(by_name: &mut BTreeMap<&'a [u8], Wanted<'a>>, name: &'a str) -> Result<(), AllocError>
-    ensures wanted { OnOk result ((other : List ℕ) → under by_name.new.entries other ≡ (if bytes_eq name.now other then Some (record { name = name.entry; address = None }) else under by_name.old.entries other)) }
+    ensures wanted { OnOk result
+        ((other : List ℕ)
+        → under by_name.new.entries other
+        ≡ (if bytes_eq name.now other
+        then Some (record { name = name.entry; address = None })
+        else under by_name.old.entries other)) }
     ensures kept { OnErr result (by_name.new.entries ≡ by_name.old.entries) }
 {
     let wanted = Wanted {
@@ -62,7 +67,11 @@ fn want<'a>(by_name: &mut BTreeMap<&'a [u8], Wanted<'a>>, name: &'a str) -> Resu
 
 /// Puts an address in place under a name.
 fn put(by_name: &mut BTreeMap<&[u8], Wanted<'_>>, name: &[u8], address: Option<u64>)
-    ensures { (other : List ℕ) → under by_name.new.entries other ≡ (if bytes_eq name.now other then with_address address (under by_name.old.entries name.now) else under by_name.old.entries other) }
+    ensures { (other : List ℕ)
+        → under by_name.new.entries other
+        ≡ (if bytes_eq name.now other
+        then with_address address (under by_name.old.entries name.now)
+        else under by_name.old.entries other) }
 {
     if let Some(wanted) = by_name.get_mut(name) {
         wanted.address = address;
@@ -82,7 +91,12 @@ impl<'a> WantedByName<'a> {
 
     /// Wants a name.
     pub(crate) fn want(&mut self, name: &'a str) -> Result<(), AllocError>
-        ensures { OnOk result ((other : List ℕ) → under self.new other ≡ (if bytes_eq name.now other then Some (record { name = name.entry; address = None }) else under self.old other)) }
+        ensures { OnOk result
+            ((other : List ℕ)
+            → under self.new other
+            ≡ (if bytes_eq name.now other
+            then Some (record { name = name.entry; address = None })
+            else under self.old other)) }
     {
         self.is_wanted[mark(name.as_bytes())] = true;
         want(&mut self.by_name, name)
@@ -100,7 +114,11 @@ impl<'a> WantedByName<'a> {
 
     /// Puts an address in place under a name.
     pub(crate) fn put(&mut self, name: &[u8], address: Option<u64>)
-        ensures { (other : List ℕ) → under self.new other ≡ (if bytes_eq name.now other then with_address address (under self.old name.now) else under self.old other) }
+        ensures { (other : List ℕ)
+            → under self.new other
+            ≡ (if bytes_eq name.now other
+            then with_address address (under self.old name.now)
+            else under self.old other) }
     {
         put(&mut self.by_name, name, address);
     }

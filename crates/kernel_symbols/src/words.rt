@@ -78,7 +78,7 @@ fn space_len(bytes: &[u8]) -> usize
     0
 }
 
-/// The bytes behind the first `count`.
+/// The bytes after the first `count`.
 pub(crate) fn behind(bytes: &[u8], count: usize) -> &[u8]
     ensures { result.now ≡ drop count bytes.now }
 {
@@ -132,7 +132,8 @@ fn word_len(bytes: &[u8]) -> usize
 
 /// The first word, and what follows it.
 fn next_word(bytes: &[u8]) -> Option<(&[u8], &[u8])>
-    ensures { MatchOption result (words_of bytes.now ≡ []) (λ split. words_of bytes.now ≡ split.0.now ∷ words_of split.1.now) }
+    ensures { MatchOption result (words_of bytes.now ≡ []) (λ split.
+        words_of bytes.now ≡ split.0.now ∷ words_of split.1.now) }
 {
     let bytes = skip_spaces(bytes);
     if bytes.is_empty() {

@@ -17,7 +17,8 @@ abbrev pub number_word : Option ℕ → List ℕ
 number_word None = codes "-"
 number_word (Some number) = decimal number
 
--- whether a byte stands for itself in double quotes: printable ASCII, but no double quote and no backslash
+-- whether a byte stands for itself in double quotes: printable ASCII, but no double quote and no
+-- backslash
 abbrev pub is_printed : ℕ → Bool
 is_printed byte = nat_le 32 byte && nat_le byte 126 && not (byte == 34) && not (byte == 92)
 
@@ -29,9 +30,11 @@ quoted_byte byte = if is_printed byte then byte ∷ [] else codes "\\x" ++ two_d
 abbrev pub is_plain_byte : ℕ → Bool
 is_plain_byte byte = is_printed byte && not (byte == 32)
 
--- whether a text is a word without double quotes: each byte stands for itself, and it is neither empty nor a dash
+-- whether a text is a word without double quotes: each byte stands for itself, and it is neither
+-- empty nor a dash
 abbrev pub is_plain : List ℕ → Bool
-is_plain bytes = not (length bytes == 0) && not (bytes_eq bytes (codes "-")) && list_all is_plain_byte bytes
+is_plain bytes =
+    not (length bytes == 0) && not (bytes_eq bytes (codes "-")) && list_all is_plain_byte bytes
 
 -- a text in double quotes
 abbrev pub quoted_word : List ℕ → List ℕ

@@ -79,9 +79,9 @@ impl<'a> fmt::Display for Quoted<'a> {
 }
 
 /// A text as a word of a line; a dash stands for none. It stands as it is if it is printable ASCII
-/// without a space, a double quote or a backslash, and neither empty nor a dash. Any other stands in
-/// double quotes, in which a double quote, a backslash and each byte that isn't printable ASCII is
-/// `\x` and two hexadecimal digits.
+/// without a space, a double quote or a backslash, and neither empty nor a dash. Any other stands
+/// in double quotes, in which a double quote, a backslash and each byte that isn't printable ASCII
+/// is `\x` and two hexadecimal digits.
 #[derive(Debug, Drop)]
 pub struct Text<'a>(pub Option<&'a [u8]>);
 

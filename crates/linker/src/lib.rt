@@ -1,7 +1,7 @@
 //! Links functions to the programs that call them.
 //!
 //! A kernel takes a program as one list of slots. So the functions that a program leads to are
-//! copied behind its own, each once, depth first in the order in which slots refer to them, and the
+//! copied after its own, each once, depth first in the order in which slots refer to them, and the
 //! references are aimed at the copies.
 #![tactic(auto)]
 

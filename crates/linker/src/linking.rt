@@ -162,7 +162,7 @@ impl<'s, 'o, 'f> Source<'s, 'o, 'f> {
     }
 }
 
-/// Links to each program the functions that it leads to, from the functions as they stand: behind
+/// Links to each program the functions that it leads to, from the functions as they stand: after
 /// the program's own function come copies of those, each once, and references are aimed at the
 /// copies. The records of the copied functions come with them. A program's name is in its error.
 /// `text_sections` are the indexes of the sections with functions.

@@ -52,7 +52,7 @@ fn too_long() -> RelocationError
 }
 
 /// Appends the copy of a function that a slot of another refers to; its references are followed
-/// next, and after them those of the other behind the slot.
+/// next, and after them those of the other after the slot.
 fn append(
     keys: &mut Vec<Key>,
     starts: &mut BTreeMap<Key, usize>,

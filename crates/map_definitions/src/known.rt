@@ -56,7 +56,7 @@ impl<'t, 'b> Model for MapDefinitions<'t, 'b> {
 
 impl<'t, 'b> MapDefinitions<'t, 'b> {
     /// A table of which no struct was read.
-    #[tactic(auto, using(crate::proofs::KnownDefinitions::no_definitions, crate::proofs::KnownDefinitions::no_inner_defs,),)]
+    #[tactic(auto, using(crate::proofs::KnownDefinitions::no_definitions, crate::proofs::KnownDefinitions::no_inner_defs))]
     pub fn new(alloc: Global, table: &'t Btf<'b>) -> MapDefinitions<'t, 'b>
         ensures { result ≡ table.now }
     {

@@ -59,7 +59,7 @@ fn go_on<'t>(
 }
 
 /// The path of a field in a type of the target.
-#[tactic(auto, using(crate::proofs::FieldMatches::none_left, crate::proofs::FieldMatches::no_step, crate::proofs::FieldMatches::one_step,),)]
+#[tactic(auto, using(crate::proofs::FieldMatches::none_left, crate::proofs::FieldMatches::no_step, crate::proofs::FieldMatches::one_step))]
 pub(crate) fn fields_matched<'t>(
     local: &Btf<'t>,
     path: &[Step],

@@ -19,7 +19,7 @@ pub(crate) fn is_so_named(target: &Btf<'_>, offset: u32, name: &str) -> Result<b
 }
 
 /// The index of the first variant of a name, flavours aside.
-#[tactic(auto, using(crate::proofs::Variants::none_left, crate::proofs::Variants::unnamed, crate::proofs::Variants::this_variant, crate::proofs::Variants::bad_variant, crate::proofs::Variants::next_variant,),)]
+#[tactic(auto, using(crate::proofs::Variants::none_left, crate::proofs::Variants::unnamed, crate::proofs::Variants::this_variant, crate::proofs::Variants::bad_variant, crate::proofs::Variants::next_variant))]
 pub(crate) fn first_variant(
     target: &Btf<'_>,
     t: &TypeRef<'_>,

@@ -17,7 +17,7 @@ use std::alloc::AllocError;
 use std::collections::BTreeMap;
 use std::marker::Model;
 
-/// So many searches in an enum go over its variants; the next one makes an index of them.
+/// As many searches in an enum go over its variants; the next one makes an index of them.
 const WALKS: u8 = 7;
 
 /// Searches for variants in the enums of one table. The variants of one that is searched often are
@@ -112,7 +112,7 @@ impl<'t> VariantFinder<'t> {
     }
 
     /// The index of the first variant of a name, flavours aside, in the enum of this id, which has
-    /// so many variants.
+    /// that many variants.
     #[tactic(auto, using(crate::proofs::VariantIndexes::is_first))]
     pub(crate) fn first(
         &mut self,

@@ -65,8 +65,8 @@ fn end_value(unreadable: Option<u32>) -> Result<Option<usize>, AccessError>
 }
 
 impl VariantIndex {
-    /// The index of an enum of so many variants.
-    #[tactic(auto, using(crate::proofs::VariantIndexes::none_entered, crate::proofs::VariantIndexes::all_entered, crate::proofs::VariantIndexes::ends_unnamed,),)]
+    /// The index of an enum of that many variants.
+    #[tactic(auto, using(crate::proofs::VariantIndexes::none_entered, crate::proofs::VariantIndexes::all_entered, crate::proofs::VariantIndexes::ends_unnamed))]
     pub(crate) fn collect(
         target: &Btf<'_>,
         t: &TypeRef<'_>,
@@ -101,7 +101,7 @@ impl VariantIndex {
 
     /// The index of the first variant of a name, flavours aside, in the enum of this id, if this
     /// decides it.
-    #[tactic(auto, using(crate::proofs::VariantIndexes::this_first, crate::proofs::VariantIndexes::none_first),)]
+    #[tactic(auto, using(crate::proofs::VariantIndexes::this_first, crate::proofs::VariantIndexes::none_first))]
     pub(crate) fn first(
         &self,
         target: &Btf<'_>,

@@ -34,8 +34,8 @@ by_look go here next NotHere = Ok None
 by_look go here next Here = Ok (Some here)
 by_look go here next (Inside id) = or_next (go id here.bits) next
 
--- a member of this index, where the struct or union begins at these bits and is the last of so many
--- open ones
+-- a member of this index, where the struct or union begins at these bits and is the last of that
+-- many open ones
 abbrev pub member_here : ℕ → BtfType → ℕ → Option ℕ → ℕ → BtfMember → Found
 member_here id t depth bits index m = record {
   place = record { type_id = id; index = index };
@@ -57,7 +57,7 @@ abbrev pub is_among : List ℕ → ℕ → Bool
 is_among open_ids id = list_any (λ other. other == id) open_ids
 
 -- in the struct or union of an id, inside the open ones; one that is met while it is open is nested
--- too deep. So many at most are opened one inside the other
+-- too deep. That many at most are opened one inside the other
 unfoldable pub found_in : ℕ → Search → List ℕ → ℕ → Option ℕ → Result (Option Found) AccessError
 found_in zero search open_ids id bits = Err MaximumNestingLevelReached
 found_in (suc n) search open_ids id bits =

@@ -22,8 +22,8 @@ use std::marker::Model;
 /// How many searches in a struct or union go over its members; the next one makes an index of them.
 const WALKS: u8 = 7;
 
-/// Where indexes have so many members together, no more are made: those of structs and unions that
-/// have the members of one in common may have as many as the product.
+/// Where indexes have this many members together, no more are made: those of structs and unions
+/// that have the members of one in common may have as many as the product.
 const MOST_INDEXED: usize = 1_000_000;
 
 /// Searches for members in the structs and unions of one table. The members of one that is searched

@@ -72,7 +72,7 @@ pub(crate) fn member_at(t: &TypeRef<'_>, index: usize) -> Option<BtfMember>
     t.member(index)
 }
 
-/// What the next member of a struct or union is, if it is the one; so many members lead to it.
+/// What the next member of a struct or union is, if it is the one; `parts` members lead to it.
 pub(crate) fn member_here(frame: Frame, t: &TypeRef<'_>, member: BtfMember, parts: usize) -> Found
     ensures { result ≡ member_here frame.type_id t.now parts frame.bits frame.next member }
 {

@@ -14,7 +14,7 @@ none_of_any fault xs each = record { none = λ e any. (each any.0 any.1 any.2).n
 pub none_of_three : (one other third : BtfError → Type 0) → IsFaultless one → IsFaultless other → IsFaultless third → IsFaultless (λ e. one e ⊎ other e ⊎ third e)
 none_of_three one other third p q r = record { none = λ e h. elim h [ inl a ↦ p.none e a | inr b ↦ elim b [ inl a ↦ q.none e a | inr a ↦ r.none e a ] ] }
 
--- what holds of the first so many, where there are no more
+-- what holds of the first ones, where there are no more
 pub each_of_all : {X : Type 0} (P : X → Type 0) (xs : List X) (at : ℕ) → length xs ≤ at → All P (take at xs) → All P xs
 each_of_all P xs at h each = subst (All P) (take_all at xs h) each
 

@@ -33,7 +33,7 @@ readable_here strings offset t rest types wanted is left e read =
     let same : has_unreadable strings offset rest ≡ has_unreadable strings offset (t ∷ rest) = sym (passed strings offset t rest e ∙ rw read refl) in
     same ∙ here
 
--- nothing is looked at behind the section
+-- nothing is looked at after the section
 pub readable_up_to : (strings : List ℕ) (offset : ℕ) (t : BtfType) (rest types : List BtfType) (wanted : Bool) → types ≡ t ∷ rest → has_unreadable strings offset types ≡ wanted → is_ksyms strings t ≡ true → wanted ≡ false
 readable_up_to strings offset t rest types wanted is left e =
     let here : has_unreadable strings offset (t ∷ rest) ≡ wanted = rw is at left in

@@ -62,7 +62,7 @@ has_function table = list_any (names_function table) (ksyms_entries table)
 abbrev pub declared_name : Table → BtfType → Option (List ℕ)
 declared_name table t = text_at table.strings (name_offset_of t)
 
--- the type that it is of, behind modifiers; a variable of void has none
+-- the type that it is of, after modifiers; a variable of void has none
 abbrev pub typed : BtfKind → ℕ → Option ℕ
 typed kinds.Var id = if id == 0 then None else Some id
 typed _ id = Some id

@@ -19,7 +19,7 @@ use object_file::ReadSymbol;
 use std::alloc::Global;
 use std::collections::BTreeMap;
 
-/// The type of what a record declares, behind modifiers; a variable of void has none.
+/// The type of what a record declares, after modifiers; a variable of void has none.
 fn declared_type(table: &Btf<'_>, t: &TypeRef<'_>) -> Result<Option<u32>, BtfError>
     ensures value { IfOk result (λ id. id ≡ declared_type table.now t.now) }
     ensures refused { IfErr result (TypeFault table.now t.now) }

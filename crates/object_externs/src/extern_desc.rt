@@ -17,7 +17,7 @@ pub struct ExternDesc<'a> {
     pub kernel_btf_id: Option<u32>,
     /// Its address in the kernel, where it was found by its name alone.
     pub ksym_addr: Option<u64>,
-    /// The id of its type behind modifiers; a variable of void has none.
+    /// The id of its type after modifiers; a variable of void has none.
     pub type_id: Option<u32>,
     /// Its name without its flavour, as the kernel has it.
     pub essential_name: &'a str,

@@ -1,4 +1,4 @@
--- What stands in a map by its keys, behind entries that were made one after the other.
+-- What stands in a map by its keys, after entries that were made one after the other.
 use Rattle.std.proofs.Common.{◌≡◌, ℕ, ◌==◌, Bool, true, false, cond, List, [], ◌∷◌, Option, Some, None, refl, ap, sym, ◌∙◌, reverse, arith}
 use Rattle.std.proofs.lemmas.Bool.Decides.{nat_tests}
 use Rattle.std.specs.Prelude.{find, fold}
@@ -50,7 +50,7 @@ placed {K} {X} {R} total Greater q k v e es is later =
     ap (λ rest. cond (is_eq (R q e.0)) (Some e.1) rest) later
     ∙ exchanged (is_eq (R q e.0)) (is_eq (R q k)) (Some e.1) (Some v) (lookup (is_at (R q)) es) (apart-by total q k e.0 is)
 
--- behind one more entry
+-- after one more entry
 pub lookup_inserted : {K X : Type 0} {R : K → K → Ordering} → IsTotalOrder R → (q k : K) (v : X) (es : List (K × X)) → lookup (is_at (R q)) (insert_entry R es k v) ≡ cond (is_eq (R q k)) (Some v) (lookup (is_at (R q)) es)
 lookup_inserted total q k v [] = refl
 lookup_inserted {K} {X} {R} total q k v (e ∷ es) = placed total (R k e.0) q k v e es refl (lookup_inserted total q k v es)

@@ -14,12 +14,18 @@ use Rattle.object_file.specs.Version.{version_bytes}
 
 -- a fault of what an ELF file that can be read holds
 abbrev pub HasHeldFault : List ℕ → ParseError → Type 0
-HasHeldFault file (error.SectionError index e) = HasUnreadable (read_sections file) (error.SectionError index e)
-HasHeldFault file error.UnsupportedRelocationTarget = list_any (has_relocation_without_symbol file) (read_sections file) ≡ true
-HasHeldFault file (error.InvalidLicense kept) = IsSomeAnd (license_bytes file) (λ bytes. (kept.items ≡ bytes) × IsInvalidLicense bytes)
-HasHeldFault file (error.MissingLicenseNullTerminator kept) = IsSomeAnd (license_bytes file) (λ bytes. (kept.items ≡ bytes) × LacksNul bytes)
-HasHeldFault file (error.InvalidKernelVersion kept) = IsSomeAnd (version_bytes file) (λ bytes. (kept.items ≡ bytes) × (length bytes ≢ 4))
-HasHeldFault file (error.BtfError btf.InvalidSymbolName) = list_any is_unnamed (symbols_of file) ≡ true
+HasHeldFault file (error.SectionError index e) =
+    HasUnreadable (read_sections file) (error.SectionError index e)
+HasHeldFault file error.UnsupportedRelocationTarget =
+    list_any (has_relocation_without_symbol file) (read_sections file) ≡ true
+HasHeldFault file (error.InvalidLicense kept) =
+    IsSomeAnd (license_bytes file) (λ bytes. (kept.items ≡ bytes) × IsInvalidLicense bytes)
+HasHeldFault file (error.MissingLicenseNullTerminator kept) =
+    IsSomeAnd (license_bytes file) (λ bytes. (kept.items ≡ bytes) × LacksNul bytes)
+HasHeldFault file (error.InvalidKernelVersion kept) =
+    IsSomeAnd (version_bytes file) (λ bytes. (kept.items ≡ bytes) × (length bytes ≢ 4))
+HasHeldFault file (error.BtfError btf.InvalidSymbolName) =
+    list_any is_unnamed (symbols_of file) ≡ true
 HasHeldFault file _ = ⊥
 
 -- a fault of a file; want of memory is none

@@ -24,12 +24,14 @@ IsInvalidLicense bytes = (length bytes < 2) ⊎ (list_any (λ b. b == 0) (withou
 
 -- a text of at least one byte, without the NUL that ends it
 abbrev pub LacksNul : List ℕ → Type 0
-LacksNul bytes = (2 ≤ length bytes) × HasNoNul (without_last bytes) × (slice_index bytes (length bytes - 1) ≢ 0)
+LacksNul bytes =
+    (2 ≤ length bytes) × HasNoNul (without_last bytes) × (slice_index bytes (length bytes - 1) ≢ 0)
 
 -- what is wrong with the bytes of a license
 abbrev pub IsLicenseFault : List ℕ → ParseError → Type 0
 IsLicenseFault bytes (error.InvalidLicense kept) = (kept.items ≡ bytes) × IsInvalidLicense bytes
-IsLicenseFault bytes (error.MissingLicenseNullTerminator kept) = (kept.items ≡ bytes) × LacksNul bytes
+IsLicenseFault bytes (error.MissingLicenseNullTerminator kept) =
+    (kept.items ≡ bytes) × LacksNul bytes
 IsLicenseFault bytes _ = ⊥
 
 -- a text of at least one byte and the NUL that ends it

@@ -12,16 +12,21 @@ use Rattle.elf64.specs.Sections.{Section, sections_of, has_name, section_named}
 abbrev pub is_found : Option Section → Section → Bool
 is_found found section = option_map_or (λ s. s.index == section.index) found false
 
--- Every section is read, but of the sections of type information only the first of its name, and the extension only
--- beside the types.
+-- Every section is read, but of the sections of type information only the first of its name, and
+-- the extension only beside the types.
 abbrev pub is_read : Option Section → Option Section → Section → Bool
 is_read types extension section =
     if has_name (codes ".BTF") section then is_found types section
-    else (if has_name (codes ".BTF.ext") section then is_some types && is_found extension section else true)
+    else
+    (if has_name (codes ".BTF.ext") section
+    then is_some types && is_found extension section
+    else true)
 
 -- the sections that are read, in order of index
 abbrev pub read_sections : List ℕ → List Section
-read_sections file = filter (is_read (section_named file (codes ".BTF")) (section_named file (codes ".BTF.ext"))) (sections_of file)
+read_sections file =
+    filter (is_read (section_named file (codes ".BTF")) (section_named file (codes ".BTF.ext")))
+    (sections_of file)
 
 -- whether this can't be read of a section
 abbrev pub cannot_read : Section → elf.ElfError → Bool
@@ -35,7 +40,8 @@ is_unreadable section = is_none section.name || is_none section.contents
 
 -- an error that says what can't be read of some section
 abbrev pub HasUnreadable : List Section → ParseError → Type 0
-HasUnreadable sections (SectionError index error) = list_any (λ s. (s.index == index) && cannot_read s error) sections ≡ true
+HasUnreadable sections (SectionError index error) =
+    list_any (λ s. (s.index == index) && cannot_read s error) sections ≡ true
 HasUnreadable sections _ = ⊥
 
 -- the bytes of the first section of a name

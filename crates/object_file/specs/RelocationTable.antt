@@ -20,8 +20,11 @@ pub record AreRelocationsOf (table : RelocationTable) (file : List ℕ) : Type 0
   pub by_offset : (index : ℕ) → offsets_at table index ≡ relocations_by_offset file index
   pub none : table.none.entries ≡ []
 
--- relocations of a target are added behind those that it has
+-- relocations of a target are added after those that it has
 pub record AddsRelocations (old new : RelocationTable) (target : ℕ) (added : List Relocation) : Type 0 where
-  pub at : (i : ℕ) → relocations_at new i ≡ relocations_at old i ++ (if target == i then added else [])
+  pub at : (i : ℕ)
+      → relocations_at new i ≡ relocations_at old i ++ (if target == i then added else [])
   pub none : new.none ≡ old.none
-  pub by_offset : (i : ℕ) → offsets_at new i ≡ fold with_relocation (offsets_at old i) (if target == i then added else [])
+  pub by_offset : (i : ℕ)
+      → offsets_at new i
+      ≡ fold with_relocation (offsets_at old i) (if target == i then added else [])

@@ -12,7 +12,8 @@ lacks_symbol r = is_none r.symbol
 
 -- whether a relocation of a section has no symbol
 abbrev pub has_relocation_without_symbol : List ℕ → Section → Bool
-has_relocation_without_symbol file section = list_any lacks_symbol (relocations_of file section.index)
+has_relocation_without_symbol file section =
+    list_any lacks_symbol (relocations_of file section.index)
 
 -- the relocations by offset, with one more: it takes the place of an earlier one of its offset
 abbrev pub with_relocation : List (ℕ × Relocation) → Relocation → List (ℕ × Relocation)

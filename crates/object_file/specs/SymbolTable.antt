@@ -16,7 +16,8 @@ pub record AreSymbolsOf (table : SymbolTable) (symbols : List Symbol) : Type 0 w
   pub all : table.all.items ≡ symbols
   pub at : (index : ℕ) → symbols_at table index ≡ symbols_in symbols index
 
--- a symbol is added behind the others, and behind those of its section
+-- a symbol is added after the others, and after those of its section
 pub record AddsSymbol (old new : SymbolTable) (symbol : Symbol) : Type 0 where
   pub all : new.all.items ≡ old.all.items ++ symbol ∷ []
-  pub at : (i : ℕ) → symbols_at new i ≡ symbols_at old i ++ (if is_in i symbol then symbol ∷ [] else [])
+  pub at : (i : ℕ)
+      → symbols_at new i ≡ symbols_at old i ++ (if is_in i symbol then symbol ∷ [] else [])

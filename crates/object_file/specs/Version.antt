@@ -17,7 +17,8 @@ version_bytes file = contents_named file (codes "version")
 
 -- the version that four bytes name: none stands for any
 abbrev pub version_in : Endianness → List ℕ → Option ℕ
-version_in order bytes = if word_at order bytes 0 == any_version then None else Some (word_at order bytes 0)
+version_in order bytes =
+    if word_at order bytes 0 == any_version then None else Some (word_at order bytes 0)
 
 -- the version of an object
 abbrev pub version_of : List ℕ → Option ℕ

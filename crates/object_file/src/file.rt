@@ -51,7 +51,9 @@ impl<'a> Model for ObjectFile<'a> {
 
     ghost view = { λ f. f.elf };
 
-    ghost invariant = { λ f. IsObjectFile f.elf f.bytes.now f.sections.items f.symbols f.relocations f.license.now f.kernel_version };
+    ghost invariant = { λ f.
+        IsObjectFile f.elf f.bytes.now f.sections.items f.symbols f.relocations f.license.now
+        f.kernel_version };
 }
 
 /// The byte order of a file's numbers, as type information has it.
@@ -232,7 +234,8 @@ impl<'a> ObjectFile<'a> {
     /// several of one offset the last entry.
     pub fn relocations_by_offset(&self, index: usize) -> Iter<'_, u64, RelocView>
         ensures value { result ≡ relocations_by_offset self.now index }
-        ensures rising { IsStrictlySortedBy nat_cmp (map (λ e. e.0) (relocations_by_offset self.now index)) }
+        ensures rising { IsStrictlySortedBy nat_cmp
+            (map (λ e. e.0) (relocations_by_offset self.now index)) }
     {
         self.relocations.by_offset(index).iter()
     }
@@ -240,7 +243,9 @@ impl<'a> ObjectFile<'a> {
     /// Those whose offsets lie between two, the first one included.
     pub fn relocations_in(&self, index: usize, start: u64, end: u64) -> Range<'_, u64, RelocView>
         requires { start ≤ end }
-        ensures { result ≡ entries_between nat_cmp (Included start) (Excluded end) (relocations_by_offset self.now index) }
+        ensures { result
+            ≡ entries_between nat_cmp (Included start) (Excluded end)
+            (relocations_by_offset self.now index) }
     {
         self.relocations.by_offset(index).range(start..end)
     }
@@ -248,7 +253,8 @@ impl<'a> ObjectFile<'a> {
     /// The relocation of an offset in the section of an index: of several the last entry.
     pub fn relocation_at(&self, index: usize, offset: u64) -> Option<&RelocView>
         ensures value { option_copied result ≡ relocation_at self.now index offset }
-        ensures last { option_copied result ≡ last_of_offset (relocations_of self.now index) offset }
+        ensures last { option_copied result
+            ≡ last_of_offset (relocations_of self.now index) offset }
     {
         self.relocations.by_offset(index).get(&offset)
     }
@@ -270,7 +276,8 @@ impl<'a> ObjectFile<'a> {
 
     /// Whether a relocation of a section that is read has no symbol.
     fn has_unsupported_target(&self) -> bool
-        ensures { result ≡ list_any (has_relocation_without_symbol self.now) (read_sections self.now) }
+        ensures { result
+            ≡ list_any (has_relocation_without_symbol self.now) (read_sections self.now) }
     {
         for section in self.sections() {
             if any_without_symbol(self.relocations_of(section.index())) {

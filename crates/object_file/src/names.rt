@@ -50,7 +50,8 @@ impl<'a> Model for ReadSection<'a> {
 
     ghost view = { λ s. s.view };
 
-    ghost invariant = { λ s. (s.view.name ≡ Some s.name.now) × (s.view.contents ≡ Some s.bytes.now) };
+    ghost invariant = { λ s.
+        (s.view.name ≡ Some s.name.now) × (s.view.contents ≡ Some s.bytes.now) };
 }
 
 impl<'a> ReadSection<'a> {

@@ -47,7 +47,8 @@ pub(crate) fn read_sections<'a>(
     requires { names.now ≡ section_names_of elf.now }
     ensures value { IfOk result (λ v. v.items ≡ read_sections elf.now) }
     ensures readable { OnOk result (list_any is_unreadable (read_sections elf.now) ≡ false) }
-    ensures refused { IfErr result (λ e. e ≢ OutOfMemory → HasUnreadable (read_sections elf.now) e) }
+    ensures refused { IfErr result (λ e.
+        e ≢ OutOfMemory → HasUnreadable (read_sections elf.now) e) }
 {
     let types = elf.section_by_name(".BTF");
     let extension = elf.section_by_name(".BTF.ext");

@@ -37,9 +37,10 @@ impl RelocationTable {
         Ok(table)
     }
 
-    /// Adds the relocations of a relocation section behind those that its target has.
+    /// Adds the relocations of a relocation section after those that its target has.
     fn add_section(&mut self, section: &RelocationSectionView<'_>) -> Result<(), AllocError>
-        ensures { OnOk result (AddsRelocations self.old self.new section.now.target section.now.relocations) }
+        ensures { OnOk result
+            (AddsRelocations self.old self.new section.now.target section.now.relocations) }
     {
         let target = section.target();
         for relocation in section.relocations() {

@@ -33,7 +33,10 @@ impl<'a> SymbolTable<'a> {
         requires { names.now ≡ symbol_names_of elf.now }
         ensures value { IfOk result (λ t. AreSymbolsOf t (symbols_of elf.now)) }
         ensures accepted { OnOk result (list_any is_unnamed (symbols_of elf.now) ≡ false) }
-        ensures refused { IfErr result (λ e. e ≢ OutOfMemory → (e ≡ ParseError.BtfError BtfError.InvalidSymbolName) × (list_any is_unnamed (symbols_of elf.now) ≡ true)) }
+        ensures refused { IfErr result (λ e.
+            e ≢ OutOfMemory
+            → (e ≡ ParseError.BtfError BtfError.InvalidSymbolName)
+            × (list_any is_unnamed (symbols_of elf.now) ≡ true)) }
     {
         let mut table = SymbolTable {
             all: Vec::new(alloc),

@@ -56,7 +56,7 @@ impl<'a> Maps<'a> {
     }
 
     /// Enters the maps of these definitions.
-    #[tactic(auto, using(crate::proofs::Entered::entered_append, crate::proofs::Entered::entered_none),)]
+    #[tactic(auto, using(crate::proofs::Entered::entered_append, crate::proofs::Entered::entered_none))]
     fn enter_definitions(
         &mut self,
         alloc: Global,
@@ -92,6 +92,7 @@ impl<'a> Maps<'a> {
             e ≢ OutOfMemory → Says (named_faults types.old section.now symbols.now) e) }
         ensures same { types.new ≡ types.old }
     {
+        // For the proof: it does nothing.
         self.rising();
         let maps = types.take(alloc, section.name())?;
         self.enter_definitions(alloc, section, symbols, &maps)?;

@@ -17,7 +17,7 @@ use std::alloc::Global;
 
 impl<'a> Maps<'a> {
     /// Enters the maps of a section.
-    #[tactic(auto, using(crate::proofs::Entered::entered_none), unfolding(crate::specs::Maps::section_faults, crate::specs::Maps::section_maps),)]
+    #[tactic(auto, using(crate::proofs::Entered::entered_none), unfolding(crate::specs::Maps::section_faults, crate::specs::Maps::section_maps))]
     fn read_section(
         &mut self,
         alloc: Global,

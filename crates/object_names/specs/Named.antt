@@ -21,10 +21,12 @@ last_section sections name = find (has_name name) (reverse sections)
 
 -- each name has the size, and the index, of the last section of this name
 pub record AreSizes (sections : List Section) (sizes : List (Bor (List ℕ) × ℕ)) : Type 0 where
-  pub at : (name : List ℕ) → number_under sizes name ≡ option_map (λ s. s.size) (last_section sections name)
+  pub at : (name : List ℕ)
+      → number_under sizes name ≡ option_map (λ s. s.size) (last_section sections name)
 
 pub record AreIndexes (sections : List Section) (indexes : List (Bor (List ℕ) × ℕ)) : Type 0 where
-  pub at : (name : List ℕ) → number_under indexes name ≡ option_map (λ s. s.index) (last_section sections name)
+  pub at : (name : List ℕ)
+      → number_under indexes name ≡ option_map (λ s. s.index) (last_section sections name)
 
 abbrev pub is_named : List ℕ → Symbol → Bool
 is_named name s = option_map_or (λ text. bytes_eq text name) s.name false
@@ -43,4 +45,5 @@ last_symbol symbols name = find (λ s. has_offset s && is_named name s) (reverse
 
 -- each name has the offset of the last such symbol of this name
 pub record AreOffsets (symbols : List Symbol) (offsets : List (Bor (List ℕ) × ℕ)) : Type 0 where
-  pub at : (name : List ℕ) → number_under offsets name ≡ option_map (λ s. s.address) (last_symbol symbols name)
+  pub at : (name : List ℕ)
+      → number_under offsets name ≡ option_map (λ s. s.address) (last_symbol symbols name)

@@ -13,7 +13,10 @@ pub(crate) fn enter<'a>(
     name: &'a str,
     number: u64,
 ) -> Result<(), AllocError>
-    ensures { OnOk result ((q : List ℕ) → number_under numbers.new.entries q ≡ (if bytes_eq name.now q then Some number else number_under numbers.old.entries q)) }
+    ensures { OnOk result
+        ((q : List ℕ)
+        → number_under numbers.new.entries q
+        ≡ (if bytes_eq name.now q then Some number else number_under numbers.old.entries q)) }
 {
     numbers.insert(name, number)?;
     Ok(())

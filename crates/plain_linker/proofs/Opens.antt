@@ -5,7 +5,7 @@ use Rattle.std.proofs.lemmas.Option.{slice_get-get_or}
 use Rattle.std.proofs.lemmas.List.{drop_all}
 use Rattle.function_layout.specs.Layout.{Key, first_open, flat_option}
 
--- the first open reference, by one that may be and the first of those behind it
+-- the first open reference, by one that may be and the first of those after it
 abbrev either : (Key → Bool) → Option Key → Option Key → Option Key
 either p None rest = rest
 either p (Some key) rest = cond (p key) rest (Some key)

@@ -85,7 +85,7 @@ impl<'s, 'o, 'f> Source<'s, 'o, 'f> {
         Ok(self.name_of(keys, path.as_slice()))
     }
 
-    /// The functions whose copies are appended, the last one first. So many rounds suffice, since
+    /// The functions whose copies are appended, the last one first. These rounds suffice, since
     /// each appends a copy of another function.
     pub(crate) fn layout(&self, own: Key) -> Option<Vec<Key>>
         ensures { IfSome result (λ keys. IsLayout (table_of self.now) own keys.items) }

@@ -181,7 +181,7 @@ pub fn plain_layout(
     source.layout(own)
 }
 
-/// The slots of the program of a key: its own function's, and behind them copies of the functions
+/// The slots of the program of a key: its own function's, and after them copies of the functions
 /// that it leads to, from the functions as they stand. A reference to no function is left as it is.
 /// `text_sections` are the indexes of the sections with functions. `None` is answered for want of
 /// memory, and for a program of 2^31 slots or more.

@@ -99,7 +99,9 @@ likely_thirtieth n =
 
 abbrev pub likely_section : KindNumbers → ProgramSection
 likely_section n =
-    if n.kind / 10 == 0 then likely_tenth n else if n.kind / 10 == 1 then likely_twentieth n else likely_thirtieth n
+    if n.kind / 10 == 0
+    then likely_tenth n
+    else if n.kind / 10 == 1 then likely_twentieth n else likely_thirtieth n
 
 -- ---- exactly
 
@@ -108,7 +110,9 @@ are_same a b = (a.kind == b.kind) && (a.first == b.first) && (a.second == b.seco
 
 -- the kind that has these numbers
 abbrev pub section_of : KindNumbers → Option ProgramSection
-section_of n = if are_same (kind_numbers (likely_section n)) n then Some (likely_section n) else None
+section_of n =
+    if are_same (kind_numbers (likely_section n)) n then Some (likely_section n) else None
 
 abbrev pub section_by : List ℕ → Option ProgramSection
-section_by numbers = section_of (numbered (slice_index numbers 0) (slice_index numbers 1) (slice_index numbers 2))
+section_by numbers =
+    section_of (numbered (slice_index numbers 0) (slice_index numbers 1) (slice_index numbers 2))

@@ -14,12 +14,20 @@ line_text line = joined (words_of_line line)
 
 -- Bytes are read as the line whose text they are, where there is one, and memory is there.
 pub record IsReadLine (bytes : List ℕ) (answer : Result PlanLine LineError) : Type 0 where
-  pub taken : IfOk answer (λ line. IsSoundLine (line_view line) × (bytes ≡ line_text (line_view line)))
-  pub only : (line : LineContent) → IsSoundLine line → bytes ≡ line_text line → MatchResult answer (λ read. line_view read ≡ line) (λ e. e ≡ OutOfMemory)
+  pub taken : IfOk answer (λ line.
+      IsSoundLine (line_view line) × (bytes ≡ line_text (line_view line)))
+  pub only : (line : LineContent)
+      → IsSoundLine line
+      → bytes ≡ line_text line
+      → MatchResult answer (λ read. line_view read ≡ line) (λ e. e ≡ OutOfMemory)
 
 -- no two lines have the same text
 pub record LinesAreToldApart : Type 0 where
-  pub same : (line other : LineContent) → IsSoundLine line → IsSoundLine other → line_text line ≡ line_text other → line ≡ other
+  pub same : (line other : LineContent)
+      → IsSoundLine line
+      → IsSoundLine other
+      → line_text line ≡ line_text other
+      → line ≡ other
 
 -- no line feed stands within a line
 pub record LinesAreUnbroken : Type 0 where

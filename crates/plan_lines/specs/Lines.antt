@@ -89,7 +89,9 @@ pinning_number pinning.ByName = 1
 -- the numbers that define a map, in their order
 abbrev pub numbers_of : MapWords → List ℕ
 numbers_of words =
-    words.map_type ∷ words.key_size ∷ words.value_size ∷ words.max_entries ∷ words.map_flags ∷ words.map_extra ∷ pinning_number words.pinning ∷ words.id ∷ words.btf_key_type_id ∷ words.btf_value_type_id ∷ []
+    words.map_type ∷ words.key_size ∷ words.value_size ∷ words.max_entries ∷ words.map_flags
+    ∷ words.map_extra ∷ pinning_number words.pinning ∷ words.id ∷ words.btf_key_type_id
+    ∷ words.btf_value_type_id ∷ []
 
 -- the numbers of a kind of program, in their order
 abbrev pub kind_list : KindNumbers → List ℕ
@@ -126,7 +128,8 @@ arguments_of (Version version) = version_word version ∷ []
 arguments_of (Feature asked answer) = feature_word asked ∷ answer_word answer ∷ []
 arguments_of (Types type_bytes) = types_word type_bytes ∷ []
 arguments_of (Map name number is_btf words contents) =
-    hex_word name ∷ decimal number ∷ form_word is_btf ∷ (map decimal (numbers_of words) ++ hex_word contents ∷ [])
+    hex_word name ∷ decimal number ∷ form_word is_btf
+    ∷ (map decimal (numbers_of words) ++ hex_word contents ∷ [])
 arguments_of (Inner words) = map decimal (numbers_of words)
 arguments_of (Program name section) = hex_word name ∷ map decimal (kind_list (kind_numbers section))
 arguments_of (Slots bytes) = hex_word bytes ∷ []
@@ -155,12 +158,14 @@ AreWithin _ _ = ⊥
 
 -- the limits of the numbers that define a map
 abbrev pub word_limits : List ℕ
-word_limits = max_32 ∷ max_32 ∷ max_32 ∷ max_32 ∷ max_32 ∷ max_64 ∷ 1 ∷ max_32 ∷ max_32 ∷ max_32 ∷ []
+word_limits =
+    max_32 ∷ max_32 ∷ max_32 ∷ max_32 ∷ max_32 ∷ max_64 ∷ 1 ∷ max_32 ∷ max_32 ∷ max_32 ∷ []
 
 -- the words of a map that types define have no id; those of another have no extra word and no types
 abbrev pub AreWordsOf : Bool → MapWords → Type 0
 AreWordsOf true words = words.id ≡ 0
-AreWordsOf false words = (words.map_extra ≡ 0) × (words.btf_key_type_id ≡ 0) × (words.btf_value_type_id ≡ 0)
+AreWordsOf false words =
+    (words.map_extra ≡ 0) × (words.btf_key_type_id ≡ 0) × (words.btf_value_type_id ≡ 0)
 
 -- the bytes of a text in UTF-8
 pub record IsName (name : List ℕ) : Type 0 where
@@ -179,7 +184,11 @@ IsSoundLine (Version version) = IfSome version (λ v. (v ≤ max_32) × (v ≢ 0
 IsSoundLine (Feature asked answer) = Unit {0}
 IsSoundLine (Types type_bytes) = IfSome type_bytes (λ bytes. AreBytes bytes × (0 < length bytes))
 IsSoundLine (Map name number is_btf words contents) =
-    IsName name × (number ≤ 0x7fff_ffff) × AreWithin word_limits (numbers_of words) × AreWordsOf is_btf words × AreBytes contents
+    IsName name
+    × (number ≤ 0x7fff_ffff)
+    × AreWithin word_limits (numbers_of words)
+    × AreWordsOf is_btf words
+    × AreBytes contents
 IsSoundLine (Inner words) = AreWithin word_limits (numbers_of words)
 IsSoundLine (Program name section) = IsName name
 IsSoundLine (Slots bytes) = AreBytes bytes × (length bytes % 8 ≡ 0)

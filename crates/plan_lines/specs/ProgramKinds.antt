@@ -74,7 +74,8 @@ abbrev pub kind_numbers : ProgramSection → KindNumbers
 kind_numbers kind.KRetProbe = numbered 0 0 0
 kind_numbers kind.KProbe = numbered 1 0 0
 kind_numbers (kind.UProbe sleepable multi) = numbered 2 (flag_number sleepable) (flag_number multi)
-kind_numbers (kind.URetProbe sleepable multi) = numbered 3 (flag_number sleepable) (flag_number multi)
+kind_numbers (kind.URetProbe sleepable multi) =
+    numbered 3 (flag_number sleepable) (flag_number multi)
 kind_numbers kind.TracePoint = numbered 4 0 0
 kind_numbers kind.SocketFilter = numbered 5 0 0
 kind_numbers (kind.Xdp frags attach_type) = numbered 6 (flag_number frags) (xdp_number attach_type)

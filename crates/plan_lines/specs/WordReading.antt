@@ -13,12 +13,14 @@ digit_of b = if nat_le 48 b && nat_le b 57 then Some (b - 48) else None
 abbrev pub number_after : ℕ → ℕ → List ℕ → Option ℕ
 number_after max n [] = Some n
 number_after max n (b ∷ bs) =
-    option_and_then (λ d. if nat_le (n * 10 + d) max then number_after max (n * 10 + d) bs else None) (digit_of b)
+    option_and_then
+    (λ d. if nat_le (n * 10 + d) max then number_after max (n * 10 + d) bs else None) (digit_of b)
 
 -- the number, at most max, that digits without leading zeros write
 abbrev pub number_upto : ℕ → List ℕ → Option ℕ
 number_upto max [] = None
-number_upto max (b ∷ bs) = if (b == 48) && nat_lt 0 (length bs) then None else number_after max 0 (b ∷ bs)
+number_upto max (b ∷ bs) =
+    if (b == 48) && nat_lt 0 (length bs) then None else number_after max 0 (b ∷ bs)
 
 -- ---- bytes
 
@@ -30,7 +32,8 @@ nibble_of b =
 
 -- the byte of two digits
 abbrev pub byte_of : ℕ → ℕ → Option ℕ
-byte_of high low = option_and_then (λ h. option_and_then (λ l. Some (16 * h + l)) (nibble_of low)) (nibble_of high)
+byte_of high low =
+    option_and_then (λ h. option_and_then (λ l. Some (16 * h + l)) (nibble_of low)) (nibble_of high)
 
 -- one more before what was read
 abbrev pub onto : Option ℕ → Option (List ℕ) → Option (List ℕ)
@@ -66,7 +69,10 @@ pieces_left None = []
 pieces_left (Some rest) = pieces_of rest.now
 
 -- what the first word says, and the words after it
-abbrev pub first_by : {A : Type 0} → (List ℕ → Option A) → List (List ℕ) → Option (A × List (List ℕ))
+abbrev pub first_by : {A : Type 0}
+    → (List ℕ → Option A)
+    → List (List ℕ)
+    → Option (A × List (List ℕ))
 first_by read [] = None
 first_by read (word ∷ words) = option_map (λ a. (a, words)) (read word)
 

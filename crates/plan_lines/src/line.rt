@@ -51,7 +51,8 @@ pub enum PlanLine {
     Program(String, ProgramSection),
     /// The program's slots, as bytes.
     Slots(Vec<u8>),
-    /// The kernel tables that the program's type relocations matched. `None` where that isn't known.
+    /// The kernel tables that the program's type relocations matched. `None` where that isn't
+    /// known.
     Tables(Option<Vec<u32>>),
     /// A slot, and the id of the function's type that begins there.
     Func(u32, u32),

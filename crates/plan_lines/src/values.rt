@@ -265,7 +265,8 @@ fn places(alloc: Global, words: &mut Words<'_>) -> Result<Vec<u32>, LineError>
 }
 
 fn some_places(alloc: Global, words: &mut Words<'_>) -> Result<Option<Vec<u32>>, LineError>
-    ensures value { Says (λ t. option_map (λ v. v.items) t) (option_and_then some_tables (places_by None words.old)) result }
+    ensures value { Says (λ t. option_map (λ v. v.items) t)
+        (option_and_then some_tables (places_by None words.old)) result }
     ensures all { OnOk result (words.new ≡ []) }
 {
     let places = places(alloc, words)?;

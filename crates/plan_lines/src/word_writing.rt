@@ -115,10 +115,11 @@ fn send_known_tables<W: Write>(out: &mut Watched<W>, places: &[u32])
     }
 }
 
-/// Sends places of kernel tables, a space before each: of none a dash, and a question mark where they
-/// aren't known.
+/// Sends places of kernel tables, a space before each: of none a dash, and a question mark where
+/// they aren't known.
 pub fn send_tables<W: Write>(out: &mut Watched<W>, tables: Option<&[u32]>)
-    ensures { Sends W.contents out.old out.new (words_onto (table_words (option_map (λ places. places.now) tables.entry)) []) }
+    ensures { Sends W.contents out.old out.new
+        (words_onto (table_words (option_map (λ places. places.now) tables.entry)) []) }
 {
     match tables {
         Some(places) => send_known_tables(out, places),

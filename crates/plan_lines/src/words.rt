@@ -28,7 +28,8 @@ fn at_most(value: u64, max: u64) -> Option<u64>
 }
 
 fn with_digit(value: u64, digit: u8, max: u64) -> Option<u64>
-    ensures value { result ≡ (if nat_le (value * 10 + digit) max then Some (value * 10 + digit) else None) }
+    ensures value { result
+        ≡ (if nat_le (value * 10 + digit) max then Some (value * 10 + digit) else None) }
     ensures within { IfSome result (λ n. n ≤ max) }
 {
     let value = value.checked_mul(10)?.checked_add(u64::from(digit))?;
@@ -157,7 +158,8 @@ impl<'a> Words<'a> {
     }
 
     pub(crate) fn next(&mut self) -> Option<&'a [u8]>
-        ensures { MatchOption result ((self.old ≡ []) × (self.new ≡ [])) (λ word. self.old ≡ word.now ∷ self.new) }
+        ensures { MatchOption result ((self.old ≡ []) × (self.new ≡ [])) (λ word.
+            self.old ≡ word.now ∷ self.new) }
     {
         let (word, rest) = cut(self.rest?);
         self.rest = rest;

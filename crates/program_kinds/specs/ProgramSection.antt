@@ -21,7 +21,8 @@ abbrev pub first_piece : List ℕ → List ℕ
 first_piece name = before_first is_slash name
 
 abbrev pub second_piece : List ℕ → Option (List ℕ)
-second_piece name = if list_any is_slash name then Some (first_piece (after_first is_slash name)) else None
+second_piece name =
+    if list_any is_slash name then Some (first_piece (after_first is_slash name)) else None
 
 -- kinds that the first piece alone decides
 abbrev pub plain_kinds : List (List ℕ × ProgramSection)
@@ -140,15 +141,20 @@ is_second (Some second) row = option_map_or (λ piece. bytes_eq second piece) ro
 abbrev pub kind_by_first : List (List ℕ × ProgramSection) → List ℕ → Option ProgramSection
 kind_by_first kinds first = lookup (bytes_eq first) kinds
 
-abbrev pub kind_by_second : List (Option (List ℕ) × ProgramSection) → Option (List ℕ) → Option ProgramSection
+abbrev pub kind_by_second : List (Option (List ℕ) × ProgramSection)
+    → Option (List ℕ)
+    → Option ProgramSection
 kind_by_second kinds second = lookup (is_second second) kinds
 
 -- the kind that the first piece alone decides
 abbrev pub unparted_kind : List ℕ → Option ProgramSection
-unparted_kind first = option_or (option_or (kind_by_first plain_kinds first) (kind_by_first user_probe_kinds first)) (kind_by_first sleepable_kinds first)
+unparted_kind first =
+    option_or (option_or (kind_by_first plain_kinds first) (kind_by_first user_probe_kinds first))
+    (kind_by_first sleepable_kinds first)
 
 abbrev pub parted_kind : List ℕ → Option (List ℕ) → Option ProgramSection
-parted_kind first second = option_and_then (λ kinds. kind_by_second kinds second) (lookup (bytes_eq first) parted_kinds)
+parted_kind first second =
+    option_and_then (λ kinds. kind_by_second kinds second) (lookup (bytes_eq first) parted_kinds)
 
 abbrev pub kind_of_pieces : List ℕ → Option (List ℕ) → Option ProgramSection
 kind_of_pieces first second = option_or (unparted_kind first) (parted_kind first second)

@@ -28,7 +28,9 @@ kinds_by_name =
 
 -- the kind that a name alone decides
 abbrev pub kind_decided : List ℕ → Option EbpfSectionKind
-kind_decided name = option_or (lookup (starts_with nat_eq name) kinds_by_beginning) (lookup (bytes_eq name) kinds_by_name)
+kind_decided name =
+    option_or (lookup (starts_with nat_eq name) kinds_by_beginning)
+    (lookup (bytes_eq name) kinds_by_name)
 
 abbrev pub kind_named : List ℕ → EbpfSectionKind
 kind_named name = unwrap_or (kind_decided name) Undefined

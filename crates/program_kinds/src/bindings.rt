@@ -109,7 +109,8 @@ const MAP_TYPES: [bpf_map_type; 35] = [
 impl TryFrom<u32> for bpf_map_type {
     type Error = InvalidTypeBinding<u32>;
 
-    ghost try_from_gives = { λ value r. (result_ok r ≡ slice_get map_types value) × Refuses value r };
+    ghost try_from_gives = { λ value r.
+        (result_ok r ≡ slice_get map_types value) × Refuses value r };
 
     fn try_from(value: u32) -> Result<bpf_map_type, InvalidTypeBinding<u32>> {
         entry(&MAP_TYPES, value).ok_or(InvalidTypeBinding { value })
@@ -203,7 +204,8 @@ const PROG_TYPES: [bpf_prog_type; 33] = [
 impl TryFrom<u32> for bpf_prog_type {
     type Error = InvalidTypeBinding<u32>;
 
-    ghost try_from_gives = { λ value r. (result_ok r ≡ slice_get prog_types value) × Refuses value r };
+    ghost try_from_gives = { λ value r.
+        (result_ok r ≡ slice_get prog_types value) × Refuses value r };
 
     fn try_from(value: u32) -> Result<bpf_prog_type, InvalidTypeBinding<u32>> {
         entry(&PROG_TYPES, value).ok_or(InvalidTypeBinding { value })

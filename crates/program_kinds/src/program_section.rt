@@ -134,7 +134,7 @@ impl FromStr for ProgramSection {
     }
 }
 
-/// The text up to the first `/`, and the text behind it, where there is a `/`.
+/// The text up to the first `/`, and the text after it, where there is a `/`.
 fn pieces(section: &str) -> (&str, Option<&str>)
     ensures first { result.0.now ≡ first_piece section.now }
     ensures second { option_map (λ rest. first_piece rest.now) result.1 ≡ second_piece section.now }
@@ -154,7 +154,7 @@ fn up_to_slash(text: &str) -> &str
     }
 }
 
-/// The piece that the text behind the first `/` begins with.
+/// The piece that the text after the first `/` begins with.
 fn second_piece<'n>(rest: Option<&'n str>) -> Option<&'n str>
     ensures { option_copied result ≡ option_map (λ rest. first_piece rest.now) rest.entry }
 {
@@ -164,10 +164,11 @@ fn second_piece<'n>(rest: Option<&'n str>) -> Option<&'n str>
     }
 }
 
-/// The kind by the first piece and the text behind it. That text, which may be long, is only read
+/// The kind by the first piece and the text after it. That text, which may be long, is only read
 /// where the first piece doesn't decide.
 fn kind_of_pieces(first: &str, rest: Option<&str>) -> Option<ProgramSection>
-    ensures { result ≡ kind_of_pieces first.now (option_map (λ rest. first_piece rest.now) rest.entry) }
+    ensures { result
+        ≡ kind_of_pieces first.now (option_map (λ rest. first_piece rest.now) rest.entry) }
 {
     match unparted_kind(first) {
         Some(kind) => Some(kind),

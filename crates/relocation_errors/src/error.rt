@@ -95,7 +95,8 @@ impl EbpfRelocationError {
     /// A fault at a function. It is want of memory where the name can't be kept.
     pub fn new(alloc: Global, function: &str, error: RelocationError) -> EbpfRelocationError
         ensures error { result.error ≢ OutOfMemory → result.error ≡ error }
-        ensures function { result.error ≢ OutOfMemory → option_map string_bytes result.function ≡ Some function.now }
+        ensures function { result.error ≢ OutOfMemory
+            → option_map string_bytes result.function ≡ Some function.now }
     {
         match String::from_str(alloc, function) {
             Ok(function) => EbpfRelocationError {

@@ -127,7 +127,7 @@ fn all_answers(
 
 /// What each of some relocations of an object comes to in a kernel's types, by itself: by the slots
 /// of the object, as if no other relocation were made. Each table is gone over once for all of
-/// them, the first once more where ids of a kernel's types are asked for.
+/// them.
 pub fn relocation_answers(
     alloc: Global,
     local: Option<&Btf<'_>>,

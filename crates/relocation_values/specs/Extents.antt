@@ -5,7 +5,7 @@ use Rattle.std.specs.Option.{option_map}
 use Rattle.relocation_values.specs.declared.extent.Extent.{Extent}
 use Rattle.relocation_values.specs.declared.extent.Field.{Field}
 
--- a field of so many bits from a bit on lies in the aligned unit of so many bytes in which it
+-- a field of that many bits from a bit on lies in the aligned unit of that many bytes in which it
 -- begins
 abbrev pub fits_unit : ℕ → ℕ → ℕ → Bool
 fits_unit at bits unit = nat_le (at % (8 * unit) + bits) (8 * unit)

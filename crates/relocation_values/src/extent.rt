@@ -9,7 +9,7 @@ const UNITS: u32 = 4;
 /// What a member says of its field.
 #[derive(Clone, Copy, Debug)]
 pub(crate) struct Field {
-    /// The id of its type, behind modifiers.
+    /// The id of its type, after modifiers.
     pub(crate) type_id: u32,
     /// The size of its type in bytes.
     pub(crate) size: u32,
@@ -41,7 +41,7 @@ fn fits_unit(at: u32, bits: u32, unit: u32) -> bool
 
 /// The bytes of the least aligned unit for a bit field of a type of a size: of the type, or doubled
 /// until the field fits. One of 8 bytes or more isn't doubled.
-#[tactic(auto, using(crate::proofs::Units::no_rounds, crate::proofs::Units::fitting_unit, crate::proofs::Units::large_unit, crate::proofs::Units::next_unit,),)]
+#[tactic(auto, using(crate::proofs::Units::no_rounds, crate::proofs::Units::fitting_unit, crate::proofs::Units::large_unit, crate::proofs::Units::next_unit))]
 fn unit_of(size: u32, at: u32, bits: u32) -> Option<u32>
     ensures value { result ≡ unit_of size at bits }
     ensures some { IfSome result (λ unit. 0 < unit) }
@@ -70,7 +70,7 @@ fn unit_start(at: u32, unit: u32) -> u64
     u64::from(at) / (8 * u64::from(unit)) * u64::from(unit)
 }
 
-/// The extent of a bit field in a unit of so many bytes.
+/// The extent of a bit field in a unit of a number of bytes.
 fn bit_field_extent(unit: u32, at: u32, bits: u32) -> Extent
     requires { 0 < unit }
     ensures { result ≡ bit_field_extent unit at bits }
@@ -83,8 +83,8 @@ fn bit_field_extent(unit: u32, at: u32, bits: u32) -> Extent
     }
 }
 
-/// The extent of a field that lies so many bits behind the beginning; none where a bit field has no
-/// unit.
+/// The extent of a field that lies a number of bits after the beginning; none where a bit field has
+/// no unit.
 pub(crate) fn extent_of(field: Field, at: u32) -> Option<Extent>
     ensures value { result ≡ extent_of field at }
     ensures few { IfSome result (λ extent. extent.start + extent.bits < 2 ^ 64) }

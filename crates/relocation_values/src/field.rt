@@ -14,7 +14,7 @@ use ebpf_items::RelocationKind;
 /// A field that is no bit field: an instruction that loads it has its size.
 #[derive(Clone, Copy, Debug)]
 pub struct WholeField {
-    /// The id of its type, behind modifiers.
+    /// The id of its type, after modifiers.
     pub type_id: u32,
     /// Its size in bytes.
     pub size: u32,
@@ -39,7 +39,7 @@ fn shift_past(bits: u64) -> Result<RelocationValue, AccessError>
     }
 }
 
-/// The value of an element of a type, which lies so many bits behind the beginning.
+/// The value of an element of a type, which lies a number of bits after the beginning.
 pub(crate) fn element_value(
     table: &Btf<'_>,
     kind: RelocationKind,
@@ -132,7 +132,7 @@ fn of_extent(
     }
 }
 
-/// The value of a member, which lies so many bits behind the beginning.
+/// The value of a member, which lies a number of bits after the beginning.
 pub(crate) fn member_value(
     table: &Btf<'_>,
     kind: RelocationKind,

@@ -21,7 +21,8 @@ pub record RunContent : Type 0 where
   pub probe : Bool
 
 abbrev pub nothing_set : RunContent
-nothing_set = record { settings = record { maps = []; globals = [] }; features = all_granted; probe = true }
+nothing_set =
+    record { settings = record { maps = []; globals = [] }; features = all_granted; probe = true }
 
 -- ---- numbers of maps
 
@@ -36,7 +37,9 @@ number_of d = option_and_then small (as_integer d)
 -- each member is the number of the map of its name
 abbrev pub with_numbers : List (List ℕ × ℕ) → Members → Option (List (List ℕ × ℕ))
 with_numbers maps no_members = Some maps
-with_numbers maps (member name d ms) = option_and_then (λ n. with_numbers (insert_entry (slice_cmp nat_cmp) maps name n) ms) (number_of d)
+with_numbers maps (member name d ms) =
+    option_and_then (λ n. with_numbers (insert_entry (slice_cmp nat_cmp) maps name n) ms)
+    (number_of d)
 
 -- ---- values of global variables
 
@@ -55,8 +58,10 @@ pub record GlobalParts : Type 0 where
 
 abbrev pub with_part : GlobalParts → List ℕ → Data → Option GlobalParts
 with_part g key d =
-    if bytes_eq key (codes "value") then option_map (λ bytes. record g { bytes = Some bytes }) (bytes_of d)
-    else if bytes_eq key (codes "required") then option_map (λ b. record g { required = b }) (as_bool d)
+    if bytes_eq key (codes "value")
+    then option_map (λ bytes. record g { bytes = Some bytes }) (bytes_of d)
+    else
+    if bytes_eq key (codes "required") then option_map (λ b. record g { required = b }) (as_bool d)
     else None
 
 abbrev pub with_parts : GlobalParts → Members → Option GlobalParts
@@ -67,33 +72,49 @@ abbrev pub global_of_parts : GlobalParts → Option GlobalContent
 global_of_parts g = option_map (λ bytes. record { bytes = bytes; must_exist = g.required }) g.bytes
 
 abbrev pub global_of : Data → Option GlobalContent
-global_of d = option_and_then (λ ms. option_and_then global_of_parts (with_parts (record { bytes = None; required = false }) ms)) (as_table d)
+global_of d =
+    option_and_then
+    (λ ms.
+    option_and_then global_of_parts (with_parts (record { bytes = None; required = false }) ms))
+    (as_table d)
 
 -- each member is the value of the variable of its name
-abbrev pub with_globals : List (List ℕ × GlobalContent) → Members → Option (List (List ℕ × GlobalContent))
+abbrev pub with_globals : List (List ℕ × GlobalContent)
+    → Members
+    → Option (List (List ℕ × GlobalContent))
 with_globals globals no_members = Some globals
-with_globals globals (member name d ms) = option_and_then (λ g. with_globals (insert_entry (slice_cmp nat_cmp) globals name g) ms) (global_of d)
+with_globals globals (member name d ms) =
+    option_and_then (λ g. with_globals (insert_entry (slice_cmp nat_cmp) globals name g) ms)
+    (global_of d)
 
 -- ---- features
 
 abbrev pub with_feature : GrantedFeatures → List ℕ → Data → Option GrantedFeatures
-with_feature g name d = option_and_then (λ feature. option_map (λ answer. with_answer g feature answer) (as_bool d)) (feature_named name)
+with_feature g name d =
+    option_and_then (λ feature. option_map (λ answer. with_answer g feature answer) (as_bool d))
+    (feature_named name)
 
 -- each member says whether the feature of its name is granted
 abbrev pub with_features : GrantedFeatures → Members → Option GrantedFeatures
 with_features g no_members = Some g
-with_features g (member name d ms) = option_and_then (λ h. with_features h ms) (with_feature g name d)
+with_features g (member name d ms) =
+    option_and_then (λ h. with_features h ms) (with_feature g name d)
 
 -- ---- the whole
 
 abbrev pub set_maps : RunContent → Members → Option RunContent
-set_maps s ms = option_map (λ maps. record s { settings = record s.settings { maps = maps } }) (with_numbers s.settings.maps ms)
+set_maps s ms =
+    option_map (λ maps. record s { settings = record s.settings { maps = maps } })
+    (with_numbers s.settings.maps ms)
 
 abbrev pub set_globals : RunContent → Members → Option RunContent
-set_globals s ms = option_map (λ globals. record s { settings = record s.settings { globals = globals } }) (with_globals s.settings.globals ms)
+set_globals s ms =
+    option_map (λ globals. record s { settings = record s.settings { globals = globals } })
+    (with_globals s.settings.globals ms)
 
 abbrev pub set_features : RunContent → Members → Option RunContent
-set_features s ms = option_map (λ features. record s { features = features }) (with_features s.features ms)
+set_features s ms =
+    option_map (λ features. record s { features = features }) (with_features s.features ms)
 
 -- a member of the document's table; there are no others
 abbrev pub with_member : RunContent → List ℕ → Data → Option RunContent

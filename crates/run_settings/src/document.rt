@@ -26,7 +26,9 @@ pub(crate) fn number_of(value: &Value) -> Option<u32>
 
 /// Sets the numbers of the maps of a table; answers whether each member is one.
 fn set_numbers(settings: &mut Settings, table: &Table) -> Result<bool, AllocError>
-    ensures value { IfOk result (λ is_set. with_numbers settings.old.maps (table_view table.now) ≡ (if is_set then Some settings.new.maps else None)) }
+    ensures value { IfOk result (λ is_set.
+        with_numbers settings.old.maps (table_view table.now)
+        ≡ (if is_set then Some settings.new.maps else None)) }
     ensures others { settings.new.globals ≡ settings.old.globals }
 {
     let mut entries = table.iter();
@@ -55,7 +57,9 @@ fn with_features(granted: GrantedFeatures, table: &Table) -> Option<GrantedFeatu
 impl RunSettings {
     /// Takes a member of a document's table; answers whether it is one.
     fn set_member(&mut self, alloc: Global, key: &str, value: &Value) -> Result<bool, AllocError>
-        ensures { IfOk result (λ is_set. with_member self.old key.now (view value.now) ≡ (if is_set then Some self.new else None)) }
+        ensures { IfOk result (λ is_set.
+            with_member self.old key.now (view value.now)
+            ≡ (if is_set then Some self.new else None)) }
     {
         if key == "maps" {
             let Some(table) = value.as_table() else {
@@ -91,7 +95,9 @@ impl RunSettings {
 
     /// Takes the members of a document's table; answers whether each is one.
     fn set_members(&mut self, alloc: Global, table: &Table) -> Result<bool, AllocError>
-        ensures { IfOk result (λ is_set. with_members self.old (table_view table.now) ≡ (if is_set then Some self.new else None)) }
+        ensures { IfOk result (λ is_set.
+            with_members self.old (table_view table.now)
+            ≡ (if is_set then Some self.new else None)) }
     {
         let mut entries = table.iter();
         while let Some((key, value)) = entries.next() {
@@ -102,11 +108,11 @@ impl RunSettings {
         Ok(true)
     }
 
-    /// The settings of a TOML document: under `maps` the number of each map, under `globals` for each
-    /// variable its bytes as hexadecimal digits (`value`) and whether the object must have it
-    /// (`required`, false where it is left out), under `features` whether the kernel grants each, yes
-    /// where it is left out, and `probe`, whether it has the newer helpers that read memory, true where
-    /// it is left out.
+    /// The settings of a TOML document: under `maps` the number of each map, under `globals` for
+    /// each variable its bytes as hexadecimal digits (`value`) and whether the object must have it
+    /// (`required`, false where it is left out), under `features` whether the kernel grants each,
+    /// yes where it is left out, and `probe`, whether it has the newer helpers that read memory,
+    /// true where it is left out.
     ///
     /// # Errors
     ///

@@ -25,7 +25,8 @@ impl Model for GlobalParts {
 
     ghost Value = { documents.GlobalParts };
 
-    ghost view = { λ g. record { bytes = option_map (λ bytes. bytes.items) g.bytes; required = g.required } };
+    ghost view = { λ g.
+        record { bytes = option_map (λ bytes. bytes.items) g.bytes; required = g.required } };
 }
 
 /// The bytes of hexadecimal digits.
@@ -45,7 +46,9 @@ fn bytes_of(alloc: Global, value: &Value) -> Result<Option<Vec<u8>>, AllocError>
 impl GlobalParts {
     /// Takes a member of a variable's table; answers whether it is one.
     fn set_part(&mut self, alloc: Global, key: &str, value: &Value) -> Result<bool, AllocError>
-        ensures { IfOk result (λ is_set. with_part self.old key.now (view value.now) ≡ (if is_set then Some self.new else None)) }
+        ensures { IfOk result (λ is_set.
+            with_part self.old key.now (view value.now)
+            ≡ (if is_set then Some self.new else None)) }
     {
         if key == "value" {
             let Some(bytes) = bytes_of(alloc, value)? else {
@@ -66,7 +69,8 @@ impl GlobalParts {
 
     /// Takes the members of a variable's table; answers whether each is one.
     fn set_parts(&mut self, alloc: Global, table: &Table) -> Result<bool, AllocError>
-        ensures { IfOk result (λ is_set. with_parts self.old (table_view table.now) ≡ (if is_set then Some self.new else None)) }
+        ensures { IfOk result (λ is_set.
+            with_parts self.old (table_view table.now) ≡ (if is_set then Some self.new else None)) }
     {
         let mut entries = table.iter();
         while let Some((key, value)) = entries.next() {
@@ -108,7 +112,9 @@ pub(crate) fn set_globals(
     settings: &mut Settings,
     table: &Table,
 ) -> Result<bool, AllocError>
-    ensures value { IfOk result (λ is_set. with_globals settings.old.globals (table_view table.now) ≡ (if is_set then Some settings.new.globals else None)) }
+    ensures value { IfOk result (λ is_set.
+        with_globals settings.old.globals (table_view table.now)
+        ≡ (if is_set then Some settings.new.globals else None)) }
     ensures others { settings.new.maps ≡ settings.old.maps }
 {
     let mut entries = table.iter();

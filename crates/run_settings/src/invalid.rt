@@ -26,8 +26,8 @@ fn invalid_member(alloc: Global, name: &str, table: &Table) -> Result<Option<Str
     Ok(None)
 }
 
-/// The first key of a document's table, in order of the keys' bytes, that settings don't have, or that
-/// has a value of another kind: `maps.counter`, say. `None` where each is taken.
+/// The first key of a document's table, in order of the keys' bytes, that settings don't have, or
+/// that has a value of another kind: `maps.counter`, say. `None` where each is taken.
 pub fn invalid_key(alloc: Global, table: &Table) -> Result<Option<String>, AllocError> {
     for (key, value) in table.iter() {
         let found = match (key.as_str(), value.as_table()) {

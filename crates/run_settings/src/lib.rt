@@ -1,5 +1,5 @@
-//! What a user sets for a run: numbers of maps, values of global variables, and what the kernel has,
-//! also from a TOML document.
+//! What a user sets for a run: numbers of maps, values of global variables, and what the kernel
+//! has, also from a TOML document.
 #![tactic(auto)]
 
 mod document;

@@ -1,5 +1,5 @@
-//! Object files for the tests of several crates, what is to be made of them, and a reader that gives a
-//! text slowly.
+//! Object files for the tests of several crates, what is to be made of them, and a reader that
+//! gives a text slowly.
 #![tactic(auto)]
 
 mod slow_text;

@@ -4,11 +4,11 @@ use crate::sections::length_word;
 use rand_core::Rng;
 use rand_pcg::Pcg32;
 
-/// One in so many choices is made anew.
+/// Of as many choices one is made anew.
 const CHANGED: u32 = 24;
 
-/// Two sources of numbers: one for what tables are made of, and one for their numbers. Tables that are
-/// made with one shape are much alike.
+/// Two sources of numbers: one for what tables are made of, and one for their numbers. Tables that
+/// are made with one shape are much alike.
 #[derive(Drop)]
 pub struct Dice {
     shape: Pcg32,

@@ -1,5 +1,5 @@
-//! Tables of types for the tests of several crates, by the words of their records ("BTF Type and String
-//! Encoding" of the kernel's btf.rst): sections, and random tables.
+//! Tables of types for the tests of several crates, by the words of their records ("BTF Type and
+//! String Encoding" of the kernel's btf.rst): sections, and random tables.
 #![tactic(auto)]
 
 mod dice;

@@ -210,7 +210,7 @@ impl<'d, 'x> Making<'d, 'x> {
     }
 }
 
-/// The words of the records of a table of so many types.
+/// The words of the records of a table of as many types as given.
 pub fn random_types(
     alloc: Global,
     dice: &mut Dice,

@@ -27,7 +27,7 @@ pub(crate) fn length_word(len: usize) -> u32 {
     u32::try_from(len).unwrap_or(u32::MAX)
 }
 
-/// The section of records with these words, of these strings and of those behind them. It holds no
+/// The section of records with these words, of these strings and of those after them. It holds no
 /// table where it is too long for the words of its header.
 pub fn section(
     alloc: Global,

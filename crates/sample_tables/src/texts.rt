@@ -2,7 +2,8 @@
 
 use std::alloc::{AllocError, Global};
 
-/// Names, some with flavours, some of them more often than others. The first ones are of what has none.
+/// Names, some with flavours, some of them more often than others. The first ones are of what has
+/// none.
 const NAMES: [&[u8]; 15] = [
     b"",
     b"",

@@ -1,4 +1,5 @@
--- What a loader sets: numbers of maps and values of global variables, by name, names rising by bytes.
+-- What a loader sets: numbers of maps and values of global variables, by name, names rising by
+-- bytes.
 use Rattle.std.specs.Prelude.{ℕ, ◌<◌, ◌^◌, List, String}
 use Rattle.std.specs.List.{All}
 use Rattle.std.specs.Map.{values_of}

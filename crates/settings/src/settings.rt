@@ -43,10 +43,18 @@ impl Settings {
     }
 
     /// Sets the number by which programs know a map: its file descriptor, or what stands for it. It
-    /// must be below 2^31, as file descriptors are. Of several numbers of one name the last one counts.
+    /// must be below 2^31, as file descriptors are. Of several numbers of one name the last one
+    /// counts.
+    ///
+    /// # Errors
+    ///
+    /// `AllocError` where memory is wanted; all is set as before then.
     pub fn set_map(&mut self, name: &str, number: u32) -> Result<(), AllocError>
         requires { number < 2 ^ 31 }
-        ensures ok { OnOk result (self.new ≡ record self.old { maps = insert_entry (slice_cmp nat_cmp) self.old.maps name.now number }) }
+        ensures ok { OnOk result
+            (self.new
+            ≡ record self.old
+            { maps = insert_entry (slice_cmp nat_cmp) self.old.maps name.now number }) }
         ensures err { OnErr result (self.new ≡ self.old) }
     {
         let name = String::from_str(self.alloc, name)?;
@@ -56,13 +64,22 @@ impl Settings {
 
     /// Sets the bytes of a global variable. `must_exist` says whether an object that has no such
     /// variable is refused. Of several values of one name the last one counts.
+    ///
+    /// # Errors
+    ///
+    /// `AllocError` where memory is wanted; all is set as before then.
     pub fn set_global(
         &mut self,
         name: &str,
         bytes: &[u8],
         must_exist: bool,
     ) -> Result<(), AllocError>
-        ensures ok { OnOk result (self.new ≡ record self.old { globals = insert_entry (slice_cmp nat_cmp) self.old.globals name.now (record { bytes = bytes.now; must_exist = must_exist }) }) }
+        ensures ok { OnOk result
+            (self.new
+            ≡ record self.old {
+              globals = insert_entry (slice_cmp nat_cmp) self.old.globals name.now
+                  (record { bytes = bytes.now; must_exist = must_exist });
+            }) }
         ensures err { OnErr result (self.new ≡ self.old) }
     {
         self.globals.set(name, bytes, must_exist)

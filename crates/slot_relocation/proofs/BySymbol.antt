@@ -21,7 +21,7 @@ not_refused c w e = absurd (cc)
 pub not_skipped : (w : Write) → ◌≡◌ {A = Outcome Fault} Skipped (Written w) → ⊥
 not_skipped w e = absurd (cc)
 
--- what stood behind an option
+-- what stood after an option
 pub behind : {A : Type 0} (o : Option A) (h : A → Outcome Fault) (d : Outcome Fault) (w : Write) → (d ≡ Written w → ⊥) → option_map_or h o d ≡ Written w → (a : A) × (o ≡ Some a) × (h a ≡ Written w)
 behind None h d w never e = absurd (never e)
 behind (Some a) h d w never e = (a, refl, e)

@@ -86,7 +86,7 @@ unfolding IsStrictlySortedBy
 rising_filter p [] up = up
 rising_filter p (r ∷ rs) up = rising_kept (p r) r (filter p rs) (above_filter p r.0 rs up.0) (rising_filter p rs up.1)
 
--- so many before an offset as the offset counts at most
+-- that many before an offset as the offset counts at most
 below : (a b : ℕ) → nat_lt a b ≡ true → a < b
 below a b h = grind (arith, nat_tests)
 

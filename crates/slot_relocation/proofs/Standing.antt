@@ -40,7 +40,7 @@ from_start f offset h = grind (arith, nat_tests)
 above : (a b : ℕ) → nat_cmp a b ≡ Less → a < b
 above a b h = ranked a b Less (sym h)
 
--- a later whole slot stands behind
+-- a later whole slot stands after
 behind_of : (start a b : ℕ) → start ≤ a → a < b → (a - start) % 8 ≡ 0 → (b - start) % 8 ≡ 0 → (a - start) / 8 < (b - start) / 8
 behind_of start a b from less whole other = omega arith
 

@@ -117,7 +117,7 @@ fn slots_after<'f, R: Rule<RelocView, Fault>>(
     ensures refused { IfErr result
         (IsRefusal (R.rule rule.now) (relocations_inside file.now function.now) function.now) }
 {
-    // Offsets have 64 bits, so that none lies behind an end past these.
+    // Offsets have 64 bits, so that none lies after an end past these.
     let Ok(end) = u64::try_from(function.end()) else {
         return slots_to_last(rule, file, function);
     };

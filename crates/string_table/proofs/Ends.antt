@@ -54,7 +54,7 @@ plain_end zero text plain = plain
 plain_end (suc k) [] plain = plain
 plain_end (suc k) (b ∷ bs) plain = plain_end k bs (right_false (nat_eq b 0) (list_any (λ c. c == 0) bs) plain)
 
--- a text stays where more is written behind the strings
+-- a text stays where more is written after the strings
 text_stays : (strings more text : List ℕ) (offset : ℕ) → text_at strings offset ≡ Some text → is_utf8 text ≡ true → text_at (strings ++ more) offset ≡ Some text
 text_stays strings more text offset e utf8 =
     let b = begun (drop offset strings) text (text_here strings text offset e) in

@@ -68,7 +68,7 @@ unreadable_at strings bytes from start offset before none after lt =
 pub unreadable_in : (strings bytes : List ℕ) (from start : ℕ) → before_nul (drop from strings) ≡ Some bytes → IsNoTextBefore bytes start → IsUnreadableIn strings (from, from + start)
 unreadable_in strings bytes from start before none = record { at = λ offset after lt. unreadable_at strings bytes from start offset before none after lt }
 
--- that stays where more is written behind the strings
+-- that stays where more is written after the strings
 still_by : (strings more : List ℕ) (offset : ℕ) (found : Option (List ℕ)) → before_nul (drop offset strings) ≡ found → IsSomeAnd found (λ bytes. is_utf8 bytes ≡ false) → IsUnreadableAt (strings ++ more) offset
 still_by strings more offset None e h = absurd h
 still_by strings more offset (Some bytes) e h =
@@ -112,7 +112,7 @@ or_true : (a : Bool) → (a || true) ≡ true
 or_true true = refl
 or_true false = refl
 
--- no text begins behind the last NUL
+-- no text begins after the last NUL
 has_nul : (text more : List ℕ) → list_any (λ b. b == 0) (text ++ 0 ∷ more) ≡ true
 has_nul [] more = refl
 has_nul (b ∷ bs) more = rw (has_nul bs more) (or_true (nat_eq b 0))

@@ -10,7 +10,7 @@ pub record IsEnd (bytes : List ℕ) : Type 0 where
   pub is_utf8 : IsUtf8 text
   pub tail : bytes ≡ drop start text
 
--- so many bytes of a text are left from an offset on that lies in it
+-- how many bytes of a text are left from an offset on that lies in it
 pub record IsLeft (text : ℕ × ℕ) (offset left : ℕ) : Type 0 where
   pub behind : text.0 ≤ offset
   pub end : offset + left ≡ text.0 + text.1

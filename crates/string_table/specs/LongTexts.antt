@@ -10,7 +10,8 @@ IsTextIn strings t = IsSomeAnd (text_at strings t.0) (λ text. length text ≡ t
 
 -- the bytes at an offset up to the next NUL are no text
 abbrev pub IsUnreadableAt : List ℕ → ℕ → Type 0
-IsUnreadableAt strings offset = IsSomeAnd (before_nul (drop offset strings)) (λ bytes. is_utf8 bytes ≡ false)
+IsUnreadableAt strings offset =
+    IsSomeAnd (before_nul (drop offset strings)) (λ bytes. is_utf8 bytes ≡ false)
 
 -- from the first offset up to the second no text begins
 pub record IsUnreadableIn (strings : List ℕ) (stretch : ℕ × ℕ) : Type 0 where

@@ -1,4 +1,5 @@
--- Texts in a string table (ELF-64 object file format, "String Table"; "String Encoding" of BTF), each ended by a NUL.
+-- Texts in a string table (ELF-64 object file format, "String Table"; "String Encoding" of BTF),
+-- each ended by a NUL.
 use Rattle.std.specs.Prelude.{ℕ, List, take, drop, position, ◌==◌, if◌then◌else◌, Option, Some, None, option_and_then}
 use Rattle.std.specs.Option.{option_map}
 use Rattle.std.specs.Str.{is_utf8}

@@ -12,7 +12,7 @@ use std::alloc::{AllocError, Global};
 use std::marker::Model;
 use std::str;
 
-/// So many bytes of a text are looked at each time it is read.
+/// How many bytes of a text are looked at each time it is read.
 const SHORT: usize = 256;
 
 /// A text that was read once.
@@ -26,7 +26,7 @@ struct LongText {
 #[derive(Clone, Copy, Debug)]
 struct Stretch {
     start: usize,
-    /// The offset behind the last one.
+    /// The offset after the last one.
     end: usize,
 }
 
@@ -36,7 +36,7 @@ struct Stretch {
 pub struct LongTexts {
     texts: Vec<LongText>,
     unreadable: Vec<Stretch>,
-    /// The offset behind the last NUL.
+    /// The offset after the last NUL.
     end: usize,
 }
 
@@ -103,7 +103,7 @@ fn last_nul(bytes: &[u8]) -> Option<usize>
     first.iter().rposition(|byte| *byte == 0)
 }
 
-/// The offset behind the last NUL.
+/// The offset after the last NUL.
 fn last_end(strings: &[u8]) -> usize
     ensures within { result ≤ length strings.now }
     ensures last { IsLastNulBefore strings.now result }
@@ -189,13 +189,13 @@ impl LongTexts {
         Ok(())
     }
 
-    /// Enters the long texts behind an offset, where more was written behind the strings.
+    /// Enters the long texts after an offset, where more was written after the strings.
     pub fn extend(&mut self, strings: &[u8], from: usize) -> Result<(), AllocError>
         requires within { from ≤ length strings.now }
         requires before { AreLongTextsOf (take from strings.now) self.old }
         ensures { AreLongTextsOf strings.now self.new }
     {
-        // The bytes behind the last NUL of the first strings may begin a text now.
+        // The bytes after the last NUL of the first strings may begin a text now.
         let mut offset = from.min(self.end);
         self.end = last_end(strings);
         while offset < strings.len() {
@@ -226,7 +226,8 @@ impl LongTexts {
 
     /// The last stretch without a text that begins up to an offset.
     fn unreadable_up_to(&self, offset: usize) -> Option<Stretch>
-        ensures { IfSome result (λ stretch. Contains self.now.unreadable (stretch.start, stretch.end)) }
+        ensures { IfSome result (λ stretch.
+            Contains self.now.unreadable (stretch.start, stretch.end)) }
     {
         let index = self
             .unreadable

@@ -170,9 +170,10 @@ fn reads_what_the_kernel_tells(rt: HostRuntime) {
     }
 }
 
-// Keeps so many bytes of a map.
+// Keeps the first bytes of a map, `count` of them.
 fn shorten(map: &mut Map, count: usize)
-    ensures { map_view map.new ≡ record (map_view map.old) { contents = take count (map_view map.old).contents } }
+    ensures { map_view map.new
+        ≡ record (map_view map.old) { contents = take count (map_view map.old).contents } }
 {
     map.data_mut().truncate(count);
 }

@@ -134,30 +134,49 @@ fn names_each_kind_of_program(rt: HostRuntime) -> Result<(), Fail> {
     Ok(())
 }
 
-// Each row of the tables gives its kind: none stands behind another of its name.
+// Each row of the tables gives its kind: none stands after another of its name.
 fn rows_give_their_kinds()
-    ensures plain { map (λ row. kind_of_pieces row.0 None) plain_kinds ≡ map (λ row. Some row.1) plain_kinds }
-    ensures probes { map (λ row. kind_of_pieces row.0 None) user_probe_kinds ≡ map (λ row. Some row.1) user_probe_kinds }
-    ensures sleepable { map (λ row. kind_of_pieces row.0 None) sleepable_kinds ≡ map (λ row. Some row.1) sleepable_kinds }
-    ensures xdp { map (λ row. kind_of_pieces (codes "xdp") row.0) (xdp_kinds false) ≡ map (λ row. Some row.1) (xdp_kinds false) }
-    ensures fragments { map (λ row. kind_of_pieces (codes "xdp.frags") row.0) (xdp_kinds true) ≡ map (λ row. Some row.1) (xdp_kinds true) }
-    ensures sk_skb { map (λ row. kind_of_pieces (codes "sk_skb") row.0) sk_skb_kinds ≡ map (λ row. Some row.1) sk_skb_kinds }
-    ensures sk_reuseport { map (λ row. kind_of_pieces (codes "sk_reuseport") row.0) sk_reuseport_kinds ≡ map (λ row. Some row.1) sk_reuseport_kinds }
-    ensures cgroup_skb { map (λ row. kind_of_pieces (codes "cgroup_skb") row.0) cgroup_skb_kinds ≡ map (λ row. Some row.1) cgroup_skb_kinds }
-    ensures cgroup { map (λ row. kind_of_pieces (codes "cgroup") row.0) cgroup_kinds ≡ map (λ row. Some row.1) cgroup_kinds }
+    ensures plain { map (λ row. kind_of_pieces row.0 None) plain_kinds
+        ≡ map (λ row. Some row.1) plain_kinds }
+    ensures probes { map (λ row. kind_of_pieces row.0 None) user_probe_kinds
+        ≡ map (λ row. Some row.1) user_probe_kinds }
+    ensures sleepable { map (λ row. kind_of_pieces row.0 None) sleepable_kinds
+        ≡ map (λ row. Some row.1) sleepable_kinds }
+    ensures xdp { map (λ row. kind_of_pieces (codes "xdp") row.0) (xdp_kinds false)
+        ≡ map (λ row. Some row.1) (xdp_kinds false) }
+    ensures fragments { map (λ row. kind_of_pieces (codes "xdp.frags") row.0) (xdp_kinds true)
+        ≡ map (λ row. Some row.1) (xdp_kinds true) }
+    ensures sk_skb { map (λ row. kind_of_pieces (codes "sk_skb") row.0) sk_skb_kinds
+        ≡ map (λ row. Some row.1) sk_skb_kinds }
+    ensures sk_reuseport { map (λ row. kind_of_pieces (codes "sk_reuseport") row.0)
+        sk_reuseport_kinds
+        ≡ map (λ row. Some row.1) sk_reuseport_kinds }
+    ensures cgroup_skb { map (λ row. kind_of_pieces (codes "cgroup_skb") row.0) cgroup_skb_kinds
+        ≡ map (λ row. Some row.1) cgroup_skb_kinds }
+    ensures cgroup { map (λ row. kind_of_pieces (codes "cgroup") row.0) cgroup_kinds
+        ≡ map (λ row. Some row.1) cgroup_kinds }
 {}
 
 // So does the row at an index.
 fn row_gives_its_kind(index: usize)
-    ensures plain { IfSome (slice_get plain_kinds index) (λ row. kind_of_pieces row.0 None ≡ Some row.1) }
-    ensures probes { IfSome (slice_get user_probe_kinds index) (λ row. kind_of_pieces row.0 None ≡ Some row.1) }
-    ensures sleepable { IfSome (slice_get sleepable_kinds index) (λ row. kind_of_pieces row.0 None ≡ Some row.1) }
-    ensures xdp { IfSome (slice_get (xdp_kinds false) index) (λ row. kind_of_pieces (codes "xdp") row.0 ≡ Some row.1) }
-    ensures fragments { IfSome (slice_get (xdp_kinds true) index) (λ row. kind_of_pieces (codes "xdp.frags") row.0 ≡ Some row.1) }
-    ensures sk_skb { IfSome (slice_get sk_skb_kinds index) (λ row. kind_of_pieces (codes "sk_skb") row.0 ≡ Some row.1) }
-    ensures sk_reuseport { IfSome (slice_get sk_reuseport_kinds index) (λ row. kind_of_pieces (codes "sk_reuseport") row.0 ≡ Some row.1) }
-    ensures cgroup_skb { IfSome (slice_get cgroup_skb_kinds index) (λ row. kind_of_pieces (codes "cgroup_skb") row.0 ≡ Some row.1) }
-    ensures cgroup { IfSome (slice_get cgroup_kinds index) (λ row. kind_of_pieces (codes "cgroup") row.0 ≡ Some row.1) }
+    ensures plain { IfSome (slice_get plain_kinds index) (λ row.
+        kind_of_pieces row.0 None ≡ Some row.1) }
+    ensures probes { IfSome (slice_get user_probe_kinds index) (λ row.
+        kind_of_pieces row.0 None ≡ Some row.1) }
+    ensures sleepable { IfSome (slice_get sleepable_kinds index) (λ row.
+        kind_of_pieces row.0 None ≡ Some row.1) }
+    ensures xdp { IfSome (slice_get (xdp_kinds false) index) (λ row.
+        kind_of_pieces (codes "xdp") row.0 ≡ Some row.1) }
+    ensures fragments { IfSome (slice_get (xdp_kinds true) index) (λ row.
+        kind_of_pieces (codes "xdp.frags") row.0 ≡ Some row.1) }
+    ensures sk_skb { IfSome (slice_get sk_skb_kinds index) (λ row.
+        kind_of_pieces (codes "sk_skb") row.0 ≡ Some row.1) }
+    ensures sk_reuseport { IfSome (slice_get sk_reuseport_kinds index) (λ row.
+        kind_of_pieces (codes "sk_reuseport") row.0 ≡ Some row.1) }
+    ensures cgroup_skb { IfSome (slice_get cgroup_skb_kinds index) (λ row.
+        kind_of_pieces (codes "cgroup_skb") row.0 ≡ Some row.1) }
+    ensures cgroup { IfSome (slice_get cgroup_kinds index) (λ row.
+        kind_of_pieces (codes "cgroup") row.0 ≡ Some row.1) }
 {
     let _ = index;
     rows_give_their_kinds();

@@ -6,7 +6,7 @@ use std::io;
 use std::io::{ErrorKind, Read, Write};
 use watched::Watched;
 
-// Reads and writes a byte a call, so many times; then it fails, or answers 0.
+// Reads and writes a byte a call, a number of times; then it fails, or answers 0.
 #[derive(Drop)]
 struct Scarce {
     left: usize,
@@ -46,7 +46,7 @@ impl Write for Scarce {
     }
 }
 
-// A watched reader or writer of so many bytes.
+// A watched reader or writer of a number of bytes.
 fn watched(left: usize, fails: bool) -> Watched<Scarce> {
     Watched::new(Scarce {
         left,

@@ -7,7 +7,7 @@ use string_table::{LongTexts, is_text_at, text_at};
 /// `ab`, the empty text, `é`, bytes that are no UTF-8, and a text that no NUL ends.
 static STRINGS: [u8; 12] = *b"ab\0\0\xc3\xa9\0\xff\x61\0xy";
 
-/// What stands at each offset of [`STRINGS`], and behind them.
+/// What stands at each offset of [`STRINGS`], and after them.
 static TEXTS: [Option<&str>; 14] = [
     Some("ab"),
     Some("b"),
@@ -40,7 +40,7 @@ fn a_text_ends_at_the_next_nul(rt: HostRuntime) {
     }
 }
 
-/// So many bytes `a`, which no NUL ends.
+/// A number of bytes `a`, which no NUL ends.
 fn push_bytes(strings: &mut Vec<u8>, len: usize) -> Result<(), AllocError> {
     for _ in 0..len {
         strings.push(b'a')?;
@@ -48,7 +48,7 @@ fn push_bytes(strings: &mut Vec<u8>, len: usize) -> Result<(), AllocError> {
     Ok(())
 }
 
-/// So many bytes `a`, `é`, again as many `a` and a NUL.
+/// A number of bytes `a`, `é`, again as many `a` and a NUL.
 fn push_long_text(strings: &mut Vec<u8>, half: usize) -> Result<(), AllocError> {
     push_bytes(strings, half)?;
     strings.extend_from_slice("é".as_bytes())?;
@@ -57,7 +57,7 @@ fn push_long_text(strings: &mut Vec<u8>, half: usize) -> Result<(), AllocError> 
     Ok(())
 }
 
-/// A short text, a long one, a long one behind a byte that is no UTF-8, a short one behind many
+/// A short text, a long one, a long one after a byte that is no UTF-8, a short one after many
 /// bytes and one that is no UTF-8, a short one, and many bytes that no NUL ends.
 fn long_strings(alloc: Global) -> Result<Vec<u8>, AllocError> {
     let mut strings = Vec::from_slice(alloc, b"ab\0")?;

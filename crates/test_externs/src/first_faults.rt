@@ -82,7 +82,7 @@ static FAULTS: [Fault; 13] = [
         &[("_", Sort::Variable), ("a", Sort::Variable)],
         Refusal::NoVariable("_"),
     ),
-    // One without a type comes behind.
+    // One without a type comes after.
     (
         &[("a", Sort::Untyped), ("z", Sort::Function)],
         Refusal::NoFunction("z"),
@@ -112,7 +112,7 @@ fn first_name_is_named(rt: HostRuntime) {
     }
 }
 
-/// The text of symbols, behind how many bytes its reader fails, and the fault of `a` and `z` that
+/// The text of symbols, after how many bytes its reader fails, and the fault of `a` and `z` that
 /// is named.
 type TextFault = (&'static [u8], usize, Refusal);
 
@@ -147,7 +147,7 @@ static TEXT_FAULTS: [TextFault; 12] = [
     // The line is whole before the reader fails, or isn't.
     (b"xx D z\n", 7, Refusal::Address("z")),
     (b"xx D z\n", 6, Refusal::Access),
-    // Names that have no address come behind all lines, the first by name.
+    // Names that have no address come after all lines, the first by name.
     (b"1 D b\n", NEVER, Refusal::NoVariable("a")),
     (b"1 D a\n", NEVER, Refusal::NoVariable("z")),
 ];

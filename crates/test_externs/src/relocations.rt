@@ -3,7 +3,7 @@
 
 use crate::sections::{Known, Refused, Relocated, Relocation, Written, answer_of};
 
-/// An offset behind the functions.
+/// An offset after the functions.
 const FAR: Relocation = (1000, 1);
 
 /// The externs: found by id, found at an address, and one that must be there and isn't.
@@ -19,7 +19,7 @@ const CALL: [u8; 8] = [0x85, 0x10, 0, 0, 0xff, 0xff, 0xff, 0xff];
 
 const ID_CALLED: Written = [[0x85, 0x20, 0, 0, 4, 3, 2, 1], EXIT];
 
-/// Two slots, one behind the other.
+/// Two slots, one after the other.
 fn both(first: [u8; 8], second: [u8; 8]) -> [u8; 16] {
     let mut slots = [0; 16];
     slots[..8].copy_from_slice(&first);

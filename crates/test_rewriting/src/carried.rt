@@ -9,7 +9,7 @@ ghost use Rattle.btf_tables.specs.Sanitizing.{facts_in, stepped};
 use btf::{Answers, Btf, BtfError, BtfFeature, KsymsIds};
 use std::collections::BTreeMap;
 
-/// The sizes of a type before and behind a rewriting, and the answers on which that rests.
+/// The sizes of a type before and after a rewriting, and the answers on which that rests.
 #[derive(Debug, Drop)]
 pub struct SizeBehind {
     pub answers: Answers,
@@ -17,7 +17,7 @@ pub struct SizeBehind {
     pub behind: Option<u64>,
 }
 
-/// Asks for the size of a type before and behind a rewriting. They are the same where the records
+/// Asks for the size of a type before and after a rewriting. They are the same where the records
 /// that are reached from the type stay.
 pub fn size_behind<'m, 'n, F: FnMut(BtfFeature) -> bool>(
     table: &mut Btf<'_>,

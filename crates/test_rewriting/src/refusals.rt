@@ -76,7 +76,7 @@ static SECTIONS: [Refused; 14] = [
         granted: &ALL,
         refusal: Refusal::InvalidDatasec,
     },
-    // a symbol behind 4 GiB, a section of 4 GiB
+    // a symbol after 4 GiB, a section of 4 GiB
     Refused {
         types: &[8, VAR, 0, 1, 3, DATASEC_1, 0, 1, 0, 4],
         ksyms: None,

@@ -1,5 +1,5 @@
 //! Sections of types by hand, from the kernel's BTF documentation. Info words are named by kind
-//! and, behind a `_`, by the count of their items.
+//! and, after a `_`, by the count of their items.
 
 ghost use Rattle.std.specs.Prelude.{◌<◌, ◌^◌, length};
 
@@ -106,7 +106,7 @@ fn push_words(out: &mut Vec<u8>, order: Endianness, words: &[u32]) -> Result<(),
     Ok(())
 }
 
-/// A section of records with these words, and of these strings and those behind them.
+/// A section of records with these words, and of these strings and those after them.
 fn section(
     alloc: Global,
     order: Endianness,
@@ -132,7 +132,7 @@ fn section(
     Ok(out)
 }
 
-/// The section of records with these words, and of these strings and those behind them.
+/// The section of records with these words, and of these strings and those after them.
 pub(crate) fn section_of(
     rt: &impl Abort,
     alloc: Global,

@@ -10,7 +10,7 @@ use btf::{Btf, Endianness, types_are_compatible};
 use std::alloc::{AllocError, Global};
 use std::test::Fail;
 
-// An INT, one behind four bits, a TYPEDEF and a CONST of the first, a CONST of the TYPEDEF, a FUNC.
+// An INT, one after four bits, a TYPEDEF and a CONST of the first, a CONST of the TYPEDEF, a FUNC.
 #[test]
 fn types_of_one_kind_are_compatible(rt: HostRuntime) {
     let words = [
@@ -134,7 +134,7 @@ fn flavours_do_not_count(rt: HostRuntime) {
     ask_all(&rt, rt.alloc(), &words, strings, &asked);
 }
 
-// An INT, one behind four bits, a STRUCT, a UNION, a TYPEDEF of the INT, PTRs to the INT and
+// An INT, one after four bits, a STRUCT, a UNION, a TYPEDEF of the INT, PTRs to the INT and
 // STRUCT.
 #[test]
 fn members_of_one_kind_are_compatible(rt: HostRuntime) {

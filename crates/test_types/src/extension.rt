@@ -150,7 +150,7 @@ impl Question {
     }
 }
 
-/// A section's words behind magic, version and flags, and what it answers.
+/// A section's words after magic, version and flags, and what it answers.
 struct Row {
     words: &'static [u32],
     asked: &'static [(Question, Answer)],

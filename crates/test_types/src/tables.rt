@@ -12,7 +12,7 @@ use std::alloc::{AllocError, Global};
 use std::process::Abort;
 use std::test::Fail;
 
-/// A record and so many CONSTs, each of the type before.
+/// A record and a number of CONSTs, each of the type before.
 fn consts(alloc: Global, first: &[u32], count: u32) -> Result<Vec<u32>, AllocError>
     requires { count < 100 }
 {
@@ -219,7 +219,7 @@ const NEW_SECTION: [u8; 25] = [
     0x9f, 0xeb, 1, 0, 24, 0, 0, 0, 0, 0, 0, 0, 0, 0, 0, 0, 0, 0, 0, 0, 1, 0, 0, 0, 0,
 ];
 
-/// The section of an `int`, and behind it of a PTR to it and of the text `x`.
+/// The section of an `int`, and after it of a PTR to it and of the text `x`.
 const GROWN_SECTION: [u8; 59] = [
     0x9f, 0xeb, 1, 0, 24, 0, 0, 0, 0, 0, 0, 0, 28, 0, 0, 0, 28, 0, 0, 0, 7, 0, 0, 0, 1, 0, 0, 0, 0,
     0, 0, 1, 4, 0, 0, 0, 0x20, 0, 0, 1, 0, 0, 0, 0, 0, 0, 0, 2, 1, 0, 0, 0, 0, 0x69, 0x6e, 0x74, 0,

@@ -64,12 +64,12 @@ pub(crate) fn groups_of(
 }
 
 /// What a relocation asks for; a number that stands for no kind asks for nothing.
-fn type_relocation(record: bpf_core_relo) -> Option<TypeRelocation> {
-    let kind = RelocationKind::try_from(record.kind).ok()?;
+fn type_relocation(relo: bpf_core_relo) -> Option<TypeRelocation> {
+    let kind = RelocationKind::try_from(relo.kind).ok()?;
     Some(TypeRelocation {
         kind,
-        type_id: record.type_id,
-        access_str_off: record.access_str_off,
+        type_id: relo.type_id,
+        access_str_off: relo.access_str_off,
     })
 }
 

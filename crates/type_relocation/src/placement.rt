@@ -244,15 +244,11 @@ impl<'r, 'o, 'f, 't, 'k> Lookup<'r, 'o, 'f, 't, 'k> {
     }
 
     /// What a relocation with a fault asks for; where types of the kernel's conflict, with these.
-    fn asked(
-        &self,
-        record: bpf_core_relo,
-        cause: &BtfRelocationCause,
-    ) -> Result<String, AllocError> {
+    fn asked(&self, relo: bpf_core_relo, cause: &BtfRelocationCause) -> Result<String, AllocError> {
         if let BtfRelocationCause::ConflictingCandidates { .. } = cause {
-            return asked_with_matches(self.alloc, self.local, self.targets, record);
+            return asked_with_matches(self.alloc, self.local, self.targets, relo);
         }
-        asked_text(self.alloc, self.local, record)
+        asked_text(self.alloc, self.local, relo)
     }
 
     /// Where a relocation of a group stands, by its number; of a number that none has it is the

@@ -31,8 +31,11 @@ AppendsPart old new text = (rest : List ℕ) × AppendsAllBut old new text rest
 -- The whole text was appended, or a beginning of it where the writer has failed. One that had
 -- failed before is left as it was, and no call that may be passed on is gained.
 pub record Sends {W : Type 0} (contents : W → Option (List ℕ)) (old new : Watched W) (text : List ℕ) : Type 0 where
-  pub ok : has_failed new ≡ false → (has_failed old ≡ false) × Appends (contents (watched_inner old)) (contents (watched_inner new)) text
-  pub part : has_failed new ≡ true → AppendsPart (contents (watched_inner old)) (contents (watched_inner new)) text
+  pub ok : has_failed new ≡ false
+      → (has_failed old ≡ false)
+      × Appends (contents (watched_inner old)) (contents (watched_inner new)) text
+  pub part : has_failed new ≡ true
+      → AppendsPart (contents (watched_inner old)) (contents (watched_inner new)) text
   pub still : has_failed old ≡ true → new ≡ old
   pub calls : calls_left new ≤ calls_left old
 
@@ -42,15 +45,25 @@ pub AppendsAllBut-none : (old : Option (List ℕ)) (text : List ℕ) → Appends
 AppendsAllBut-none old text = record { front = []; split = refl; appended = Appends-nil old }
 
 -- some of the rest is appended too
-pub AppendsAllBut-more : (old between new : Option (List ℕ)) (text rest : List ℕ) (n : ℕ) → AppendsAllBut old between text rest → Appends between new (take n rest) → AppendsAllBut old new text (take (length rest - n) (drop n rest))
+pub AppendsAllBut-more : (old between new : Option (List ℕ)) (text rest : List ℕ) (n : ℕ)
+    → AppendsAllBut old between text rest
+    → Appends between new (take n rest)
+    → AppendsAllBut old new text (take (length rest - n) (drop n rest))
 AppendsAllBut-more old between new text rest n before more = record {
   front = before.front ++ take n rest;
-  split = before.split ∙ ap (λ l. before.front ++ l) (sym (take-append-drop n rest)) ∙ sym (append_assoc before.front (take n rest) (drop n rest)) ∙ ap (λ l. (before.front ++ take n rest) ++ l) (sym (take_rest rest n));
+  split =
+      before.split
+      ∙ ap (λ l. before.front ++ l) (sym (take-append-drop n rest))
+      ∙ sym (append_assoc before.front (take n rest) (drop n rest))
+      ∙ ap (λ l. (before.front ++ take n rest) ++ l) (sym (take_rest rest n));
   appended = Appends-trans old between new before.front (take n rest) before.appended more;
 }
 
 -- a whole text, and then all but a rest of another
-AppendsAllBut-after : (old between new : Option (List ℕ)) (first text rest : List ℕ) → Appends old between first → AppendsAllBut between new text rest → AppendsAllBut old new (first ++ text) rest
+AppendsAllBut-after : (old between new : Option (List ℕ)) (first text rest : List ℕ)
+    → Appends old between first
+    → AppendsAllBut between new text rest
+    → AppendsAllBut old new (first ++ text) rest
 AppendsAllBut-after old between new first text rest whole more = record {
   front = first ++ more.front;
   split = ap (λ l. first ++ l) more.split ∙ sym (append_assoc first more.front rest);
@@ -58,7 +71,9 @@ AppendsAllBut-after old between new first text rest whole more = record {
 }
 
 -- all but a rest of a text that goes on
-AppendsAllBut-before : (old new : Option (List ℕ)) (text last rest : List ℕ) → AppendsAllBut old new text rest → AppendsAllBut old new (text ++ last) (rest ++ last)
+AppendsAllBut-before : (old new : Option (List ℕ)) (text last rest : List ℕ)
+    → AppendsAllBut old new text rest
+    → AppendsAllBut old new (text ++ last) (rest ++ last)
 AppendsAllBut-before old new text last rest part = record {
   front = part.front;
   split = ap (λ l. l ++ last) part.split ∙ append_assoc part.front rest last;
@@ -80,19 +95,41 @@ module _ {W : Type 0} (contents : W → Option (List ℕ)) where
   }
 
   -- one text is sent, and then another
-  pub Sends-then : (a b c : Watched W) (first last : List ℕ) → Sends contents a b first → Sends contents b c last → Sends contents a c (first ++ last)
+  pub Sends-then : (a b c : Watched W) (first last : List ℕ)
+      → Sends contents a b first
+      → Sends contents b c last
+      → Sends contents a c (first ++ last)
   Sends-then a b c first last p q = record {
-    ok = λ well. let later = q.ok well in let sooner = p.ok later.0 in (sooner.0, Appends-trans (contents (watched_inner a)) (contents (watched_inner b)) (contents (watched_inner c)) first last sooner.1 later.1);
+    ok =
+        λ well.
+        let later = q.ok well in
+        let sooner = p.ok later.0 in (
+          sooner.0,
+          Appends-trans (contents (watched_inner a)) (contents (watched_inner b))
+              (contents (watched_inner c)) first last sooner.1 later.1,
+        );
     part = λ failed. elim (true_or_false (has_failed b)) [
       | inl sooner ↦
           let same : c ≡ b = q.still sooner in
-          let w = p.part sooner in
-          (w.0 ++ last, subst (λ (x : Watched W). AppendsAllBut (contents (watched_inner a)) (contents (watched_inner x)) (first ++ last) (w.0 ++ last)) (sym same) (AppendsAllBut-before (contents (watched_inner a)) (contents (watched_inner b)) first last w.0 w.1))
+          let w = p.part sooner in (
+            w.0 ++ last,
+            subst
+                (λ (x : Watched W).
+                AppendsAllBut (contents (watched_inner a)) (contents (watched_inner x))
+                (first ++ last)
+                (w.0 ++ last)) (sym same)
+                (AppendsAllBut-before (contents (watched_inner a)) (contents (watched_inner b))
+                first last w.0 w.1),
+          )
       | inr well ↦
           let whole = p.ok well in
-          let w = q.part failed in
-          (w.0, AppendsAllBut-after (contents (watched_inner a)) (contents (watched_inner b)) (contents (watched_inner c)) first last w.0 whole.1 w.1)
+          let w = q.part failed in (
+            w.0,
+            AppendsAllBut-after (contents (watched_inner a)) (contents (watched_inner b))
+                (contents (watched_inner c)) first last w.0 whole.1 w.1,
+          )
     ];
-    still = λ failed. let same : b ≡ a = p.still failed in q.still (ap has_failed same ∙ failed) ∙ same;
+    still =
+        λ failed. let same : b ≡ a = p.still failed in q.still (ap has_failed same ∙ failed) ∙ same;
     calls = le_trans q.calls p.calls;
   }

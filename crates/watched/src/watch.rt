@@ -50,7 +50,8 @@ impl<T> Watched<T> {
     /// fails.
     fn count_call(&mut self) -> io::Result<()>
         ensures inner { watched_inner self.new ≡ watched_inner self.old }
-        ensures counted { OnOk result ((calls_left self.new + 1 ≡ calls_left self.old) × (has_failed self.old ≡ false)) }
+        ensures counted { OnOk result
+            ((calls_left self.new + 1 ≡ calls_left self.old) × (has_failed self.old ≡ false)) }
         ensures refused { OnErr result ((has_failed self.old ≡ true) ⊎ (calls_left self.old ≡ 0)) }
         ensures kept { OnErr result (calls_left self.new ≡ calls_left self.old) }
         ensures failed { IsErr result ↔ (has_failed self.new ≡ true) }
@@ -80,12 +81,17 @@ impl<R: Read> Watched<R> {
     /// Reads once. At most `buf.len()` bytes come, and none at the end.
     pub fn read(&mut self, buf: &mut [u8]) -> io::Result<usize>
         ensures bound { ReadsAtMost result buf.new }
-        ensures bytes { ReadConsumes (R.remaining (watched_inner self.old)) (R.remaining (watched_inner self.new)) result buf.new }
+        ensures bytes { ReadConsumes (R.remaining (watched_inner self.old))
+            (R.remaining (watched_inner self.new)) result buf.new }
         ensures failed { IsErr result ↔ (has_failed self.new ≡ true) }
         ensures at_once { has_failed self.old ≡ true → self.new ≡ self.old }
-        ensures counted { OnOk result ((calls_left self.new + 1 ≡ calls_left self.old) × (has_failed self.old ≡ false)) }
-        ensures passed_on { has_failed self.old ≡ false → 0 < calls_left self.old → calls_left self.new + 1 ≡ calls_left self.old }
-        ensures exhausted { calls_left self.old ≡ 0 → watched_inner self.new ≡ watched_inner self.old }
+        ensures counted { OnOk result
+            ((calls_left self.new + 1 ≡ calls_left self.old) × (has_failed self.old ≡ false)) }
+        ensures passed_on { has_failed self.old ≡ false
+            → 0 < calls_left self.old
+            → calls_left self.new + 1 ≡ calls_left self.old }
+        ensures exhausted { calls_left self.old ≡ 0
+            → watched_inner self.new ≡ watched_inner self.old }
         ensures calls { calls_left self.new ≤ calls_left self.old }
     {
         self.count_call()?;
@@ -112,14 +118,25 @@ impl<R: BufRead> Watched<R> {
     /// Hands the bytes that the reader has at hand to a taker, and goes past them. `false` is
     /// answered at the end, where nothing is handed on. This counts as one call.
     pub fn hand_bytes<E, T: TakeBytes<E>>(&mut self, taker: &mut T) -> io::Result<Result<bool, E>>
-        ensures taken { IfOk result (λ r. IfOk r (λ more. more ≡ true → HandsOn (R.remaining (watched_inner self.old)) (R.remaining (watched_inner self.new)) (λ bytes. T.takes taker.old bytes taker.new))) }
-        ensures refused { IfOk result (λ r. IfErr r (λ e. HasAtHand (R.remaining (watched_inner self.old)) (λ bytes. T.refuses taker.old bytes e))) }
-        ensures end { IfOk result (λ r. IfOk r (λ more. more ≡ false → (taker.new ≡ taker.old) × IsAtEnd (R.remaining (watched_inner self.old)))) }
+        ensures taken { IfOk result (λ r. IfOk r (λ more.
+            more ≡ true
+            → HandsOn (R.remaining (watched_inner self.old)) (R.remaining (watched_inner self.new))
+            (λ bytes. T.takes taker.old bytes taker.new))) }
+        ensures refused { IfOk result (λ r. IfErr r (λ e.
+            HasAtHand (R.remaining (watched_inner self.old)) (λ bytes.
+            T.refuses taker.old bytes e))) }
+        ensures end { IfOk result (λ r. IfOk r (λ more.
+            more ≡ false
+            → (taker.new ≡ taker.old) × IsAtEnd (R.remaining (watched_inner self.old)))) }
         ensures failed { IsErr result ↔ (has_failed self.new ≡ true) }
         ensures at_once { has_failed self.old ≡ true → self.new ≡ self.old }
-        ensures counted { OnOk result ((calls_left self.new + 1 ≡ calls_left self.old) × (has_failed self.old ≡ false)) }
-        ensures passed_on { has_failed self.old ≡ false → 0 < calls_left self.old → calls_left self.new + 1 ≡ calls_left self.old }
-        ensures exhausted { calls_left self.old ≡ 0 → watched_inner self.new ≡ watched_inner self.old }
+        ensures counted { OnOk result
+            ((calls_left self.new + 1 ≡ calls_left self.old) × (has_failed self.old ≡ false)) }
+        ensures passed_on { has_failed self.old ≡ false
+            → 0 < calls_left self.old
+            → calls_left self.new + 1 ≡ calls_left self.old }
+        ensures exhausted { calls_left self.old ≡ 0
+            → watched_inner self.new ≡ watched_inner self.old }
     {
         self.count_call()?;
         let bytes = match self.inner.fill_buf() {
@@ -145,12 +162,17 @@ impl<W: Write> Watched<W> {
     /// Writes once. 0 is answered for no bytes alone.
     pub fn write(&mut self, buf: &[u8]) -> io::Result<usize>
         ensures bound { WritesAtMost result buf.now }
-        ensures bytes { WriteAppends (W.contents (watched_inner self.old)) (W.contents (watched_inner self.new)) result buf.now }
+        ensures bytes { WriteAppends (W.contents (watched_inner self.old))
+            (W.contents (watched_inner self.new)) result buf.now }
         ensures failed { IsErr result ↔ (has_failed self.new ≡ true) }
         ensures at_once { has_failed self.old ≡ true → self.new ≡ self.old }
-        ensures counted { OnOk result ((calls_left self.new + 1 ≡ calls_left self.old) × (has_failed self.old ≡ false)) }
-        ensures passed_on { has_failed self.old ≡ false → 0 < calls_left self.old → calls_left self.new + 1 ≡ calls_left self.old }
-        ensures exhausted { calls_left self.old ≡ 0 → watched_inner self.new ≡ watched_inner self.old }
+        ensures counted { OnOk result
+            ((calls_left self.new + 1 ≡ calls_left self.old) × (has_failed self.old ≡ false)) }
+        ensures passed_on { has_failed self.old ≡ false
+            → 0 < calls_left self.old
+            → calls_left self.new + 1 ≡ calls_left self.old }
+        ensures exhausted { calls_left self.old ≡ 0
+            → watched_inner self.new ≡ watched_inner self.old }
         ensures calls { calls_left self.new ≤ calls_left self.old }
         ensures moves { IfOk result (λ count. 0 < length buf.now → 0 < count) }
     {
@@ -162,8 +184,12 @@ impl<W: Write> Watched<W> {
 
     /// Writes all of the bytes, or fails after a beginning of them.
     pub fn write_all(&mut self, buf: &[u8]) -> io::Result<()>
-        ensures ok { OnOk result (Appends (W.contents (watched_inner self.old)) (W.contents (watched_inner self.new)) buf.now) }
-        ensures part { OnErr result (AppendsPart (W.contents (watched_inner self.old)) (W.contents (watched_inner self.new)) buf.now) }
+        ensures ok { OnOk result
+            (Appends (W.contents (watched_inner self.old)) (W.contents (watched_inner self.new))
+            buf.now) }
+        ensures part { OnErr result
+            (AppendsPart (W.contents (watched_inner self.old)) (W.contents (watched_inner self.new))
+            buf.now) }
         ensures failed { IsErr result ↔ (has_failed self.new ≡ true) }
         ensures at_once { has_failed self.old ≡ true → self.new ≡ self.old }
         ensures calls { calls_left self.new ≤ calls_left self.old }

@@ -84,7 +84,7 @@ pub(crate) const COMMON: &[u32] = &[
     1,
 ];
 
-/// Behind the struct 13: the array and the pointer 14 and 15, and 16 the section `.maps` of the
+/// After the struct 13: the array and the pointer 14 and 15, and 16 the section `.maps` of the
 /// variable `m`.
 pub(crate) const SECTION: &[u32] = &[
     0,

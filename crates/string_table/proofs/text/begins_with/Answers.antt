@@ -5,7 +5,7 @@ use Rattle.string_table.specs.Texts.{before_nul}
 use Rattle.string_table.proofs.Texts.{compared, equal_by_bytes}
 use Rattle.string_table.proofs.text.begins_with.Goals as goal
 
--- the byte behind a text that stands at the beginning
+-- the byte after a text that stands at the beginning
 nul_behind : (bytes text behind : List ℕ) (next : ℕ) → behind ≡ drop (length text) bytes → Some next ≡ slice_get behind 0 → before_nul bytes ≡ Some text → next ≡ 0
 nul_behind bytes text behind next is first e =
     let c = compared bytes text e in
