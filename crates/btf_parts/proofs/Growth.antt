@@ -1,24 +1,25 @@
--- One more record behind the others.
-use Rattle.std.proofs.Common.{◌≡◌, ℕ, suc, ◌+◌, ◌<◌, ◌^◌, List, [], ◌∷◌, ◌++◌, length, drop, Option, None, Some, refl, sym, ap, ◌∙◌, arith, inl, inr, append-nil, append_assoc, length-append}
+-- One more record after the others.
+use Rattle.std.proofs.Common.{◌≡◌, ℕ, suc, ◌+◌, ◌<◌, ◌^◌, List, [], ◌∷◌, ◌++◌, length, drop, map, Option, None, Some, refl, sym, ap, ◌∙◌, arith, inl, inr, append-nil, append_assoc, length-append}
 use Rattle.std.specs.List.{flat_map}
 use Rattle.std.specs.Option.{option_map_or}
 use Rattle.std.specs.Prelude.{All, ◌⊎◌}
 use Rattle.std.proofs.lemmas.Grind.{flat_map-append}
-use Rattle.std.proofs.lemmas.List.{drop-append-le}
+use Rattle.std.proofs.lemmas.List.{drop-append-le, map_push}
 use Rattle.std.proofs.lemmas.List.Elements.{All-append, All-cons, All-head, All-nil, All-tail}
 use Rattle.std.proofs.Math.Seq.{drop-append_seam}
 use Rattle.btf_parts.specs.Growth.{TooMany}
-use Rattle.btf_parts.specs.Layout.{Entered, IsLaidOut, fallback_at, type_at, types_at}
+use Rattle.btf_parts.specs.Layout.{Entered, IsLaidOut, fallback_at, kind_at_place, type_at, types_at}
 use Rattle.btf_parts.proofs.Places.{has_record, length_types_at, within_bytes}
-use Rattle.btf_records.specs.Fields.{fallback_of}
+use Rattle.btf_records.specs.Fields.{fallback_of, kind_of_type}
 use Rattle.btf_encoding.specs.Records.{ReadsBack, ReadsSame, Spells, record_bytes, type_in, with_fallback, without_fallback}
 use Rattle.btf_records.specs.declared.compound.Union.{Union}
 use Rattle.btf_records.specs.declared.compound.Enum64Fallback.{Enum64Fallback}
+use Rattle.btf_records.specs.declared.kind.BtfKind.{BtfKind}
 use Rattle.btf_records.specs.declared.types.BtfType.{BtfType}
 use Rattle.btf_records.specs.declared.types.BtfType.TheVariants as types
 use Rattle.btf_records.specs.declared.words.Endianness.{Endianness}
 
--- a record that is read the same whatever follows it, with something behind it
+-- a record that is read the same whatever follows it, with something after it
 pub reads_same_more : (order : Endianness) (bytes x : List ℕ) → ReadsSame order bytes → ReadsSame order (bytes ++ x)
 reads_same_more order bytes x same = record {
   begins = λ behind. rw append_assoc (same.begins (x ++ behind));
@@ -95,8 +96,8 @@ new_type order bytes fallbacks id t reads entered =
     in
     rw (entered, read) (back t)
 
-pub grown : (order : Endianness) (bytes places : List ℕ) (old new : List (ℕ × Enum64Fallback)) (t : BtfType) → IsLaidOut order bytes old places → ReadsBack order t → Entered old new (length places + 1) (fallback_of t) → types_at order (bytes ++ record_bytes order t) new 1 (places ++ length bytes ∷ []) ≡ types_at order bytes old 1 places ++ t ∷ []
-grown order bytes places old new t laid reads entered =
+pub grown : (order : Endianness) (bytes places : List ℕ) (kinds : List BtfKind) (old new : List (ℕ × Enum64Fallback)) (t : BtfType) → IsLaidOut order bytes old places kinds → ReadsBack order t → Entered old new (length places + 1) (fallback_of t) → types_at order (bytes ++ record_bytes order t) new 1 (places ++ length bytes ∷ []) ≡ types_at order bytes old 1 places ++ t ∷ []
+grown order bytes places kinds old new t laid reads entered =
     let x = record_bytes order t in
     let id : length places + 1 ≡ 1 + length places = omega arith in
     let last : type_at order (bytes ++ x) new (1 + length places) (length bytes) ≡ t = new_type order bytes new (1 + length places) t reads (rw id at entered.here) in
@@ -115,19 +116,58 @@ spelled_more order bytes places t stand reads spelled =
     in
     rw all (reads.follows (types_at order bytes [] 1 places) bytes spelled)
 
-pub grown_tight : (order : Endianness) (bytes places : List ℕ) (old new : List (ℕ × Enum64Fallback)) (t : BtfType) → IsLaidOut order bytes old places → ReadsBack order t → Entered old new (length places + 1) (fallback_of t) → length (bytes ++ record_bytes order t) < 2 ^ 32 → length (places ++ length bytes ∷ []) < 2 ^ 32 → IsLaidOut order (bytes ++ record_bytes order t) new (places ++ length bytes ∷ [])
-grown_tight order bytes places old new t laid reads entered few_bytes few_types =
+-- the kind of a record is that of the record without the enum that it stands for
+kind_without : (t : BtfType) → kind_of_type (without_fallback t) ≡ kind_of_type t
+kind_without types.Unknown = refl
+kind_without (types.Fwd t) = refl
+kind_without (types.Const t) = refl
+kind_without (types.Volatile t) = refl
+kind_without (types.Restrict t) = refl
+kind_without (types.Ptr t) = refl
+kind_without (types.Typedef t) = refl
+kind_without (types.Func t) = refl
+kind_without (types.Int t) = refl
+kind_without (types.Float t) = refl
+kind_without (types.Enum t) = refl
+kind_without (types.Array t) = refl
+kind_without (types.Struct t) = refl
+kind_without (types.Union t) = refl
+kind_without (types.FuncProto t) = refl
+kind_without (types.Var t) = refl
+kind_without (types.DataSec t) = refl
+kind_without (types.DeclTag t) = refl
+kind_without (types.TypeTag t) = refl
+kind_without (types.Enum64 t) = refl
+
+kinds_stay : (order : Endianness) (bytes x places : List ℕ) → All (λ p. ReadsSame order (drop p bytes)) places → map (kind_at_place order (bytes ++ x)) places ≡ map (kind_at_place order bytes) places
+kinds_stay order bytes x [] all = refl
+kinds_stay order bytes x (place ∷ places) all =
+    let same = All-head (λ p. ReadsSame order (drop p bytes)) place places all in
+    let read : type_in order (drop place (bytes ++ x)) ≡ type_in order (drop place bytes) = ap (type_in order) (drop_more order bytes x place same) ∙ same.same x in
+    let here : kind_at_place order (bytes ++ x) place ≡ kind_at_place order bytes place = ap kind_of_type read in
+    rw (here, kinds_stay order bytes x places (All-tail (λ p. ReadsSame order (drop p bytes)) place places all)) refl
+
+kinds_grown : (order : Endianness) (bytes places : List ℕ) (kinds : List BtfKind) (t : BtfType) → All (λ p. ReadsSame order (drop p bytes)) places → ReadsBack order t → kinds ≡ map (kind_at_place order bytes) places → kinds ++ kind_of_type t ∷ [] ≡ map (kind_at_place order (bytes ++ record_bytes order t)) (places ++ length bytes ∷ [])
+kinds_grown order bytes places kinds t stand reads are =
+    let x = record_bytes order t in
+    let read : type_in order (drop (length bytes) (bytes ++ x)) ≡ without_fallback t = ap (type_in order) (drop-append_seam bytes x ∙ sym (append-nil x)) ∙ reads.same [] in
+    let last : kind_at_place order (bytes ++ x) (length bytes) ≡ kind_of_type t = ap kind_of_type read ∙ kind_without t in
+    sym (map_push (kind_at_place order (bytes ++ x)) places (length bytes) ∙ rw (kinds_stay order bytes x places stand, last, sym are) refl)
+
+pub grown_tight : (order : Endianness) (bytes places : List ℕ) (kinds : List BtfKind) (old new : List (ℕ × Enum64Fallback)) (t : BtfType) → IsLaidOut order bytes old places kinds → ReadsBack order t → Entered old new (length places + 1) (fallback_of t) → length (bytes ++ record_bytes order t) < 2 ^ 32 → length (places ++ length bytes ∷ []) < 2 ^ 32 → IsLaidOut order (bytes ++ record_bytes order t) new (places ++ length bytes ∷ []) (kinds ++ kind_of_type t ∷ [])
+grown_tight order bytes places kinds old new t laid reads entered few_bytes few_types =
     let x = record_bytes order t in
     let last : ReadsSame order (drop (length bytes) (bytes ++ x)) = rw (drop-append_seam bytes x) reads.alone in
     let bytes_of : flat_map (record_bytes order) (types_at order bytes old 1 places ++ t ∷ []) ≡ flat_map (record_bytes order) (types_at order bytes old 1 places) ++ x =
     flat_map-append (record_bytes order) (types_at order bytes old 1 places) (t ∷ []) ∙ ap (λ (b : List ℕ). flat_map (record_bytes order) (types_at order bytes old 1 places) ++ b) (append-nil x)
     in
     record {
+      of_kinds = kinds_grown order bytes places kinds t laid.stand reads laid.of_kinds;
       spelled = spelled_more order bytes places t laid.stand reads laid.spelled;
       stand = All-append (λ p. ReadsSame order (drop p (bytes ++ x))) places (length bytes ∷ []) (all_stay order bytes x places laid.stand) (All-cons (λ p. ReadsSame order (drop p (bytes ++ x))) (length bytes) [] last (All-nil (λ p. ReadsSame order (drop p (bytes ++ x)))));
       in_use = λ id past.
           entered.others id (λ e. omega (arith, past, length-append places (length bytes ∷ []))) ∙ laid.in_use id (omega (arith, past, length-append places (length bytes ∷ [])));
-      tight = length-append bytes x ∙ (ap (λ (n : ℕ). n + length x) laid.tight ∙ sym (ap length (ap (flat_map (record_bytes order)) (grown order bytes places old new t laid reads entered) ∙ bytes_of) ∙ length-append (flat_map (record_bytes order) (types_at order bytes old 1 places)) x));
+      tight = length-append bytes x ∙ (ap (λ (n : ℕ). n + length x) laid.tight ∙ sym (ap length (ap (flat_map (record_bytes order)) (grown order bytes places kinds old new t laid reads entered) ∙ bytes_of) ∙ length-append (flat_map (record_bytes order) (types_at order bytes old 1 places)) x));
       few_bytes = few_bytes;
       few_types = few_types;
     }
@@ -137,6 +177,6 @@ len_behind order types t =
     ap length (flat_map-append (record_bytes order) types (t ∷ []) ∙ ap (λ (b : List ℕ). flat_map (record_bytes order) types ++ b) (append-nil (record_bytes order t))) ∙ length-append (flat_map (record_bytes order) types) (record_bytes order t)
 
 -- where the bytes or the places would be too many, the records' bytes or the records would be
-pub too_many : (order : Endianness) (bytes places : List ℕ) (fallbacks : List (ℕ × Enum64Fallback)) (t : BtfType) → IsLaidOut order bytes fallbacks places → TooMany (length bytes + length (record_bytes order t)) ⊎ TooMany (length places + 1) → TooMany (length (flat_map (record_bytes order) (types_at order bytes fallbacks 1 places ++ t ∷ []))) ⊎ TooMany (length (types_at order bytes fallbacks 1 places) + 1)
-too_many order bytes places fallbacks t laid (inl b) = inl (omega (arith, b, len_behind order (types_at order bytes fallbacks 1 places) t, laid.tight))
-too_many order bytes places fallbacks t laid (inr n) = inr (omega (arith, n, length_types_at order bytes fallbacks 1 places))
+pub too_many : (order : Endianness) (bytes places : List ℕ) (kinds : List BtfKind) (fallbacks : List (ℕ × Enum64Fallback)) (t : BtfType) → IsLaidOut order bytes fallbacks places kinds → TooMany (length bytes + length (record_bytes order t)) ⊎ TooMany (length places + 1) → TooMany (length (flat_map (record_bytes order) (types_at order bytes fallbacks 1 places ++ t ∷ []))) ⊎ TooMany (length (types_at order bytes fallbacks 1 places) + 1)
+too_many order bytes places kinds fallbacks t laid (inl b) = inl (omega (arith, b, len_behind order (types_at order bytes fallbacks 1 places) t, laid.tight))
+too_many order bytes places kinds fallbacks t laid (inr n) = inr (omega (arith, n, length_types_at order bytes fallbacks 1 places))

@@ -20,7 +20,7 @@ length_words : (order : Endianness) (ws : List ℕ) → length (words_bytes orde
 length_words order [] = refl
 length_words order (w ∷ ws) = omega (arith, length-append (word_bytes order w) (words_bytes order ws), length_word order w, length_words order ws)
 
--- items of so many words
+-- items of that many words
 length_items : {X : Type 0} (item : List ℕ → X) (words : X → List ℕ) (size each n : ℕ) (bytes : List ℕ) → ((x : X) → length (words x) ≡ each) → length (flat_map words (items_in item size n bytes)) ≡ each * n
 length_items item words size each zero bytes same = omega arith
 length_items item words size each (suc n) bytes same =

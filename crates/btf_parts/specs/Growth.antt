@@ -5,13 +5,14 @@ use Rattle.btf_encoding.specs.Records.{record_bytes}
 use Rattle.btf_records.specs.declared.types.BtfType.{BtfType}
 use Rattle.btf_records.specs.declared.words.Endianness.{Endianness}
 
--- so many bytes, or types, are more than 32 bits can count
+-- that many bytes, or types, are more than 32 bits can count
 abbrev pub TooMany : ℕ → Type 0
 TooMany n = 2 ^ 32 ≤ n
 
--- so many types, or so many bytes of them
+-- that many types, or that many bytes of them
 abbrev pub AreTooMany : Endianness → List BtfType → Type 0
-AreTooMany order types = TooMany (length (flat_map (record_bytes order) types)) ⊎ TooMany (length types)
+AreTooMany order types =
+    TooMany (length (flat_map (record_bytes order) types)) ⊎ TooMany (length types)
 
 pub record AreFew (order : Endianness) (types : List BtfType) : Type 0 where
   pub bytes : length (flat_map (record_bytes order) types) < 2 ^ 32

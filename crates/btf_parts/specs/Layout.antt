@@ -1,13 +1,15 @@
--- How the records of a table lie in memory: that of each id at its place in the type bytes, and beside
--- them the enums that unions stand for, which have no bytes.
-use Rattle.std.specs.Prelude.{◌≡◌, ◌≢◌, ℕ, suc, ◌<◌, ◌^◌, List, [], ◌∷◌, length, drop, All, Option, None, Some}
+-- How the records of a table lie in memory: that of each id at its place in the type bytes, and
+-- beside them the enums that unions stand for, which have no bytes.
+use Rattle.std.specs.Prelude.{◌≡◌, ◌≢◌, ℕ, suc, ◌<◌, ◌^◌, List, [], ◌∷◌, length, drop, map, All, Option, None, Some}
 use Rattle.std.specs.List.{flat_map}
 use Rattle.std.specs.Map.{lookup}
 use Rattle.std.specs.BTreeMap.{is_at}
 use Rattle.std.specs.Option.{option_map_or}
 use Rattle.std.specs.Ordering.{nat_cmp}
 use Rattle.btf_encoding.specs.Records.{ReadsSame, Spells, record_bytes, type_in, with_fallback}
+use Rattle.btf_records.specs.Fields.{kind_of_type}
 use Rattle.btf_records.specs.declared.compound.Enum64Fallback.{Enum64Fallback}
+use Rattle.btf_records.specs.declared.kind.BtfKind.{BtfKind}
 use Rattle.btf_records.specs.declared.types.BtfType.{BtfType}
 use Rattle.btf_records.specs.declared.words.Endianness.{Endianness}
 
@@ -22,20 +24,34 @@ fallback_at fallbacks id = lookup (is_at (nat_cmp id)) fallbacks
 
 -- the record of an id
 abbrev pub type_at : Endianness → List ℕ → List (ℕ × Enum64Fallback) → ℕ → ℕ → BtfType
-type_at order bytes fallbacks id place = option_map_or (λ fallback. with_fallback (Some fallback) (type_in order (drop place bytes))) (fallback_at fallbacks id) (type_in order (drop place bytes))
+type_at order bytes fallbacks id place =
+    option_map_or (λ fallback. with_fallback (Some fallback) (type_in order (drop place bytes)))
+    (fallback_at fallbacks id) (type_in order (drop place bytes))
 
 -- the records at places, of ids from this one on
-unfoldable pub types_at : Endianness → List ℕ → List (ℕ × Enum64Fallback) → ℕ → List ℕ → List BtfType
+unfoldable pub types_at : Endianness
+    → List ℕ
+    → List (ℕ × Enum64Fallback)
+    → ℕ
+    → List ℕ
+    → List BtfType
 types_at order bytes fallbacks id [] = []
-types_at order bytes fallbacks id (place ∷ places) = type_at order bytes fallbacks id place ∷ types_at order bytes fallbacks (suc id) places
+types_at order bytes fallbacks id (place ∷ places) =
+    type_at order bytes fallbacks id place ∷ types_at order bytes fallbacks (suc id) places
 
--- a record stands at each place, no id past the last stands for an enum, and the bytes are those records,
--- one behind the other, and as many as they are written with
-pub record IsLaidOut (order : Endianness) (bytes : List ℕ) (fallbacks : List (ℕ × Enum64Fallback)) (places : List ℕ) : Type 0 where
+-- the kind of the record at a place
+abbrev pub kind_at_place : Endianness → List ℕ → ℕ → BtfKind
+kind_at_place order bytes place = kind_of_type (type_in order (drop place bytes))
+
+-- a record stands at each place and has this kind, no id past the last stands for an enum, and the
+-- bytes are those records, one after the other, and as many as they are written with
+pub record IsLaidOut (order : Endianness) (bytes : List ℕ) (fallbacks : List (ℕ × Enum64Fallback)) (places : List ℕ) (kinds : List BtfKind) : Type 0 where
   pub stand : All (λ place. ReadsSame order (drop place bytes)) places
+  pub of_kinds : kinds ≡ map (kind_at_place order bytes) places
   pub in_use : (id : ℕ) → length places < id → fallback_at fallbacks id ≡ None
   pub spelled : Spells order (types_at order bytes [] 1 places) bytes
-  pub tight : length bytes ≡ length (flat_map (record_bytes order) (types_at order bytes fallbacks 1 places))
+  pub tight : length bytes
+      ≡ length (flat_map (record_bytes order) (types_at order bytes fallbacks 1 places))
   pub few_bytes : length bytes < 2 ^ 32
   pub few_types : length places < 2 ^ 32
 

@@ -30,7 +30,7 @@ impl<'a> Model for ByteList<'a> {
     ghost view = { λ b. body_bytes b.body };
 }
 
-/// Writes a text and a NUL behind what is there.
+/// Writes a text and a NUL after what is there.
 fn push_text(bytes: &mut Vec<u8>, text: &str) -> Result<(), AllocError>
     ensures ok { OnOk result (bytes.new.items ≡ bytes.old.items ++ text.now ++ 0 ∷ []) }
     ensures err { OnErr result (bytes.new.items ≡ bytes.old.items) }
@@ -78,7 +78,7 @@ impl<'a> ByteList<'a> {
         self.as_slice().len()
     }
 
-    /// Leaves the first so many bytes.
+    /// Leaves that many bytes, the first ones.
     pub fn truncate(&mut self, len: usize)
         ensures { self.new ≡ take len self.old }
     {
@@ -92,7 +92,7 @@ impl<'a> ByteList<'a> {
         }
     }
 
-    /// Writes a record's bytes behind what is there.
+    /// Writes a record's bytes after what is there.
     pub fn push_record(
         &mut self,
         alloc: Global,
@@ -114,7 +114,7 @@ impl<'a> ByteList<'a> {
         }
     }
 
-    /// Writes a text and a NUL behind what is there.
+    /// Writes a text and a NUL after what is there.
     pub fn push_text(&mut self, alloc: Global, text: &str) -> Result<(), AllocError>
         ensures ok { OnOk result (self.new ≡ self.old ++ text.now ++ 0 ∷ []) }
         ensures err { OnErr result (self.new ≡ self.old) }

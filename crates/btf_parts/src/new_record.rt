@@ -3,10 +3,10 @@
 ghost use Rattle.std.specs.Prelude.{◌≡◌, ◌++◌, IfOk, OnErr, OnOk};
 ghost use Rattle.btf_encoding.specs.Records.{ReadsBack, record_bytes};
 ghost use Rattle.btf_parts.specs.NewRecords.{record_of};
-ghost use Rattle.btf_records.specs.Fields.{fallback_of};
+ghost use Rattle.btf_records.specs.Fields.{fallback_of, kind_of_type};
 
 use btf_encoding::{TypeRef, push_type};
-use btf_records::{BtfType, Endianness, Enum64Fallback, Union};
+use btf_records::{BtfKind, BtfType, Endianness, Enum64Fallback, Union};
 use std::alloc::AllocError;
 
 /// A record by itself, or one that is copied from where it lies.
@@ -38,9 +38,20 @@ fn copied_fallback(t: &TypeRef<'_>) -> Result<Option<Enum64Fallback>, AllocError
 }
 
 impl<'t> NewRecord<'t> {
-    /// Writes its bytes behind what is there.
+    /// Its kind.
+    pub fn kind(&self) -> BtfKind
+        ensures { result ≡ kind_of_type (record_of self.now) }
+    {
+        match self {
+            NewRecord::Own(t) => t.kind(),
+            NewRecord::Copied(t) => t.kind(),
+        }
+    }
+
+    /// Writes its bytes after what is there.
     pub fn push_to(&self, out: &mut Vec<u8>, order: Endianness) -> Result<(), AllocError>
-        ensures ok { OnOk result (out.new.items ≡ out.old.items ++ record_bytes order (record_of self.now)) }
+        ensures ok { OnOk result
+            (out.new.items ≡ out.old.items ++ record_bytes order (record_of self.now)) }
         ensures read_back { OnOk result (ReadsBack order (record_of self.now)) }
         ensures err { OnErr result (out.new.items ≡ out.old.items) }
     {

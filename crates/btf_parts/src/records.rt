@@ -3,28 +3,30 @@
 ghost use Rattle.std.specs.Prelude.{◌≡◌, ◌≢◌, ◌<◌, ◌≤◌, ◌+◌, ◌^◌, ◌∷◌, ◌++◌, ◌⊎◌, [], All, IfErr, IfOk, IfSome, OnOk, OnErr, None, Some, drop, slice_get, length, map, take};
 ghost use Rattle.std.specs.List.{flat_map};
 ghost use Rattle.std.specs.Option.{option_copied, option_map_or};
-ghost use Rattle.btf_records.specs.Fields.{fallback_of};
+ghost use Rattle.btf_records.specs.Fields.{fallback_of, kind_of_type};
 ghost use Rattle.btf_encoding.specs.Records.{HasRecord, ReadsBack, ReadsSame, Spells, TypesFault, record_bytes, type_in, with_fallback, without_fallback};
 ghost use Rattle.btf_records.specs.declared.error.BtfError.TheVariants.{InvalidTypeInfo, OutOfMemory};
 ghost use Rattle.btf_parts.specs.Growth.{TooMany};
 ghost use Rattle.btf_parts.specs.NewRecords.{record_of};
-ghost use Rattle.btf_parts.specs.Layout.{Entered, fallback_at, types_at};
+ghost use Rattle.btf_parts.specs.Layout.{Entered, fallback_at, kind_at_place, types_at};
 
 use crate::byte_list::ByteList;
 use crate::new_record::NewRecord;
 use btf_encoding::{TypeRef, behind, push_types, record_len};
-use btf_records::{BtfError, BtfType, Endianness, Enum64Fallback};
+use btf_records::{BtfError, BtfKind, BtfType, Endianness, Enum64Fallback};
 use std::alloc::{AllocError, Global};
 use std::collections::BTreeMap;
 use std::marker::Model;
 
-/// The records of the ids from 1 on, one behind the other.
+/// The records of the ids from 1 on, one after the other.
 #[derive(Debug, Drop)]
 pub struct TypeRecords<'a> {
     order: Endianness,
     bytes: ByteList<'a>,
     /// Where the record of each id begins.
     places: Vec<u32>,
+    /// The kind of each.
+    kinds: Vec<BtfKind>,
     /// The enums that unions stand for, by id.
     fallbacks: BTreeMap<u32, Enum64Fallback>,
 }
@@ -34,9 +36,13 @@ impl<'a> Model for TypeRecords<'a> {
 
     ghost Value = { RecordList };
 
-    ghost view = { λ t. record { order = t.order; types = types_at t.order t.bytes t.fallbacks.entries 1 t.places.items } };
+    ghost view = { λ t.
+        record {
+          order = t.order;
+          types = types_at t.order t.bytes t.fallbacks.entries 1 t.places.items;
+        } };
 
-    ghost invariant = { λ t. IsLaidOut t.order t.bytes t.fallbacks.entries t.places.items };
+    ghost invariant = { λ t. IsLaidOut t.order t.bytes t.fallbacks.entries t.places.items t.kinds.items };
 }
 
 /// The enum that the union of an id stands for.
@@ -56,7 +62,8 @@ fn enter_fallback(
     t: NewRecord<'_>,
 ) -> Result<(), AllocError>
     requires { fallback_at fallbacks.old.entries id ≡ None }
-    ensures ok { OnOk result (Entered fallbacks.old.entries fallbacks.new.entries id (fallback_of (record_of t.entry))) }
+    ensures ok { OnOk result
+        (Entered fallbacks.old.entries fallbacks.new.entries id (fallback_of (record_of t.entry))) }
     ensures err { OnErr result (fallbacks.new.entries ≡ fallbacks.old.entries) }
 {
     let Some(fallback) = t.into_fallback()? else {
@@ -66,10 +73,11 @@ fn enter_fallback(
     Ok(())
 }
 
-/// Writes a record behind the others, as far as memory reaches.
+/// Writes a record after the others, as far as memory reaches.
 fn append(
     bytes: &mut ByteList<'_>,
     places: &mut Vec<u32>,
+    kinds: &mut Vec<BtfKind>,
     fallbacks: &mut BTreeMap<u32, Enum64Fallback>,
     order: Endianness,
     t: NewRecord<'_>,
@@ -78,13 +86,24 @@ fn append(
     requires free { fallback_at fallbacks.old.entries (length places.old.items + 1) ≡ None }
     ensures bytes { OnOk result (bytes.new ≡ bytes.old ++ record_bytes order (record_of t.entry)) }
     ensures places { OnOk result (places.new.items ≡ places.old.items ++ length bytes.old ∷ []) }
-    ensures fallbacks { OnOk result (Entered fallbacks.old.entries fallbacks.new.entries (length places.old.items + 1) (fallback_of (record_of t.entry))) }
+    ensures kinds { OnOk result
+        (kinds.new.items ≡ kinds.old.items ++ kind_of_type (record_of t.entry) ∷ []) }
+    ensures fallbacks { OnOk result
+        (Entered fallbacks.old.entries fallbacks.new.entries (length places.old.items + 1)
+        (fallback_of (record_of t.entry))) }
     ensures read_back { OnOk result (ReadsBack order (record_of t.entry)) }
     ensures few_bytes { OnOk result (length bytes.new < 2 ^ 32) }
     ensures few_types { OnOk result (length places.new.items < 2 ^ 32) }
-    ensures refused { IfErr result (λ e. e ≢ OutOfMemory → (e ≡ InvalidTypeInfo) × (TooMany (length bytes.old + length (record_bytes order (record_of t.entry))) ⊎ TooMany (length places.old.items + 1))) }
+    ensures refused { IfErr result (λ e.
+        e ≢ OutOfMemory
+        → (e ≡ InvalidTypeInfo)
+        × (TooMany (length bytes.old + length (record_bytes order (record_of t.entry)))
+        ⊎ TooMany (length places.old.items + 1))) }
     ensures old_bytes { OnErr result (take (length bytes.old) bytes.new ≡ bytes.old) }
-    ensures old_places { OnErr result (take (length places.old.items) places.new.items ≡ places.old.items) }
+    ensures old_places { OnErr result
+        (take (length places.old.items) places.new.items ≡ places.old.items) }
+    ensures old_kinds { OnErr result
+        (take (length kinds.old.items) kinds.new.items ≡ kinds.old.items) }
     ensures old_fallbacks { OnErr result (fallbacks.new.entries ≡ fallbacks.old.entries) }
 {
     if places.len() >= MOST {
@@ -96,6 +115,7 @@ fn append(
         return Err(BtfError::InvalidTypeInfo);
     }
     places.push(place)?;
+    kinds.push(t.kind())?;
     enter_fallback(fallbacks, places.len() as u32, t)?;
     Ok(())
 }
@@ -119,7 +139,9 @@ fn record_at(order: Endianness, bytes: &[u8], place: u32) -> TypeRef<'_>
 
 /// The union that stands for this enum, where there is one.
 fn with_fallback<'a>(t: TypeRef<'a>, fallback: Option<&'a Enum64Fallback>) -> TypeRef<'a>
-    ensures { result ≡ option_map_or (λ f. with_fallback (Some f) t.entry) (option_copied fallback.entry) t.entry }
+    ensures { result
+        ≡ option_map_or (λ f. with_fallback (Some f) t.entry) (option_copied fallback.entry)
+        t.entry }
 {
     match fallback {
         Some(fallback) => t.with_fallback(fallback),
@@ -127,31 +149,54 @@ fn with_fallback<'a>(t: TypeRef<'a>, fallback: Option<&'a Enum64Fallback>) -> Ty
     }
 }
 
+/// The kind of the record that the bytes begin with.
+fn kind_in(order: Endianness, bytes: &[u8]) -> BtfKind
+    requires { HasRecord order bytes.now }
+    ensures { result ≡ kind_of_type (type_in order bytes.now) }
+{
+    TypeRef::new(order, bytes).kind()
+}
+
 /// The least bytes of a record.
 const LEAST_LEN: usize = 12;
 
-/// Where the records begin that the bytes are.
+/// Where records begin, and their kinds.
+#[derive(Debug, Drop)]
+struct RecordIndex {
+    places: Vec<u32>,
+    kinds: Vec<BtfKind>,
+}
+
+/// Where the records begin that the bytes are, and their kinds.
 #[tactic(auto, using(crate::proofs::Reading::no_places, crate::proofs::Reading::one_more_place, crate::proofs::Reading::fault_behind, crate::proofs::Reading::all_places))]
-fn places(alloc: Global, order: Endianness, bytes: &[u8]) -> Result<Vec<u32>, BtfError>
+fn index_of(alloc: Global, order: Endianness, bytes: &[u8]) -> Result<RecordIndex, BtfError>
     requires { length bytes.now < 2 ^ 32 }
-    ensures spelled { IfOk result (λ places. Spells order (types_at order bytes.now [] 1 places.items) bytes.now) }
-    ensures stand { IfOk result (λ places. All (λ place. ReadsSame order (drop place bytes.now)) places.items) }
+    ensures spelled { IfOk result (λ index.
+        Spells order (types_at order bytes.now [] 1 index.places.items) bytes.now) }
+    ensures stand { IfOk result (λ index.
+        All (λ place. ReadsSame order (drop place bytes.now)) index.places.items) }
+    ensures kinds { IfOk result (λ index.
+        index.kinds.items ≡ map (kind_at_place order bytes.now) index.places.items) }
     ensures refused { IfErr result (λ e. e ≢ OutOfMemory → TypesFault order bytes.now e) }
 {
-    let mut places = Vec::with_capacity(alloc, bytes.len() / LEAST_LEN)?;
+    let most = bytes.len() / LEAST_LEN;
+    let mut places = Vec::with_capacity(alloc, most)?;
+    let mut kinds = Vec::with_capacity(alloc, most)?;
     let mut rest = bytes;
     while !rest.is_empty() {
         let len = record_len(order, rest)?;
         places.push((bytes.len() - rest.len()) as u32)?;
+        kinds.push(kind_in(order, rest))?;
         rest = behind(rest, len);
     }
-    Ok(places)
+    Ok(RecordIndex { places, kinds })
 }
 
 impl<'a> TypeRecords<'a> {
     /// The records that the bytes are.
     ///
-    /// `InvalidTypeInfo` where one of them is cut off, `InvalidTypeKind` where its kind is above 19.
+    /// `InvalidTypeInfo` where one of them is cut off, `InvalidTypeKind` where its kind is above
+    /// 19.
     #[tactic(auto, using(crate::proofs::Reading::laid_out))]
     pub fn read(
         alloc: Global,
@@ -163,11 +208,12 @@ impl<'a> TypeRecords<'a> {
         ensures spelled { IfOk result (λ r. Spells order r.types bytes.now) }
         ensures refused { IfErr result (λ e. e ≢ OutOfMemory → TypesFault order bytes.now e) }
     {
-        let places = places(alloc, order, bytes)?;
+        let RecordIndex { places, kinds } = index_of(alloc, order, bytes)?;
         Ok(TypeRecords {
             order,
             bytes: ByteList::borrowed(bytes),
             places,
+            kinds,
             fallbacks: BTreeMap::new(alloc),
         })
     }
@@ -181,6 +227,7 @@ impl<'a> TypeRecords<'a> {
             order,
             bytes: ByteList::owned(Vec::new(alloc)),
             places: Vec::new(alloc),
+            kinds: Vec::new(alloc),
             fallbacks: BTreeMap::new(alloc),
         }
     }
@@ -205,6 +252,14 @@ impl<'a> TypeRecords<'a> {
         ensures { result ≡ self.now.order }
     {
         self.order
+    }
+
+    /// The kinds of the records, by index.
+    #[tactic(auto, using(crate::proofs::RecordKinds::are_kinds))]
+    pub fn kinds(&self) -> &[BtfKind]
+        ensures { result.now ≡ map kind_of_type self.now.types }
+    {
+        self.kinds.as_slice()
     }
 
     /// The record at an index, which is one less than its id.
@@ -242,20 +297,29 @@ impl<'a> TypeRecords<'a> {
         self.bytes.len()
     }
 
-    /// Adds a record behind the others.
+    /// Adds a record after the others.
     fn push_record(&mut self, t: NewRecord<'_>) -> Result<(), BtfError>
         ensures order { OnOk result (self.new.order ≡ self.old.order) }
         ensures types { OnOk result (self.new.types ≡ self.old.types ++ record_of t.entry ∷ []) }
-        ensures refused { IfErr result (λ e. e ≢ OutOfMemory → (e ≡ InvalidTypeInfo) × (TooMany (length (flat_map (record_bytes self.old.order) (self.old.types ++ record_of t.entry ∷ []))) ⊎ TooMany (length self.old.types + 1))) }
-        ensures few_bytes { OnOk result (length (flat_map (record_bytes self.new.order) self.new.types) < 2 ^ 32) }
+        ensures refused { IfErr result (λ e.
+            e ≢ OutOfMemory
+            → (e ≡ InvalidTypeInfo)
+            × (TooMany
+            (length
+            (flat_map (record_bytes self.old.order) (self.old.types ++ record_of t.entry ∷ [])))
+            ⊎ TooMany (length self.old.types + 1))) }
+        ensures few_bytes { OnOk result
+            (length (flat_map (record_bytes self.new.order) self.new.types) < 2 ^ 32) }
         ensures few_types { OnOk result (length self.new.types < 2 ^ 32) }
         ensures err { OnErr result (self.new ≡ self.old) }
     {
         let len = self.bytes.len();
         let count = self.places.len();
+        let kind_count = self.kinds.len();
         match append(
             &mut self.bytes,
             &mut self.places,
+            &mut self.kinds,
             &mut self.fallbacks,
             self.order,
             t,
@@ -264,45 +328,61 @@ impl<'a> TypeRecords<'a> {
             Err(error) => {
                 self.bytes.truncate(len);
                 self.places.truncate(count);
+                self.kinds.truncate(kind_count);
                 Err(error)
             }
         }
     }
 
-    /// Adds a record behind the others.
+    /// Adds a record after the others.
     ///
     /// `InvalidTypeInfo` where they would be more than 2^32 - 1, or more than 2^32 - 1 bytes.
     pub fn push(&mut self, t: BtfType) -> Result<(), BtfError>
         ensures order { OnOk result (self.new.order ≡ self.old.order) }
         ensures types { OnOk result (self.new.types ≡ self.old.types ++ t ∷ []) }
-        ensures refused { IfErr result (λ e. e ≢ OutOfMemory → (e ≡ InvalidTypeInfo) × (TooMany (length (flat_map (record_bytes self.old.order) (self.old.types ++ t ∷ []))) ⊎ TooMany (length self.old.types + 1))) }
-        ensures few_bytes { OnOk result (length (flat_map (record_bytes self.new.order) self.new.types) < 2 ^ 32) }
+        ensures refused { IfErr result (λ e.
+            e ≢ OutOfMemory
+            → (e ≡ InvalidTypeInfo)
+            × (TooMany (length (flat_map (record_bytes self.old.order) (self.old.types ++ t ∷ [])))
+            ⊎ TooMany (length self.old.types + 1))) }
+        ensures few_bytes { OnOk result
+            (length (flat_map (record_bytes self.new.order) self.new.types) < 2 ^ 32) }
         ensures few_types { OnOk result (length self.new.types < 2 ^ 32) }
         ensures err { OnErr result (self.new ≡ self.old) }
     {
         self.push_record(NewRecord::Own(t))
     }
 
-    /// Adds the copy of a record behind the others. Where it would be written as it lies there its
+    /// Adds the copy of a record after the others. Where it would be written as it lies there its
     /// bytes are copied.
     ///
     /// `InvalidTypeInfo` as for `push`.
     pub fn push_copy(&mut self, t: &TypeRef<'_>) -> Result<(), BtfError>
         ensures order { OnOk result (self.new.order ≡ self.old.order) }
         ensures types { OnOk result (self.new.types ≡ self.old.types ++ t.now ∷ []) }
-        ensures refused { IfErr result (λ e. e ≢ OutOfMemory → (e ≡ InvalidTypeInfo) × (TooMany (length (flat_map (record_bytes self.old.order) (self.old.types ++ t.now ∷ []))) ⊎ TooMany (length self.old.types + 1))) }
-        ensures few_bytes { OnOk result (length (flat_map (record_bytes self.new.order) self.new.types) < 2 ^ 32) }
+        ensures refused { IfErr result (λ e.
+            e ≢ OutOfMemory
+            → (e ≡ InvalidTypeInfo)
+            × (TooMany
+            (length (flat_map (record_bytes self.old.order) (self.old.types ++ t.now ∷ [])))
+            ⊎ TooMany (length self.old.types + 1))) }
+        ensures few_bytes { OnOk result
+            (length (flat_map (record_bytes self.new.order) self.new.types) < 2 ^ 32) }
         ensures few_types { OnOk result (length self.new.types < 2 ^ 32) }
         ensures err { OnErr result (self.new ≡ self.old) }
     {
         self.push_record(NewRecord::Copied(t))
     }
 
-    /// Writes the bytes of the records behind what is there.
+    /// Writes the bytes of the records after what is there.
     #[tactic(auto, using(crate::proofs::Writing::are_records, crate::proofs::Writing::all_written, crate::proofs::Writing::all_spelled))]
     pub fn write(&self, out: &mut Vec<u8>) -> Result<(), AllocError>
-        ensures written { OnOk result (out.new.items ≡ out.old.items ++ flat_map (record_bytes self.now.order) self.now.types) }
-        ensures spelled { OnOk result (Spells self.now.order (map without_fallback self.now.types) (flat_map (record_bytes self.now.order) self.now.types)) }
+        ensures written { OnOk result
+            (out.new.items
+            ≡ out.old.items ++ flat_map (record_bytes self.now.order) self.now.types) }
+        ensures spelled { OnOk result
+            (Spells self.now.order (map without_fallback self.now.types)
+            (flat_map (record_bytes self.now.order) self.now.types)) }
     {
         push_types(out, self.order, self.bytes.as_slice())
     }
@@ -315,6 +395,7 @@ impl<'a> TypeRecords<'a> {
             order: self.order,
             bytes: self.bytes.try_clone()?,
             places: self.places.clone()?,
+            kinds: self.kinds.clone()?,
             fallbacks: self.fallbacks.clone()?,
         })
     }

@@ -10,8 +10,8 @@ use std::alloc::{AllocError, Global};
 use std::marker::Model;
 use string_table::LongTexts;
 
-/// The strings of a table: its texts by offset, each ended by a NUL. The bytes are borrowed from the
-/// section until some are added, and a text is found without a look at more than 256 bytes.
+/// The strings of a table: its texts by offset, each ended by a NUL. The bytes are borrowed from
+/// the section until some are added, and a text is found without a look at more than 256 bytes.
 #[derive(Debug, Drop)]
 pub struct Strings<'a> {
     bytes: ByteList<'a>,
@@ -29,7 +29,7 @@ impl<'a> Model for Strings<'a> {
     ghost invariant = { λ s. AreLongTextsOf s.bytes s.long_texts };
 }
 
-/// Enters the long texts behind the first so many bytes. A text that isn't entered is looked at
+/// Enters the long texts after the first `len` bytes. A text that isn't entered is looked at
 /// again each time it is read.
 fn enter_long_texts(long_texts: &mut LongTexts, bytes: &ByteList<'_>, len: usize)
     requires within { len ≤ length bytes.now }
@@ -79,7 +79,7 @@ impl<'a> Strings<'a> {
         self.long_texts.text_at(self.bytes.as_slice(), offset)
     }
 
-    /// Writes a text and a NUL behind the others.
+    /// Writes a text and a NUL after the others.
     pub fn push(&mut self, alloc: Global, text: &str) -> Result<(), AllocError>
         ensures ok { OnOk result (self.new ≡ self.old ++ text.now ++ 0 ∷ []) }
         ensures err { OnErr result (self.new ≡ self.old) }
@@ -90,7 +90,7 @@ impl<'a> Strings<'a> {
         Ok(())
     }
 
-    /// These strings with more behind them; without any, bytes that are borrowed stay so.
+    /// These strings with more after them; without any, bytes that are borrowed stay so.
     pub fn with_texts(&self, alloc: Global, texts: &[u8]) -> Result<Strings<'a>, AllocError>
         ensures { IfOk result (λ strings. strings ≡ self.now ++ texts.now) }
     {

@@ -14,7 +14,7 @@ pub struct Types<'a> {
     records: &'a TypeRecords<'a>,
     /// The id of the next record.
     next: usize,
-    /// The id behind the last.
+    /// The id after the last.
     end: usize,
 }
 

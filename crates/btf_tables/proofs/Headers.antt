@@ -13,7 +13,7 @@ use Rattle.btf_records.specs.Words.{half_at, half_bytes, word_at, word_bytes}
 use Rattle.btf_records.specs.declared.words.Endianness.{Endianness}
 use Rattle.btf_records.specs.declared.words.Endianness.TheVariants.{Little, Big}
 
--- a header, and what is behind it
+-- a header, and what is after it
 abbrev pub headed : Endianness → Header → List ℕ → List ℕ
 headed order h rest = half_bytes order h.magic ++ (h.version ∷ h.flags ∷ (word_bytes order 24 ++ (word_bytes order 0 ++ (word_bytes order h.types_len ++ (word_bytes order h.types_len ++ (word_bytes order h.strings_len ++ rest))))))
 

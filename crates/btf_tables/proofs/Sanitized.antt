@@ -26,7 +26,7 @@ pub passed_on : {T : Type 0} (result : Result T BtfError) (e : BtfError) (P : Bt
 passed_on (Ok value) e P h p = tt
 passed_on (Err f) e P h p = subst P (sym h) p
 
--- the texts of a table stay behind which more are written, and so they do once more
+-- the texts of a table stay where more are written after them, and so they do once more
 pub texts_behind : (old new : Table) (more : List ℕ) → new.strings ≡ old.strings ++ more → TextsStay old new
 texts_behind old new more same = record { stay = λ offset text e. rw same (texts_stay old.strings more offset text e) }
 

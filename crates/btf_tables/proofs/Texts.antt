@@ -1,4 +1,4 @@
--- The texts of strings behind which more is written.
+-- The texts of strings after which more is written.
 use Rattle.std.proofs.Common.{◌≡◌, ◌≢◌, ℕ, zero, suc, ◌+◌, ◌<◌, ◌≤◌, Bool, true, false, cond, List, [], ◌∷◌, ◌++◌, length, take, drop, None, Some, refl, ap, ◌∙◌, arith, append_assoc, length-append, nat_lt, nat_eq, not, inl, inr}
 use Rattle.std.specs.Prelude.{All, ◌==◌, option_and_then, ◌⊎◌}
 use Rattle.std.specs.List.{position_or_len}
@@ -35,7 +35,7 @@ text_before text more all =
     let within : nat_lt (length text) (length (text ++ 0 ∷ more)) ≡ true = grind (arith, nat_tests, length-append text (0 ∷ more)) in
     rw (at, within) (ap (λ (t : List ℕ). Some t) (take-append_seam text (0 ∷ more)))
 
--- the text that is written behind the strings
+-- the text that is written after the strings
 pub added_text : (strings text : List ℕ) → All (λ b. b ≢ 0) text → is_utf8 text ≡ true → text_at ((strings ++ text) ++ 0 ∷ []) (length strings) ≡ Some text
 unfolding text_at
 added_text strings text all utf8 =

@@ -12,32 +12,55 @@ use Rattle.btf_records.specs.declared.types.BtfType.{BtfType}
 
 -- the name of a type, where that can be read
 abbrev pub name_of : Table → ℕ → Option (List ℕ)
-name_of table id = option_and_then (λ t. text_at table.strings (name_offset_of t)) (type_by_id table id)
+name_of table id =
+    option_and_then (λ t. text_at table.strings (name_offset_of t)) (type_by_id table id)
 
 -- the ids that are reached have the same records in both tables, and lead to reached ids alone
 pub record AgreeOn (leads_to : BtfType → List ℕ) (reached : ℕ → Bool) (one other : Table) : Type 0 where
   pub same : (id : ℕ) → reached id ≡ true → type_by_id other id ≡ type_by_id one id
-  pub closed : (id : ℕ) → reached id ≡ true → IfSome (type_by_id one id) (λ t. All (λ next. reached next ≡ true) (leads_to t))
+  pub closed : (id : ℕ)
+      → reached id ≡ true
+      → IfSome (type_by_id one id) (λ t. All (λ next. reached next ≡ true) (leads_to t))
 
 -- their names are the same too
 pub record AgreeOnNames (reached : ℕ → Bool) (one other : Table) : Type 0 where
-  pub same : (id : ℕ) → reached id ≡ true → IfSome (type_by_id one id) (λ t. text_at other.strings (name_offset_of t) ≡ text_at one.strings (name_offset_of t))
+  pub same : (id : ℕ)
+      → reached id ≡ true
+      → IfSome (type_by_id one id) (λ t.
+      text_at other.strings (name_offset_of t) ≡ text_at one.strings (name_offset_of t))
 
 -- an answer on an id rests on the ids that are reached from it
 pub record RestsOn {A : Type 0} (leads_to : BtfType → List ℕ) (table : Table) (id : ℕ) (ask : Table → A) : Type 0 where
-  pub alike : (reached : ℕ → Bool) (other : Table) → AgreeOn leads_to reached table other → reached id ≡ true → ask other ≡ ask table
+  pub alike : (reached : ℕ → Bool) (other : Table)
+      → AgreeOn leads_to reached table other
+      → reached id ≡ true
+      → ask other ≡ ask table
 
 -- an id is reached wherever another is
 pub record IsReached (leads_to : BtfType → List ℕ) (table : Table) (id end : ℕ) : Type 0 where
-  pub reached : (reached : ℕ → Bool) (other : Table) → AgreeOn leads_to reached table other → reached id ≡ true → reached end ≡ true
+  pub reached : (reached : ℕ → Bool) (other : Table)
+      → AgreeOn leads_to reached table other
+      → reached id ≡ true
+      → reached end ≡ true
 
 -- the same of an answer on ids of two tables
 pub record RestsOnBoth {A : Type 0} (leads_to : BtfType → List ℕ) (local : Table) (l : ℕ) (target : Table) (r : ℕ) (ask : Table → Table → A) : Type 0 where
-  pub alike : (reached_left reached_right : ℕ → Bool) (one other : Table) → AgreeOn leads_to reached_left local one → AgreeOn leads_to reached_right target other → reached_left l ≡ true → reached_right r ≡ true → ask one other ≡ ask local target
+  pub alike : (reached_left reached_right : ℕ → Bool) (one other : Table)
+      → AgreeOn leads_to reached_left local one
+      → AgreeOn leads_to reached_right target other
+      → reached_left l ≡ true
+      → reached_right r ≡ true
+      → ask one other ≡ ask local target
 
 -- and where it rests on their names too
 pub record RestsOnNames {A : Type 0} (leads_to : BtfType → List ℕ) (local : Table) (l : ℕ) (target : Table) (r : ℕ) (ask : Table → Table → A) : Type 0 where
-  pub alike : (reached_left reached_right : ℕ → Bool) (one other : Table) → AgreeOn leads_to reached_left local one → AgreeOnNames reached_left local one → AgreeOn leads_to reached_right target other → AgreeOnNames reached_right target other → reached_left l ≡ true → reached_right r ≡ true
+  pub alike : (reached_left reached_right : ℕ → Bool) (one other : Table)
+      → AgreeOn leads_to reached_left local one
+      → AgreeOnNames reached_left local one
+      → AgreeOn leads_to reached_right target other
+      → AgreeOnNames reached_right target other
+      → reached_left l ≡ true
+      → reached_right r ≡ true
       → ask one other ≡ ask local target
 
 -- where a chain of modifiers leads
@@ -50,8 +73,12 @@ size_ids t = option_to_list (option_map (λ by. by.1) (sized_by t))
 
 -- up to an id the records are of the same kinds, and those of one kind have the same names
 pub record AgreeUpTo (kind : BtfKind) (last : ℕ) (one other : Table) : Type 0 where
-  pub kinds : (id : ℕ) → id ≤ last → option_map kind_of_type (type_by_id other id) ≡ option_map kind_of_type (type_by_id one id)
-  pub names : (id : ℕ) → id ≤ last → IfSome (type_by_id one id) (λ t. kind_of_type t ≡ kind → name_of other id ≡ name_of one id)
+  pub kinds : (id : ℕ)
+      → id ≤ last
+      → option_map kind_of_type (type_by_id other id) ≡ option_map kind_of_type (type_by_id one id)
+  pub names : (id : ℕ)
+      → id ≤ last
+      → IfSome (type_by_id one id) (λ t. kind_of_type t ≡ kind → name_of other id ≡ name_of one id)
 
 -- an id that is found by kind and name is found in every table that is the same up to it
 pub record FoundAlike (table : Table) (name : List ℕ) (kind : BtfKind) (id : ℕ) : Type 0 where

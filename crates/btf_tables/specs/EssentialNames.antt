@@ -4,4 +4,5 @@ use Rattle.std.specs.List.{starts_with}
 
 abbrev pub essential_name : List ℕ → List ℕ
 essential_name [] = []
-essential_name (b ∷ bs) = if starts_with nat_eq (b ∷ bs) (codes "___") then [] else b ∷ essential_name bs
+essential_name (b ∷ bs) =
+    if starts_with nat_eq (b ∷ bs) (codes "___") then [] else b ∷ essential_name bs

@@ -5,7 +5,7 @@ use Rattle.btf_tables.specs.Tables.{Table, type_by_id, type_bytes}
 use Rattle.string_table.specs.Texts.{text_at}
 use Rattle.btf_records.specs.declared.types.BtfType.{BtfType}
 
--- the text and a NUL, behind the other strings
+-- the text and a NUL, after the other strings
 abbrev pub with_string : Table → List ℕ → Table
 with_string table text = record table { strings = table.strings ++ text ++ 0 ∷ [] }
 
@@ -15,11 +15,14 @@ with_type table t = record table { types = table.types ++ t ∷ [] }
 
 -- why no type can be added: the type bytes, or the types, would be too many
 abbrev pub IsFull : Table → BtfType → Type 0
-IsFull table t = TooMany (length (type_bytes (with_type table t))) ⊎ TooMany (length table.types + 1)
+IsFull table t =
+    TooMany (length (type_bytes (with_type table t))) ⊎ TooMany (length table.types + 1)
 
 -- the texts of one table stay in another
 pub record TextsStay (old new : Table) : Type 0 where
-  pub stay : (offset : ℕ) (text : List ℕ) → text_at old.strings offset ≡ Some text → text_at new.strings offset ≡ Some text
+  pub stay : (offset : ℕ) (text : List ℕ)
+      → text_at old.strings offset ≡ Some text
+      → text_at new.strings offset ≡ Some text
 
 -- so do the records
 pub record TypesStay (old new : Table) : Type 0 where

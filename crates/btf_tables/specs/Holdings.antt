@@ -1,5 +1,5 @@
--- The ids and the names that a record holds. A set of ids that is closed under them is closed under where every look-up
--- and comparison leads.
+-- The ids and the names that a record holds. A set of ids that is closed under them is closed under
+-- where every look-up and comparison leads.
 use Rattle.std.specs.Prelude.{◌≡◌, ℕ, Bool, true, List, [], ◌∷◌, ◌++◌, All, IfSome, map}
 use Rattle.std.specs.Option.{option_map_or, option_to_list}
 use Rattle.btf_tables.specs.Agreement.{AgreeOn}
@@ -20,7 +20,9 @@ held_ids t = option_to_list (type_of t)
 -- offsets of the names of its items; a UNION has those of the enum that it stands for too
 abbrev pub item_names : BtfType → List ℕ
 item_names (types.Struct t) = map (λ m. m.name_offset) t.members
-item_names (types.Union t) = map (λ m. m.name_offset) t.members ++ option_map_or (λ e. map (λ v. v.name_offset) e.variants) t.fallback []
+item_names (types.Union t) =
+    map (λ m. m.name_offset) t.members
+    ++ option_map_or (λ e. map (λ v. v.name_offset) e.variants) t.fallback []
 item_names (types.Enum t) = map (λ v. v.name_offset) t.variants
 item_names (types.Enum64 t) = map (λ v. v.name_offset) t.variants
 item_names (types.FuncProto t) = map (λ p. p.name_offset) t.params
@@ -32,9 +34,16 @@ held_names t = name_offset_of t ∷ item_names t
 
 -- the names that reached records hold are the same texts in both tables
 pub record AgreeOnTexts (reached : ℕ → Bool) (one other : Table) : Type 0 where
-  pub same : (id : ℕ) → reached id ≡ true → IfSome (type_by_id one id) (λ t. All (λ offset. text_at other.strings offset ≡ text_at one.strings offset) (held_names t))
+  pub same : (id : ℕ)
+      → reached id ≡ true
+      → IfSome (type_by_id one id) (λ t.
+      All (λ offset. text_at other.strings offset ≡ text_at one.strings offset) (held_names t))
 
 -- where an answer leads is among what records hold
 pub record AreHeld (leads_to : BtfType → List ℕ) : Type 0 where
-  pub closed : (reached : ℕ → Bool) (t : BtfType) → All (λ id. reached id ≡ true) (held_ids t) → All (λ id. reached id ≡ true) (leads_to t)
-  pub agree : (reached : ℕ → Bool) (one other : Table) → AgreeOn held_ids reached one other → AgreeOn leads_to reached one other
+  pub closed : (reached : ℕ → Bool) (t : BtfType)
+      → All (λ id. reached id ≡ true) (held_ids t)
+      → All (λ id. reached id ≡ true) (leads_to t)
+  pub agree : (reached : ℕ → Bool) (one other : Table)
+      → AgreeOn held_ids reached one other
+      → AgreeOn leads_to reached one other

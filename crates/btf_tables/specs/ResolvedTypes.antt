@@ -1,5 +1,6 @@
--- Resolved types: the end of a chain of modifiers ("BTF_KIND_TYPEDEF", "BTF_KIND_VOLATILE", "BTF_KIND_CONST",
--- "BTF_KIND_RESTRICT", "BTF_KIND_TYPE_TAG"). libbpf has this as `btf__resolve_type` (tools/lib/bpf/btf.c).
+-- Resolved types: the end of a chain of modifiers ("BTF_KIND_TYPEDEF", "BTF_KIND_VOLATILE",
+-- "BTF_KIND_CONST", "BTF_KIND_RESTRICT", "BTF_KIND_TYPE_TAG"). libbpf has this as
+-- `btf__resolve_type` (tools/lib/bpf/btf.c).
 use Rattle.std.specs.Prelude.{◌≡◌, ℕ, zero, suc, ◌<◌, List, [], ◌∷◌, length, Option, None, Some, Result, Ok, Err}
 use Rattle.std.specs.Option.{IsSomeAnd, option_map_or}
 use Rattle.btf_tables.specs.Tables.{Table, type_by_id}
@@ -8,7 +9,7 @@ use Rattle.btf_records.specs.declared.error.BtfError.TheVariants.{MaximumTypeDep
 use Rattle.btf_records.specs.declared.types.BtfType.{BtfType}
 use Rattle.btf_records.specs.declared.types.BtfType.TheVariants as types
 
--- a chain or a walk has at most so many records: libbpf's MAX_RESOLVE_DEPTH
+-- a chain or a walk has at most that many records: libbpf's MAX_RESOLVE_DEPTH
 abbrev pub max_depth : ℕ
 max_depth = 32
 
@@ -26,7 +27,7 @@ abbrev pub end_from : (ℕ → Result ℕ BtfError) → ℕ → Option BtfType �
 end_from go id None = Err (UnknownBtfType id)
 end_from go id (Some t) = option_map_or go (modified_type t) (Ok id)
 
--- the id at the end of a chain of modifiers that has, with its end, at most so many records; a
+-- the id at the end of a chain of modifiers that has, with its end, at most that many records; a
 -- longer one is too deep for the id that was asked for
 unfoldable pub chain_end : ℕ → Table → ℕ → ℕ → Result ℕ BtfError
 chain_end zero table asked id = Err (MaximumTypeDepthReached asked)
@@ -38,8 +39,11 @@ resolved_type table id = chain_end max_depth table id id
 
 -- a chain from an id over these others to its end: each record but the last is a modifier
 abbrev pub IsEndOver : Table → ℕ → List ℕ → ℕ → Type 0
-IsEndOver table id [] end = (id ≡ end) × IsSomeAnd (type_by_id table id) (λ t. modified_type t ≡ None)
-IsEndOver table id (next ∷ others) end = IsSomeAnd (type_by_id table id) (λ t. modified_type t ≡ Some next) × IsEndOver table next others end
+IsEndOver table id [] end =
+    (id ≡ end) × IsSomeAnd (type_by_id table id) (λ t. modified_type t ≡ None)
+IsEndOver table id (next ∷ others) end =
+    IsSomeAnd (type_by_id table id) (λ t. modified_type t ≡ Some next)
+    × IsEndOver table next others end
 
 abbrev pub IsEnd : Table → ℕ → ℕ → Type 0
 IsEnd table id end = (others : List ℕ) × (length others < max_depth) × IsEndOver table id others end

@@ -13,11 +13,17 @@ use Rattle.btf_parts.specs.Faultless.{IsFaultless}
 
 -- the section of an id, and the variable that stands in it for each function
 abbrev pub ksyms_in : Table → ℕ → Option ℕ → Ksyms
-ksyms_in table section placeholder = record { types = table.types; strings = table.strings; section = section; placeholder = placeholder }
+ksyms_in table section placeholder =
+    record
+    { types = table.types; strings = table.strings; section = section; placeholder = placeholder }
 
--- the table behind the step on that section; without ids there is no step
+-- the table after the step on that section; without ids there is no step
 abbrev pub with_ksyms : ℕ → Option ℕ → Table → Table
-with_ksyms section placeholder table = record table { types = stepped_types (ksyms_in table section placeholder); strings = table.strings ++ stepped_texts (ksyms_in table section placeholder) }
+with_ksyms section placeholder table =
+    record table {
+      types = stepped_types (ksyms_in table section placeholder);
+      strings = table.strings ++ stepped_texts (ksyms_in table section placeholder);
+    }
 
 abbrev pub stepped : Option (ℕ × Option ℕ) → Table → Table
 stepped None table = table
@@ -29,12 +35,24 @@ StepFault (Some ids) table e = KsymsFault table.order (ksyms_in table ids.0 ids.
 
 -- what is known of a stepped table under these answers, sizes of sections and offsets of symbols
 abbrev pub facts_in : Answers → (List ℕ → Option ℕ) → (List ℕ → Option ℕ) → Table → Facts
-facts_in answers sizes offsets table = record { grants = granted answers; strings = table.strings; types = table.types; sizes = sizes; offsets = offsets }
+facts_in answers sizes offsets table =
+    record {
+      grants = granted answers;
+      strings = table.strings;
+      types = table.types;
+      sizes = sizes;
+      offsets = offsets;
+    }
 
 abbrev pub sanitized : Answers → (List ℕ → Option ℕ) → (List ℕ → Option ℕ) → Table → Table
-sanitized answers sizes offsets table = record table { types = sanitized_types (facts_in answers sizes offsets table); strings = sanitized_strings (facts_in answers sizes offsets table) }
+sanitized answers sizes offsets table =
+    record table {
+      types = sanitized_types (facts_in answers sizes offsets table);
+      strings = sanitized_strings (facts_in answers sizes offsets table);
+    }
 
--- the answers are what the predicate gave, once for each feature that the table's records need, in the order of need
+-- the answers are what the predicate gave, once for each feature that the table's records need, in
+-- the order of need
 pub record AreAnswersFor {F : Type 0} (predicate : Mut F (BtfFeature × Unit {0}) Bool) (before : F) (table : Table) (answers : Answers) : Type 0 where
   pub questions : AreQuestions table.strings table.types answers
   pub once : AreDistinct (features answers)

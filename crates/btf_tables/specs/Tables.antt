@@ -59,23 +59,37 @@ pub record IsTable (order : Endianness) (bytes : List ℕ) (table : Table) : Typ
 
 -- why the section holds none
 abbrev pub TableFault : Endianness → List ℕ → BtfError → Type 0
-TableFault order bytes InvalidHeader = (length bytes < header_len) ⊎ ((header_len ≤ length bytes) × (length bytes < strings_end order bytes))
-TableFault order bytes InvalidTypeInfo = (header_len ≤ length bytes) × ((length bytes < types_end order bytes) ⊎ ((types_end order bytes ≤ length bytes) × TypesFault order (type_bytes_in order bytes) InvalidTypeInfo))
-TableFault order bytes (InvalidTypeKind kind) = (header_len ≤ length bytes) × (types_end order bytes ≤ length bytes) × TypesFault order (type_bytes_in order bytes) (InvalidTypeKind kind)
+TableFault order bytes InvalidHeader =
+    (length bytes < header_len)
+    ⊎ ((header_len ≤ length bytes) × (length bytes < strings_end order bytes))
+TableFault order bytes InvalidTypeInfo =
+    (header_len ≤ length bytes)
+    × ((length bytes < types_end order bytes)
+    ⊎ ((types_end order bytes ≤ length bytes)
+    × TypesFault order (type_bytes_in order bytes) InvalidTypeInfo))
+TableFault order bytes (InvalidTypeKind kind) =
+    (header_len ≤ length bytes)
+    × (types_end order bytes ≤ length bytes)
+    × TypesFault order (type_bytes_in order bytes) (InvalidTypeKind kind)
 TableFault order bytes _ = ⊥
 
 -- the bytes of a table's records
 abbrev pub type_bytes : Table → List ℕ
 type_bytes table = flat_map (record_bytes table.order) table.types
 
--- a header with types of so many bytes right behind it, and strings of so many behind these
+-- a header with types of that many bytes right after it, and strings of that many after these
 abbrev pub header_bytes : Endianness → ℕ → ℕ → ℕ → ℕ → ℕ → List ℕ
-header_bytes order magic version flags types_len strings_len = half_bytes order magic ++ version ∷ flags ∷ [] ++ words_bytes order (header_len ∷ 0 ∷ types_len ∷ types_len ∷ strings_len ∷ [])
+header_bytes order magic version flags types_len strings_len =
+    half_bytes order magic ++ version ∷ flags ∷ []
+    ++ words_bytes order (header_len ∷ 0 ∷ types_len ∷ types_len ∷ strings_len ∷ [])
 
 -- the section as which a table is written: header, types, strings, nothing between them
 abbrev pub table_bytes : Table → List ℕ
-table_bytes table = header_bytes table.order table.magic table.version table.flags (length (type_bytes table)) (length table.strings) ++ type_bytes table ++ table.strings
+table_bytes table =
+    header_bytes table.order table.magic table.version table.flags (length (type_bytes table))
+    (length table.strings) ++ type_bytes table ++ table.strings
 
 -- a new table: no type but void, and the empty text
 abbrev pub new_table : Table
-new_table = record { order = Little; magic = 60319; version = 1; flags = 0; strings = 0 ∷ []; types = [] }
+new_table =
+    record { order = Little; magic = 60319; version = 1; flags = 0; strings = 0 ∷ []; types = [] }

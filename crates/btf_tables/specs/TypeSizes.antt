@@ -1,5 +1,5 @@
--- Type sizes. libbpf has them as `btf__resolve_size` (tools/lib/bpf/btf.c); here functions and signatures
--- lead on to a size, and a size may pass 32 bits.
+-- Type sizes. libbpf has them as `btf__resolve_size` (tools/lib/bpf/btf.c); here functions and
+-- signatures lead on to a size, and a size may pass 32 bits.
 use Rattle.std.specs.Prelude.{◌≡◌, ℕ, zero, suc, ◌*◌, ◌^◌, ◌<◌, List, [], ◌∷◌, length, ⊤, Option, None, Some, Result, Ok, Err, if◌then◌else◌, nat_lt}
 use Rattle.std.specs.Option.{IsSomeAnd, option_map, option_map_or}
 use Rattle.btf_tables.specs.ResolvedTypes.{max_depth}
@@ -21,20 +21,23 @@ sized_by (types.Ptr t) = None
 sized_by (types.Array t) = Some (t.array.len, t.array.element_type)
 sized_by t = option_map (λ id. (1, id)) (type_of t)
 
--- a walk goes on behind a record without a size of its own; `count` is the product of the lengths of
+-- a walk goes on after a record without a size of its own; `count` is the product of the lengths of
 -- arrays so far
 abbrev pub size_behind : (ℕ → ℕ → Result ℕ BtfError) → ℕ → ℕ → Option (ℕ × ℕ) → Result ℕ BtfError
 size_behind go count id None = Err (UnexpectedBtfType id)
-size_behind go count id (Some by) = if nat_lt (count * by.0) (2 ^ 32) then go (count * by.0) by.1 else Err InvalidTypeInfo
+size_behind go count id (Some by) =
+    if nat_lt (count * by.0) (2 ^ 32) then go (count * by.0) by.1 else Err InvalidTypeInfo
 
 abbrev pub size_from : (ℕ → ℕ → Result ℕ BtfError) → ℕ → ℕ → Option BtfType → Result ℕ BtfError
 size_from go count id None = Err (UnknownBtfType id)
-size_from go count id (Some t) = option_map_or (λ size. Ok (count * size)) (own_size t) (size_behind go count id (sized_by t))
+size_from go count id (Some t) =
+    option_map_or (λ size. Ok (count * size)) (own_size t) (size_behind go count id (sized_by t))
 
--- `count` times the size at the end of a walk of at most so many records
+-- `count` times the size at the end of a walk of at most that many records
 unfoldable pub size_at_end : ℕ → Table → ℕ → ℕ → ℕ → Result ℕ BtfError
 size_at_end zero table asked count id = Err (MaximumTypeDepthReached asked)
-size_at_end (suc n) table asked count id = size_from (size_at_end n table asked) count id (type_by_id table id)
+size_at_end (suc n) table asked count id =
+    size_from (size_at_end n table asked) count id (type_by_id table id)
 
 -- the size of a type in bytes
 abbrev pub type_size : Table → ℕ → Result ℕ BtfError
@@ -52,12 +55,24 @@ type_size_in_32_bits table id = in_32_bits (type_size table id)
 -- record, times the lengths of the arrays on the walk
 abbrev pub IsSizeOver : Table → ℕ → List ℕ → ℕ → Type 0
 IsSizeOver table id [] size = IsSomeAnd (type_by_id table id) (λ t. own_size t ≡ Some size)
-IsSizeOver table id (next ∷ others) size = IsSomeAnd (type_by_id table id) (λ t. (own_size t ≡ None) × ((count : ℕ) × (sized_by t ≡ Some (count, next)) × ((rest : ℕ) × IsSizeOver table next others rest × (size ≡ count * rest))))
+IsSizeOver table id (next ∷ others) size =
+    IsSomeAnd (type_by_id table id) (λ t.
+    (own_size t ≡ None)
+    × ((count : ℕ)
+    × (sized_by t ≡ Some (count, next))
+    × ((rest : ℕ) × IsSizeOver table next others rest × (size ≡ count * rest))))
 
--- at each step of a walk the lengths of the arrays so far, and this count, multiply to less than 2^32
+-- at each step of a walk the lengths of the arrays so far, and this count, multiply to less than
+-- 2^32
 abbrev pub IsInLimit : Table → ℕ → ℕ → List ℕ → Type 0
 IsInLimit table count id [] = ⊤
-IsInLimit table count id (next ∷ others) = IsSomeAnd (type_by_id table id) (λ t. IsSomeAnd (sized_by t) (λ by. (count * by.0 < 2 ^ 32) × IsInLimit table (count * by.0) next others))
+IsInLimit table count id (next ∷ others) =
+    IsSomeAnd (type_by_id table id) (λ t. IsSomeAnd (sized_by t) (λ by.
+    (count * by.0 < 2 ^ 32) × IsInLimit table (count * by.0) next others))
 
 abbrev pub IsSize : Table → ℕ → ℕ → Type 0
-IsSize table id size = (others : List ℕ) × (length others < max_depth) × IsInLimit table 1 id others × IsSizeOver table id others size
+IsSize table id size =
+    (others : List ℕ)
+    × (length others < max_depth)
+    × IsInLimit table 1 id others
+    × IsSizeOver table id others size

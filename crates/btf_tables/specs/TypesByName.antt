@@ -1,5 +1,5 @@
--- Types by kind and name. libbpf has this as `btf__find_by_name_kind` (tools/lib/bpf/btf.c); here void is
--- looked at like any type, and a name that can't be read ends the look-up.
+-- Types by kind and name. libbpf has this as `btf__find_by_name_kind` (tools/lib/bpf/btf.c); here
+-- void is looked at like any type, and a name that can't be read ends the look-up.
 use Rattle.std.specs.Prelude.{◌≡◌, ◌≢◌, ℕ, ◌<◌, List, None, Some, IfSome}
 use Rattle.std.specs.Option.{IsSomeAnd}
 use Rattle.std.specs.String.{string_bytes}
@@ -12,21 +12,28 @@ use Rattle.btf_records.specs.declared.kind.BtfKind.{BtfKind}
 
 -- the record of this id is of another kind, or its name can be read and is another
 abbrev pub IsNotNamed : Table → List ℕ → BtfKind → ℕ → Type 0
-IsNotNamed table name kind id = IfSome (type_by_id table id) (λ t. kind_of_type t ≡ kind → IsSomeAnd (text_at table.strings (name_offset_of t)) (λ text. text ≢ name))
+IsNotNamed table name kind id =
+    IfSome (type_by_id table id) (λ t.
+    kind_of_type t ≡ kind
+    → IsSomeAnd (text_at table.strings (name_offset_of t)) (λ text. text ≢ name))
 
 -- the least id of the kind and the name; no name of the kind before it is unreadable
 pub record IsFirstNamed (table : Table) (name : List ℕ) (kind : BtfKind) (id : ℕ) : Type 0 where
-  pub named : IsSomeAnd (type_by_id table id) (λ t. (kind_of_type t ≡ kind) × (text_at table.strings (name_offset_of t) ≡ Some name))
+  pub named : IsSomeAnd (type_by_id table id) (λ t.
+      (kind_of_type t ≡ kind) × (text_at table.strings (name_offset_of t) ≡ Some name))
   pub first : (lesser : ℕ) → lesser < id → IsNotNamed table name kind lesser
 
--- the name at this offset, of a record of the kind, can't be read, and the wanted one doesn't come before
+-- the name at this offset, of a record of the kind, can't be read, and the wanted one doesn't come
+-- before
 pub record UnreadableBefore (table : Table) (name : List ℕ) (kind : BtfKind) (offset : ℕ) : Type 0 where
   pub id : ℕ
-  pub unreadable : IsSomeAnd (type_by_id table id) (λ t. (kind_of_type t ≡ kind) × (name_offset_of t ≡ offset) × (text_at table.strings offset ≡ None))
+  pub unreadable : IsSomeAnd (type_by_id table id) (λ t.
+      (kind_of_type t ≡ kind) × (name_offset_of t ≡ offset) × (text_at table.strings offset ≡ None))
   pub first : (lesser : ℕ) → lesser < id → IsNotNamed table name kind lesser
 
 -- why no id is found by a kind and a name
 abbrev pub NameFault : Table → List ℕ → BtfKind → BtfError → Type 0
 NameFault table name kind (InvalidStringOffset offset) = UnreadableBefore table name kind offset
-NameFault table name kind (UnknownBtfTypeName wanted) = (string_bytes wanted ≡ name) × ((id : ℕ) → IsNotNamed table name kind id)
+NameFault table name kind (UnknownBtfTypeName wanted) =
+    (string_bytes wanted ≡ name) × ((id : ℕ) → IsNotNamed table name kind id)
 NameFault table name kind _ = ⊥

@@ -44,8 +44,8 @@ impl<'a> Btf<'a> {
         })
     }
 
-    /// Adds a text, which holds no NUL, to the strings, and answers its offset. What the table holds
-    /// already stays.
+    /// Adds a text, which holds no NUL, to the strings, and answers its offset. What the table
+    /// holds already stays.
     ///
     /// `InvalidTypeInfo` where the strings would be more than 2^32 - 1 bytes.
     #[tactic(auto, using(crate::proofs::Texts::texts_stay))]
@@ -55,7 +55,9 @@ impl<'a> Btf<'a> {
         ensures offset { IfOk result (λ offset. offset ≡ length self.old.strings) }
         ensures found { IfOk result (λ offset. text_at self.new.strings offset ≡ Some text.now) }
         ensures stay { OnOk result (TextsStay self.old self.new) }
-        ensures refused { IfErr result (λ e. e ≢ OutOfMemory → (e ≡ InvalidTypeInfo) × TooMany (length self.old.strings + length text.now + 1)) }
+        ensures refused { IfErr result (λ e.
+            e ≢ OutOfMemory
+            → (e ≡ InvalidTypeInfo) × TooMany (length self.old.strings + length text.now + 1)) }
         ensures accepted { OnOk result (length self.new.strings < 2 ^ 32) }
         ensures err { OnErr result (self.new ≡ self.old) }
     {
@@ -76,7 +78,8 @@ impl<'a> Btf<'a> {
         ensures id { IfOk result (λ id. id ≡ length self.old.types + 1) }
         ensures found { IfOk result (λ id. type_by_id self.new id ≡ Some t) }
         ensures stay { OnOk result (TypesStay self.old self.new) }
-        ensures refused { IfErr result (λ e. e ≢ OutOfMemory → (e ≡ InvalidTypeInfo) × IsFull self.old t) }
+        ensures refused { IfErr result (λ e.
+            e ≢ OutOfMemory → (e ≡ InvalidTypeInfo) × IsFull self.old t) }
         ensures accepted { OnOk result (IsFull self.old t → ⊥) }
         ensures err { OnErr result (self.new ≡ self.old) }
     {

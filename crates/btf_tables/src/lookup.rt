@@ -49,7 +49,7 @@ fn sized_by(t: &TypeRef<'_>) -> Option<SizedBy>
     }
 }
 
-/// The bytes of so many items of a size.
+/// The bytes of a number of items of a size.
 fn times(count: u32, size: u32) -> u64
     ensures { result ≡ count * size }
 {
@@ -119,7 +119,8 @@ impl<'a> Btf<'a> {
     /// `InvalidTypeInfo` where they can't; otherwise what `type_size` answers.
     pub fn type_size_u32(&self, type_id: u32) -> Result<u32, BtfError>
         ensures value { result ≡ type_size_in_32_bits self.now type_id }
-        ensures rests { RestsOn size_ids self.now type_id (λ table. type_size_in_32_bits table type_id) }
+        ensures rests { RestsOn size_ids self.now type_id (λ table.
+            type_size_in_32_bits table type_id) }
     {
         let size = self.type_size(type_id)?;
         match u32::try_from(size) {
@@ -139,9 +140,20 @@ impl<'a> Btf<'a> {
         others: &mut BTreeSet<u32>,
     ) -> Result<bool, BtfError>
         requires others { AreOthers self.now.strings name.now others.old.keys }
-        ensures named { IfOk result (λ found. found ≡ true → (kind_of_type t.now ≡ kind) × (text_at self.now.strings (name_offset_of t.now) ≡ Some name.now)) }
-        ensures other { IfOk result (λ found. found ≡ false → kind_of_type t.now ≡ kind → IsSomeAnd (text_at self.now.strings (name_offset_of t.now)) (λ text. text ≢ name.now)) }
-        ensures refused { IfErr result (λ e. e ≢ OutOfMemory → (kind_of_type t.now ≡ kind) × (e ≡ InvalidStringOffset (name_offset_of t.now)) × (text_at self.now.strings (name_offset_of t.now) ≡ None)) }
+        ensures named { IfOk result (λ found.
+            found ≡ true
+            → (kind_of_type t.now ≡ kind)
+            × (text_at self.now.strings (name_offset_of t.now) ≡ Some name.now)) }
+        ensures other { IfOk result (λ found.
+            found ≡ false
+            → kind_of_type t.now ≡ kind
+            → IsSomeAnd (text_at self.now.strings (name_offset_of t.now)) (λ text.
+            text ≢ name.now)) }
+        ensures refused { IfErr result (λ e.
+            e ≢ OutOfMemory
+            → (kind_of_type t.now ≡ kind)
+            × (e ≡ InvalidStringOffset (name_offset_of t.now))
+            × (text_at self.now.strings (name_offset_of t.now) ≡ None)) }
         ensures others { AreOthers self.now.strings name.now others.new.keys }
     {
         if t.kind() != kind {
@@ -175,7 +187,9 @@ impl<'a> Btf<'a> {
     /// The least id of the types of this kind and name, where there is one.
     #[tactic(auto, using(crate::proofs::Named::fault_here, crate::proofs::Named::known_here, crate::proofs::Named::rest_here, crate::proofs::Named::none_more, crate::proofs::Named::none_left, crate::proofs::OtherTexts::no_others))]
     fn first_named(&self, name: &str, kind: BtfKind) -> Result<Option<u32>, BtfError>
-        ensures found { IfOk result (λ found. MatchOption found ((id : ℕ) → IsNotNamed self.now name.now kind id) (λ id. IsFirstNamed self.now name.now kind id)) }
+        ensures found { IfOk result (λ found.
+            MatchOption found ((id : ℕ) → IsNotNamed self.now name.now kind id) (λ id.
+            IsFirstNamed self.now name.now kind id)) }
         ensures refused { IfErr result (λ e. e ≢ OutOfMemory → NameFault self.now name.now kind e) }
     {
         let mut others = BTreeSet::new(self.allocator());

@@ -8,7 +8,7 @@ use btf_parts::Strings;
 use std::alloc::AllocError;
 use std::collections::BTreeSet;
 
-/// Texts of so many bytes are compared with a name once.
+/// Texts of that many bytes are compared with a name once.
 const LONG: usize = 256;
 
 /// Whether the text at an offset, where there is one, is a name. A long one that isn't is noted

@@ -15,13 +15,13 @@ use std::alloc::{AllocError, Global};
 /// The bytes of the header.
 const HEADER_LEN: u32 = 24;
 
-/// Where the header gives the place of the types, and their length behind it.
+/// Where the header gives the place of the types, and their length after it.
 const TYPES: usize = 8;
 
-/// Where the header gives the place of the strings, and their length behind it.
+/// Where the header gives the place of the strings, and their length after it.
 const STRINGS: usize = 16;
 
-/// What a header says of the types and strings right behind it.
+/// What a header says of the types and strings right after it.
 #[derive(Clone, Copy)]
 struct Header {
     magic: u16,
@@ -35,14 +35,24 @@ struct Header {
 fn region(order: Endianness, bytes: &[u8], at: usize) -> Option<&[u8]>
     requires head { 24 ≤ length bytes.now }
     requires within { at + 8 ≤ 24 }
-    ensures { MatchOption result (length bytes.now < word_at order bytes.now 4 + word_at order bytes.now at + word_at order bytes.now (at + 4)) (λ r. (word_at order bytes.now 4 + word_at order bytes.now at + word_at order bytes.now (at + 4) ≤ length bytes.now) × (r.now ≡ take (word_at order bytes.now (at + 4)) (drop (word_at order bytes.now 4 + word_at order bytes.now at) bytes.now)) × (length r.now < 2 ^ 32)) }
+    ensures { MatchOption result
+        (length bytes.now
+        < word_at order bytes.now 4 + word_at order bytes.now at + word_at order bytes.now (at + 4))
+        (λ r.
+        (word_at order bytes.now 4 + word_at order bytes.now at + word_at order bytes.now (at + 4)
+        ≤ length bytes.now)
+        × (r.now
+        ≡ take (word_at order bytes.now (at + 4))
+        (drop (word_at order bytes.now 4 + word_at order bytes.now at) bytes.now))
+        × (length r.now < 2 ^ 32)) }
 {
     let start = word(order, bytes, 4) as usize + word(order, bytes, at) as usize;
     let end = start + word(order, bytes, at + 4) as usize;
     bytes.get(start..end)
 }
 
-/// Writes the header of a section with types of so many bytes, and strings of so many behind them.
+/// Writes the header of a section with types of a number of bytes, and strings of another after
+/// them.
 fn push_header(out: &mut Vec<u8>, order: Endianness, header: Header) -> Result<(), AllocError>
     ensures written { OnOk result (out.new.items ≡ out.old.items ++ bytes_of_header order header) }
     ensures fits { header.magic < 2 ^ 16 }
@@ -59,8 +69,8 @@ fn push_header(out: &mut Vec<u8>, order: Endianness, header: Header) -> Result<(
 }
 
 impl<'a> Btf<'a> {
-    /// The table that a section holds, in this byte order. Neither magic nor version is checked. The
-    /// table borrows the section's types and strings.
+    /// The table that a section holds, in this byte order. Neither magic nor version is checked.
+    /// The table borrows the section's types and strings.
     ///
     /// `InvalidHeader` where the header is cut off or the strings go past the end,
     /// `InvalidTypeInfo` where the types do or a record is cut off, `InvalidTypeKind` where a
@@ -88,11 +98,12 @@ impl<'a> Btf<'a> {
         })
     }
 
-    /// The section as which the table is written: the header, the types right behind it, and then
+    /// The section as which the table is written: the header, the types right after it, and then
     /// the strings. The enums that unions stand for aren't written.
     pub fn to_bytes(&self) -> Result<Vec<u8>, AllocError>
         ensures written { IfOk result (λ section. section.items ≡ table_bytes self.now) }
-        ensures holds { IfOk result (λ section. HoldsTable self.now.order section.items (without_fallbacks self.now)) }
+        ensures holds { IfOk result (λ section.
+            HoldsTable self.now.order section.items (without_fallbacks self.now)) }
     {
         let types_len = self.records.byte_len();
         let strings_len = self.strings.len();

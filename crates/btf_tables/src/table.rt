@@ -1,8 +1,8 @@
 //! Type tables.
 
-ghost use Rattle.std.specs.Prelude.{◌≡◌, ◌<◌, ◌≤◌, ◌^◌, ◌==◌, ◌∷◌, length, MatchResult, Some, None};
+ghost use Rattle.std.specs.Prelude.{◌≡◌, ◌<◌, ◌≤◌, ◌^◌, ◌==◌, ◌∷◌, length, map, MatchResult, Some, None};
 ghost use Rattle.btf_tables.specs.ResolvedTypes.{chain_end, max_depth, modified_type};
-ghost use Rattle.btf_records.specs.Fields.{name_offset_of};
+ghost use Rattle.btf_records.specs.Fields.{kind_of_type, name_offset_of};
 ghost use Rattle.btf_tables.specs.Tables.{type_by_id};
 ghost use Rattle.string_table.specs.Texts.{text_at};
 
@@ -29,12 +29,20 @@ impl<'a> Model for Btf<'a> {
 
     ghost Value = { Table };
 
-    ghost view = { λ t. record { order = t.records.order; magic = t.magic; version = t.version; flags = t.flags; strings = t.strings; types = t.records.types } };
+    ghost view = { λ t.
+        record {
+          order = t.records.order;
+          magic = t.magic;
+          version = t.version;
+          flags = t.flags;
+          strings = t.strings;
+          types = t.records.types;
+        } };
 
     ghost invariant = { λ t. length t.strings < 2 ^ 32 };
 }
 
-/// A chain or a walk has at most so many records.
+/// A chain or a walk has at most that many records.
 pub(crate) const MAX_DEPTH: usize = 32;
 
 /// The type that a modifier stands before.
@@ -81,9 +89,11 @@ impl<'a> Btf<'a> {
 
     /// The text at an offset of the strings.
     ///
-    /// `InvalidStringOffset` where that lies past their end, no NUL ends the text, or it isn't UTF-8.
+    /// `InvalidStringOffset` where that lies past their end, no NUL ends the text, or it isn't
+    /// UTF-8.
     pub fn string_at(&self, offset: u32) -> Result<&str, BtfError>
-        ensures { MatchResult result (λ s. text_at self.now.strings offset ≡ Some s.now) (λ e. (e ≡ BtfError.InvalidStringOffset offset) × (text_at self.now.strings offset ≡ None)) }
+        ensures { MatchResult result (λ s. text_at self.now.strings offset ≡ Some s.now) (λ e.
+            (e ≡ BtfError.InvalidStringOffset offset) × (text_at self.now.strings offset ≡ None)) }
     {
         self.strings
             .text_at(offset)
@@ -96,7 +106,10 @@ impl<'a> Btf<'a> {
     ///
     /// `InvalidStringOffset` where it can't be read.
     pub fn type_name(&self, t: &BtfType) -> Result<&str, BtfError>
-        ensures { MatchResult result (λ s. text_at self.now.strings (name_offset_of t.now) ≡ Some s.now) (λ e. (e ≡ BtfError.InvalidStringOffset (name_offset_of t.now)) × (text_at self.now.strings (name_offset_of t.now) ≡ None)) }
+        ensures { MatchResult result
+            (λ s. text_at self.now.strings (name_offset_of t.now) ≡ Some s.now) (λ e.
+            (e ≡ BtfError.InvalidStringOffset (name_offset_of t.now))
+            × (text_at self.now.strings (name_offset_of t.now) ≡ None)) }
     {
         self.string_at(t.name_offset())
     }
@@ -109,11 +122,19 @@ impl<'a> Btf<'a> {
         Types::new(&self.records)
     }
 
+    /// The kinds of the types from id 1 on, in order of id.
+    pub fn kinds(&self) -> &[BtfKind]
+        ensures { result.now ≡ map kind_of_type self.now.types }
+    {
+        self.records.kinds()
+    }
+
     /// The record of an id; that of id 0 is void.
     ///
     /// `UnknownBtfType` where the table has no such id.
     pub fn type_by_id(&self, id: u32) -> Result<TypeRef<'_>, BtfError>
-        ensures { MatchResult result (λ t. type_by_id self.now id ≡ Some t) (λ e. (e ≡ BtfError.UnknownBtfType id) × (type_by_id self.now id ≡ None)) }
+        ensures { MatchResult result (λ t. type_by_id self.now id ≡ Some t) (λ e.
+            (e ≡ BtfError.UnknownBtfType id) × (type_by_id self.now id ≡ None)) }
     {
         match self.records.by_id(id as usize) {
             Some(t) => Ok(t),
