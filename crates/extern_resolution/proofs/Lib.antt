@@ -4,4 +4,5 @@ pub mod Entries
 pub mod FirstNamed
 pub mod Found
 pub mod Growing
+pub mod PassedTypes
 pub mod Seeking

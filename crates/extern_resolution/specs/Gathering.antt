@@ -1,6 +1,8 @@
 -- What was gathered of the kernel's table, of functions and variables.
-use Rattle.std.specs.Prelude.{◌≡◌, ℕ, List, ◌++◌}
+use Rattle.std.specs.Prelude.{◌≡◌, ℕ, ◌-◌, ◌==◌, Bool, true, false, List, ◌++◌, slice_get, if◌then◌else◌}
 use Rattle.std.specs.List.{AllByRecursion}
+use Rattle.std.specs.Option.{option_map_or}
+use Rattle.btf_records.specs.declared.kind.BtfKind.{BtfKind}
 use Rattle.btf_records.specs.declared.kind.BtfKind.TheVariants as kinds
 use Rattle.btf_tables.specs.Tables.{Table}
 use Rattle.extern_resolution.specs.Wanted.{AreSaid, IsBegun, IsEntryWanted, SameNames}
@@ -43,3 +45,13 @@ pub record WantsEntry (table : Table) (old new : KernelRecords) (entry : List �
   pub kept : (other : List ℕ × ExternContent)
       → IsEntryWanted table old other
       → IsEntryWanted table new other
+
+-- types of this kind are functions or variables
+abbrev pub declares : BtfKind → Bool
+declares kinds.Func = true
+declares kinds.Var = true
+declares _ = false
+
+-- the type of an id is one, by the kinds of those from id 1 on
+abbrev pub declares_at : List BtfKind → ℕ → Bool
+declares_at types id = if id == 0 then false else option_map_or declares (slice_get types (id - 1)) false

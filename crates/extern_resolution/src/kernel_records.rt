@@ -1,8 +1,8 @@
 //! What the kernel's table has of the functions and variables that externs are declared as.
 
-ghost use Rattle.std.specs.Prelude.{◌≡◌, ◌+◌, length, IfOk, OnOk};
+ghost use Rattle.std.specs.Prelude.{◌≡◌, ◌+◌, length, slice_get, IfOk, OnOk};
 ghost use Rattle.std.specs.Option.{option_copied};
-ghost use Rattle.extern_resolution.specs.Gathering.{AreAllSaid, AreBegun, AreEntriesWanted, SameWanted, WantsEntry};
+ghost use Rattle.extern_resolution.specs.Gathering.{AreAllSaid, AreBegun, AreEntriesWanted, SameWanted, WantsEntry, declares, declares_at};
 ghost use Rattle.extern_resolution.specs.Wanted.{AreKnown, id_of};
 
 use crate::named_records::NamedRecords;
@@ -16,6 +16,36 @@ use std::alloc::{AllocError, Global};
 pub(crate) struct KernelRecords<'n> {
     pub(crate) functions: NamedRecords<'n>,
     pub(crate) variables: NamedRecords<'n>,
+}
+
+/// The kind at an index.
+fn kind_at(types: &[BtfKind], index: usize) -> Option<BtfKind>
+    ensures { result ≡ slice_get types.now index }
+{
+    types.get(index).copied()
+}
+
+/// Whether types of a kind are functions or variables.
+fn declares(kind: BtfKind) -> bool
+    ensures { result ≡ declares kind }
+{
+    match kind {
+        BtfKind::Func | BtfKind::Var => true,
+        _ => false,
+    }
+}
+
+/// Whether the type of an id is a function or a variable, by the kinds of those from id 1 on.
+fn declares_at(types: &[BtfKind], id: usize) -> bool
+    ensures { result ≡ declares_at types.now id }
+{
+    if id == 0 {
+        return false;
+    }
+    match kind_at(types, id - 1) {
+        Some(kind) => declares(kind),
+        None => false,
+    }
 }
 
 impl<'n> KernelRecords<'n> {
@@ -63,7 +93,7 @@ impl<'n> KernelRecords<'n> {
         }
     }
 
-    /// Takes the record of an id, behind those of lesser ids.
+    /// Takes the record of an id, after those of lesser ids.
     fn take(&mut self, kernel: &Btf<'_>, id: u32) -> Result<(), AllocError>
         requires { AreAllSaid kernel.now self.old id }
         ensures said { OnOk result (AreAllSaid kernel.now self.new (id + 1)) }
@@ -77,14 +107,18 @@ impl<'n> KernelRecords<'n> {
         Ok(())
     }
 
-    /// Goes through a table.
+    /// Goes through a table. Of types that are no functions or variables the kind alone is read.
     fn go_through(&mut self, kernel: &Btf<'_>) -> Result<(), AllocError>
         requires { AreBegun self.old }
         ensures said { OnOk result (AreAllSaid kernel.now self.new (length kernel.now.types + 1)) }
         ensures wanted { OnOk result (SameWanted self.old self.new) }
     {
+        let types = kernel.kinds();
         let count = kernel.len() + 1;
         for id in 0..count {
+            if !declares_at(types, id) {
+                continue;
+            }
             self.take(kernel, id as u32)?;
         }
         Ok(())
@@ -112,7 +146,7 @@ fn wanted_records<'n>(
 /// What the kernel's table, where one is given, has of the functions and variables that externs
 /// with types are declared as. It is gone through once, and not at all where there is no such
 /// extern.
-#[tactic(auto, using(crate::proofs::Entries::none_given, crate::proofs::Entries::none_typed, crate::proofs::Entries::known,),)]
+#[tactic(auto, using(crate::proofs::Entries::none_given, crate::proofs::Entries::none_typed, crate::proofs::Entries::known))]
 pub(crate) fn kernel_records<'n>(
     alloc: Global,
     externs: &Externs<'n>,

@@ -11,7 +11,7 @@ use btf_tables::Btf;
 use std::alloc::{AllocError, Global};
 use std::collections::{BTreeMap, BTreeSet};
 
-/// Names of so many bytes are looked up once.
+/// Names of at least this many bytes are looked up once.
 const LONG: usize = 256;
 
 /// The first records of a kind that have wanted names, as far as a table was gone through.
@@ -22,7 +22,7 @@ pub(crate) struct NamedRecords<'n> {
     pub(crate) ids: BTreeMap<&'n str, Option<u32>>,
     /// The offsets of long names that were looked up.
     pub(crate) looked_up: BTreeSet<u32>,
-    /// Whether a record was met whose name can't be read, which hides those behind it.
+    /// Whether a record was met whose name can't be read, which hides those after it.
     pub(crate) is_hidden: bool,
 }
 
@@ -81,7 +81,7 @@ impl<'n> NamedRecords<'n> {
         want(&mut self.ids, name)
     }
 
-    /// Takes the record of an id, behind those of lesser ids.
+    /// Takes the record of an id, after those of lesser ids.
     pub(crate) fn take(
         &mut self,
         kernel: &Btf<'_>,

@@ -3,8 +3,7 @@ use Rattle.std.proofs.Common.{◌≡◌, ℕ, Bool, true, false, cond, nat_eq, L
 use Rattle.std.proofs.lemmas.Bool.Decides.{nat_tests}
 use Rattle.std.specs.Prelude.{◌&&◌, ◌||◌, not, is_none, slice_get, slice_index_or}
 use Rattle.std.specs.Cmp.Lexicographic.{pointwise, same_text}
-use Rattle.std.specs.Borrow.{Bor}
-use Rattle.std.specs.Option.{IfSome, IsSomeAnd, option_map_or}
+use Rattle.std.specs.Option.{IfSome, option_map_or}
 use Rattle.btf_records.specs.Fields.{kind_of_type, name_offset_of}
 use Rattle.btf_records.specs.Kinds.{number_of}
 use Rattle.btf_records.specs.declared.kind.BtfKind.TheVariants.{Enum64}
@@ -13,7 +12,7 @@ use Rattle.btf_tables.specs.EssentialNames.{essential_name}
 use Rattle.btf_tables.specs.Tables.{Table, type_by_id}
 use Rattle.string_table.specs.Texts.{text_at}
 use Rattle.type_candidates.specs.Candidates.{Wanted, all_types, asked_of, is_candidate, is_named, is_of_kind, is_unreadable, is_unreadable_at}
-use Rattle.type_candidates.specs.NamedTypes.{AreApart, AreSeen, HoldCandidates, is_known, is_known_kind, is_of_kind_at, is_under, is_unreadable_of, number_of_name, of_name, of_number, of_type, sighted}
+use Rattle.type_candidates.specs.NamedTypes.{AreApart, AreReadable, AreSeen, HoldCandidates, is_known, is_known_kind, is_of_kind_at, is_under, is_unreadable_of, number_of_name, of_name, of_number, of_type, sighted}
 use Rattle.type_candidates.specs.declared.kernel_type.KernelType.{KernelType}
 use Rattle.type_candidates.specs.declared.sighting.Sighting.{Sighting}
 use Rattle.type_candidates.specs.declared.sighting.Sighting.TheVariants.{Other, Unreadable}
@@ -158,22 +157,57 @@ target_under : (kinds : List Bool) (numbers : List (List ℕ × ℕ)) (w : Wante
 target_under kinds numbers w number id None apart here k e = absurd cc
 target_under kinds numbers w number id (Some table) apart here k e = type_under kinds numbers w number table.strings (type_by_id table id) apart here k e
 
+-- some of the tables, each in its place
+pub record IsPart (part targets : List Table) : Type 0 where
+  pub same : (table : ℕ) → IfSome (slice_get part table) (λ target. slice_get targets table ≡ Some target)
+
+same_by : (test : List ℕ → BtfType → Bool) (targets : List Table) (table id : ℕ) (target : Option Table) → IfSome target (λ t. slice_get targets table ≡ Some t) → asked_of test target id ≡ true → target ≡ slice_get targets table
+same_by test targets table id None is e = absurd cc
+same_by test targets table id (Some t) is e = sym is
+
+-- what passes a test there stands there
+same_target : (test : List ℕ → BtfType → Bool) (part targets : List Table) (table id : ℕ) → IsPart part targets → asked_of test (slice_get part table) id ≡ true → slice_get part table ≡ slice_get targets table
+same_target test part targets table id is e = same_by test targets table id (slice_get part table) (is.same table) e
+
+abbrev sighted_in : List Bool → List (List ℕ × ℕ) → ℕ → Option Table → Sighting
+sighted_in kinds numbers id target = option_map_or (λ (table : Table). option_map_or (of_type kinds numbers table.strings) (type_by_id table id) Other) target Other
+
+-- no name of the kind is unreadable there
+readable_in : (part targets : List Table) (kinds unreadable : List Bool) (numbers : List (List ℕ × ℕ)) (w : Wanted) → IsPart part targets → AreReadable (sighted kinds numbers targets) (all_types part) unreadable → is_known kinds unreadable w ≡ true → find (is_unreadable_at w part) (all_types part) ≡ None
+readable_in part targets kinds unreadable numbers w is readable known =
+    let parts = both (is_known_kind kinds unreadable (number_of w.kind)) (not w.or_enum64 || is_known_kind kinds unreadable (number_of Enum64)) known in
+    let first = kind_known kinds unreadable (number_of w.kind) parts.0 in
+    let second : w.or_enum64 ≡ true → is_known_kind kinds unreadable (number_of Enum64) ≡ true = λ e. known_case (is_known_kind kinds unreadable) (number_of w.kind) (number_of Enum64) (number_of Enum64) w.or_enum64 parts.0 parts.1 (inr (rw e refl)) in
+    none_of (is_unreadable_at w part) (λ place. is_unreadable_of (number_of w.kind) (sighted kinds numbers targets place)) (λ place. is_unreadable_of (number_of Enum64) (sighted kinds numbers targets place)) w.or_enum64
+    (λ place e. subst (λ (target : Option Table). IsUnread w (sighted_in kinds numbers place.type_id target)) (same_target (is_unreadable w) part targets place.table place.type_id is e) (unread_target kinds unreadable numbers w place.type_id (slice_get part place.table) known e))
+    (all_types part) (readable.each (number_of w.kind) first.1) (λ e. readable.each (number_of Enum64) (kind_known kinds unreadable (number_of Enum64) (second e)).1)
+
+-- those with the name hold the candidates there
+named_in : (part targets : List Table) (kinds unreadable : List Bool) (numbers : List (List ℕ × ℕ)) (w : Wanted) (number : ℕ) (types : List KernelType) → IsPart part targets → AreApart numbers → is_known kinds unreadable w ≡ true → number_of_name numbers w.name ≡ Some number
+    → filter (is_of_kind_at w part) (filter (λ place. is_under number (sighted kinds numbers targets place)) types) ≡ filter (is_candidate w part) types
+named_in part targets kinds unreadable numbers w number types is apart known here =
+    kept_both (is_candidate w part) (is_of_kind_at w part) (λ place. is_under number (sighted kinds numbers targets place))
+    (λ place e. (kind_of_candidate w place.type_id (slice_get part place.table) e, subst (λ (target : Option Table). is_under number (sighted_in kinds numbers place.type_id target) ≡ true) (same_target (is_named w) part targets place.table place.type_id is e) (under_target kinds unreadable numbers w number place.type_id (slice_get part place.table) known here e)))
+    (λ place k e. target_under kinds numbers w number place.type_id (slice_get part place.table) apart here k (subst (λ (target : Option Table). is_under number (sighted_in kinds numbers place.type_id target) ≡ true) (sym (same_target (λ _ t. is_of_kind w t) part targets place.table place.type_id is k)) e))
+    types
+
+-- the types with the name hold all candidates that are in some of the tables
+pub holds_in : (part targets : List Table) (kinds unreadable marks : List Bool) (numbers : List (List ℕ × ℕ)) (named : List (List KernelType)) (w : Wanted) (number : ℕ) (places : List KernelType) → IsPart part targets → filter (is_candidate w part) (all_types targets) ≡ filter (is_candidate w part) (all_types part)
+    → AreApart numbers → AreSeen (sighted kinds numbers targets) (all_types targets) named marks → AreReadable (sighted kinds numbers targets) (all_types part) unreadable → is_known kinds unreadable w ≡ true → number_of_name numbers w.name ≡ Some number → slice_get named number ≡ Some places
+    → HoldCandidates part w places
+holds_in part targets kinds unreadable marks numbers named w number places part_is alone apart seen readable known here is = record {
+  readable = readable_in part targets kinds unreadable numbers w part_is readable known;
+  all = ap (filter (is_of_kind_at w part)) (rw is at (seen.each number)) ∙ (named_in part targets kinds unreadable numbers w number (all_types targets) part_is apart known here ∙ alone);
+}
+
+itself_by : (targets : List Table) (table : ℕ) (target : Option Table) → slice_get targets table ≡ target → IfSome target (λ t. slice_get targets table ≡ Some t)
+itself_by targets table None is = tt
+itself_by targets table (Some t) is = is
+
+part_itself : (targets : List Table) → IsPart targets targets
+part_itself targets = record { same = λ table. itself_by targets table (slice_get targets table) refl }
+
 -- the types with the name hold all candidates
 pub holds : (targets : List Table) (kinds unreadable : List Bool) (numbers : List (List ℕ × ℕ)) (named : List (List KernelType)) (w : Wanted) (number : ℕ) (places : List KernelType) → AreApart numbers → AreSeen (sighted kinds numbers targets) (all_types targets) named unreadable → is_known kinds unreadable w ≡ true → number_of_name numbers w.name ≡ Some number → slice_get named number ≡ Some places
     → HoldCandidates targets w places
-holds targets kinds unreadable numbers named w number places apart seen known here is =
-    let first = kind_known kinds unreadable (number_of w.kind) (both (is_known_kind kinds unreadable (number_of w.kind)) (not w.or_enum64 || is_known_kind kinds unreadable (number_of Enum64)) known).0 in
-    let second : w.or_enum64 ≡ true → is_known_kind kinds unreadable (number_of Enum64) ≡ true = λ e. known_case (is_known_kind kinds unreadable) (number_of w.kind) (number_of Enum64) (number_of Enum64) w.or_enum64 (both (is_known_kind kinds unreadable (number_of w.kind)) (not w.or_enum64 || is_known_kind kinds unreadable (number_of Enum64)) known).0 (both (is_known_kind kinds unreadable (number_of w.kind)) (not w.or_enum64 || is_known_kind kinds unreadable (number_of Enum64)) known).1 (inr (rw e refl)) in
-    record {
-      readable = none_of (is_unreadable_at w targets) (λ place. is_unreadable_of (number_of w.kind) (sighted kinds numbers targets place)) (λ place. is_unreadable_of (number_of Enum64) (sighted kinds numbers targets place)) w.or_enum64 (λ place e. unread_target kinds unreadable numbers w place.type_id (slice_get targets place.table) known e) (all_types targets) (seen.readable (number_of w.kind) first.1) (λ e. seen.readable (number_of Enum64) (kind_known kinds unreadable (number_of Enum64) (second e)).1);
-      all = ap (filter (is_of_kind_at w targets)) (rw is at (seen.each number)) ∙ kept_both (is_candidate w targets) (is_of_kind_at w targets) (λ place. is_under number (sighted kinds numbers targets place)) (λ place e. (kind_of_candidate w place.type_id (slice_get targets place.table) e, under_target kinds unreadable numbers w number place.type_id (slice_get targets place.table) known here e)) (λ place k e. target_under kinds numbers w number place.type_id (slice_get targets place.table) apart here k e) (all_types targets);
-    }
-
-by_number : (targets : List Table) (kinds unreadable : List Bool) (numbers : List (List ℕ × ℕ)) (named : List (List KernelType)) (w : Wanted) (places : List KernelType) (number : Option ℕ) → AreApart numbers → AreSeen (sighted kinds numbers targets) (all_types targets) named unreadable → is_known kinds unreadable w ≡ true → number_of_name numbers w.name ≡ number → IsSomeAnd number (λ n. slice_get named n ≡ Some places) → HoldCandidates targets w places
-by_number targets kinds unreadable numbers named w places None apart seen known same here = absurd here
-by_number targets kinds unreadable numbers named w places (Some number) apart seen known same here = holds targets kinds unreadable numbers named w number places apart seen known same here
-
-pub holds_if : (targets : List Table) (kinds unreadable : List Bool) (numbers : List (List ℕ × ℕ)) (named : List (List KernelType)) (w : Wanted) (name : List ℕ) (found : Option (Bor (List KernelType))) → AreApart numbers → AreSeen (sighted kinds numbers targets) (all_types targets) named unreadable → is_known kinds unreadable w ≡ true → name ≡ w.name → IfSome found (λ places. IsSomeAnd (number_of_name numbers name) (λ n. slice_get named n ≡ Some places.now))
-    → IfSome found (λ places. HoldCandidates targets w places.now)
-holds_if targets kinds unreadable numbers named w name None apart seen known same here = tt
-holds_if targets kinds unreadable numbers named w name (Some places) apart seen known same here = by_number targets kinds unreadable numbers named w places.now (number_of_name numbers name) apart seen known (ap (number_of_name numbers) (sym same)) here
+holds targets kinds unreadable numbers named w number places apart seen known here is = holds_in targets targets kinds unreadable unreadable numbers named w number places (part_itself targets) refl apart seen seen.readable known here is

@@ -1,7 +1,9 @@
 pub mod ByBytes
 pub mod FirstBytes
+pub mod FirstTable
 pub mod FoundCandidates
 pub mod Held
+pub mod KindsOfTypes
 pub mod Lengths
 pub mod Numbers
 pub mod PickedTypes

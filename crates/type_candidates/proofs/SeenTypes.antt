@@ -38,7 +38,7 @@ none_more u seen place none is = let parts = find-append u seen (place ∷ []) i
 pub seen_next : (see : KernelType → Sighting) (seen : List KernelType) (place : KernelType) (old new : List (List KernelType)) (was is : List Bool) → AreSeen see seen old was → IsNamedNext (see place) place old new → IsUnreadableNext (see place) was is → AreSeen see (seen ++ place ∷ []) new is
 seen_next see seen place old new was is before named unreadable = record {
   each = λ number. next_places see seen place number (slice_get old number) (slice_get new number) (before.each number) (named.each number);
-  readable = λ kind e. none_more (λ x. is_unreadable_of kind (see x)) seen place (before.readable kind (unreadable.readable kind e).0) (unreadable.readable kind e).1;
+  readable = record { each = λ kind e. none_more (λ x. is_unreadable_of kind (see x)) seen place (before.readable.each kind (unreadable.readable kind e).0) (unreadable.readable kind e).1 };
 }
 
 range_split : (a n m : ℕ) → range_with_len a (n + m) ≡ range_with_len a n ++ range_with_len (a + n) m
@@ -94,7 +94,7 @@ past_by old kind other le e (inr isnt) = (e, isnt)
 pub unmarked : (s : Sighting) (old : List Bool) (kind : ℕ) → s ≡ Unreadable kind → length old ≤ kind → IsUnreadableNext s old old
 unmarked s old kind is le = rw is (record { readable = λ other e. past_by old kind other le e (true_or_false (nat_eq kind other)) })
 
-same_places : (before : Option (List KernelType)) → IfSome before (λ places. IsSomeAnd before (λ old. places ≡ old ++ []))
+pub same_places : (before : Option (List KernelType)) → IfSome before (λ places. IsSomeAnd before (λ old. places ≡ old ++ []))
 same_places None = tt
 same_places (Some places) = sym (append-nil places)
 
@@ -135,4 +135,4 @@ empty_by named number empty (inr ge) = rw (slice_get_past named number (not_less
 
 -- nothing is seen yet
 pub none_seen : (see : KernelType → Sighting) (named : List (List KernelType)) (unreadable : List Bool) → All (λ places. places ≡ []) named → AreSeen see [] named unreadable
-none_seen see named unreadable empty = record { each = λ number. empty_by named number empty (true_or_false (nat_lt number (length named))); readable = λ kind e. refl }
+none_seen see named unreadable empty = record { each = λ number. empty_by named number empty (true_or_false (nat_lt number (length named))); readable = record { each = λ kind e. refl } }

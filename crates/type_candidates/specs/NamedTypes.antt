@@ -1,5 +1,5 @@
 -- The types of a kernel that have wanted names, found in one walk over each table.
-use Rattle.std.specs.Prelude.{◌≡◌, ℕ, ◌<◌, ◌==◌, ◌&&◌, ◌||◌, nat_eq, codes, drop, length, not, All, Bool, true, false, List, [], ◌∷◌, ◌++◌, filter, find, map, slice_get, slice_index_or, IfSome, Option, None, Some, is_some, if◌then◌else◌}
+use Rattle.std.specs.Prelude.{◌≡◌, ℕ, ◌-◌, ◌<◌, ◌==◌, ◌&&◌, ◌||◌, nat_eq, codes, drop, length, not, All, Bool, true, false, List, [], ◌∷◌, ◌++◌, filter, find, map, slice_get, slice_index_or, IfSome, Option, None, Some, is_some, if◌then◌else◌}
 use Rattle.std.specs.BTreeMap.{is_at}
 use Rattle.std.specs.Borrow.{Bor}
 use Rattle.std.specs.Cmp.Lexicographic.{slice_cmp}
@@ -9,7 +9,8 @@ use Rattle.std.specs.Option.{IsSomeAnd, option_map_or}
 use Rattle.std.specs.Ordering.{nat_cmp}
 use Rattle.btf_records.specs.Fields.{kind_of_type, name_offset_of}
 use Rattle.btf_records.specs.Kinds.{number_of}
-use Rattle.btf_records.specs.declared.kind.BtfKind.TheVariants.{Enum64}
+use Rattle.btf_records.specs.declared.kind.BtfKind.{BtfKind}
+use Rattle.btf_records.specs.declared.kind.BtfKind.TheVariants.{Enum64, Unknown}
 use Rattle.btf_records.specs.declared.types.BtfType.{BtfType}
 use Rattle.btf_tables.specs.EssentialNames.{essential_name}
 use Rattle.btf_tables.specs.Tables.{Table, type_by_id}
@@ -101,6 +102,19 @@ sighted kinds numbers targets place =
     option_map_or (of_type kinds numbers table.strings) (type_by_id table place.type_id) Other)
     (slice_get targets place.table) Other
 
+-- the kinds of a table's types, from id 1 on
+abbrev pub AreKindsAt : List Table → ℕ → List BtfKind → Type 0
+AreKindsAt targets table types =
+    IfSome (slice_get targets table) (λ target. types ≡ map kind_of_type target.types)
+
+-- the kind of the type of an id, by the kinds of those from 1 on; and whether it is a wanted one
+abbrev pub kind_by_id : List BtfKind → ℕ → Option BtfKind
+kind_by_id types id = if id == 0 then Some Unknown else slice_get types (id - 1)
+
+abbrev pub is_wanted_at : List Bool → List BtfKind → ℕ → Bool
+is_wanted_at kinds types id =
+    option_map_or (λ kind. slice_index_or kinds (number_of kind) false) (kind_by_id types id) false
+
 abbrev pub is_under : ℕ → Sighting → Bool
 is_under number (Named other) = other == number
 is_under number _ = false
@@ -109,15 +123,19 @@ abbrev pub is_unreadable_of : ℕ → Sighting → Bool
 is_unreadable_of kind (Unreadable other) = other == kind
 is_unreadable_of kind _ = false
 
+-- of which kinds the names of all types that were seen could be read
+pub record AreReadable (see : KernelType → Sighting) (seen : List KernelType) (unreadable : List Bool) : Type 0 where
+  pub each : (kind : ℕ)
+      → slice_index_or unreadable kind true ≡ false
+      → find (λ place. is_unreadable_of kind (see place)) seen ≡ None
+
 -- by number, the types of that name among those that were seen; and of which kinds all names could
 -- be read
 pub record AreSeen (see : KernelType → Sighting) (seen : List KernelType) (named : List (List KernelType)) (unreadable : List Bool) : Type 0 where
   pub each : (number : ℕ)
       → IfSome (slice_get named number) (λ places.
       places ≡ filter (λ place. is_under number (see place)) seen)
-  pub readable : (kind : ℕ)
-      → slice_index_or unreadable kind true ≡ false
-      → find (λ place. is_unreadable_of kind (see place)) seen ≡ None
+  pub readable : AreReadable see seen unreadable
 
 -- one more is seen
 pub record IsNamedNext (sighting : Sighting) (place : KernelType) (old new : List (List KernelType)) : Type 0 where

@@ -1,6 +1,6 @@
 //! The candidates of all types that are wanted.
 
-ghost use Rattle.std.specs.Prelude.{◌≡◌, ◌≢◌, [], true, All, IfOk, IfErr, IfSome, Ok, Err, Some, filter, slice_get};
+ghost use Rattle.std.specs.Prelude.{◌≡◌, ◌≢◌, [], true, All, IfOk, IfErr, IfSome, Ok, Err, Some, filter, slice_get, take};
 ghost use Rattle.std.specs.Option.{IsSomeAnd};
 ghost use Rattle.type_candidates.specs.Candidates.{candidates};
 ghost use Rattle.type_candidates.specs.NamedTypes.{AreApart, HoldCandidates, is_known, is_known_kind, is_of_kind_at, number_of_name};
@@ -31,15 +31,17 @@ pub struct Candidates<'c> {
     kinds: [bool; 20],
     /// By number, of which kinds a name can't be read.
     unreadable: [bool; 20],
+    /// The same of the first table alone.
+    unreadable_in_first: [bool; 20],
     /// By the numbers of names, the types of wanted kinds.
     named: Vec<Places>,
 }
 
 impl<'c> Model for Candidates<'c> {
-    ghost use Rattle.std.specs.Prelude.{List};
+    ghost use Rattle.std.specs.Prelude.{List, take};
     ghost use Rattle.btf_tables.specs.Tables.{Table};
     ghost use Rattle.type_candidates.specs.Candidates.{all_types};
-    ghost use Rattle.type_candidates.specs.NamedTypes.{AreSeen, sighted};
+    ghost use Rattle.type_candidates.specs.NamedTypes.{AreReadable, AreSeen, sighted};
 
     ghost Value = { List Table };
 
@@ -47,7 +49,9 @@ impl<'c> Model for Candidates<'c> {
 
     ghost invariant = { λ c.
         AreSeen (sighted c.kinds c.names c.targets.now) (all_types c.targets.now) c.named.items
-        c.unreadable };
+        c.unreadable
+        × AreReadable (sighted c.kinds c.names c.targets.now) (all_types (take 1 c.targets.now))
+        c.unreadable_in_first };
 }
 
 /// Empty lists, as many as `count`.
@@ -130,7 +134,7 @@ fn is_of_kind(wanted: &WantedType<'_>, targets: &[Btf<'_>], place: KernelType) -
 }
 
 /// Those of some types that are of the wanted kind.
-#[tactic(auto, using(crate::proofs::PickedTypes::picked_on, crate::proofs::PickedTypes::picked_past, crate::proofs::PickedTypes::picked_end,),)]
+#[tactic(auto, using(crate::proofs::PickedTypes::picked_on, crate::proofs::PickedTypes::picked_past, crate::proofs::PickedTypes::picked_end))]
 fn picked(
     alloc: Global,
     wanted: &WantedType<'_>,
@@ -149,6 +153,16 @@ fn picked(
     Ok(found)
 }
 
+/// The first of some tables alone, if there is one.
+fn first_table<'t, 'a>(targets: &'t [Btf<'a>]) -> &'t [Btf<'a>]
+    ensures { result.now ≡ take 1 targets.now }
+{
+    match targets {
+        [] => targets,
+        _ => &targets[..1],
+    }
+}
+
 impl<'c> Candidates<'c> {
     /// The candidates for local types of these ids, in these tables.
     #[tactic(auto, using(crate::proofs::SeenTypes::none_seen))]
@@ -165,7 +179,7 @@ impl<'c> Candidates<'c> {
         add_wanted(local, type_ids, &mut names, &mut kinds)?;
         let mut named = no_places(alloc, names.len())?;
         let mut unreadable = [false; 20];
-        note_all(
+        let unreadable_in_first = note_all(
             alloc,
             &kinds,
             &names,
@@ -178,6 +192,7 @@ impl<'c> Candidates<'c> {
             names,
             kinds,
             unreadable,
+            unreadable_in_first,
             named,
         })
     }
@@ -188,6 +203,20 @@ impl<'c> Candidates<'c> {
         ensures { IfSome result (λ places. HoldCandidates self.now wanted.now places.now) }
     {
         let is_known = is_known(&self.kinds, &self.unreadable, wanted);
+        if is_known {
+            places_of(&self.names, self.named.as_slice(), wanted.name())
+        } else {
+            None
+        }
+    }
+
+    /// The same in the first table alone, where these were found.
+    #[tactic(auto, using(crate::proofs::FirstTable::holds_first))]
+    fn places_for_first(&self, wanted: &WantedType<'_>) -> Option<&[KernelType]>
+        ensures { IfSome result (λ places.
+            HoldCandidates (take 1 self.now) wanted.now places.now) }
+    {
+        let is_known = is_known(&self.kinds, &self.unreadable_in_first, wanted);
         if is_known {
             places_of(&self.names, self.named.as_slice(), wanted.name())
         } else {
@@ -215,6 +244,29 @@ impl<'c> Candidates<'c> {
                 Ok(found)
             }
             None => candidates(alloc, wanted, self.targets),
+        }
+    }
+
+    /// The same types of the first table alone, as `candidates` finds them there.
+    ///
+    /// `UnreadableName` where the name of a type of the kind can't be read in that table.
+    pub fn of_first(
+        &self,
+        alloc: Global,
+        wanted: &WantedType<'_>,
+    ) -> Result<Vec<KernelType>, CandidateError>
+        ensures value { IfOk result (λ found.
+            candidates wanted.now (take 1 self.now) ≡ Ok found.items) }
+        ensures refused { IfErr result (λ e.
+            e ≢ OutOfMemory → candidates wanted.now (take 1 self.now) ≡ Err e) }
+    {
+        let first = first_table(self.targets);
+        match self.places_for_first(wanted) {
+            Some(places) => {
+                let found = picked(alloc, wanted, first, places)?;
+                Ok(found)
+            }
+            None => candidates(alloc, wanted, first),
         }
     }
 }

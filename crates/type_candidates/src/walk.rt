@@ -1,9 +1,9 @@
 //! One walk over each table of a kernel, for all types that are wanted.
 
-ghost use Rattle.std.specs.Prelude.{◌≡◌, ◌+◌, false, slice_get, slice_index_or, IfOk, IfSome, OnOk, []};
+ghost use Rattle.std.specs.Prelude.{◌≡◌, ◌≤◌, ◌+◌, false, length, slice_get, slice_index_or, take, IfOk, IfSome, OnOk, []};
 ghost use Rattle.std.specs.List.{flat_map, range_with_len};
 ghost use Rattle.type_candidates.specs.Candidates.{all_types, types_at};
-ghost use Rattle.type_candidates.specs.NamedTypes.{AreNumbersAt, AreNumbersOf, AreSeen, IsNamedNext, IsUnreadableNext, of_type, sighted, types_before};
+ghost use Rattle.type_candidates.specs.NamedTypes.{AreKindsAt, AreNumbersAt, AreNumbersOf, AreReadable, AreSeen, IsNamedNext, IsUnreadableNext, is_wanted_at, kind_by_id, of_type, sighted, types_before};
 
 use crate::kernel_type::KernelType;
 use crate::long_names::LongNames;
@@ -12,6 +12,7 @@ use crate::search::type_count;
 use crate::sighting::Sighting;
 use crate::wanted_names::WantedNames;
 use btf_encoding::TypeRef;
+use btf_records::BtfKind;
 use btf_tables::Btf;
 use std::alloc::{AllocError, Global};
 
@@ -133,7 +134,38 @@ fn no_names(alloc: Global, names: &WantedNames<'_>, targets: &[Btf<'_>], table: 
     LongNames::new(alloc, strings_at(targets, table))
 }
 
-/// Enters the types of a table, after those of the tables before it.
+/// The kinds of the types of a table, from id 1 on.
+fn kinds_at<'t>(targets: &'t [Btf<'_>], table: usize) -> &'t [BtfKind]
+    ensures { AreKindsAt targets.now table result.now }
+{
+    match targets.get(table) {
+        Some(target) => target.kinds(),
+        None => &[],
+    }
+}
+
+/// The kind of the type of an id, by the kinds of those from id 1 on.
+fn kind_by_id(types: &[BtfKind], id: usize) -> Option<BtfKind>
+    ensures { result ≡ kind_by_id types.now id }
+{
+    if id == 0 {
+        return Some(BtfKind::Unknown);
+    }
+    types.get(id - 1).copied()
+}
+
+/// Whether the type of an id is of a wanted kind, by the kinds of those from id 1 on.
+fn is_wanted_at(kinds: &[bool], types: &[BtfKind], id: usize) -> bool
+    ensures { result ≡ is_wanted_at kinds.now types.now id }
+{
+    match kind_by_id(types, id) {
+        Some(kind) => is_wanted(kinds, kind as usize),
+        None => false,
+    }
+}
+
+/// Enters the types of a table, after those of the tables before it. Of those whose kinds aren't
+/// wanted nothing else is read.
 fn note_table(
     alloc: Global,
     kinds: &[bool],
@@ -150,8 +182,12 @@ fn note_table(
         (flat_map (types_at targets.now) (range_with_len 0 (table + 1))) named.new unreadable.new) }
 {
     let mut long_names = no_names(alloc, names, targets, table);
+    let types = kinds_at(targets, table);
     let count = type_count(targets, table);
     for id in 0..count {
+        if !is_wanted_at(kinds, types, id) {
+            continue;
+        }
         let type_id = id as u32;
         note(
             kinds,
@@ -166,22 +202,64 @@ fn note_table(
     Ok(())
 }
 
-/// Enters the types of all tables.
+/// Enters the types of the tables of numbers `from` up to `to`, after those of the tables before.
+fn note_tables(
+    alloc: Global,
+    kinds: &[bool],
+    names: &WantedNames<'_>,
+    targets: &[Btf<'_>],
+    from: usize,
+    to: usize,
+    named: &mut [Places],
+    unreadable: &mut [bool],
+) -> Result<(), AllocError>
+    requires order { from ≤ to }
+    requires seen { AreSeen (sighted kinds.now names.now targets.now)
+        (flat_map (types_at targets.now) (range_with_len 0 from)) named.old unreadable.old }
+    ensures { OnOk result
+        (AreSeen (sighted kinds.now names.now targets.now)
+        (flat_map (types_at targets.now) (range_with_len 0 to)) named.new unreadable.new) }
+{
+    for table in from..to {
+        note_table(alloc, kinds, names, targets, table, named, unreadable)?;
+    }
+    Ok(())
+}
+
+/// How many tables the first is: none where there is none.
+fn first_count(targets: &[Btf<'_>]) -> usize
+    ensures first { result ≡ length (take 1 targets.now) }
+    ensures within { result ≤ length targets.now }
+{
+    match targets {
+        [] => 0,
+        _ => 1,
+    }
+}
+
+/// Enters the types of all tables. Answers, by number, of which kinds a name can't be read in the
+/// first.
+#[tactic(auto, using(crate::proofs::FirstTable::readable_in_first))]
 pub(crate) fn note_all(
     alloc: Global,
     kinds: &[bool],
     names: &WantedNames<'_>,
     targets: &[Btf<'_>],
     named: &mut [Places],
-    unreadable: &mut [bool],
-) -> Result<(), AllocError>
+    unreadable: &mut [bool; 20],
+) -> Result<[bool; 20], AllocError>
     requires { AreSeen (sighted kinds.now names.now targets.now) [] named.old unreadable.old }
-    ensures { OnOk result
+    ensures seen { OnOk result
         (AreSeen (sighted kinds.now names.now targets.now) (all_types targets.now) named.new
         unreadable.new) }
+    ensures first { IfOk result (λ first.
+        AreReadable (sighted kinds.now names.now targets.now) (all_types (take 1 targets.now))
+        first) }
 {
-    for table in 0..targets.len() {
-        note_table(alloc, kinds, names, targets, table, named, unreadable)?;
-    }
-    Ok(())
+    let first = first_count(targets);
+    note_tables(alloc, kinds, names, targets, 0, first, named, unreadable)?;
+    let unreadable_in_first = *unreadable;
+    let end = targets.len();
+    note_tables(alloc, kinds, names, targets, first, end, named, unreadable)?;
+    Ok(unreadable_in_first)
 }

@@ -11,7 +11,6 @@ mod matches;
 mod outcome;
 mod paths;
 mod relocation;
-mod searched;
 
 pub use error::TypeRelocationError;
 pub use laws::{lists_of_one_table, outcomes_rest};

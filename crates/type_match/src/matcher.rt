@@ -17,11 +17,10 @@ use crate::known::{AccessKey, KnownOutcome, access_key, is_same};
 use crate::matches::{Match, matches_of, searched_tables};
 use crate::paths::{FoundPath, KnownPaths, ask_for_one, is_part, matches_from, paths_of};
 use crate::relocation::{RelocationOutcome, TypeRelocation, local_value, settled};
-use crate::searched::{Tables, searched};
 use access_paths::{AccessError, AccessPath, local_path, subject_of};
 use btf_tables::Btf;
 use ebpf_items::RelocationKind;
-use std::alloc::AllocError;
+use std::alloc::{AllocError, Global};
 use std::collections::BTreeMap;
 use std::marker::Model;
 use type_candidates::{CandidateError, Candidates, KernelType, WantedType, candidates};
@@ -31,10 +30,8 @@ use type_candidates::{CandidateError, Candidates, KernelType, WantedType, candid
 pub struct TypeMatcher<'m> {
     local: &'m Btf<'m>,
     targets: &'m [Btf<'m>],
-    /// Those in all tables, where they were collected.
-    in_all: Option<Candidates<'m>>,
-    /// Those of ids of a kernel's types, in the first of several tables.
-    in_first: Option<Candidates<'m>>,
+    /// The candidates, where they were collected.
+    collected: Option<Candidates<'m>>,
     /// What relocations came to.
     known: BTreeMap<AccessKey, KnownOutcome>,
     /// The paths that were found for relocations about fields and variants, by type and access
@@ -44,7 +41,7 @@ pub struct TypeMatcher<'m> {
 }
 
 impl<'m> Model for TypeMatcher<'m> {
-    ghost use Rattle.std.specs.Prelude.{◌≡◌, IfSome, take};
+    ghost use Rattle.std.specs.Prelude.{◌≡◌, IfSome};
     ghost use Rattle.std.specs.Map.{values_of};
     ghost use Rattle.type_match.specs.FoundPaths.{AreKnown};
     ghost use Rattle.type_match.specs.KnownOutcomes.{AreOutcomes};
@@ -55,23 +52,17 @@ impl<'m> Model for TypeMatcher<'m> {
     ghost view = { λ m. record { local = m.local.now; targets = m.targets.now } };
 
     ghost invariant = { λ m.
-        (IfSome m.in_all (λ c. c ≡ m.targets.now))
-        × (IfSome m.in_first (λ c. c ≡ take 1 m.targets.now))
+        (IfSome m.collected (λ c. c ≡ m.targets.now))
         × AreOutcomes m.local.now m.targets.now (values_of m.known.entries)
         × AreKnown m.local.now m.targets.now (values_of m.paths.entries)
         × (m.finders ≡ m.targets.now) };
 }
 
-/// The local types of relocations that are looked for in these of the tables, each once.
-fn wanted_types(
-    local: &Btf<'_>,
-    relocations: &[TypeRelocation],
-    targets: &[Btf<'_>],
-    tables: Tables,
-) -> Result<Vec<u32>, AllocError> {
+/// The local types of relocations that are looked for in a kernel's types, each once.
+fn wanted_types(local: &Btf<'_>, relocations: &[TypeRelocation]) -> Result<Vec<u32>, AllocError> {
     let mut type_ids = Vec::new(local.allocator());
     for relocation in relocations {
-        if searched(relocation.kind, targets) == tables {
+        if relocation.kind != RelocationKind::TypeIdLocal {
             type_ids.push(relocation.type_id)?;
         }
     }
@@ -95,17 +86,35 @@ fn collected<'m>(
     Ok(Some(found))
 }
 
+/// Those of collected candidates that a kind asks for.
+fn candidates_for(
+    alloc: Global,
+    kind: RelocationKind,
+    wanted: &WantedType<'_>,
+    collected: &Candidates<'_>,
+) -> Result<Vec<KernelType>, CandidateError>
+    ensures value { IfOk result (λ found.
+        candidates wanted.now (searched_tables kind collected.now) ≡ Ok found.items) }
+    ensures refused { IfErr result (λ e.
+        e ≢ NoMemory → candidates wanted.now (searched_tables kind collected.now) ≡ Err e) }
+{
+    match kind {
+        RelocationKind::TypeIdLocal => Ok(Vec::new(alloc)),
+        RelocationKind::TypeIdTarget => collected.of_first(alloc, wanted),
+        _ => collected.of(alloc, wanted),
+    }
+}
+
 impl<'m> TypeMatcher<'m> {
     /// The types of an object and of a kernel. Each relocation goes over the kernel's tables.
-    #[tactic(auto, using(crate::proofs::KnownOutcomes::none_known, crate::proofs::FoundPaths::no_paths_known),)]
+    #[tactic(auto, using(crate::proofs::KnownOutcomes::none_known, crate::proofs::FoundPaths::no_paths_known))]
     pub fn new(local: &'m Btf<'m>, targets: &'m [Btf<'m>]) -> TypeMatcher<'m>
         ensures { result ≡ record { local = local.now; targets = targets.now } }
     {
         TypeMatcher {
             local,
             targets,
-            in_all: None,
-            in_first: None,
+            collected: None,
             known: BTreeMap::new(local.allocator()),
             paths: BTreeMap::new(local.allocator()),
             finders: TableFinders::new(local.allocator(), targets),
@@ -113,9 +122,8 @@ impl<'m> TypeMatcher<'m> {
     }
 
     /// The types of an object and of a kernel, of which each table is gone over once for all of
-    /// these relocations, the first of several once more where ids of a kernel's types are asked
-    /// for.
-    #[tactic(auto, using(crate::proofs::KnownOutcomes::none_known, crate::proofs::FoundPaths::no_paths_known),)]
+    /// these relocations.
+    #[tactic(auto, using(crate::proofs::KnownOutcomes::none_known, crate::proofs::FoundPaths::no_paths_known))]
     pub fn collect(
         local: &'m Btf<'m>,
         relocations: &[TypeRelocation],
@@ -124,31 +132,16 @@ impl<'m> TypeMatcher<'m> {
         ensures { IfOk result (λ matcher.
             matcher ≡ record { local = local.now; targets = targets.now }) }
     {
-        let in_all = wanted_types(local, relocations, targets, Tables::All)?;
-        let in_first = wanted_types(local, relocations, targets, Tables::First)?;
-        let first = searched_tables(RelocationKind::TypeIdTarget, targets);
-        let in_all = collected(local, in_all.as_slice(), targets)?;
-        let in_first = collected(local, in_first.as_slice(), first)?;
+        let type_ids = wanted_types(local, relocations)?;
+        let collected = collected(local, type_ids.as_slice(), targets)?;
         Ok(TypeMatcher {
             local,
             targets,
-            in_all,
-            in_first,
+            collected,
             known: BTreeMap::new(local.allocator()),
             paths: BTreeMap::new(local.allocator()),
             finders: TableFinders::new(local.allocator(), targets),
         })
-    }
-
-    /// The candidates that were collected for a kind.
-    fn collected(&self, kind: RelocationKind) -> Option<&Candidates<'m>>
-        ensures { IfSome result (λ c. c.now ≡ searched_tables kind self.now.targets) }
-    {
-        match searched(kind, self.targets) {
-            Tables::Nowhere => None,
-            Tables::First => self.in_first.as_ref(),
-            Tables::All => self.in_all.as_ref(),
-        }
     }
 
     /// The candidates for a local type.
@@ -163,8 +156,8 @@ impl<'m> TypeMatcher<'m> {
             e ≢ NoMemory → candidates wanted.now (searched_tables kind self.now.targets) ≡ Err e) }
     {
         let alloc = self.local.allocator();
-        match self.collected(kind) {
-            Some(collected) => collected.of(alloc, wanted),
+        match &self.collected {
+            Some(collected) => candidates_for(alloc, kind, wanted, collected),
             None => candidates(alloc, wanted, searched_tables(kind, self.targets)),
         }
     }

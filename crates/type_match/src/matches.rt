@@ -121,7 +121,7 @@ fn add_match<'t>(
 }
 
 /// The matches of candidates, in order.
-#[tactic(auto, using(crate::proofs::MatchesOf::none_left, crate::proofs::MatchesOf::next_candidate),)]
+#[tactic(auto, using(crate::proofs::MatchesOf::none_left, crate::proofs::MatchesOf::next_candidate))]
 pub(crate) fn matches_of<'t>(
     kind: RelocationKind,
     local: &Btf<'t>,

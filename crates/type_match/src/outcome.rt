@@ -88,7 +88,7 @@ pub fn outcome_of(kind: RelocationKind, matches: &[Match]) -> Result<Outcome, Ty
 }
 
 /// The matches that don't agree with one.
-#[tactic(auto, using(crate::proofs::DifferingMatches::conflict_on, crate::proofs::DifferingMatches::conflict_past, crate::proofs::DifferingMatches::conflict_end,),)]
+#[tactic(auto, using(crate::proofs::DifferingMatches::conflict_on, crate::proofs::DifferingMatches::conflict_past, crate::proofs::DifferingMatches::conflict_end))]
 fn differing(alloc: Global, first: Match, others: &[Match]) -> Result<Vec<Match>, AllocError>
     ensures { IfOk result (λ found.
         found.items ≡ filter (λ other. not (agree first other)) others.now) }

@@ -79,7 +79,7 @@ fn add_path<'t>(
 }
 
 /// The paths in candidates, in order.
-#[tactic(auto, using(crate::proofs::FoundPaths::no_path_left, crate::proofs::FoundPaths::next_path),)]
+#[tactic(auto, using(crate::proofs::FoundPaths::no_path_left, crate::proofs::FoundPaths::next_path))]
 pub(crate) fn paths_of<'t>(
     subject: Subject,
     local: &Btf<'t>,
