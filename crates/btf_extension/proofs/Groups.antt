@@ -1,4 +1,4 @@
--- Whole groups, one behind the other.
+-- Whole groups, one after the other.
 use Rattle.std.proofs.Common.{ℕ, ◌+◌, ◌*◌, ◌<◌, ◌≤◌, ◌^◌, List, [], ◌∷◌, ◌++◌, length, drop, refl, sym, arith, length-drop}
 use Rattle.std.proofs.Math.Nat.{mul-le-mul_left}
 use Rattle.btf_records.specs.declared.words.Endianness.{Endianness}

@@ -14,7 +14,7 @@ use Rattle.btf_extension.specs.declared.sec_info.GroupRecords.{GroupRecords}
 pub reverse_more : (xs : List ℕ) (i : ℕ) → i < length xs → reverse (take (i + 1) xs) ≡ get_or xs i 0 ∷ reverse (take i xs)
 reverse_more xs i lt = ap reverse (take_more xs i 0 lt) ∙ reverse-append (take i xs) (get_or xs i 0 ∷ [])
 
--- of the first so many the last wanted one is the last of all
+-- of the first ones the last wanted one is the last of all
 pub record IsLastIn (p : ℕ → Bool) (xs : List ℕ) (i : ℕ) : Type 0 where
   pub same : find p (reverse xs) ≡ find p (reverse (take i xs))
 

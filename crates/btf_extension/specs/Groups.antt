@@ -8,7 +8,7 @@ pub record Group (R : Type 0) : Type 0 where
   pub name_offset : ℕ
   pub records : List R
 
--- a group's number of records, and its bytes where each of them has so many
+-- a group's number of records, and its bytes where each of them has that many
 abbrev pub count_in : Endianness → List ℕ → ℕ
 count_in order bytes = word_at order bytes 4
 
@@ -27,7 +27,7 @@ group_in order read size bytes = record {
   records = items_in (read order) size (count_in order bytes) (drop 8 bytes);
 }
 
--- the bytes are these groups, one behind the other; a rest of at most 8 bytes ends them
+-- the bytes are these groups, one after the other; a rest of at most 8 bytes ends them
 abbrev pub AreGroups : {R : Type 0}
     → Endianness
     → (Endianness → List ℕ → R)
@@ -41,7 +41,7 @@ AreGroups order read size bytes (g ∷ gs) =
     × (g ≡ group_in order read size bytes)
     × AreGroups order read size (drop (group_len order size bytes) bytes) gs
 
--- whole groups at these places, one behind the other, reach from one offset to another
+-- whole groups at these places, one after the other, reach from one offset to another
 abbrev pub Reach : Endianness → ℕ → List ℕ → ℕ → List ℕ → ℕ → Type 0
 Reach order size bytes from [] to = from ≡ to
 Reach order size bytes from (place ∷ places) to =
@@ -49,7 +49,7 @@ Reach order size bytes from (place ∷ places) to =
     × IsGroup order size (drop place bytes)
     × Reach order size bytes (place + group_len order size (drop place bytes)) places to
 
--- something stands behind some whole groups
+-- something stands after some whole groups
 pub record StandsBehind (order : Endianness) (size : ℕ) (bytes : List ℕ) (Stands : List ℕ → Type 0) : Type 0 where
   pub places : List ℕ
   pub at : ℕ

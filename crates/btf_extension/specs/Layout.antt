@@ -22,7 +22,7 @@ groups_at read g =
 pub record AreWhole (g : GroupList) : Type 0 where
   pub stand : All (λ place. IsGroup g.order g.size (drop place g.bytes.now)) g.places.items
 
--- their records have at least so many bytes
+-- their records have at least that many bytes
 pub record AreLaidOut (least : ℕ) (g : GroupList) : Type 0 where
   pub whole : AreWhole g
   pub sized : All (λ place. least ≤ g.size) g.places.items

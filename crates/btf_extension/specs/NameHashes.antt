@@ -14,8 +14,8 @@ next_hash hash byte = (hash * 31 % 2 ^ 32 + byte) % 2 ^ 32
 -- the hash of a name, by its length, its beginning and its end
 unfoldable pub name_hash : List ℕ → ℕ
 name_hash name =
-    fold next_hash (fold next_hash (length name % 2 ^ 32) (take 64 name))
-    (drop (length name - 64) name)
+    fold next_hash (fold next_hash (length name % 2 ^ 32) (take 1024 name))
+    (drop (length name - 1024) name)
 
 -- the hash of the name of the group at a place
 abbrev pub place_hash : List ℕ → GroupList → ℕ → ℕ
@@ -34,7 +34,7 @@ pub record IsKept (old new : List (ℕ × ℕ)) (hash place : ℕ) : Type 0 wher
   pub here : place_by new hash ≡ Some place
   pub others : (other : ℕ) → other ≢ hash → place_by new other ≡ place_by old other
 
--- the places kept are the last of each hash among the first so many groups
+-- the places kept are the last of each hash among the first `count` groups
 pub record AreLastOf (strings : List ℕ) (g : GroupList) (count : ℕ) (entries : List (ℕ × ℕ)) : Type 0 where
   pub last : (hash : ℕ)
       → place_by entries hash ≡ find (has_hash strings g hash) (reverse (take count g.places.items))

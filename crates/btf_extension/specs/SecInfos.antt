@@ -16,7 +16,7 @@ use Rattle.btf_extension.specs.declared.sec_info.LineRecords.TheVariants as line
 abbrev pub records_in : {R : Type 0} → (Endianness → List ℕ → R) → GroupRecords → List R
 records_in read g = items_in (read g.order) g.size g.count g.bytes.now
 
--- they are there, each with so many bytes at least
+-- they are there, each with that many bytes at least
 pub record AreThere (least : ℕ) (g : GroupRecords) : Type 0 where
   pub whole : g.size * g.count ≤ length g.bytes.now
   pub sized : least ≤ g.size

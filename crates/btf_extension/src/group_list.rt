@@ -85,7 +85,7 @@ fn check_name(order: Endianness, table: &Btf<'_>, group: &[u8]) -> Result<(), Bt
 }
 
 /// Looks for what is wrong with a whole group.
-#[tactic(auto, using(crate::proofs::Faults::named_function, crate::proofs::Faults::named_line, crate::proofs::Faults::known_kinds,),)]
+#[tactic(auto, using(crate::proofs::Faults::named_function, crate::proofs::Faults::named_line, crate::proofs::Faults::known_kinds))]
 fn check_group(
     kind: RegionKind,
     order: Endianness,
@@ -195,7 +195,7 @@ impl<'a> GroupList<'a> {
     }
 
     /// The records of the group at a place.
-    #[tactic(auto, using(crate::proofs::Groups::place_within, crate::proofs::Groups::records_there),)]
+    #[tactic(auto, using(crate::proofs::Groups::place_within, crate::proofs::Groups::records_there))]
     pub(crate) fn records(&self, place: u32) -> GroupRecords<'a>
         requires { IsGroup self.now.order self.now.size (drop place self.now.bytes.now) }
         ensures value { AreRecordsOf self.now place result }

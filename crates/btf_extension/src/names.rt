@@ -11,9 +11,9 @@ use btf_tables::Strings;
 use std::alloc::{AllocError, Global};
 use std::collections::BTreeMap;
 
-/// So many bytes of a name are hashed at its beginning, and at its end: many groups may have one
+/// As many bytes of a name are hashed at its beginning, and at its end: many groups may have one
 /// long name, or names that are ends of one long text.
-const HASHED: usize = 64;
+const HASHED: usize = 1024;
 
 /// Where the last group of each hash of a name begins.
 #[derive(Debug, Drop)]
@@ -30,7 +30,7 @@ fn next_hash(hash: u32, byte: u8) -> u32
 
 /// The hash with the first bytes.
 fn hash_beginning(hash: u32, bytes: &[u8]) -> u32
-    ensures { result ≡ fold next_hash hash (take 64 bytes.now) }
+    ensures { result ≡ fold next_hash hash (take 1024 bytes.now) }
 {
     bytes
         .iter()
@@ -40,7 +40,7 @@ fn hash_beginning(hash: u32, bytes: &[u8]) -> u32
 
 /// The hash with the last bytes.
 fn hash_end(hash: u32, bytes: &[u8]) -> u32
-    ensures { result ≡ fold next_hash hash (drop (length bytes.now - 64) bytes.now) }
+    ensures { result ≡ fold next_hash hash (drop (length bytes.now - 1024) bytes.now) }
 {
     bytes
         .iter()
@@ -86,7 +86,7 @@ fn place_by(last: &BTreeMap<u32, u32>, hash: u32) -> Option<u32>
 
 impl GroupNames {
     /// The names of these groups.
-    #[tactic(auto, using(crate::proofs::NameHashes::none_kept, crate::proofs::NameHashes::one_more_kept, crate::proofs::NameHashes::all_kept,),)]
+    #[tactic(auto, using(crate::proofs::NameHashes::none_kept, crate::proofs::NameHashes::one_more_kept, crate::proofs::NameHashes::all_kept))]
     pub(crate) fn new(
         alloc: Global,
         strings: &Strings<'_>,
@@ -106,7 +106,7 @@ impl GroupNames {
 
     /// The place of the last group of a name. Looks at one group, unless a later one has another
     /// name of the same hash.
-    #[tactic(auto, using(crate::proofs::NameHashes::last_of_hash, crate::proofs::NameHashes::none_of_hash),)]
+    #[tactic(auto, using(crate::proofs::NameHashes::last_of_hash, crate::proofs::NameHashes::none_of_hash))]
     pub(crate) fn last_named(
         &self,
         strings: &Strings<'_>,
