@@ -1,9 +1,9 @@
-pub mod Calls
 pub mod Faults
 pub mod Hashed
 pub mod Helpers
 pub mod ParsedObject
 pub mod Places
 pub mod Rewriting
+pub mod TextSections
 pub mod TypeRelocations
 pub mod Types

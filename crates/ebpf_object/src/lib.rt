@@ -1,7 +1,6 @@
 //! Parsed eBPF objects.
 #![tactic(auto)]
 
-mod calls;
 mod externs;
 mod globals;
 mod hashed;
@@ -9,6 +8,7 @@ mod object;
 mod places;
 mod rewriting;
 mod slots;
+mod text_sections;
 mod type_relocations;
 mod types;
 

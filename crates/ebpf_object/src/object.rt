@@ -22,12 +22,12 @@ ghost use Rattle.ebpf_object.specs.ParsedObject.{IsParsed, completed, no_externs
 ghost use Rattle.linker.specs.Linked.{AllCanBeLinked, AreLinked, HasFaultOf, program_keys, unlinked};
 ghost use Rattle.relocation_errors.specs.declared.error.RelocationError.TheVariants as RelocationError;
 ghost use Rattle.std.specs.String.{string_bytes};
-ghost use Rattle.ebpf_object.specs.Calls as calls;
+ghost use Rattle.ebpf_object.specs.TextSections as code;
 ghost use Rattle.ebpf_object.specs.Rewriting.{AreAnswered, IsRefused, IsRewritten};
 ghost use Rattle.btf_records.specs.declared.error.BtfError.TheVariants as BtfError;
 
-use crate::calls::text_sections;
 use crate::rewriting::rewrite;
+use crate::text_sections::text_sections;
 use crate::types::{Types, read_types};
 use btf_extension::BtfExt;
 use btf_records::{BtfError, BtfFeature, Endianness};
@@ -317,9 +317,9 @@ impl<'a> Object<'a> {
     /// The indexes of the sections that functions lie in.
     pub fn text_sections(&self) -> Result<BTreeSet<usize>, AllocError>
         ensures value { IfOk result (λ sections.
-            sections.keys ≡ calls.text_sections self.now.functions) }
+            sections.keys ≡ code.text_sections self.now.functions) }
         ensures at { IfOk result (λ sections.
-            calls.AreTextSections self.now.functions sections.keys) }
+            code.AreTextSections self.now.functions sections.keys) }
     {
         text_sections(self.alloc, &self.functions)
     }

@@ -7,7 +7,7 @@ use Rattle.btf_records.specs.declared.error.BtfError.{BtfError}
 use Rattle.btf_sanitizing.specs.Answers.{Answers}
 use Rattle.btf_tables.specs.Tables.{Table}
 use Rattle.ebpf_items.specs.declared.error.ParseError.{ParseError}
-use Rattle.ebpf_object.specs.Calls.{text_sections}
+use Rattle.ebpf_object.specs.TextSections.{text_sections}
 use Rattle.ebpf_object.specs.Helpers.{for_kernel}
 use Rattle.ebpf_object.specs.Rewriting.{CannotRewrite, IsRewritten}
 use Rattle.ebpf_object.specs.TypeRelocations.{type_groups, types_of}

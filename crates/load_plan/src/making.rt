@@ -1,7 +1,7 @@
 //! The passes over a parsed object.
 
 ghost use Rattle.std.specs.Prelude.{◌≡◌, ◌≢◌, ◌≤◌, ◌^◌, ℕ, List, length, slice_get, IfErr, IfOk, OnOk};
-ghost use Rattle.ebpf_object.specs.Calls as calls;
+ghost use Rattle.ebpf_object.specs.TextSections as code;
 ghost use Rattle.ebpf_object.specs.Rewriting.{AreAnswered};
 ghost use Rattle.load_plan.specs.Inputs.{inputs, symbols_given};
 ghost use Rattle.load_plan.specs.Made.{AreTypesMade, AreTypesRefused, IsMade, IsRefusedTypes};
@@ -129,7 +129,7 @@ fn write_numbers_of(
     object: &mut Object<'_>,
     text_sections: &BTreeSet<usize>,
 ) -> Result<(), PrepareError>
-    requires { text_sections.now.keys ≡ calls.text_sections object.old.functions }
+    requires { text_sections.now.keys ≡ code.text_sections object.old.functions }
     ensures made { OnOk result
         (WritesNumbers settings.now (record object.old { maps = maps.now })
         (record object.new { maps = maps.now })) }
@@ -150,7 +150,7 @@ fn write_numbers(
     object: &mut Object<'_>,
     text_sections: &BTreeSet<usize>,
 ) -> Result<(), PrepareError>
-    requires { text_sections.now.keys ≡ calls.text_sections object.old.functions }
+    requires { text_sections.now.keys ≡ code.text_sections object.old.functions }
     ensures made { OnOk result (WritesNumbers settings.now object.old object.new) }
     ensures refused { IfErr result (λ e.
         e ≢ OutOfMemory → OfRelocation (CannotWriteNumbers settings.now object.old) e) }
@@ -173,7 +173,7 @@ fn write_externs(object: &mut Object<'_>) -> Result<(), PrepareError>
 
 /// Links an object's programs.
 fn link(object: &mut Object<'_>, text_sections: &BTreeSet<usize>) -> Result<(), PrepareError>
-    requires { text_sections.now.keys ≡ calls.text_sections object.old.functions }
+    requires { text_sections.now.keys ≡ code.text_sections object.old.functions }
     ensures made { OnOk result (LinksPrograms object.old object.new) }
     ensures refused { IfErr result (λ e. e ≢ OutOfMemory → OfRelocation (CannotLink object.old) e) }
 {

@@ -2,8 +2,8 @@ use Rattle.std.proofs.Common.{◌≡◌, ℕ, ◌==◌}
 use Rattle.std.specs.Prelude.{◌||◌}
 use Rattle.std.specs.List.{list_any}
 use Rattle.std.specs.Map.{keys_of}
-use Rattle.ebpf_object.specs.Calls.{has_section, text_sections, with_sections}
-use Rattle.ebpf_object.proofs.calls.text_sections.Given as goal
+use Rattle.ebpf_object.specs.TextSections.{has_section, text_sections, with_sections}
+use Rattle.ebpf_object.proofs.text_sections.text_sections.Given as goal
 
 -- with what is left, the sections of all functions
 abbrev pub invariant-loop-key : goal.invariant-loop-key

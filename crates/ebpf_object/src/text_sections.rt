@@ -1,7 +1,7 @@
 //! The sections of an object that have functions.
 
 ghost use Rattle.std.specs.Prelude.{◌≡◌, IfOk};
-ghost use Rattle.ebpf_object.specs.Calls.{AreTextSections, text_sections};
+ghost use Rattle.ebpf_object.specs.TextSections.{AreTextSections, text_sections};
 
 use object_parts::Functions;
 use std::alloc::{AllocError, Global};
