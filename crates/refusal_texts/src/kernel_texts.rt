@@ -1,7 +1,7 @@
 //! What is told of what a kernel lacks.
 
+use crate::first_names::FirstNames;
 use crate::kernel_files::{KernelFiles, NO_TYPES};
-use crate::quoted::Quoted;
 use crate::tables::table_of;
 use ebpf_object::{BtfRelocationCause, BtfRelocationError, KsymsError};
 use object_externs::{Externs, read_externs};
@@ -27,8 +27,8 @@ fn has_no_type(alloc: Global, object: &[u8], name: &str) -> bool {
 }
 
 /// The names of the externs that have a type and must be found.
-fn typed_names<'a>(alloc: Global, externs: &Externs<'a>) -> Result<Vec<&'a str>, AllocError> {
-    let mut names = Vec::new(alloc);
+fn typed_names<'a>(alloc: Global, externs: &Externs<'a>) -> Result<FirstNames<'a>, AllocError> {
+    let mut names = FirstNames::new(alloc);
     for (name, found) in externs.iter() {
         if found.type_id.is_some() && !found.is_weak {
             names.push(*name)?;
@@ -43,9 +43,6 @@ fn typed_text(alloc: Global, object: &[u8], error: &KsymsError) -> Result<String
         return format!(in alloc; "{error}: {NO_TYPES}");
     };
     let names = typed_names(alloc, &externs)?;
-    let names = Quoted {
-        names: names.as_slice(),
-    };
     format!(in alloc; "{error}, as here {names}: {NO_TYPES}")
 }
 

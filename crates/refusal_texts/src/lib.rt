@@ -4,6 +4,7 @@
 
 mod contents;
 mod definitions;
+mod first_names;
 mod functions;
 mod instructions;
 mod kernel_files;

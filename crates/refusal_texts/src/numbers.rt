@@ -1,6 +1,6 @@
 //! Maps without a number.
 
-use crate::quoted::Quoted;
+use crate::first_names::{FirstNames, ShortName};
 use crate::tables::table_of;
 use object_file::ObjectFile;
 use object_maps::{Maps, read_maps};
@@ -15,8 +15,8 @@ fn without_number<'a>(
     alloc: Global,
     maps: &Maps<'a>,
     settings: &Settings,
-) -> Result<Vec<&'a str>, AllocError> {
-    let mut names = Vec::new(alloc);
+) -> Result<FirstNames<'a>, AllocError> {
+    let mut names = FirstNames::new(alloc);
     for (name, _map) in maps.iter() {
         if settings.map_number(name).is_none() {
             names.push(*name)?;
@@ -26,15 +26,14 @@ fn without_number<'a>(
 }
 
 /// The names of the maps of an object that have no number, where it can be read.
-fn names_of<'o>(alloc: Global, object: &'o [u8], settings: &Settings) -> Option<Vec<&'o str>> {
+fn names_of<'o>(alloc: Global, object: &'o [u8], settings: &Settings) -> Option<FirstNames<'o>> {
     let file = ObjectFile::parse(alloc, object).ok()?;
     let table = table_of(alloc, object);
     let maps = read_maps(alloc, &file, table.as_ref()).ok()?;
     without_number(alloc, &maps, settings).ok()
 }
 
-/// What is told where the map of a name has no number: which others have none, and how maps get
-/// them.
+/// What is told where the map of a name has no number: which maps have none, and how maps get them.
 pub(crate) fn missing_numbers_text(
     alloc: Global,
     object: &[u8],
@@ -42,12 +41,12 @@ pub(crate) fn missing_numbers_text(
     settings: &Settings,
 ) -> Result<String, AllocError> {
     match names_of(alloc, object, settings) {
-        Some(names) if names.len() > 1 => {
-            let names = Quoted {
-                names: names.as_slice(),
-            };
+        Some(names) if names.are_several() => {
             format!(in alloc; "maps {names} have no number: {HOW}")
         }
-        _ => format!(in alloc; "map {name:?} has no number: {HOW}"),
+        _ => {
+            let name = ShortName { name };
+            format!(in alloc; "map {name} has no number: {HOW}")
+        }
     }
 }
