@@ -1,13 +1,18 @@
 -- What is noted of a file.
-use Rattle.std.specs.Prelude.{◌≡◌, ◌≢◌, ◌⊎◌, ℕ, ◌==◌, if◌then◌else◌, List, [], ◌∷◌, ◌++◌, flat_map, length, codes, is_none, unwrap_or}
+use Rattle.std.specs.Prelude.{◌≡◌, ◌≢◌, ◌⊎◌, ℕ, ◌==◌, if◌then◌else◌, List, [], ◌∷◌, ◌++◌, flat_map, length, codes, is_none, unwrap_or, Option}
+use Rattle.std.specs.BTreeMap.{is_at}
+use Rattle.std.specs.Cmp.Lexicographic.{slice_cmp}
 use Rattle.std.specs.Int.{w16}
+use Rattle.std.specs.Map.{lookup}
 use Rattle.std.specs.Option.{option_map_or}
+use Rattle.std.specs.Ordering.{nat_cmp}
 use Rattle.elf64.specs.declared.order.ByteOrder.{ByteOrder}
 use Rattle.elf64.specs.declared.order.ByteOrder.TheVariants.{Little, Big}
 use Rattle.elf64.specs.Headers.{order_of}
 use Rattle.elf64.specs.Numbers.{number_at}
 use Rattle.elf64.specs.Relocations.{relocations_of}
 use Rattle.elf64.specs.Sections.{Section}
+use Rattle.ebpf_items.specs.Maps.{MapView}
 use Rattle.ebpf_items.specs.declared.error.ParseError.{ParseError}
 use Rattle.ebpf_items.specs.declared.error.ParseError.TheVariants.{OutOfMemory}
 use Rattle.object_file.specs.Faults.{HasFileFault, IsFileFaultless}
@@ -15,6 +20,8 @@ use Rattle.object_file.specs.Kinds.{kind_of}
 use Rattle.object_file.specs.Reading.{contents_named, read_sections}
 use Rattle.program_kinds.specs.declared.section_kind.EbpfSectionKind.{EbpfSectionKind}
 use Rattle.program_kinds.specs.declared.section_kind.EbpfSectionKind.TheVariants as kind
+use Rattle.settings.specs.Content.{SettingsContent}
+use Rattle.object_notes.specs.Maps.{HasMaps, LacksMaps}
 use Rattle.object_notes.specs.declared.note.Note.{Note}
 use Rattle.object_notes.specs.declared.note.Note.TheVariants as note
 
@@ -84,4 +91,53 @@ pub record IsFaulty (file : List ℕ) : Type 0 where
 abbrev pub AreFileNotes : List ℕ → List NoteContent → Type 0
 AreFileNotes file notes =
     (IsFileFaultless file × (notes ≡ header_notes file ++ object_notes file))
+    ⊎ (IsFaulty file × (notes ≡ header_notes file))
+
+-- ---- on the numbers of maps
+
+-- the number that is set for a map of a name, with that name
+abbrev pub set_numbers : SettingsContent → List ℕ → List (ℕ × List ℕ)
+set_numbers settings name =
+    option_map_or (λ number. (number, name) ∷ [])
+    (lookup (is_at (slice_cmp nat_cmp name)) settings.maps) []
+
+-- the numbers that are set for maps, in the order of these
+abbrev pub numbers_of : SettingsContent → List (List ℕ × MapView) → List (ℕ × List ℕ)
+numbers_of settings maps = flat_map (λ e. set_numbers settings e.0) maps
+
+-- the name of the first map that has a number
+abbrev pub first_with : List (ℕ × List ℕ) → ℕ → Option (List ℕ)
+first_with numbers number = lookup (is_at (nat_cmp number)) numbers
+
+-- the notes on maps with numbers, after others: on each whose number an earlier one has, with the
+-- first of that number
+abbrev pub shared_notes : List (ℕ × List ℕ) → List (ℕ × List ℕ) → List NoteContent
+shared_notes before [] = []
+shared_notes before (e ∷ more) =
+    option_map_or (λ first. SharedNumber e.0 first e.1 ∷ []) (first_with before e.0) []
+    ++ shared_notes (before ++ e ∷ []) more
+
+abbrev pub number_notes : SettingsContent → List (List ℕ × MapView) → List NoteContent
+number_notes settings maps = shared_notes [] (numbers_of settings maps)
+
+-- ---- all of them
+
+-- the notes on the numbers of a file's maps, where these can be read
+abbrev pub AreNumberNotes : List ℕ → SettingsContent → List NoteContent → Type 0
+AreNumberNotes file settings notes =
+    ((maps : List (List ℕ × MapView))
+    × HasMaps file maps × (notes ≡ number_notes settings maps))
+    ⊎ (LacksMaps file × (notes ≡ []))
+
+-- after some notes those on the numbers of a file's maps
+pub record AddsNumberNotes (file : List ℕ) (settings : SettingsContent) (before after : List NoteContent) : Type 0 where
+  pub on_numbers : List NoteContent
+  pub are_on_numbers : AreNumberNotes file settings on_numbers
+  pub notes_are : after ≡ before ++ on_numbers
+
+-- the notes on a file, and after them those on the numbers of its maps
+abbrev pub AreNotes : List ℕ → SettingsContent → List NoteContent → Type 0
+AreNotes file settings notes =
+    (IsFileFaultless file
+    × AddsNumberNotes file settings (header_notes file ++ object_notes file) notes)
     ⊎ (IsFaulty file × (notes ≡ header_notes file))

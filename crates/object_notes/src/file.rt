@@ -1,15 +1,15 @@
 //! Notes on a file.
 
-ghost use Rattle.std.specs.Prelude.{◌≡◌, ◌+◌, ◌≤◌, ◌++◌, ◌↔◌, length, map, flat_map, is_none, true, IfOk, IfSome, IsTrue, OnOk};
-ghost use Rattle.ebpf_items.specs.declared.error.ParseError.TheVariants.{OutOfMemory};
+ghost use Rattle.std.specs.Prelude.{◌≡◌, ◌+◌, ◌≤◌, ◌++◌, length, map, flat_map, is_none, true, IfOk, IfSome, OnOk};
 ghost use Rattle.object_file.specs.Faults.{IsFileFaultless};
 ghost use Rattle.std.specs.Int.{w16};
 ghost use Rattle.elf64.specs.Headers.{order_of};
 ghost use Rattle.elf64.specs.Numbers.{number_at};
 ghost use Rattle.object_notes.specs.Notes.{AreFileNotes, IsFaulty, header_notes, license_notes, machine_notes, machine_of, note_content, object_notes, order_notes, section_notes};
 
+use crate::memory::is_want_of_memory;
 use crate::note::Note;
-use ebpf_items::{EbpfSectionKind, ParseError};
+use ebpf_items::EbpfSectionKind;
 use elf64::ByteOrder;
 use object_file::{ObjectFile, ReadSection};
 use std::alloc::{AllocError, Global};
@@ -79,7 +79,7 @@ fn add_order_note(order: ByteOrder, notes: &mut Vec<Note<'_>>) -> Result<(), All
 }
 
 /// The notes on a file's header.
-fn header_notes<'a>(alloc: Global, file: &'a [u8]) -> Result<Vec<Note<'a>>, AllocError>
+pub(crate) fn header_notes<'a>(alloc: Global, file: &'a [u8]) -> Result<Vec<Note<'a>>, AllocError>
     ensures { IfOk result (λ notes. map note_content notes.items ≡ header_notes file.now) }
 {
     let mut notes = Vec::new(alloc);
@@ -148,7 +148,10 @@ fn add_section_notes<'a>(
 }
 
 /// Adds the notes on what an object file holds.
-fn add_object_notes<'a>(file: &ObjectFile<'a>, notes: &mut Vec<Note<'a>>) -> Result<(), AllocError>
+pub(crate) fn add_object_notes<'a>(
+    file: &ObjectFile<'a>,
+    notes: &mut Vec<Note<'a>>,
+) -> Result<(), AllocError>
     ensures { OnOk result
         (map note_content notes.new.items
         ≡ map note_content notes.old.items ++ object_notes file.now) }
@@ -157,15 +160,11 @@ fn add_object_notes<'a>(file: &ObjectFile<'a>, notes: &mut Vec<Note<'a>>) -> Res
     add_section_notes(file, file.sections(), notes)
 }
 
-/// Whether an error is want of memory.
-fn is_want_of_memory(error: &ParseError) -> bool
-    ensures { IsTrue result ↔ (error.now ≡ OutOfMemory) }
-{
-    matches!(error, ParseError::OutOfMemory)
-}
-
 /// The object file of some bytes; none where they have a fault.
-fn object_file<'a>(alloc: Global, file: &'a [u8]) -> Result<Option<ObjectFile<'a>>, AllocError>
+pub(crate) fn object_file<'a>(
+    alloc: Global,
+    file: &'a [u8],
+) -> Result<Option<ObjectFile<'a>>, AllocError>
     ensures some { IfOk result (λ object.
         IfSome object (λ o. (o ≡ file.entry.now) × IsFileFaultless file.entry.now)) }
     ensures none { IfOk result (λ object. is_none object ≡ true → IsFaulty file.entry.now) }

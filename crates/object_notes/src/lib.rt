@@ -1,10 +1,14 @@
 //! What is noted of an object: what is kept by rule in its plan, and yet may surprise a person.
 #![tactic(auto)]
 
+mod all;
 mod file;
+mod maps;
+mod memory;
 mod note;
 mod numbers;
 
+pub use all::notes;
 pub use file::file_notes;
 pub use note::Note;
-pub use numbers::{notes, number_notes};
+pub use numbers::number_notes;

@@ -1,0 +1,13 @@
+//! Want of memory among other errors.
+
+ghost use Rattle.std.specs.Prelude.{◌≡◌, ◌↔◌, IsTrue};
+ghost use Rattle.ebpf_items.specs.declared.error.ParseError.TheVariants.{OutOfMemory};
+
+use ebpf_items::ParseError;
+
+/// Whether an error is want of memory.
+pub(crate) fn is_want_of_memory(error: &ParseError) -> bool
+    ensures { IsTrue result ↔ (error.now ≡ OutOfMemory) }
+{
+    matches!(error, ParseError::OutOfMemory)
+}
