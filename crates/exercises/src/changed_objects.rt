@@ -2,21 +2,26 @@
 //! answers are as they must be.
 
 use crate::error::ExerciseError;
+use crate::files::read_next;
 use ebpf_object::{Object, ParseError};
 use elf64::ElfError;
 use std::alloc::Global;
 use std::env::Args;
-use std::fs;
 
 /// The size of an ELF64 header.
 const HEADER: usize = 64;
 
+/// Why an object is refused, if it is.
+fn refusal(alloc: Global, object: &[u8]) -> Option<ParseError> {
+    Object::parse(alloc, object).err()
+}
+
 /// Whether a proper front of an object whose section headers stand at the end is refused as it must
 /// be: for its header, or for the section headers.
 fn is_front_refused(alloc: Global, front: &[u8]) -> bool {
-    match Object::parse(alloc, front) {
-        Err(ParseError::ElfError(ElfError::NotElf)) => front.len() < HEADER,
-        Err(ParseError::ElfError(ElfError::BadSectionTable)) => front.len() >= HEADER,
+    match refusal(alloc, front) {
+        Some(ParseError::ElfError(ElfError::NotElf)) => front.len() < HEADER,
+        Some(ParseError::ElfError(ElfError::BadSectionTable)) => front.len() >= HEADER,
         _ => false,
     }
 }
@@ -34,10 +39,10 @@ fn count_fronts(alloc: Global, object: &[u8]) -> usize {
 
 /// Whether the answer to an object is one: without a change it is parsed, and memory is there.
 fn is_answered(alloc: Global, object: &[u8], is_changed: bool) -> bool {
-    match Object::parse(alloc, object) {
-        Ok(_object) => true,
-        Err(ParseError::OutOfMemory) => false,
-        Err(_error) => is_changed,
+    match refusal(alloc, object) {
+        None => true,
+        Some(ParseError::OutOfMemory) => false,
+        Some(_error) => is_changed,
     }
 }
 
@@ -55,18 +60,20 @@ fn count_changes(alloc: Global, object: &mut Vec<u8>, byte: u8) -> usize {
     count
 }
 
-/// Counts the answers over the file that the words name, and prints the counts.
-pub(crate) fn run(rt: &HostRuntime, words: &mut Args) -> Result<(), ExerciseError> {
-    let Some(name) = words.next() else {
-        return Err(ExerciseError::Usage);
-    };
-    let mut object = fs::read(rt, name.as_str())?;
+/// Counts the answers over an object, and prints the counts.
+fn print_counts(rt: &HostRuntime, object: &mut Vec<u8>) -> Result<(), ExerciseError> {
     let len = object.len();
     let fronts = count_fronts(rt.alloc(), object.as_slice());
     println!(rt; "{fronts} of {len} fronts are refused by their length")?;
     for byte in [0, 0xff] {
-        let answered = count_changes(rt.alloc(), &mut object, byte);
+        let answered = count_changes(rt.alloc(), object, byte);
         println!(rt; "{answered} of {len} objects with a byte {byte} are parsed or refused")?;
     }
     Ok(())
+}
+
+/// Counts the answers over the file that the words name, and prints the counts.
+pub(crate) fn run(rt: &HostRuntime, words: &mut Args) -> Result<(), ExerciseError> {
+    let mut object = read_next(rt, words)?;
+    print_counts(rt, &mut object)
 }

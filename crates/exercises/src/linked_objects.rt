@@ -58,26 +58,60 @@ fn count_alike(object: &Object<'_>, programs: &[Vec<bpf_insn>]) -> Option<Counts
     Some(counts)
 }
 
-/// The counts of an object that is linked here, where both linkers agree.
+/// The counts of an object that is linked here to programs of these slots.
+fn link_alike(
+    object: &mut Object<'_>,
+    text_sections: &BTreeSet<usize>,
+    programs: &[Vec<bpf_insn>],
+) -> Option<Counts> {
+    object.link_programs(text_sections).ok()?;
+    count_alike(object, programs)
+}
+
+/// The counts of an object with functions in these sections, where both linkers agree.
+fn link_both(
+    alloc: Global,
+    object: &mut Object<'_>,
+    text_sections: &BTreeSet<usize>,
+) -> Option<Counts> {
+    let programs = plain_programs(alloc, object, text_sections)?;
+    link_alike(object, text_sections, &programs)
+}
+
+/// The counts of an object, where both linkers agree.
+fn compare(alloc: Global, object: &mut Object<'_>) -> Option<Counts> {
+    let text_sections = object.text_sections().ok()?;
+    link_both(alloc, object, &text_sections)
+}
+
+/// The counts of an object that is parsed and linked here, where both linkers agree.
 fn compared(alloc: Global, bytes: &[u8]) -> Option<Counts> {
     let mut object = Object::parse(alloc, bytes).ok()?;
-    let text_sections = object.text_sections().ok()?;
-    let programs = plain_programs(alloc, &object, &text_sections)?;
-    object.link_programs(&text_sections).ok()?;
-    count_alike(&object, &programs)
+    compare(alloc, &mut object)
+}
+
+/// Prints the counts of an object.
+fn print_counts(rt: &HostRuntime, name: &str, bytes: &[u8]) -> Result<(), ExerciseError> {
+    match compared(rt.alloc(), bytes) {
+        Some(counts) => println!(rt;
+            "{name}: {} programs, {} slots",
+            counts.programs, counts.slots
+        )?,
+        None => println!(rt; "{name}: the linkers differ, or it can't be linked")?,
+    }
+    Ok(())
+}
+
+/// Prints the counts of the object of a file.
+fn print_file(rt: &HostRuntime, name: &str) -> Result<(), ExerciseError> {
+    let bytes = fs::read(rt, name)?;
+    print_counts(rt, name, bytes.as_slice())
 }
 
 /// Prints the counts of each object that the words name.
 pub(crate) fn run(rt: &HostRuntime, words: &mut Args) -> Result<(), ExerciseError> {
     for name in words {
-        let bytes = fs::read(rt, name.as_str())?;
-        match compared(rt.alloc(), bytes.as_slice()) {
-            Some(counts) => println!(rt;
-                "{name}: {} programs, {} slots",
-                counts.programs, counts.slots
-            )?,
-            None => println!(rt; "{name}: the linkers differ, or it can't be linked")?,
-        }
+        print_file(rt, name.as_str())?;
     }
     Ok(())
 }

@@ -13,6 +13,7 @@
 
 mod changed_objects;
 mod error;
+mod files;
 mod linked_objects;
 mod matchings;
 mod measured_maps;

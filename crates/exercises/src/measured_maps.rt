@@ -8,6 +8,7 @@ use ebpf_object::{
     EbpfSectionKind, GlobalValues, Maps, NumberedMap, Object, ObjectFile, ParseError, ReadSymbol,
 };
 use std::alloc::{AllocError, Global};
+use std::collections::BTreeSet;
 use std::time::Instant;
 
 /// Maps under numbers from 1 on, in order of their names.
@@ -21,23 +22,50 @@ fn numbered<'m>(alloc: Global, maps: &'m Maps<'_>) -> Result<Vec<NumberedMap<'m>
     Ok(list)
 }
 
-/// How many microseconds it takes to write the numbers of an object's maps into its slots.
-fn write_numbers(rt: &HostRuntime, object: &mut Object<'_>) -> Result<u128, ExerciseError> {
-    let maps = object.take_maps();
-    let numbered = numbered(rt.alloc(), &maps)?;
-    let sections = object.text_sections()?;
+/// How many microseconds it takes to write the numbers of maps into an object's slots.
+fn write_time(
+    rt: &HostRuntime,
+    object: &mut Object<'_>,
+    maps: &[NumberedMap<'_>],
+    text_sections: &BTreeSet<usize>,
+) -> Result<u128, ExerciseError> {
     let start = Instant::now(rt)?;
-    object.write_map_numbers(&numbered, &sections)?;
-    Ok(micros(rt, start)?)
+    object.write_map_numbers(maps, text_sections)?;
+    micros(rt, start)
+}
+
+/// The same for maps with their numbers.
+fn write_numbered(
+    rt: &HostRuntime,
+    object: &mut Object<'_>,
+    maps: &[NumberedMap<'_>],
+) -> Result<u128, ExerciseError> {
+    let text_sections = object.text_sections()?;
+    write_time(rt, object, maps, &text_sections)
+}
+
+/// The same for maps that get numbers first.
+fn write_numbers_of(
+    rt: &HostRuntime,
+    object: &mut Object<'_>,
+    maps: &Maps<'_>,
+) -> Result<u128, ExerciseError> {
+    let numbered = numbered(rt.alloc(), maps)?;
+    write_numbered(rt, object, &numbered)
+}
+
+/// The same for the maps of an object that is parsed anew.
+fn numbers_time(rt: &HostRuntime, bytes: &[u8]) -> Result<u128, ExerciseError> {
+    let mut object = Object::parse(rt.alloc(), bytes)?;
+    let maps = object.take_maps();
+    write_numbers_of(rt, &mut object, &maps)
 }
 
 /// Writes the numbers of maps into the slots of objects that are parsed anew.
 pub(crate) fn measure_numbers(rt: &HostRuntime, bytes: &[u8]) -> Result<(), ExerciseError> {
     let mut times = Vec::with_capacity(rt.alloc(), ROUNDS as usize)?;
     for _ in 0..ROUNDS {
-        let mut object = Object::parse(rt.alloc(), bytes)?;
-        times.push(write_numbers(rt, &mut object)?)?;
-        drop(object);
+        times.push(numbers_time(rt, bytes)?)?;
     }
     print_times(rt, "numbers of maps written", times)
 }
@@ -70,18 +98,32 @@ fn set_variables<'a>(
     Ok(rest)
 }
 
-/// Values of at most this number of an object's variables.
-fn values_for(alloc: Global, bytes: &[u8], most: usize) -> Result<GlobalValues, ParseError> {
-    let file = ObjectFile::parse(alloc, bytes)?;
-    let mut values = GlobalValues::new(alloc);
+/// Sets at most this number of a file's variables.
+fn set_variables_of<'a>(
+    values: &mut GlobalValues,
+    file: &ObjectFile<'a>,
+    bytes: &'a [u8],
+    most: usize,
+) -> Result<(), AllocError> {
     let mut rest = most;
     for section in file.sections() {
         if holds_variables(section.kind()) {
             let symbols = file.symbols_in(section.index());
-            rest = set_variables(&mut values, symbols, bytes, rest)?;
+            rest = set_variables(values, symbols, bytes, rest)?;
         }
     }
-    Ok(values)
+    Ok(())
+}
+
+/// Sets at most this number of an object's variables.
+fn set_values(
+    alloc: Global,
+    values: &mut GlobalValues,
+    bytes: &[u8],
+    most: usize,
+) -> Result<(), ParseError> {
+    let file = ObjectFile::parse(alloc, bytes)?;
+    Ok(set_variables_of(values, &file, bytes, most)?)
 }
 
 /// How many microseconds it takes to put values into an object's maps.
@@ -92,7 +134,31 @@ fn put_values(
 ) -> Result<u128, ExerciseError> {
     let start = Instant::now(rt)?;
     object.put_values(values)?;
-    Ok(micros(rt, start)?)
+    micros(rt, start)
+}
+
+/// The same for an object that is parsed anew.
+fn values_time(
+    rt: &HostRuntime,
+    bytes: &[u8],
+    values: &GlobalValues,
+) -> Result<u128, ExerciseError> {
+    let mut object = Object::parse(rt.alloc(), bytes)?;
+    put_values(rt, &mut object, values)
+}
+
+/// Puts values into the maps of objects that are parsed anew.
+fn measure_putting(
+    rt: &HostRuntime,
+    bytes: &[u8],
+    values: &GlobalValues,
+) -> Result<(), ExerciseError> {
+    println!(rt; "{} variables with values", values.iter().count())?;
+    let mut times = Vec::with_capacity(rt.alloc(), ROUNDS as usize)?;
+    for _ in 0..ROUNDS {
+        times.push(values_time(rt, bytes, values)?)?;
+    }
+    print_times(rt, "values put", times)
 }
 
 /// Puts values of at most this number of variables into the maps of objects that are parsed anew.
@@ -101,13 +167,7 @@ pub(crate) fn measure_values(
     bytes: &[u8],
     most: usize,
 ) -> Result<(), ExerciseError> {
-    let values = values_for(rt.alloc(), bytes, most)?;
-    println!(rt; "{} variables with values", values.iter().count())?;
-    let mut times = Vec::with_capacity(rt.alloc(), ROUNDS as usize)?;
-    for _ in 0..ROUNDS {
-        let mut object = Object::parse(rt.alloc(), bytes)?;
-        times.push(put_values(rt, &mut object, &values)?)?;
-        drop(object);
-    }
-    print_times(rt, "values put", times)
+    let mut values = GlobalValues::new(rt.alloc());
+    set_values(rt.alloc(), &mut values, bytes, most)?;
+    measure_putting(rt, bytes, &values)
 }

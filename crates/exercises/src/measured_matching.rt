@@ -3,12 +3,12 @@
 //! is for a type or a member that is there.
 
 use crate::error::ExerciseError;
+use crate::files::read_next;
 use crate::times::{micros, print_times};
 use btf::{Btf, BtfError, BtfKind, Endianness};
 use ebpf_items::RelocationKind;
 use std::alloc::AllocError;
 use std::env::Args;
-use std::fs;
 use std::time::Instant;
 use type_match::{TypeMatcher, TypeRelocation};
 
@@ -90,18 +90,17 @@ fn push_struct(
     Ok(())
 }
 
-/// The relocations for the structs that the words name.
-fn relocations_for(
-    rt: &HostRuntime,
-    local: &mut Btf<'_>,
+/// Adds the relocations for the structs that the words name.
+fn push_structs(
+    local: &Btf<'_>,
     words: &mut Args,
-) -> Result<Vec<TypeRelocation>, ExerciseError> {
-    let access_strings = add_access_strings(local)?;
-    let mut relocations = Vec::new(rt.alloc());
+    access_strings: AccessStrings,
+    relocations: &mut Vec<TypeRelocation>,
+) -> Result<(), ExerciseError> {
     for name in words {
-        push_struct(local, name.as_str(), access_strings, &mut relocations)?;
+        push_struct(local, name.as_str(), access_strings, relocations)?;
     }
-    Ok(relocations)
+    Ok(())
 }
 
 /// A number of relocations: these one after the other, again and again.
@@ -133,8 +132,8 @@ fn matched(
     Ok(count)
 }
 
-/// Measures a number of relocations.
-fn measure_count(
+/// Measures as many relocations as there are.
+fn measure_all(
     rt: &HostRuntime,
     local: &Btf<'_>,
     kernel: &[Btf<'_>],
@@ -152,6 +151,31 @@ fn measure_count(
         relocations.len()
     )?;
     print_times(rt, "matched", times)
+}
+
+/// Measures a number of relocations: these one after the other, again and again.
+fn measure_count(
+    rt: &HostRuntime,
+    local: &Btf<'_>,
+    kernel: &[Btf<'_>],
+    relocations: &[TypeRelocation],
+    count: usize,
+) -> Result<(), ExerciseError> {
+    let asked = repeated(rt, relocations, count)?;
+    measure_all(rt, local, kernel, asked.as_slice())
+}
+
+/// Measures each number of relocations.
+fn measure_counts(
+    rt: &HostRuntime,
+    local: &Btf<'_>,
+    kernel: &[Btf<'_>],
+    relocations: &[TypeRelocation],
+) -> Result<(), ExerciseError> {
+    for count in COUNTS {
+        measure_count(rt, local, kernel, relocations, count)?;
+    }
+    Ok(())
 }
 
 /// A number of tables of these types.
@@ -177,24 +201,43 @@ fn measure_tables(
 ) -> Result<(), ExerciseError> {
     println!(rt; "{tables} tables")?;
     let kernel = tables_of(rt, section, tables)?;
-    for count in COUNTS {
-        let asked = repeated(rt, relocations, count)?;
-        measure_count(rt, local, kernel.as_slice(), asked.as_slice())?;
+    measure_counts(rt, local, kernel.as_slice(), relocations)
+}
+
+/// Measures relocations over each number of tables.
+fn measure_relocations(
+    rt: &HostRuntime,
+    local: &Btf<'_>,
+    section: &[u8],
+    relocations: &[TypeRelocation],
+) -> Result<(), ExerciseError> {
+    for tables in TABLES {
+        measure_tables(rt, local, section, relocations, tables)?;
     }
     Ok(())
 }
 
+/// Measures relocations in a table of a section, for the structs that the words name.
+fn measure_structs(
+    rt: &HostRuntime,
+    local: &mut Btf<'_>,
+    section: &[u8],
+    words: &mut Args,
+) -> Result<(), ExerciseError> {
+    let access_strings = add_access_strings(local)?;
+    let mut relocations = Vec::new(rt.alloc());
+    push_structs(local, words, access_strings, &mut relocations)?;
+    measure_relocations(rt, local, section, relocations.as_slice())
+}
+
+/// Measures relocations in a section, for the structs that the words name.
+fn measure(rt: &HostRuntime, section: &[u8], words: &mut Args) -> Result<(), ExerciseError> {
+    let mut local = Btf::parse(rt.alloc(), section, Endianness::Little)?;
+    measure_structs(rt, &mut local, section, words)
+}
+
 /// Measures relocations in the file of the first word, for the structs that the other words name.
 pub(crate) fn run(rt: &HostRuntime, words: &mut Args) -> Result<(), ExerciseError> {
-    let Some(file) = words.next() else {
-        return Err(ExerciseError::Usage);
-    };
-    let section = fs::read(rt, file.as_str())?;
-    let section = section.as_slice();
-    let mut local = Btf::parse(rt.alloc(), section, Endianness::Little)?;
-    let relocations = relocations_for(rt, &mut local, words)?;
-    for tables in TABLES {
-        measure_tables(rt, &local, section, relocations.as_slice(), tables)?;
-    }
-    Ok(())
+    let section = read_next(rt, words)?;
+    measure(rt, section.as_slice(), words)
 }

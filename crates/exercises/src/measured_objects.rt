@@ -21,32 +21,65 @@ fn slot_count(object: &Object<'_>) -> u64 {
     count
 }
 
+/// Prints how much an object of this size holds, which was parsed from a moment on.
+fn print_parsed(
+    rt: &HostRuntime,
+    object: &Object<'_>,
+    size: usize,
+    start: Instant,
+) -> Result<(), ExerciseError> {
+    let time = micros(rt, start)?;
+    println!(rt;
+        "{} programs, {} functions of {} slots, {} maps in {size} bytes, first parsed in {time} us",
+        object.programs().len(),
+        object.functions().len(),
+        slot_count(object),
+        object.maps().len()
+    )?;
+    Ok(())
+}
+
 /// Parses the object for the first time in this process, and prints how much it holds.
 fn measure_first(rt: &HostRuntime, bytes: &[u8]) -> Result<(), ExerciseError> {
     let start = Instant::now(rt)?;
     let object = Object::parse(rt.alloc(), bytes)?;
-    let time = micros(rt, start)?;
-    println!(rt;
-        "{} programs, {} functions of {} slots, {} maps in {} bytes, first parsed in {time} us",
-        object.programs().len(),
-        object.functions().len(),
-        slot_count(&object),
-        object.maps().len(),
-        bytes.len()
-    )?;
-    Ok(())
+    print_parsed(rt, &object, bytes.len(), start)
+}
+
+/// How many microseconds it takes to parse the object.
+fn parsing_time(rt: &HostRuntime, bytes: &[u8]) -> Result<u128, ExerciseError> {
+    let start = Instant::now(rt)?;
+    let _object = Object::parse(rt.alloc(), bytes)?;
+    micros(rt, start)
 }
 
 /// Parses the object again and again.
 fn measure_parsing(rt: &HostRuntime, bytes: &[u8]) -> Result<(), ExerciseError> {
     let mut times = Vec::with_capacity(rt.alloc(), ROUNDS as usize)?;
     for _ in 0..ROUNDS {
-        let start = Instant::now(rt)?;
-        let object = Object::parse(rt.alloc(), bytes)?;
-        times.push(micros(rt, start)?)?;
-        drop(object);
+        times.push(parsing_time(rt, bytes)?)?;
     }
     print_times(rt, "parsed again", times)
+}
+
+/// How many microseconds it takes to link an object's programs.
+fn link_time(rt: &HostRuntime, object: &mut Object<'_>) -> Result<u128, ExerciseError> {
+    let start = Instant::now(rt)?;
+    let text_sections = object.text_sections()?;
+    object.link_programs(&text_sections)?;
+    micros(rt, start)
+}
+
+/// The same, and how many slots the object has then.
+fn link(rt: &HostRuntime, object: &mut Object<'_>) -> Result<(u128, u64), ExerciseError> {
+    let time = link_time(rt, object)?;
+    Ok((time, slot_count(object)))
+}
+
+/// The same for an object that is parsed anew.
+fn linking(rt: &HostRuntime, bytes: &[u8]) -> Result<(u128, u64), ExerciseError> {
+    let mut object = Object::parse(rt.alloc(), bytes)?;
+    link(rt, &mut object)
 }
 
 /// Links the programs of objects that are parsed anew.
@@ -54,14 +87,9 @@ fn measure_linking(rt: &HostRuntime, bytes: &[u8]) -> Result<(), ExerciseError> 
     let mut slots = 0;
     let mut times = Vec::with_capacity(rt.alloc(), ROUNDS as usize)?;
     for _ in 0..ROUNDS {
-        let mut object = Object::parse(rt.alloc(), bytes)?;
-        let start = Instant::now(rt)?;
-        let sections = object.text_sections()?;
-        object.link_programs(&sections)?;
-        times.push(micros(rt, start)?)?;
-        slots = slot_count(&object);
-        drop(object);
-        drop(sections);
+        let (time, count) = linking(rt, bytes)?;
+        times.push(time)?;
+        slots = count;
     }
     println!(rt; "{slots} slots where linked")?;
     print_times(rt, "linked", times)
@@ -75,6 +103,15 @@ fn most_variables(word: Option<String>) -> Result<usize, ExerciseError> {
     }
 }
 
+/// Measures an object, of whose variables at most so many get values.
+fn measure(rt: &HostRuntime, bytes: &[u8], most: usize) -> Result<(), ExerciseError> {
+    measure_first(rt, bytes)?;
+    measure_parsing(rt, bytes)?;
+    measure_linking(rt, bytes)?;
+    measure_numbers(rt, bytes)?;
+    measure_values(rt, bytes, most)
+}
+
 /// Measures the object of the file that the first word names; the next one says how many variables
 /// get values.
 pub(crate) fn run(rt: &HostRuntime, words: &mut Args) -> Result<(), ExerciseError> {
@@ -83,9 +120,5 @@ pub(crate) fn run(rt: &HostRuntime, words: &mut Args) -> Result<(), ExerciseErro
     };
     let most = most_variables(words.next())?;
     let bytes = fs::read(rt, file.as_str())?;
-    measure_first(rt, bytes.as_slice())?;
-    measure_parsing(rt, bytes.as_slice())?;
-    measure_linking(rt, bytes.as_slice())?;
-    measure_numbers(rt, bytes.as_slice())?;
-    measure_values(rt, bytes.as_slice(), most)
+    measure(rt, bytes.as_slice(), most)
 }

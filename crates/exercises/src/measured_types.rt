@@ -2,45 +2,96 @@
 //! to what a kernel grants, and to find structs in it by name.
 
 use crate::error::ExerciseError;
+use crate::files::read_next;
 use crate::times::{micros, print_times};
-use btf::{Btf, BtfKind, Endianness};
+use btf::{Btf, BtfError, BtfKind, Endianness};
+use std::alloc::Global;
 use std::collections::BTreeMap;
 use std::env::Args;
-use std::fs;
 use std::time::Instant;
 
 /// How many times everything but the first parse is measured.
 const ROUNDS: u32 = 21;
 
-/// Parses the file for the first time in this process, and then again and again.
-fn measure_parsing(rt: &HostRuntime, section: &[u8]) -> Result<(), ExerciseError> {
-    let start = Instant::now(rt)?;
-    let table = Btf::parse(rt.alloc(), section, Endianness::Little)?;
+/// Prints how much a table holds whose section has this size, and which was parsed from a moment on.
+fn print_parsed(
+    rt: &HostRuntime,
+    table: &Btf<'_>,
+    size: usize,
+    start: Instant,
+) -> Result<(), ExerciseError> {
     let time = micros(rt, start)?;
     println!(rt;
-        "{} records of {} bytes, first parsed in {time} us",
-        table.types().count(),
-        section.len()
+        "{} records of {size} bytes, first parsed in {time} us",
+        table.types().count()
     )?;
+    Ok(())
+}
+
+/// Parses the file for the first time in this process.
+fn measure_first(rt: &HostRuntime, section: &[u8]) -> Result<(), ExerciseError> {
+    let start = Instant::now(rt)?;
+    let table = Btf::parse(rt.alloc(), section, Endianness::Little)?;
+    print_parsed(rt, &table, section.len(), start)
+}
+
+/// How many microseconds it takes to parse the file.
+fn parsing_time(rt: &HostRuntime, section: &[u8]) -> Result<u128, ExerciseError> {
+    let start = Instant::now(rt)?;
+    let _table = Btf::parse(rt.alloc(), section, Endianness::Little)?;
+    micros(rt, start)
+}
+
+/// Parses the file again and again.
+fn measure_parsing(rt: &HostRuntime, section: &[u8]) -> Result<(), ExerciseError> {
     let mut times = Vec::with_capacity(rt.alloc(), ROUNDS as usize)?;
     for _ in 0..ROUNDS {
-        let start = Instant::now(rt)?;
-        let table = Btf::parse(rt.alloc(), section, Endianness::Little)?;
-        times.push(micros(rt, start)?)?;
-        drop(table);
+        times.push(parsing_time(rt, section)?)?;
     }
     print_times(rt, "parsed again", times)
+}
+
+/// How many microseconds it takes to write the table.
+fn writing_time(rt: &HostRuntime, table: &Btf<'_>) -> Result<u128, ExerciseError> {
+    let start = Instant::now(rt)?;
+    let _written = table.to_bytes()?;
+    micros(rt, start)
 }
 
 fn measure_writing(rt: &HostRuntime, table: &Btf<'_>) -> Result<(), ExerciseError> {
     let mut times = Vec::with_capacity(rt.alloc(), ROUNDS as usize)?;
     for _ in 0..ROUNDS {
-        let start = Instant::now(rt)?;
-        let written = table.to_bytes()?;
-        times.push(micros(rt, start)?)?;
-        drop(written);
+        times.push(writing_time(rt, table)?)?;
     }
     print_times(rt, "written", times)
+}
+
+/// Rewrites a table for a kernel that grants all features, or none.
+fn rewrite(alloc: Global, table: &mut Btf<'_>, is_granted: bool) -> Result<(), BtfError> {
+    let numbers: BTreeMap<&str, u64> = BTreeMap::new(alloc);
+    let _answers = table.fixup_and_sanitize(&numbers, &numbers, None, |_feature| is_granted)?;
+    Ok(())
+}
+
+/// How many microseconds that takes.
+fn rewriting_time(
+    rt: &HostRuntime,
+    table: &mut Btf<'_>,
+    is_granted: bool,
+) -> Result<u128, ExerciseError> {
+    let start = Instant::now(rt)?;
+    rewrite(rt.alloc(), table, is_granted)?;
+    micros(rt, start)
+}
+
+/// The same for a copy of a table.
+fn rewriting_copy_time(
+    rt: &HostRuntime,
+    table: &Btf<'_>,
+    is_granted: bool,
+) -> Result<u128, ExerciseError> {
+    let mut copy = table.try_clone()?;
+    rewriting_time(rt, &mut copy, is_granted)
 }
 
 /// Rewrites copies of the table for a kernel that grants all features, or none.
@@ -50,16 +101,9 @@ fn measure_rewriting(
     what: &str,
     is_granted: bool,
 ) -> Result<(), ExerciseError> {
-    let sizes: BTreeMap<&str, u64> = BTreeMap::new(rt.alloc());
-    let offsets: BTreeMap<&str, u64> = BTreeMap::new(rt.alloc());
     let mut times = Vec::with_capacity(rt.alloc(), ROUNDS as usize)?;
     for _ in 0..ROUNDS {
-        let mut copy = table.try_clone()?;
-        let start = Instant::now(rt)?;
-        let answers = copy.fixup_and_sanitize(&sizes, &offsets, None, |_feature| is_granted)?;
-        times.push(micros(rt, start)?)?;
-        drop(answers);
-        drop(copy);
+        times.push(rewriting_copy_time(rt, table, is_granted)?)?;
     }
     print_times(rt, what, times)
 }
@@ -74,18 +118,27 @@ fn first_section(table: &Btf<'_>) -> Option<u32> {
     None
 }
 
-/// Takes the step on `.ksyms` for that section, in copies of the table.
+/// How many microseconds it takes to take the step on `.ksyms` for a section of a table.
+fn step_time(rt: &HostRuntime, table: &mut Btf<'_>, section: u32) -> Result<u128, ExerciseError> {
+    let start = Instant::now(rt)?;
+    table.fixup_ksyms_datasec(section, None)?;
+    micros(rt, start)
+}
+
+/// The same for a copy of a table.
+fn step_copy_time(rt: &HostRuntime, table: &Btf<'_>, section: u32) -> Result<u128, ExerciseError> {
+    let mut copy = table.try_clone()?;
+    step_time(rt, &mut copy, section)
+}
+
+/// Takes the step on `.ksyms` for the first section of the table, in copies of it.
 fn measure_step(rt: &HostRuntime, table: &Btf<'_>) -> Result<(), ExerciseError> {
     let Some(section) = first_section(table) else {
         return Ok(());
     };
     let mut times = Vec::with_capacity(rt.alloc(), ROUNDS as usize)?;
     for _ in 0..ROUNDS {
-        let mut copy = table.try_clone()?;
-        let start = Instant::now(rt)?;
-        copy.fixup_ksyms_datasec(section, None)?;
-        times.push(micros(rt, start)?)?;
-        drop(copy);
+        times.push(step_copy_time(rt, table, section)?)?;
     }
     print_times(rt, "stepped on a section", times)
 }
@@ -98,36 +151,58 @@ fn beginning(name: &str) -> &str {
     }
 }
 
+/// The first struct of a name.
+fn struct_named(table: &Btf<'_>, name: &str) -> Option<u32> {
+    table.id_by_type_name_kind(name, BtfKind::Struct).ok()
+}
+
+/// How many microseconds it takes to find the first struct of a name.
+fn look_up_time(rt: &HostRuntime, table: &Btf<'_>, name: &str) -> Result<u128, ExerciseError> {
+    let start = Instant::now(rt)?;
+    let _found = struct_named(table, name);
+    micros(rt, start)
+}
+
 /// Finds the first struct of a name.
 fn measure_name(rt: &HostRuntime, table: &Btf<'_>, name: &str) -> Result<(), ExerciseError> {
-    match table.id_by_type_name_kind(name, BtfKind::Struct) {
-        Ok(id) => println!(rt; "{}: id {id}", beginning(name))?,
-        Err(_error) => println!(rt; "{}: not found", beginning(name))?,
+    match struct_named(table, name) {
+        Some(id) => println!(rt; "{}: id {id}", beginning(name))?,
+        None => println!(rt; "{}: not found", beginning(name))?,
     }
     let mut times = Vec::with_capacity(rt.alloc(), ROUNDS as usize)?;
     for _ in 0..ROUNDS {
-        let start = Instant::now(rt)?;
-        let found = table.id_by_type_name_kind(name, BtfKind::Struct);
-        times.push(micros(rt, start)?)?;
-        drop(found);
+        times.push(look_up_time(rt, table, name)?)?;
     }
     print_times(rt, "looked up", times)
 }
 
-/// Parses the file of the first word, and finds the structs of the other words.
-pub(crate) fn run(rt: &HostRuntime, words: &mut Args) -> Result<(), ExerciseError> {
-    let Some(file) = words.next() else {
-        return Err(ExerciseError::Usage);
-    };
-    let section = fs::read(rt, file.as_str())?;
-    measure_parsing(rt, section.as_slice())?;
-    let table = Btf::parse(rt.alloc(), section.as_slice(), Endianness::Little)?;
-    measure_writing(rt, &table)?;
-    measure_rewriting(rt, &table, "rewritten, all features granted", true)?;
-    measure_rewriting(rt, &table, "rewritten, no feature granted", false)?;
-    measure_step(rt, &table)?;
+/// Finds the structs that the words name.
+fn measure_names(rt: &HostRuntime, table: &Btf<'_>, words: &mut Args) -> Result<(), ExerciseError> {
     for name in words {
-        measure_name(rt, &table, name.as_str())?;
+        measure_name(rt, table, name.as_str())?;
     }
     Ok(())
+}
+
+/// Writes a table, rewrites it, and finds the structs that the words name.
+fn measure_table(rt: &HostRuntime, table: &Btf<'_>, words: &mut Args) -> Result<(), ExerciseError> {
+    measure_writing(rt, table)?;
+    measure_rewriting(rt, table, "rewritten, all features granted", true)?;
+    measure_rewriting(rt, table, "rewritten, no feature granted", false)?;
+    measure_step(rt, table)?;
+    measure_names(rt, table, words)
+}
+
+/// Measures what is done with a section.
+fn measure(rt: &HostRuntime, section: &[u8], words: &mut Args) -> Result<(), ExerciseError> {
+    measure_first(rt, section)?;
+    measure_parsing(rt, section)?;
+    let table = Btf::parse(rt.alloc(), section, Endianness::Little)?;
+    measure_table(rt, &table, words)
+}
+
+/// Parses the file of the first word, and finds the structs of the other words.
+pub(crate) fn run(rt: &HostRuntime, words: &mut Args) -> Result<(), ExerciseError> {
+    let section = read_next(rt, words)?;
+    measure(rt, section.as_slice(), words)
 }

@@ -20,9 +20,8 @@ fn long_text(alloc: Global) -> Result<usize, AllocError> {
     Ok(copy.text_at(&strings, 100).map_or(0, |text| text.len()))
 }
 
-/// The section of a table with an `int` and a pointer to it.
-fn section(alloc: Global) -> Result<Vec<u8>, BtfError> {
-    let mut table = Btf::new(alloc)?;
+/// The section of a table to which an `int` and a pointer to it are added.
+fn section_with_types(table: &mut Btf<'_>) -> Result<Vec<u8>, BtfError> {
     let name = table.add_string("int")?;
     let int = Int::new(name, 4, IntEncoding::Signed, 0);
     let id = table.add_type(BtfType::Int(int))?;
@@ -30,26 +29,53 @@ fn section(alloc: Global) -> Result<Vec<u8>, BtfError> {
     Ok(table.to_bytes()?)
 }
 
-/// The number of types of a table that was read, after a look-up of a name that it hasn't.
-fn types(alloc: Global, section: &[u8]) -> Result<usize, BtfError> {
-    let mut table = Btf::parse(alloc, section, Endianness::Little)?;
-    let name = match table.id_by_type_name_kind("none", BtfKind::Int) {
-        Err(BtfError::UnknownBtfTypeName { type_name }) => table.add_string(type_name.as_str())?,
-        Err(error) => return Err(error),
-        Ok(_) => 0,
-    };
+/// The section of a table with an `int` and a pointer to it.
+fn section(alloc: Global) -> Result<Vec<u8>, BtfError> {
+    let mut table = Btf::new(alloc)?;
+    section_with_types(&mut table)
+}
+
+/// The offset of the name of the type that a table hasn't, as the look-up of it answers: it is added
+/// to the table. It is 0 where the table has the type.
+fn name_offset(table: &mut Btf<'_>) -> Result<u32, BtfError> {
+    match table.id_by_type_name_kind("none", BtfKind::Int) {
+        Err(BtfError::UnknownBtfTypeName { type_name }) => table.add_string(type_name.as_str()),
+        Err(error) => Err(error),
+        Ok(_id) => Ok(0),
+    }
+}
+
+/// The number of types of a table to which the one that it hasn't is added.
+fn count_with_missing(table: &mut Btf<'_>) -> Result<usize, BtfError> {
+    let name = name_offset(table)?;
     table.add_type(BtfType::Int(Int::new(name, 8, IntEncoding::None, 0)))?;
     Ok(table.types().count())
 }
 
+/// The number of types of a table that was read, after a look-up of a name that it hasn't.
+fn types(alloc: Global, section: &[u8]) -> Result<usize, BtfError> {
+    let mut table = Btf::parse(alloc, section, Endianness::Little)?;
+    count_with_missing(&mut table)
+}
+
+/// A copy of the table that a section holds.
+fn copied_table(alloc: Global, section: &[u8]) -> Result<Btf<'_>, BtfError> {
+    let table = Btf::parse(alloc, section, Endianness::Little)?;
+    Ok(table.try_clone()?)
+}
+
 /// The first type of a table for a kind and a name, and whether a pointer of it is compatible with
 /// itself.
+fn looked_up(table: &Btf<'_>) -> Result<(u32, bool), BtfError> {
+    let found = table.id_by_type_name_kind("int", BtfKind::Int)?;
+    let is_same = types_are_compatible(table, 2, table, 2)?;
+    Ok((found, is_same))
+}
+
+/// What look-ups find in a copy of the table that a section holds.
 fn look_ups(alloc: Global, section: &[u8]) -> Result<(u32, bool), BtfError> {
-    let table = Btf::parse(alloc, section, Endianness::Little)?.try_clone()?;
-    Ok((
-        table.id_by_type_name_kind("int", BtfKind::Int)?,
-        types_are_compatible(&table, 2, &table, 2)?,
-    ))
+    let table = copied_table(alloc, section)?;
+    looked_up(&table)
 }
 
 /// A `.BTF.ext` section of a function and a line, of a section without a name.
@@ -59,19 +85,47 @@ const EXTENSION: [u8; 80] = [
     0, 1, 0, 0, 0, 16, 0, 0, 0, 0, 0, 0, 0, 0, 0, 0, 0, 1, 4, 0, 0,
 ];
 
-/// How many bytes the records of functions and of lines are, in copies.
-fn records(alloc: Global) -> Result<(usize, usize), BtfError> {
+/// What a `.BTF.ext` section holds, beside a table without types.
+fn extension(alloc: Global, section: &[u8]) -> Result<BtfExt<'_>, BtfError> {
     let table = Btf::new(alloc)?;
-    let extension = BtfExt::parse(alloc, &EXTENSION, Endianness::Little, &table)?.try_clone()?;
-    let functions = match extension.func_info().get("") {
-        Some(group) => group.try_clone()?.func_info_bytes(alloc)?.len(),
-        None => 0,
+    BtfExt::parse(alloc, section, Endianness::Little, &table)
+}
+
+/// A copy of what a `.BTF.ext` section holds.
+fn copied_extension(alloc: Global, section: &[u8]) -> Result<BtfExt<'_>, BtfError> {
+    let extension = extension(alloc, section)?;
+    Ok(extension.try_clone()?)
+}
+
+/// How many bytes the records of functions are, in a copy.
+fn function_bytes(alloc: Global, extension: &BtfExt<'_>) -> Result<usize, BtfError> {
+    let Some(group) = extension.func_info().get("") else {
+        return Ok(0);
     };
-    let lines = match extension.line_info("") {
-        Some(group) => group.try_clone()?.line_info_bytes(alloc)?.len(),
-        None => 0,
+    let copy = group.try_clone()?;
+    Ok(copy.func_info_bytes(alloc)?.len())
+}
+
+/// How many bytes the records of lines are, in a copy.
+fn line_bytes(alloc: Global, extension: &BtfExt<'_>) -> Result<usize, BtfError> {
+    let Some(group) = extension.line_info("") else {
+        return Ok(0);
     };
+    let copy = group.try_clone()?;
+    Ok(copy.line_info_bytes(alloc)?.len())
+}
+
+/// How many bytes the records of functions and of lines are, in copies.
+fn record_bytes(alloc: Global, extension: &BtfExt<'_>) -> Result<(usize, usize), BtfError> {
+    let functions = function_bytes(alloc, extension)?;
+    let lines = line_bytes(alloc, extension)?;
     Ok((functions, lines))
+}
+
+/// How many bytes the records of functions and of lines of a `.BTF.ext` section are, in copies.
+fn records(alloc: Global, section: &[u8]) -> Result<(usize, usize), BtfError> {
+    let extension = copied_extension(alloc, section)?;
+    record_bytes(alloc, &extension)
 }
 
 /// The immediate of a slot that was written into a copy of borrowed slots.
@@ -87,15 +141,31 @@ fn written(alloc: Global) -> Result<i32, AllocError> {
     Ok(copy.get(1).map_or(0, |slot| slot.imm))
 }
 
-/// Prints what the calls over types give: whether memory was there.
-fn print_types(rt: &HostRuntime) -> Result<(), BtfError> {
-    let section = section(rt.alloc())?;
-    let types = types(rt.alloc(), section.as_slice())?;
-    let (found, is_same) = look_ups(rt.alloc(), section.as_slice())?;
+/// Prints what the calls over a table of types give.
+fn print_table(rt: &HostRuntime, section: &[u8]) -> Result<(), BtfError> {
+    let types = types(rt.alloc(), section)?;
+    let (found, is_same) = look_ups(rt.alloc(), section)?;
     let _ = println!(rt; "{types} types, type {found} found, alike: {is_same}");
-    let (functions, lines) = records(rt.alloc())?;
+    Ok(())
+}
+
+/// Prints what the calls over records of functions and lines give.
+fn print_records(rt: &HostRuntime) -> Result<(), BtfError> {
+    let (functions, lines) = records(rt.alloc(), &EXTENSION)?;
     let _ = println!(rt; "{functions} bytes of functions, {lines} of lines");
     Ok(())
+}
+
+/// Makes a table, and prints what the calls over it give.
+fn print_made_table(rt: &HostRuntime) -> Result<(), BtfError> {
+    let section = section(rt.alloc())?;
+    print_table(rt, section.as_slice())
+}
+
+/// Prints what the calls over types give: whether memory was there.
+fn print_types(rt: &HostRuntime) -> Result<(), BtfError> {
+    print_made_table(rt)?;
+    print_records(rt)
 }
 
 /// Prints what the other calls give.

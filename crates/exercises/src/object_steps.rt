@@ -3,11 +3,12 @@
 use crate::error::ExerciseError;
 use btf::Btf;
 use ebpf_object::{
-    BtfRelocationCause, Function, GlobalValues, KsymsError, Maps, NumberedMap, Object, ParseError,
-    Watched,
+    BtfRelocationCause, BtfRelocationError, Function, GlobalValues, KsymsError, Maps, NumberedMap,
+    Object, ParseError, Watched,
 };
-use relocation_errors::RelocationError;
+use relocation_errors::{EbpfRelocationError, RelocationError};
 use std::alloc::{AllocError, Global};
+use std::collections::BTreeSet;
 
 /// A kernel's types and the text of its symbols.
 #[derive(Drop)]
@@ -79,6 +80,26 @@ fn outcome(
     })
 }
 
+/// What comes of putting values into an object's maps.
+fn put(object: &mut Object<'_>, values: &GlobalValues) -> Result<Answer, ParseError> {
+    match object.put_values(values) {
+        Ok(()) => Ok(Answer::Made),
+        Err(ParseError::OutOfMemory) => Ok(Answer::OutOfMemory),
+        Err(error) => Err(error),
+    }
+}
+
+/// Puts values into an object's maps.
+fn put_values(
+    alloc: Global,
+    object: &mut Object<'_>,
+    values: &GlobalValues,
+) -> Result<&'static str, ExerciseError> {
+    let before = bytes_of(alloc, object)?;
+    let answer = put(object, values)?;
+    Ok(outcome(alloc, object, &before, answer)?)
+}
+
 /// Puts the value of the global variable `limit` into an object's maps, if it has this variable.
 pub(crate) fn put_value(
     alloc: Global,
@@ -86,13 +107,7 @@ pub(crate) fn put_value(
 ) -> Result<&'static str, ExerciseError> {
     let mut values = GlobalValues::new(alloc);
     values.set("limit", &[10, 0, 0, 0], false)?;
-    let before = bytes_of(alloc, object)?;
-    let answer = match object.put_values(&values) {
-        Ok(()) => Answer::Made,
-        Err(ParseError::OutOfMemory) => Answer::OutOfMemory,
-        Err(error) => return Err(ExerciseError::Parse(error)),
-    };
-    Ok(outcome(alloc, object, &before, answer)?)
+    put_values(alloc, object, &values)
 }
 
 /// The maps, each with the number 7.
@@ -108,23 +123,67 @@ fn numbered<'m>(alloc: Global, maps: &'m Maps<'_>) -> Result<Vec<NumberedMap<'m>
     Ok(list)
 }
 
+/// Whether an error is want of memory.
+fn is_want_of_memory(error: &EbpfRelocationError) -> bool {
+    matches!(error.error(), RelocationError::OutOfMemory)
+}
+
+/// What comes of writing the numbers of maps into an object's slots, of functions in these sections.
+fn write(
+    object: &mut Object<'_>,
+    maps: &[NumberedMap<'_>],
+    text_sections: &BTreeSet<usize>,
+) -> Result<Answer, EbpfRelocationError> {
+    match object.write_map_numbers(maps, text_sections) {
+        Ok(()) => Ok(Answer::Made),
+        Err(error) => {
+            if is_want_of_memory(&error) {
+                return Ok(Answer::OutOfMemory);
+            }
+            Err(error)
+        }
+    }
+}
+
+/// Writes the numbers of maps into an object's slots, of functions in these sections.
+fn write_in(
+    alloc: Global,
+    object: &mut Object<'_>,
+    maps: &[NumberedMap<'_>],
+    text_sections: &BTreeSet<usize>,
+) -> Result<&'static str, ExerciseError> {
+    let before = bytes_of(alloc, object)?;
+    let answer = write(object, maps, text_sections)?;
+    Ok(outcome(alloc, object, &before, answer)?)
+}
+
+/// Writes the numbers of maps into an object's slots.
+fn write_numbered(
+    alloc: Global,
+    object: &mut Object<'_>,
+    maps: &[NumberedMap<'_>],
+) -> Result<&'static str, ExerciseError> {
+    let text_sections = object.text_sections()?;
+    write_in(alloc, object, maps, &text_sections)
+}
+
+/// Writes the number of each of these maps into an object's slots.
+fn write_numbers_of(
+    alloc: Global,
+    object: &mut Object<'_>,
+    maps: &Maps<'_>,
+) -> Result<&'static str, ExerciseError> {
+    let numbered = numbered(alloc, maps)?;
+    write_numbered(alloc, object, &numbered)
+}
+
 /// Writes the numbers of an object's maps into its slots.
 pub(crate) fn write_numbers(
     alloc: Global,
     object: &mut Object<'_>,
 ) -> Result<&'static str, ExerciseError> {
     let maps = object.maps().try_clone()?;
-    let numbered = numbered(alloc, &maps)?;
-    let text_sections = object.text_sections()?;
-    let before = bytes_of(alloc, object)?;
-    let answer = match object.write_map_numbers(&numbered, &text_sections) {
-        Ok(()) => Answer::Made,
-        Err(error) => match error.error() {
-            RelocationError::OutOfMemory => Answer::OutOfMemory,
-            _ => return Err(ExerciseError::Relocation(error)),
-        },
-    };
-    Ok(outcome(alloc, object, &before, answer)?)
+    write_numbers_of(alloc, object, &maps)
 }
 
 /// Why externs can't be resolved, in a few words.
@@ -142,6 +201,15 @@ fn refusal(error: &KsymsError) -> Answer {
     }
 }
 
+/// What comes of an object's externs in a kernel's types and symbols.
+fn resolved(object: &mut Object<'_>, kernel: &Kernel<'_>) -> Answer {
+    let mut symbols = Watched::new(kernel.symbols);
+    match object.resolve_externs(&kernel.types, &mut symbols) {
+        Ok(()) => Answer::Made,
+        Err(error) => refusal(&error),
+    }
+}
+
 /// Resolves an object's externs.
 pub(crate) fn resolve_externs(
     alloc: Global,
@@ -149,16 +217,23 @@ pub(crate) fn resolve_externs(
     kernel: &Kernel<'_>,
 ) -> Result<&'static str, ExerciseError> {
     let before = bytes_of(alloc, object)?;
-    let mut symbols = Watched::new(kernel.symbols);
-    let answer = match object.resolve_externs(&kernel.types, &mut symbols) {
-        Ok(()) => Answer::Made,
-        Err(error) => refusal(&error),
-    };
+    let answer = resolved(object, kernel);
     Ok(outcome(alloc, object, &before, answer)?)
 }
 
 /// As many tables of types as are taken.
 const MAX_TABLES: usize = 0x1_0000_0000;
+
+/// Why type relocations come to nothing, in a few words.
+fn type_refusal(error: &BtfRelocationError) -> Answer {
+    match error.error() {
+        BtfRelocationCause::OutOfMemory => Answer::OutOfMemory,
+        BtfRelocationCause::ConflictingCandidates { .. } => {
+            Answer::Refused("conflicting candidates")
+        }
+        _ => Answer::Refused("refused"),
+    }
+}
 
 /// What comes of an object's type relocations in tables of a kernel.
 fn relocated(object: &mut Object<'_>, types: &[Btf<'_>]) -> Answer {
@@ -167,13 +242,7 @@ fn relocated(object: &mut Object<'_>, types: &[Btf<'_>]) -> Answer {
     }
     match object.relocate_btf(types) {
         Ok(()) => Answer::Made,
-        Err(error) => match error.error() {
-            BtfRelocationCause::OutOfMemory => Answer::OutOfMemory,
-            BtfRelocationCause::ConflictingCandidates { .. } => {
-                Answer::Refused("conflicting candidates")
-            }
-            _ => Answer::Refused("refused"),
-        },
+        Err(error) => type_refusal(&error),
     }
 }
 
@@ -188,19 +257,29 @@ pub(crate) fn relocate_types(
     Ok(outcome(alloc, object, &before, answer)?)
 }
 
+/// Why what is known of externs can't be written, in a few words.
+fn extern_refusal(error: &EbpfRelocationError) -> Answer {
+    match error.error() {
+        RelocationError::OutOfMemory => Answer::OutOfMemory,
+        RelocationError::UnresolvableSymbol { name: _ } => Answer::Refused("not resolved"),
+        _ => Answer::Refused("refused"),
+    }
+}
+
+/// What comes of writing what is known of an object's externs.
+fn written(object: &mut Object<'_>) -> Answer {
+    match object.relocate_externs() {
+        Ok(()) => Answer::Made,
+        Err(error) => extern_refusal(&error),
+    }
+}
+
 /// Writes what is known of an object's externs into its slots.
 pub(crate) fn write_externs(
     alloc: Global,
     object: &mut Object<'_>,
 ) -> Result<&'static str, ExerciseError> {
     let before = bytes_of(alloc, object)?;
-    let answer = match object.relocate_externs() {
-        Ok(()) => Answer::Made,
-        Err(error) => match error.error() {
-            RelocationError::OutOfMemory => Answer::OutOfMemory,
-            RelocationError::UnresolvableSymbol { name: _ } => Answer::Refused("not resolved"),
-            _ => Answer::Refused("refused"),
-        },
-    };
+    let answer = written(object);
     Ok(outcome(alloc, object, &before, answer)?)
 }

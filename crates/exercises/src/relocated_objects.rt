@@ -6,6 +6,7 @@
 //! made again; where it is refused elsewhere, status 3 says so.
 
 use crate::error::ExerciseError;
+use crate::files::read_next;
 use crate::object_steps::{
     AS_BEFORE, Kernel, put_value, relocate_types, resolve_externs, write_externs, write_numbers,
 };
@@ -79,46 +80,69 @@ fn relocate(
     Ok(())
 }
 
+/// Prints how much an object holds, and makes the steps on it.
+fn print_and_relocate(
+    rt: &HostRuntime,
+    object: &mut Object<'_>,
+    kernel: &Kernel<'_>,
+) -> Result<(), ExerciseError> {
+    print_object(rt, object)?;
+    relocate(rt, object, kernel)
+}
+
+/// Parses an object, and makes the steps on it.
+fn parse_and_relocate(
+    rt: &HostRuntime,
+    bytes: &[u8],
+    kernel: &Kernel<'_>,
+) -> Result<(), ExerciseError> {
+    let mut object = Object::parse(rt.alloc(), bytes)?;
+    print_and_relocate(rt, &mut object, kernel)
+}
+
 /// Parses the object of a file, and makes the steps on it.
 fn relocate_file(rt: &HostRuntime, name: &str, kernel: &Kernel<'_>) -> Result<(), ExerciseError> {
     let bytes = fs::read(rt, name)?;
-    let mut object = Object::parse(rt.alloc(), bytes.as_slice())?;
-    print_object(rt, &object)?;
-    relocate(rt, &mut object, kernel)
+    parse_and_relocate(rt, bytes.as_slice(), kernel)
+}
+
+/// Parses the objects that the words name, and makes the steps on them, for a kernel.
+fn relocate_files(
+    rt: &HostRuntime,
+    words: &mut Args,
+    kernel: &Kernel<'_>,
+) -> Result<(), ExerciseError> {
+    for name in words {
+        relocate_file(rt, name.as_str(), kernel)?;
+    }
+    Ok(())
+}
+
+/// The one table that is made of a kernel's types.
+fn tables_of(alloc: Global, types: &[u8]) -> Result<Vec<Btf<'_>>, ExerciseError> {
+    let mut tables = Vec::with_capacity(alloc, 1)?;
+    tables.push(Btf::parse(alloc, types, Endianness::Little)?)?;
+    Ok(tables)
 }
 
 /// Parses the objects that the words name, and makes the steps on them, for a kernel with these
 /// types and symbols.
-fn relocate_files(
+fn relocate_for(
     rt: &HostRuntime,
     words: &mut Args,
     types: &[u8],
     symbols: &[u8],
 ) -> Result<(), ExerciseError> {
-    let mut kernel = Kernel {
-        types: Vec::new(rt.alloc()),
+    let kernel = Kernel {
+        types: tables_of(rt.alloc(), types)?,
         symbols,
     };
-    kernel
-        .types
-        .push(Btf::parse(rt.alloc(), types, Endianness::Little)?)?;
-    for name in words {
-        relocate_file(rt, name.as_str(), &kernel)?;
-    }
-    Ok(())
-}
-
-/// The bytes of the file that the next word names.
-fn read_next(rt: &HostRuntime, words: &mut Args) -> Result<Vec<u8>, ExerciseError> {
-    match words.next() {
-        Some(name) => Ok(fs::read(rt, name.as_str())?),
-        None => Err(ExerciseError::Usage),
-    }
+    relocate_files(rt, words, &kernel)
 }
 
 /// Parses the objects that the words name, and makes the steps on them.
 pub(crate) fn run(rt: &HostRuntime, words: &mut Args) -> Result<(), ExerciseError> {
     let types = read_next(rt, words)?;
     let symbols = read_next(rt, words)?;
-    relocate_files(rt, words, types.as_slice(), symbols.as_slice())
+    relocate_for(rt, words, types.as_slice(), symbols.as_slice())
 }

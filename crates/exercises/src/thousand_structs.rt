@@ -34,13 +34,18 @@ fn grown(table: &mut Btf<'_>) -> Result<usize, BtfError> {
     Ok(table.to_bytes()?.len())
 }
 
+/// Prints what the calls on a table give.
+fn print_grown(rt: &HostRuntime, table: &mut Btf<'_>) -> Result<(), BtfError> {
+    let _ = println!(rt; "{}", table.types().count());
+    let len = grown(table)?;
+    let _ = println!(rt; "{len}");
+    Ok(())
+}
+
 /// Prints what the calls give, as far as memory reaches.
 fn print(rt: &HostRuntime, section: &[u8]) -> Result<(), BtfError> {
     let mut table = Btf::parse(rt.alloc(), section, Endianness::Little)?;
-    let _ = println!(rt; "{}", table.types().count());
-    let len = grown(&mut table)?;
-    let _ = println!(rt; "{len}");
-    Ok(())
+    print_grown(rt, &mut table)
 }
 
 /// Prints the counts.

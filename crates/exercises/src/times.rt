@@ -1,11 +1,10 @@
 //! Times that are measured.
 
 use crate::error::ExerciseError;
-use std::io;
 use std::time::Instant;
 
 /// The microseconds since a moment.
-pub(crate) fn micros(rt: &HostRuntime, start: Instant) -> Result<u128, io::Error> {
+pub(crate) fn micros(rt: &HostRuntime, start: Instant) -> Result<u128, ExerciseError> {
     Ok(start.elapsed(rt)?.as_micros())
 }
 

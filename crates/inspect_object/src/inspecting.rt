@@ -70,6 +70,24 @@ fn notes_of<'a>(alloc: Global, bytes: &'a [u8]) -> Result<Vec<Note<'a>>, ParseEr
     }
 }
 
+/// Writes what the object of a file holds, and the notes on it, or nothing where it is refused.
+fn inspect_noted<W: Write>(
+    alloc: Global,
+    bytes: &[u8],
+    notes: &[Note<'_>],
+    out: &mut W,
+) -> Result<(), InspectError>
+    ensures accepted { OnOk result (IsFaultless bytes.now) }
+    ensures refused { IfErr result (IsInspectRefusal bytes.now) }
+    ensures unwritten { IfErr result (λ e. e ≢ Output → out.new ≡ out.old) }
+{
+    let object = Object::parse(alloc, bytes)?;
+    match write_object(&object, notes, out) {
+        Ok(()) => Ok(()),
+        Err(_error) => Err(InspectError::Output),
+    }
+}
+
 /// Writes what the object of a file holds, or nothing where it is refused. docs/FORMATS.md has the
 /// lines.
 ///
@@ -83,9 +101,5 @@ pub fn inspect<W: Write>(alloc: Global, bytes: &[u8], out: &mut W) -> Result<(),
     ensures unwritten { IfErr result (λ e. e ≢ Output → out.new ≡ out.old) }
 {
     let notes = notes_of(alloc, bytes)?;
-    let object = Object::parse(alloc, bytes)?;
-    match write_object(&object, &notes, out) {
-        Ok(()) => Ok(()),
-        Err(_error) => Err(InspectError::Output),
-    }
+    inspect_noted(alloc, bytes, &notes, out)
 }

@@ -1,7 +1,10 @@
 //! What becomes of an object on kernels.
 
+ghost use Rattle.std.specs.Prelude.{◌≤◌, ◌^◌, length};
+
 use crate::error::ProgramError;
 use crate::refused;
+use btf::Btf;
 use command_line::InspectArguments;
 use ebpf_object::Object;
 use extern_reports::assumed_symbols;
@@ -54,6 +57,32 @@ fn column_of<'w>(
     })
 }
 
+/// The report on a kernel with these types, for its text.
+fn column_on<'w>(
+    alloc: Global,
+    line: &InspectArguments<'w>,
+    reported: &Reported<'_, '_>,
+    name: &'w str,
+    tables: &[Btf<'_>],
+) -> Result<Column<'w>, AllocError>
+    requires { length tables.now ≤ 2 ^ 32 }
+{
+    let report = report_on(alloc, reported, tables)?;
+    column_of(alloc, line, reported, name, report)
+}
+
+/// The report on the kernel whose types these bytes are.
+fn column_in<'w>(
+    alloc: Global,
+    line: &InspectArguments<'w>,
+    reported: &Reported<'_, '_>,
+    name: &'w str,
+    bytes: &[u8],
+) -> Result<Column<'w>, ProgramError> {
+    let tables = [kernel_table(alloc, name, bytes, line.types_order)?];
+    Ok(column_on(alloc, line, reported, name, &tables)?)
+}
+
 /// The report on the kernel of a file.
 fn report_of<'w>(
     rt: &HostRuntime,
@@ -61,12 +90,8 @@ fn report_of<'w>(
     reported: &Reported<'_, '_>,
     name: &'w str,
 ) -> Result<Column<'w>, ProgramError> {
-    let alloc = rt.alloc();
     let bytes = read(rt, name)?;
-    let tables = [kernel_table(alloc, name, &bytes, line.types_order)?];
-    let report = report_on(alloc, reported, &tables)?;
-    let column = column_of(alloc, line, reported, name, report)?;
-    Ok(column)
+    column_in(rt.alloc(), line, reported, name, &bytes)
 }
 
 /// Says which kernel is looked at, where a person may wait for it.
@@ -116,45 +141,114 @@ fn text_of(
 }
 
 /// The names of what is reported on.
-fn names_of<'r>(
-    alloc: Global,
-    object: &'r Object<'_>,
-    relocations: &[RelocationAt],
-) -> Result<Rows<'r>, AllocError> {
+fn names_of<'r>(alloc: Global, reported: &Reported<'r, '_>) -> Result<Rows<'r>, AllocError> {
+    let object = reported.object;
     rows_of(
         alloc,
         object.functions(),
         object.externs(),
         object.btf(),
-        relocations,
+        reported.relocations,
     )
+}
+
+/// The text of all reports, with these names.
+fn text_with(
+    rt: &HostRuntime,
+    line: &InspectArguments<'_>,
+    reported: &Reported<'_, '_>,
+    rows: &Rows<'_>,
+) -> Result<String, ProgramError> {
+    let columns = reports_of(rt, line, reported)?;
+    Ok(text_of(rt.alloc(), line, rows, &columns)?)
+}
+
+/// The text of all reports.
+fn text_on(
+    rt: &HostRuntime,
+    line: &InspectArguments<'_>,
+    reported: &Reported<'_, '_>,
+) -> Result<String, ProgramError> {
+    let rows = names_of(rt.alloc(), reported)?;
+    text_with(rt, line, reported, &rows)
+}
+
+/// What is reported on: an object, and the symbols of the kernels.
+#[derive(Clone, Copy)]
+struct Given<'g, 'o> {
+    file: &'g [u8],
+    object: &'g Object<'o>,
+    symbols: &'g [u8],
+    has_symbols: bool,
+}
+
+/// The text of all reports, on these type relocations.
+fn text_on_relocations(
+    rt: &HostRuntime,
+    line: &InspectArguments<'_>,
+    given: &Given<'_, '_>,
+    relocations: &[RelocationAt],
+) -> Result<String, ProgramError> {
+    let settings = every_map_numbered(rt.alloc(), given.object.maps())?;
+    let reported = Reported {
+        file: given.file,
+        object: given.object,
+        relocations,
+        settings: &settings,
+        symbols: given.symbols,
+        has_symbols: given.has_symbols,
+    };
+    text_on(rt, line, &reported)
+}
+
+/// The text of all reports on what is given.
+fn text_on_given(
+    rt: &HostRuntime,
+    line: &InspectArguments<'_>,
+    given: &Given<'_, '_>,
+) -> Result<String, ProgramError> {
+    let relocations = relocations_in(rt.alloc(), given.object)?;
+    text_on_relocations(rt, line, given, &relocations)
+}
+
+/// The text of all reports on an object, where the symbols that it asks for are taken for granted.
+fn text_on_assumed(
+    rt: &HostRuntime,
+    line: &InspectArguments<'_>,
+    file: &[u8],
+    object: &Object<'_>,
+) -> Result<String, ProgramError> {
+    let assumed = assumed_symbols(rt.alloc(), object.externs())?;
+    let given = Given {
+        file,
+        object,
+        symbols: assumed.as_bytes(),
+        has_symbols: false,
+    };
+    text_on_given(rt, line, &given)
 }
 
 /// The text of all reports on an object, of which the symbols are those of a file, or taken for
 /// granted where there is none.
-fn text_on(
+fn text_on_object(
     rt: &HostRuntime,
     line: &InspectArguments<'_>,
     file: &[u8],
     object: &Object<'_>,
     symbols: Option<&[u8]>,
 ) -> Result<String, ProgramError> {
-    let alloc = rt.alloc();
-    let relocations = relocations_in(alloc, object)?;
-    let rows = names_of(alloc, object, &relocations)?;
-    let settings = every_map_numbered(alloc, object.maps())?;
-    let assumed = assumed_symbols(alloc, object.externs())?;
-    let reported = Reported {
-        file,
-        object,
-        relocations: &relocations,
-        settings: &settings,
-        symbols: symbols.unwrap_or(assumed.as_bytes()),
-        has_symbols: symbols.is_some(),
-    };
-    let columns = reports_of(rt, line, &reported)?;
-    let text = text_of(alloc, line, &rows, &columns)?;
-    Ok(text)
+    match symbols {
+        Some(symbols) => {
+            let given = Given {
+                file,
+                object,
+                symbols,
+                has_symbols: true,
+            };
+            text_on_given(rt, line, &given)
+        }
+        None => text_on_assumed(rt, line, file, object),
+    }
 }
 
 /// The text of all reports on the object of a file.
@@ -165,8 +259,30 @@ fn text_on_file(
     symbols: Option<&[u8]>,
 ) -> Result<String, ProgramError> {
     match Object::parse(rt.alloc(), file) {
-        Ok(object) => text_on(rt, line, file, &object, symbols),
+        Ok(object) => text_on_object(rt, line, file, &object, symbols),
         Err(error) => Err(refused(rt.alloc(), file, error)),
+    }
+}
+
+/// Prints what becomes of the object of a file.
+fn print_on_file(
+    rt: &HostRuntime,
+    line: &InspectArguments<'_>,
+    file: &[u8],
+    symbols: Option<&[u8]>,
+) -> Result<(), ProgramError> {
+    let text = text_on_file(rt, line, file, symbols)?;
+    Ok(print_text(rt, &text)?)
+}
+
+/// The symbols of the kernels, where a file of them is named.
+fn symbols_of(
+    rt: &HostRuntime,
+    line: &InspectArguments<'_>,
+) -> Result<Option<Vec<u8>>, ProgramError> {
+    match line.symbols {
+        Some(name) => Ok(Some(read(rt, name)?)),
+        None => Ok(None),
     }
 }
 
@@ -176,10 +292,6 @@ pub(crate) fn print_reports(
     line: &InspectArguments<'_>,
 ) -> Result<(), ProgramError> {
     let file = read(rt, line.object)?;
-    let symbols = match line.symbols {
-        Some(name) => Some(read(rt, name)?),
-        None => None,
-    };
-    let text = text_on_file(rt, line, &file, symbols.as_deref())?;
-    Ok(print_text(rt, &text)?)
+    let symbols = symbols_of(rt, line)?;
+    print_on_file(rt, line, &file, symbols.as_deref())
 }

@@ -30,17 +30,26 @@ fn next_file(rt: &HostRuntime, words: &mut Args) -> Result<Option<Vec<u8>>, Exam
     }
 }
 
+/// A list of one table.
+fn list_of<'t>(rt: &HostRuntime, table: Btf<'t>) -> Result<Vec<Btf<'t>>, ExampleError>
+    ensures { IfOk result (λ tables. length tables.items ≤ 2 ^ 32) }
+{
+    let mut tables = Vec::new(rt.alloc());
+    tables.push(table)?;
+    Ok(tables)
+}
+
 /// The kernel's tables of types, one or none.
 fn kernel_types<'t>(rt: &HostRuntime, bytes: Option<&'t [u8]>) -> Result<Vec<Btf<'t>>, ExampleError>
     ensures { IfOk result (λ tables. length tables.items ≤ 2 ^ 32) }
 {
-    let mut tables = Vec::new(rt.alloc());
-    let Some(bytes) = bytes else {
-        return Ok(tables);
-    };
-    let table = Btf::parse(rt.alloc(), bytes, Endianness::Little)?;
-    tables.push(table)?;
-    Ok(tables)
+    match bytes {
+        Some(bytes) => {
+            let table = Btf::parse(rt.alloc(), bytes, Endianness::Little)?;
+            list_of(rt, table)
+        }
+        None => Ok(Vec::new(rt.alloc())),
+    }
 }
 
 /// Prints what an object holds, and what its programs are once they are linked.
@@ -51,12 +60,32 @@ fn print_object(rt: &HostRuntime, object: &Object<'_>) -> Result<(), ExampleErro
     print_relocated(rt, object)
 }
 
+/// Prints the plan of an object for a kernel with these types.
+fn print_planned(
+    rt: &HostRuntime,
+    bytes: &[u8],
+    object: &Object<'_>,
+    types: Option<&[u8]>,
+) -> Result<(), ExampleError> {
+    let tables = kernel_types(rt, types)?;
+    print_plan(rt, bytes, object, &tables)
+}
+
+/// Prints all of an object, and of its plan for a kernel with these types.
+fn print_parsed(
+    rt: &HostRuntime,
+    bytes: &[u8],
+    object: &Object<'_>,
+    types: Option<&[u8]>,
+) -> Result<(), ExampleError> {
+    print_object(rt, object)?;
+    print_planned(rt, bytes, object, types)
+}
+
 /// Prints all of an object's bytes, and of its plan for a kernel with these types.
 fn print_all(rt: &HostRuntime, bytes: &[u8], types: Option<&[u8]>) -> Result<(), ExampleError> {
     let object = Object::parse(rt.alloc(), bytes)?;
-    print_object(rt, &object)?;
-    let tables = kernel_types(rt, types)?;
-    print_plan(rt, bytes, &object, &tables)
+    print_parsed(rt, bytes, &object, types)
 }
 
 /// Prints how much a file holds.
@@ -64,15 +93,29 @@ fn print_bytes(rt: &HostRuntime, bytes: &[u8]) -> Result<(), ExampleError> {
     print_file(rt, &ElfFile::parse(bytes)?)
 }
 
+/// Prints how much a file holds, and all of its object.
+fn print_file_and_object(
+    rt: &HostRuntime,
+    bytes: &[u8],
+    types: Option<&[u8]>,
+) -> Result<(), ExampleError> {
+    print_bytes(rt, bytes)?;
+    print_all(rt, bytes, types)
+}
+
+/// Prints what the words after the program's name ask for.
+fn run_words(rt: &HostRuntime, words: &mut Args) -> Result<(), ExampleError> {
+    let Some(bytes) = next_file(rt, words)? else {
+        return Err(ExampleError::Usage);
+    };
+    let types = next_file(rt, words)?;
+    print_file_and_object(rt, &bytes, types.as_deref())
+}
+
 fn run(rt: &HostRuntime) -> Result<(), ExampleError> {
     let mut words = env::args(rt)?;
     let _program = words.next();
-    let Some(bytes) = next_file(rt, &mut words)? else {
-        return Err(ExampleError::Usage);
-    };
-    let types = next_file(rt, &mut words)?;
-    print_bytes(rt, &bytes)?;
-    print_all(rt, &bytes, types.as_deref())
+    run_words(rt, &mut words)
 }
 
 fn main(rt: HostRuntime) -> ExitCode {

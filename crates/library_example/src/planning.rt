@@ -75,6 +75,19 @@ fn planned_text(
     text_of(alloc, &plan)
 }
 
+/// The same under settings that number the maps.
+fn numbered_text(
+    alloc: Global,
+    bytes: &[u8],
+    object: &Object<'_>,
+    kernel_types: &[Btf<'_>],
+) -> Result<Vec<u8>, ExampleError>
+    requires { length kernel_types.now ≤ 2 ^ 32 }
+{
+    let settings = settings_of(alloc, object)?;
+    planned_text(alloc, bytes, &settings, kernel_types)
+}
+
 /// Prepares an object for a kernel that grants all features and has these types, and prints the
 /// plan as it is read from its own text.
 pub(crate) fn print_plan(
@@ -85,7 +98,6 @@ pub(crate) fn print_plan(
 ) -> Result<(), ExampleError>
     requires { length kernel_types.now ≤ 2 ^ 32 }
 {
-    let settings = settings_of(rt.alloc(), object)?;
-    let text = planned_text(rt.alloc(), bytes, &settings, kernel_types)?;
+    let text = numbered_text(rt.alloc(), bytes, object, kernel_types)?;
     print_text(rt, &text)
 }

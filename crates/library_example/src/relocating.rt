@@ -37,6 +37,17 @@ fn put_value(alloc: Global, object: &mut Object<'_>) -> Result<(), ExampleError>
     Ok(())
 }
 
+/// Writes the numbers of the maps of an object into a copy of it.
+fn write_numbers(
+    alloc: Global,
+    object: &Object<'_>,
+    relocated: &mut Object<'_>,
+    sections: &HashSet<usize>,
+) -> Result<(), ExampleError> {
+    let maps = numbered(alloc, object)?;
+    Ok(relocated.relocate_maps(maps.into_iter(), sections)?)
+}
+
 /// Writes the numbers of the maps of an object into a copy of it, and links that one's programs.
 fn relocate(
     alloc: Global,
@@ -44,8 +55,7 @@ fn relocate(
     relocated: &mut Object<'_>,
 ) -> Result<(), ExampleError> {
     let sections = text_sections(alloc, object)?;
-    let maps = numbered(alloc, object)?;
-    relocated.relocate_maps(maps.into_iter(), &sections)?;
+    write_numbers(alloc, object, relocated, &sections)?;
     relocated.relocate_calls(&sections)?;
     Ok(())
 }
@@ -63,11 +73,20 @@ fn print_lengths(rt: &HostRuntime, object: &Object<'_>) -> Result<(), ExampleErr
     Ok(())
 }
 
+/// Relocates a copy of an object, with one value set, and prints how long its programs are.
+fn print_copy(
+    rt: &HostRuntime,
+    object: &Object<'_>,
+    relocated: &mut Object<'_>,
+) -> Result<(), ExampleError> {
+    put_value(rt.alloc(), relocated)?;
+    relocate(rt.alloc(), object, relocated)?;
+    print_lengths(rt, relocated)
+}
+
 /// Relocates a copy of an object as a loader does, with one value set, and prints how long its
 /// programs are.
 pub(crate) fn print_relocated(rt: &HostRuntime, object: &Object<'_>) -> Result<(), ExampleError> {
     let mut relocated = object.try_clone()?;
-    put_value(rt.alloc(), &mut relocated)?;
-    relocate(rt.alloc(), object, &mut relocated)?;
-    print_lengths(rt, &relocated)
+    print_copy(rt, object, &mut relocated)
 }
