@@ -4,7 +4,7 @@ use Rattle.std.proofs.lemmas.List.Elements.{All-append, All-cons, All-nil}
 use Rattle.std.specs.Prelude.{All, IfOk, IfSome, ◌==◌, ◌&&◌, ◌||◌, nat_lt, if◌then◌else◌, slice_get}
 use Rattle.std.specs.Option.{option_map_or, option_to_list, unwrap_or}
 use Rattle.access_paths.specs.AccessStrings.{access_numbers}
-use Rattle.access_paths.specs.FieldPaths.{advanced, at_element, at_member, begun, ended, ends_with, field_path, is_in_array, member_step, path_from, place_of, to_element, to_member, to_part}
+use Rattle.access_paths.specs.FieldPaths.{advanced, at_element, at_member, begun, ended, ends_with, field_path, is_in_array, member_step, path_from, step_place, to_element, to_member, to_part}
 use Rattle.access_paths.specs.Laws.{AreAlike, IsReachedPath, PathsRest}
 use Rattle.access_paths.specs.LocalPaths.{local_path, path_of, type_path, with_numbers}
 use Rattle.access_paths.specs.Lookups.{and_then, found_text, found_type, with_found, with_text, with_type}
@@ -60,7 +60,7 @@ member-of b id index t m here known is = lookups_rest.members b.reached b.one b.
 
 -- what a step comes to is reached
 abbrev pub IsReachedStep : (ℕ → Bool) → Step → Type 0
-IsReachedStep reached s = reached (place_of s).type_id ≡ true
+IsReachedStep reached s = reached (step_place s).type_id ≡ true
 
 pub record IsReached (reached : ℕ → Bool) (r : Reached) : Type 0 where
   pub next : reached r.type_id ≡ true
@@ -72,7 +72,7 @@ pub record IsReachedAdvance (reached : ℕ → Bool) (a : Advance) : Type 0 wher
 
 array-same : (b : Both) (len : ℕ) (last : Step) (index : ℕ) → IsReachedStep b.reached last → is_in_array b.other len last index ≡ is_in_array b.one len last index
 array-same b len last index here =
-    ap (λ (p : Option BtfType). nat_lt index len || ((len == 0) && option_map_or (λ t. ends_with t (place_of last).index) p false)) (records b (place_of last).type_id here)
+    ap (λ (p : Option BtfType). nat_lt index len || ((len == 0) && option_map_or (λ t. ends_with t (step_place last).index) p false)) (records b (step_place last).type_id here)
 
 step-same : (b : Both) (place : Place) (m : BtfMember) → text_at b.other.strings m.name_offset ≡ text_at b.one.strings m.name_offset → member_step b.other place m ≡ member_step b.one place m
 step-same b place m e = ap (λ (r : Result (Option Step) AccessError). if m.name_offset == 0 then Ok None else r) (text-same b.one b.other m.name_offset _ _ e (λ text. refl))

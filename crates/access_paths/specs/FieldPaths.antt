@@ -32,10 +32,10 @@ bits_after (Some bits) more = if nat_lt (bits + more) (2 ^ 32) then Some (bits +
 abbrev pub elements_after : Option ℕ → ℕ → ℕ → Option ℕ
 elements_after bits count size = bits_after bits (8 * (count * size))
 
-abbrev pub place_of : Step → Place
-place_of (Element place) = place
-place_of (Member place) = place
-place_of (Variant place) = place
+abbrev pub step_place : Step → Place
+step_place (Element place) = place
+step_place (Member place) = place
+step_place (Variant place) = place
 
 -- a struct whose last member has this index
 abbrev pub ends_with : BtfType → ℕ → Bool
@@ -50,7 +50,7 @@ is_flexible table len place =
     && option_map_or (λ t. ends_with t place.index) (type_by_id table place.type_id) false
 
 abbrev pub is_in_array : Table → ℕ → Step → ℕ → Bool
-is_in_array table len last index = nat_lt index len || is_flexible table len (place_of last)
+is_in_array table len last index = nat_lt index len || is_flexible table len (step_place last)
 
 -- the first number
 abbrev pub begun : Table → ℕ → ℕ → Result Reached AccessError

@@ -1,6 +1,6 @@
 -- Laws of paths and of what is looked up for them.
 use Rattle.std.specs.Prelude.{◌≡◌, ℕ, Bool, true, slice_get, All, IfOk, Some, Ok}
-use Rattle.access_paths.specs.FieldPaths.{place_of}
+use Rattle.access_paths.specs.FieldPaths.{step_place}
 use Rattle.access_paths.specs.LocalPaths.{local_path}
 use Rattle.access_paths.specs.Variants.{variant_name}
 use Rattle.access_paths.specs.declared.path.AccessPath.{AccessPath}
@@ -43,7 +43,7 @@ pub record LookupsRest : Type 0 where
 -- all types of a path are reached
 pub record IsReachedPath (reached : ℕ → Bool) (path : AccessPath) : Type 0 where
   pub root : reached path.type_id ≡ true
-  pub steps : All (λ s. reached (place_of s).type_id ≡ true) path.steps
+  pub steps : All (λ s. reached (step_place s).type_id ≡ true) path.steps
 
 -- the path of an access is the same in every other table that agrees on what is reached from its
 -- type, and whose texts there, and the access string, can be read alike; and it stays among what is

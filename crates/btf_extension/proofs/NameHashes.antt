@@ -13,7 +13,8 @@ use Rattle.btf_records.specs.declared.words.Endianness.{Endianness}
 use Rattle.string_table.specs.Texts.{text_at}
 use Rattle.btf_extension.specs.Groups.{IsGroup}
 use Rattle.btf_extension.specs.Layout.{AreSameGroups, AreWhole, is_named}
-use Rattle.btf_extension.specs.NameHashes.{AreLastOf, AreNames, IsKept, has_hash, name_hash, place_by, place_hash}
+use Rattle.btf_extension.specs.NameHashes.{AreLastOf, AreNames, IsKept, has_hash, place_by, place_hash}
+use Rattle.string_table.specs.NameHashes.{name_hash}
 use Rattle.btf_extension.specs.declared.group_list.GroupList.{GroupList}
 use Rattle.btf_extension.proofs.Named.{find_here, find_past, reverse_more}
 

@@ -10,7 +10,7 @@ use Rattle.btf_extension.specs.Faults.{ExtensionFault, HasSize, PlaceFault, Reco
 use Rattle.btf_extension.specs.Groups.{AreGroups, Group, IsGroup, Reach, group_in, group_len}
 use Rattle.btf_extension.specs.Layout.{IsFaultless, IsRead, extension_of, groups_at}
 use Rattle.btf_extension.specs.Records.{func_in, line_in, relocation_in}
-use Rattle.btf_extension.specs.Regions.{HasHeader, IsWithin, groups_bytes, header_len, place_of, region_in, size_in}
+use Rattle.btf_extension.specs.Regions.{HasHeader, IsWithin, groups_bytes, header_len, region_place, region_in, size_in}
 use Rattle.btf_extension.specs.declared.group_list.GroupList.{GroupList}
 use Rattle.btf_extension.specs.declared.region.Place.{Place}
 use Rattle.btf_extension.specs.declared.region.RegionKind.{RegionKind}
@@ -46,9 +46,9 @@ no_records_fault kind order strings place region g e read (inr stands) =
     let found : 8 < length (drop f.at bytes) → IsFaultless kind order size strings (drop f.at bytes) × IsGroup order size (drop f.at bytes) = at_place (λ p. IsFaultless kind order size strings (drop p bytes)) order size bytes 0 g.places.items read.places.end f.places f.at read.places.reached read.places.ended read.places.faultless f.reached in
     elim f.here [ inl cut ↦ absurd (omega (arith, (found cut.1.0).1.whole, cut.1.1)) | inr wrong ↦ (found wrong.0.begun).0.none e wrong.1 ]
 
-region_len : (kind : RegionKind) (order : Endianness) (bytes : List ℕ) → IsWithin (place_of kind order bytes) → length (region_in kind order bytes) ≡ (place_of kind order bytes).len
+region_len : (kind : RegionKind) (order : Endianness) (bytes : List ℕ) → IsWithin (region_place kind order bytes) → length (region_in kind order bytes) ≡ (region_place kind order bytes).len
 region_len kind order bytes within =
-    let place = place_of kind order bytes in
+    let place = region_place kind order bytes in
     length-take-le place.len (drop place.offset bytes) (omega (arith, within, length-drop place.offset bytes))
 
 no_place_fault : (place : Place) (len : ℕ) (e : BtfError) → len ≡ place.len → (len ≡ 0) ⊎ (4 ≤ len) → IsWithin place → PlaceFault place e → ⊥
@@ -62,12 +62,12 @@ has_room kind order region (inr has) = inr has.0
 
 -- the groups of a region of the section were read
 pub record IsRegionRead (kind : RegionKind) (order : Endianness) (strings bytes : List ℕ) (g : GroupList) : Type 0 where
-  pub within : IsWithin (place_of kind order bytes)
+  pub within : IsWithin (region_place kind order bytes)
   pub read : IsRead kind order strings (region_in kind order bytes) g
 
 no_region_fault : (kind : RegionKind) (order : Endianness) (strings bytes : List ℕ) (g : GroupList) (e : BtfError) → IsRegionRead kind order strings bytes g → RegionFault kind order strings bytes e → ⊥
-no_region_fault kind order strings bytes g e is (inl fault) = no_place_fault (place_of kind order bytes) (length (region_in kind order bytes)) e (region_len kind order bytes is.within) (has_room kind order (region_in kind order bytes) is.read.sized) is.within fault
-no_region_fault kind order strings bytes g e is (inr fault) = no_records_fault kind order strings (place_of kind order bytes) (region_in kind order bytes) g e is.read fault.1
+no_region_fault kind order strings bytes g e is (inl fault) = no_place_fault (region_place kind order bytes) (length (region_in kind order bytes)) e (region_len kind order bytes is.within) (has_room kind order (region_in kind order bytes) is.read.sized) is.within fault
+no_region_fault kind order strings bytes g e is (inr fault) = no_records_fault kind order strings (region_place kind order bytes) (region_in kind order bytes) g e is.read fault.1
 
 no_header_fault : (order : Endianness) (bytes : List ℕ) → HasHeader order bytes → (length bytes < 8) ⊎ ((8 ≤ length bytes) × ((header_len order bytes < 8) ⊎ (length bytes < header_len order bytes))) → ⊥
 no_header_fault order bytes has (inl short) = omega (arith, has.head)
@@ -127,7 +127,7 @@ holds_extension order strings bytes f l r has are_f are_l are_r =
     }
 
 -- a fault of the records of a region is one of the section
-pub records_fault : (kind : RegionKind) (order : Endianness) (strings bytes : List ℕ) (place : Place) (region : List ℕ) (e : BtfError) → HasHeader order bytes → IsWithin (place_of kind order bytes) → place ≡ place_of kind order bytes → region ≡ region_in kind order bytes → RecordsFault kind order strings place region e → ExtensionFault order strings bytes e
+pub records_fault : (kind : RegionKind) (order : Endianness) (strings bytes : List ℕ) (place : Place) (region : List ℕ) (e : BtfError) → HasHeader order bytes → IsWithin (region_place kind order bytes) → place ≡ region_place kind order bytes → region ≡ region_in kind order bytes → RecordsFault kind order strings place region e → ExtensionFault order strings bytes e
 records_fault kind order strings bytes place region e has within same same_bytes fault = inr (has, (kind, inr (within, rw (same, same_bytes) at fault)))
 
 pub passed_on : {T : Type 0} (result : Result T BtfError) (e : BtfError) (P : BtfError → Type 0) → IsErrAnd result (λ f. f ≡ e) → P e → IfErr result P

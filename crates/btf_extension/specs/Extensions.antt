@@ -5,7 +5,7 @@ use Rattle.btf_records.specs.declared.words.Endianness.{Endianness}
 use Rattle.btf_extension.specs.Faults.{ExtensionFault}
 use Rattle.btf_extension.specs.Groups.{AreGroups, Group}
 use Rattle.btf_extension.specs.Records.{func_in, line_in, relocation_in}
-use Rattle.btf_extension.specs.Regions.{HasHeader, IsWithin, groups_bytes, place_of, region_in, size_in}
+use Rattle.btf_extension.specs.Regions.{HasHeader, IsWithin, groups_bytes, region_place, region_in, size_in}
 use Rattle.btf_extension.specs.declared.record.bpf_core_relo.{bpf_core_relo}
 use Rattle.btf_extension.specs.declared.record.bpf_func_info.{bpf_func_info}
 use Rattle.btf_extension.specs.declared.record.bpf_line_info.{bpf_line_info}
@@ -32,7 +32,7 @@ abbrev pub Holds : {R : Type 0}
     → List (Group R)
     → Type 0
 Holds kind order read bytes groups =
-    IsWithin (place_of kind order bytes)
+    IsWithin (region_place kind order bytes)
     × AreGroups order read (size_in order (region_in kind order bytes))
     (groups_bytes (region_in kind order bytes)) groups
 

@@ -7,7 +7,7 @@ use Rattle.btf_records.specs.declared.words.Endianness.{Endianness}
 use Rattle.string_table.specs.Texts.{text_at}
 use Rattle.btf_extension.specs.Groups.{IsGroup, StandsBehind, count_in, group_len}
 use Rattle.btf_extension.specs.Records.{relocation_in}
-use Rattle.btf_extension.specs.Regions.{HasHeader, HasNoSize, IsHeaderCut, IsPastEnd, IsWithin, groups_bytes, least_size, place_of, region_in, size_in}
+use Rattle.btf_extension.specs.Regions.{HasHeader, HasNoSize, IsHeaderCut, IsPastEnd, IsWithin, groups_bytes, least_size, region_place, region_in, size_in}
 use Rattle.btf_extension.specs.declared.region.Place.{Place}
 use Rattle.btf_extension.specs.declared.region.RegionKind.{RegionKind}
 use Rattle.btf_extension.specs.declared.region.RegionKind.TheVariants.{Functions, Lines, Relocations}
@@ -81,9 +81,9 @@ PlaceFault place e = (e ≡ misplaced place) × (IsPastEnd place ⊎ HasNoSize p
 -- what is wrong with a region
 abbrev pub RegionFault : RegionKind → Endianness → List ℕ → List ℕ → BtfError → Type 0
 RegionFault kind order strings bytes e =
-    PlaceFault (place_of kind order bytes) e
-    ⊎ (IsWithin (place_of kind order bytes)
-    × RecordsFault kind order strings (place_of kind order bytes) (region_in kind order bytes) e)
+    PlaceFault (region_place kind order bytes) e
+    ⊎ (IsWithin (region_place kind order bytes)
+    × RecordsFault kind order strings (region_place kind order bytes) (region_in kind order bytes) e)
 
 -- what is wrong with a section
 abbrev pub ExtensionFault : Endianness → List ℕ → List ℕ → BtfError → Type 0

@@ -1,21 +1,13 @@
 -- Places of groups by a hash of their names.
-use Rattle.std.specs.Prelude.{◌≡◌, ℕ, ◌+◌, ◌-◌, ◌*◌, ◌%◌, ◌^◌, ◌==◌, ◌≢◌, Bool, List, Option, Some, find, fold, length, drop, reverse, take}
+use Rattle.std.specs.Prelude.{◌≡◌, ℕ, ◌==◌, ◌≢◌, Bool, List, Option, Some, find, drop, reverse, take}
 use Rattle.std.specs.BTreeMap.{is_at}
 use Rattle.std.specs.Map.{lookup}
 use Rattle.std.specs.Option.{option_map_or}
 use Rattle.std.specs.Ordering.{nat_cmp}
 use Rattle.btf_records.specs.Words.{word_at}
+use Rattle.string_table.specs.NameHashes.{name_hash}
 use Rattle.string_table.specs.Texts.{text_at}
 use Rattle.btf_extension.specs.declared.group_list.GroupList.{GroupList}
-
-abbrev pub next_hash : ℕ → ℕ → ℕ
-next_hash hash byte = (hash * 31 % 2 ^ 32 + byte) % 2 ^ 32
-
--- the hash of a name, by its length, its beginning and its end
-unfoldable pub name_hash : List ℕ → ℕ
-name_hash name =
-    fold next_hash (fold next_hash (length name % 2 ^ 32) (take 1024 name))
-    (drop (length name - 1024) name)
 
 -- the hash of the name of the group at a place
 abbrev pub place_hash : List ℕ → GroupList → ℕ → ℕ

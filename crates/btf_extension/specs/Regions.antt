@@ -43,8 +43,8 @@ field_of Lines = 16
 field_of Relocations = 24
 
 -- a region in the section; its offset counts from the header's end
-abbrev pub place_of : RegionKind → Endianness → List ℕ → Place
-place_of kind order bytes = record {
+abbrev pub region_place : RegionKind → Endianness → List ℕ → Place
+region_place kind order bytes = record {
   offset = header_len order bytes + padded_word order (header_in order bytes) (field_of kind);
   len = padded_word order (header_in order bytes) (field_of kind + 4);
   section_len = length bytes;
@@ -62,7 +62,7 @@ HasNoSize place = (0 < place.len) × (place.len < 4)
 
 abbrev pub region_in : RegionKind → Endianness → List ℕ → List ℕ
 region_in kind order bytes =
-    take (place_of kind order bytes).len (drop (place_of kind order bytes).offset bytes)
+    take (region_place kind order bytes).len (drop (region_place kind order bytes).offset bytes)
 
 -- a region: the size of its records, and then its groups; an empty one has neither
 abbrev pub size_in : Endianness → List ℕ → ℕ

@@ -3,7 +3,7 @@
 ghost use Rattle.std.specs.Prelude.{◌≡◌, ◌≤◌, ◌<◌, ◌+◌, ◌^◌, ◌⊎◌, length, slice_index_or, IfErr, IfOk, MatchResult};
 ghost use Rattle.btf_records.specs.declared.error.BtfError.TheVariants.{InvalidHeader};
 ghost use Rattle.btf_extension.specs.Faults.{PlaceFault};
-ghost use Rattle.btf_extension.specs.Regions.{HasHeader, IsHeaderCut, IsWithin, header_in, padded_word, place_of, region_in};
+ghost use Rattle.btf_extension.specs.Regions.{HasHeader, IsHeaderCut, IsWithin, header_in, padded_word, region_place, region_in};
 
 use crate::region::{Place, RegionKind};
 use btf_records::{BtfError, Endianness, word};
@@ -63,10 +63,10 @@ pub(crate) fn header(order: Endianness, section: &[u8]) -> Result<&[u8], BtfErro
 }
 
 /// Where the header says that a region lies.
-fn place_of(kind: RegionKind, order: Endianness, section: &[u8], header: &[u8]) -> Place
+fn region_place(kind: RegionKind, order: Endianness, section: &[u8], header: &[u8]) -> Place
     requires head { HasHeader order section.now }
     requires header { header.now ≡ header_in order section.now }
-    ensures value { result ≡ place_of kind order section.now }
+    ensures value { result ≡ region_place kind order section.now }
     ensures few { result.offset < 2 ^ 33 }
     ensures few_bytes { result.len < 2 ^ 32 }
 {
@@ -88,14 +88,14 @@ pub(crate) fn region_of<'a>(
     requires head { HasHeader order section.now }
     requires header { header.now ≡ header_in order section.now }
     ensures kind { IfOk result (λ r. r.kind ≡ kind) }
-    ensures place { IfOk result (λ r. r.place ≡ place_of kind order section.now) }
-    ensures within { IfOk result (λ _. IsWithin (place_of kind order section.now)) }
+    ensures place { IfOk result (λ r. r.place ≡ region_place kind order section.now) }
+    ensures within { IfOk result (λ _. IsWithin (region_place kind order section.now)) }
     ensures bytes { IfOk result (λ r. r.bytes.now ≡ region_in kind order section.now) }
     ensures sized { IfOk result (λ r. (length r.bytes.now ≡ 0) ⊎ (4 ≤ length r.bytes.now)) }
     ensures few { IfOk result (λ r. length r.bytes.now < 2 ^ 32) }
-    ensures refused { IfErr result (PlaceFault (place_of kind order section.now)) }
+    ensures refused { IfErr result (PlaceFault (region_place kind order section.now)) }
 {
-    let place = place_of(kind, order, section, header);
+    let place = region_place(kind, order, section, header);
     if place.len > 0 && place.len < 4 {
         return Err(place.misplaced());
     }

@@ -1,65 +1,25 @@
 //! Groups by name.
 
-ghost use Rattle.std.specs.Prelude.{◌≡◌, ◌<◌, ◌+◌, ◌-◌, find, fold, length, drop, reverse, take, IfOk, IfSome, OnOk};
+ghost use Rattle.std.specs.Prelude.{◌≡◌, find, drop, reverse, IfOk, IfSome, OnOk};
 ghost use Rattle.std.specs.Option.{option_copied};
 ghost use Rattle.btf_extension.specs.Groups.{IsGroup};
 ghost use Rattle.btf_extension.specs.Layout.{AreWhole, is_named};
-ghost use Rattle.btf_extension.specs.NameHashes.{AreLastOf, AreNames, IsKept, name_hash, next_hash, place_by, place_hash};
+ghost use Rattle.btf_extension.specs.NameHashes.{AreLastOf, AreNames, IsKept, place_by, place_hash};
 
 use crate::group_list::GroupList;
 use btf_tables::Strings;
 use std::alloc::{AllocError, Global};
 use std::collections::BTreeMap;
-
-/// As many bytes of a name are hashed at its beginning, and at its end: many groups may have one
-/// long name, or names that are ends of one long text.
-const HASHED: usize = 1024;
+use string_table::name_hash;
 
 /// Where the last group of each hash of a name begins.
 #[derive(Debug, Drop)]
 pub(crate) struct GroupNames {
-    pub(crate) last: BTreeMap<u32, u32>,
-}
-
-/// The hash with one more byte.
-fn next_hash(hash: u32, byte: u8) -> u32
-    ensures { result ≡ next_hash hash byte }
-{
-    hash.wrapping_mul(31).wrapping_add(u32::from(byte))
-}
-
-/// The hash with the first bytes.
-fn hash_beginning(hash: u32, bytes: &[u8]) -> u32
-    ensures { result ≡ fold next_hash hash (take 1024 bytes.now) }
-{
-    bytes
-        .iter()
-        .take(HASHED)
-        .fold(hash, |hash, byte| next_hash(hash, *byte))
-}
-
-/// The hash with the last bytes.
-fn hash_end(hash: u32, bytes: &[u8]) -> u32
-    ensures { result ≡ fold next_hash hash (drop (length bytes.now - 1024) bytes.now) }
-{
-    bytes
-        .iter()
-        .skip(bytes.len().saturating_sub(HASHED))
-        .fold(hash, |hash, byte| next_hash(hash, *byte))
-}
-
-/// The hash of a name, by its length, its beginning and its end.
-#[tactic(auto, unfolding(crate::specs::NameHashes::name_hash))]
-fn name_hash(name: &str) -> u32
-    ensures { result ≡ name_hash name.now }
-{
-    let bytes = name.as_bytes();
-    let len = (bytes.len() % 0x1_0000_0000) as u32;
-    hash_end(hash_beginning(len, bytes), bytes)
+    pub(crate) last: BTreeMap<u64, u32>,
 }
 
 /// The hash of the name of the group at a place.
-fn place_hash(strings: &Strings<'_>, groups: &GroupList<'_>, place: u32) -> u32
+fn place_hash(strings: &Strings<'_>, groups: &GroupList<'_>, place: u32) -> u64
     requires { IsGroup groups.now.order groups.now.size (drop place groups.now.bytes.now) }
     ensures { result ≡ place_hash strings.now groups.now place }
 {
@@ -70,7 +30,7 @@ fn place_hash(strings: &Strings<'_>, groups: &GroupList<'_>, place: u32) -> u32
 }
 
 /// Keeps a place for a hash.
-fn keep(last: &mut BTreeMap<u32, u32>, hash: u32, place: u32) -> Result<(), AllocError>
+fn keep(last: &mut BTreeMap<u64, u32>, hash: u64, place: u32) -> Result<(), AllocError>
     ensures { OnOk result (IsKept last.old.entries last.new.entries hash place) }
 {
     last.insert(hash, place)?;
@@ -78,7 +38,7 @@ fn keep(last: &mut BTreeMap<u32, u32>, hash: u32, place: u32) -> Result<(), Allo
 }
 
 /// The place that is kept for a hash.
-fn place_by(last: &BTreeMap<u32, u32>, hash: u32) -> Option<u32>
+fn place_by(last: &BTreeMap<u64, u32>, hash: u64) -> Option<u32>
     ensures { result ≡ place_by last.now.entries hash }
 {
     last.get(&hash).copied()

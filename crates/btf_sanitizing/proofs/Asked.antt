@@ -5,7 +5,7 @@ use Rattle.std.specs.Fn.{Mut}
 use Rattle.std.specs.List.{FoldsTo, list_any}
 use Rattle.btf_records.specs.declared.feature.BtfFeature.{BtfFeature}
 use Rattle.btf_records.specs.declared.feature.BtfFeature.TheVariants.{Func, FuncGlobal, DataSec, DataSecZero, Float, DeclTag, TypeTag, Enum64}
-use Rattle.btf_sanitizing.specs.Answers.{Answers, AreDistinct, AreGiven, Settles, answer_to, features, is_same, noted, place_of, times}
+use Rattle.btf_sanitizing.specs.Answers.{Answers, AreDistinct, AreGiven, Settles, answer_to, features, is_same, noted, feature_number, times}
 
 -- ---- features and their places
 
@@ -22,7 +22,7 @@ same_itself Enum64 = refl
 abbrev feature_at : ℕ → BtfFeature
 feature_at n = cond (n == 0) Func (cond (n == 1) FuncGlobal (cond (n == 2) DataSec (cond (n == 3) DataSecZero (cond (n == 4) Float (cond (n == 5) DeclTag (cond (n == 6) TypeTag Enum64))))))
 
-at_its_place : (f : BtfFeature) → feature_at (place_of f) ≡ f
+at_its_place : (f : BtfFeature) → feature_at (feature_number f) ≡ f
 at_its_place Func = refl
 at_its_place FuncGlobal = refl
 at_its_place DataSec = refl
@@ -34,7 +34,7 @@ at_its_place Enum64 = refl
 
 same_is : (f g : BtfFeature) → is_same f g ≡ true → f ≡ g
 same_is f g h =
-    let places : place_of f ≡ place_of g = eqb-true (place_of f) (place_of g) h in
+    let places : feature_number f ≡ feature_number g = eqb-true (feature_number f) (feature_number g) h in
     sym (at_its_place f) ∙ (ap feature_at places ∙ at_its_place g)
 
 -- ---- answers

@@ -9,18 +9,18 @@ abbrev pub Answers : Type 0
 Answers = List (BtfFeature × Bool)
 
 -- the place of a feature in their list
-abbrev pub place_of : BtfFeature → ℕ
-place_of Func = 0
-place_of FuncGlobal = 1
-place_of DataSec = 2
-place_of DataSecZero = 3
-place_of Float = 4
-place_of DeclTag = 5
-place_of TypeTag = 6
-place_of Enum64 = 7
+abbrev pub feature_number : BtfFeature → ℕ
+feature_number Func = 0
+feature_number FuncGlobal = 1
+feature_number DataSec = 2
+feature_number DataSecZero = 3
+feature_number Float = 4
+feature_number DeclTag = 5
+feature_number TypeTag = 6
+feature_number Enum64 = 7
 
 abbrev pub is_same : BtfFeature → BtfFeature → Bool
-is_same f g = place_of f == place_of g
+is_same f g = feature_number f == feature_number g
 
 -- the answer to a question, where it was asked
 abbrev pub answer_to : Answers → BtfFeature → Option Bool

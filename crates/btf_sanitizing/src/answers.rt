@@ -1,7 +1,7 @@
 //! Questions about a kernel's features, each asked once.
 
 ghost use Rattle.std.specs.Prelude.{◌≡◌, ◌∷◌, [], if◌then◌else◌};
-ghost use Rattle.btf_sanitizing.specs.Answers.{answer_to, features, granted, noted, noted_all, place_of, AreDistinct, AreGiven, Settles};
+ghost use Rattle.btf_sanitizing.specs.Answers.{answer_to, features, granted, noted, noted_all, feature_number, AreDistinct, AreGiven, Settles};
 ghost use Rattle.btf_sanitizing.specs.Needs.{AreQuestions, AsksBoth, AsksFor, is_empty_section, stays_global};
 ghost use Rattle.string_table.specs.Texts.{text_at};
 
@@ -15,8 +15,8 @@ use btf_records::{BtfFeature, BtfKind};
 pub type Answers = ArrayVec<(BtfFeature, bool), 8>;
 
 /// Its place in the list of features.
-fn place_of(feature: BtfFeature) -> u8
-    ensures { result ≡ place_of feature }
+fn feature_number(feature: BtfFeature) -> u8
+    ensures { result ≡ feature_number feature }
 {
     match feature {
         BtfFeature::Func => 0,
@@ -35,7 +35,7 @@ fn answer_to(answers: &Answers, feature: BtfFeature) -> Option<bool>
     ensures { result ≡ answer_to answers.now.items feature }
 {
     for answer in answers.as_slice() {
-        if place_of(answer.0) == place_of(feature) {
+        if feature_number(answer.0) == feature_number(feature) {
             return Some(answer.1);
         }
     }

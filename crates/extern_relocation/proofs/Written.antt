@@ -19,7 +19,7 @@ use Rattle.slot_relocation.specs.declared.outcome.Write.{Write}
 use Rattle.slot_relocation.specs.BySymbol.{symbol_index}
 use Rattle.slot_relocation.specs.Slots.{with_number}
 use Rattle.slot_relocation.specs.WriteLaws.{LengthsRemain, OneWrites, UnwrittenStay, WritesAreKept}
-use Rattle.slot_relocation.specs.Writes.{AreRelocated, place_of, relocated, relocations_inside}
+use Rattle.slot_relocation.specs.Writes.{AreRelocated, index_of_slot, relocated, relocations_inside}
 use Rattle.extern_relocation.specs.declared.extern_rule.Resolution.{Resolution}
 use Rattle.extern_relocation.specs.declared.extern_rule.Resolution.TheVariants.{Id, Address, Missing, Unresolved}
 use Rattle.extern_relocation.specs.Externs.{call_outcome, extern_of, extern_outcome, extern_rule, kernel_call, load_outcome, load_write, missing_call, missing_number, resolution, resolved_outcome, signed_word}
@@ -104,7 +104,7 @@ carries file externs r slot next s w known made =
       carried = by_code (slot.code == 0x85) (slot.code == 0x18) slot next index (resolution e.0) w refl refl e.2;
     }
 
-carry : WritesAreKept → (file : List ℕ) (externs : ByName) (f : FunctionContent) (r : ℕ × Relocation) (w : Write) → Writes file externs f r w → (s : bpf_insn) × (slice_get (relocated (extern_rule file externs) file f).instructions (place_of f r.0) ≡ Some s) × CarriesExtern file externs r.1 s
+carry : WritesAreKept → (file : List ℕ) (externs : ByName) (f : FunctionContent) (r : ℕ × Relocation) (w : Write) → Writes file externs f r w → (s : bpf_insn) × (slice_get (relocated (extern_rule file externs) file f).instructions (index_of_slot f r.0) ≡ Some s) × CarriesExtern file externs r.1 s
 carry keep file externs f r w m =
     let k = keep.each file (extern_outcome externs) f r w m in
     (w.first, k.kept, carries file externs r.1 k.slot k.next k.symbol w k.known k.made)

@@ -10,7 +10,7 @@ use Rattle.object_parts.specs.Content.{FunctionContent, function_at}
 use Rattle.slot_relocation.specs.declared.outcome.Write.{Write}
 use Rattle.slot_relocation.specs.BySymbol.{symbol_index}
 use Rattle.slot_relocation.specs.WriteLaws.{IsWritten, Makes, WritesAlone}
-use Rattle.slot_relocation.specs.Writes.{AreRelocated, place_of, relocations_inside}
+use Rattle.slot_relocation.specs.Writes.{AreRelocated, index_of_slot, relocations_inside}
 use Rattle.extern_relocation.specs.declared.extern_rule.Resolution.{Resolution}
 use Rattle.extern_relocation.specs.declared.extern_rule.Resolution.TheVariants.{Id, Address, Missing, Unresolved}
 use Rattle.extern_relocation.specs.Externs.{extern_of, extern_rule, missing_number, resolution, signed_word}
@@ -67,7 +67,7 @@ pub record HasExterns (file : List ℕ) (externs : ByName) (old new : FunctionCo
   pub carry : (r : ℕ × Relocation) (w : Write)
       → Writes file externs old r w
       → (s : bpf_insn)
-      × (slice_get new.instructions (place_of old r.0) ≡ Some s)
+      × (slice_get new.instructions (index_of_slot old r.0) ≡ Some s)
       × CarriesExtern file externs r.1 s
   pub alone : (place : ℕ) (s : bpf_insn)
       → PutsAt file externs old place s

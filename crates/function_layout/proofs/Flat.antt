@@ -6,7 +6,7 @@ use Rattle.ebpf_items.specs.declared.instruction.bpf_insn.{bpf_insn}
 use Rattle.function_layout.specs.Copies.{IsCopy}
 use Rattle.function_layout.specs.Layout.{Key, same, Table, ref_at, has, end_of, start_of, placed, copy_of, copies_of}
 use Rattle.function_layout.proofs.SameKey.{same_true}
-use Rattle.function_layout.specs.Machines.{Place, place_of}
+use Rattle.function_layout.specs.Machines.{Place, source_place}
 
 pub copy_end : (t : Table) (own : Key) (ks : List Key) (k : Key) (b : ℕ) → IsCopy t own ks k b → b + length (t.slots k) ≤ end_of t own ks
 copy_end t own [] k b h =
@@ -96,7 +96,7 @@ made a b m n e h =
     let f : Key → ℕ → Option Place = λ x y. Some (record { key = x; number = y }) in
     ap (λ x. f x m) e ∙ ap (λ y. f b y) h
 
-pub place : (t : Table) (own : Key) (ks : List Key) (k : Key) (b j : ℕ) → IsCopy t own ks k b → j < length (t.slots k) → place_of t own ks (b + j) ≡ Some (record { key = k; number = j })
+pub place : (t : Table) (own : Key) (ks : List Key) (k : Key) (b j : ℕ) → IsCopy t own ks k b → j < length (t.slots k) → source_place t own ks (b + j) ≡ Some (record { key = k; number = j })
 place t own [] k b j c h =
     let e : length (t.slots k) ≡ length (t.slots own) = ap (λ x. length (t.slots x)) c.0 in
     let lt : ltb (b + j) (length (t.slots own)) ≡ true = grind (arith, nat_tests) in
@@ -109,13 +109,13 @@ place t own (x ∷ ks) k b j (inl c) h =
     let no : ltb (b + j) (end_of t own ks) ≡ false = grind (arith, nat_tests) in
     let yes : ltb (b + j) (end_of t own ks + length (t.slots x)) ≡ true = grind (arith, nat_tests) in
     let n : b + j - end_of t own ks ≡ j = omega (arith, c.1) in
-    ap (λ v. cond v (place_of t own ks (b + j)) (cond (ltb (b + j) (end_of t own (x ∷ ks))) (Some (record { key = x; number = b + j - end_of t own ks })) None)) no
+    ap (λ v. cond v (source_place t own ks (b + j)) (cond (ltb (b + j) (end_of t own (x ∷ ks))) (Some (record { key = x; number = b + j - end_of t own ks })) None)) no
     ∙ ap (λ v. cond v (Some (record { key = x; number = b + j - end_of t own ks })) None) yes
     ∙ made x k (b + j - end_of t own ks) j (sym c.0) n
 place t own (x ∷ ks) k b j (inr c) h =
     let le = copy_end t own ks k b c in
     let yes : ltb (b + j) (end_of t own ks) ≡ true = grind (arith, nat_tests) in
-    ap (λ v. cond v (place_of t own ks (b + j)) (cond (ltb (b + j) (end_of t own (x ∷ ks))) (Some (record { key = x; number = b + j - end_of t own ks })) None)) yes
+    ap (λ v. cond v (source_place t own ks (b + j)) (cond (ltb (b + j) (end_of t own (x ∷ ks))) (Some (record { key = x; number = b + j - end_of t own ks })) None)) yes
     ∙ place t own ks k b j c h
 
 has_start_of_at : (t : Table) (own : Key) (ks : List Key) (x k : Key) (b : Bool) → is_some (start_of t own ks k) ≡ has ks k → is_some (cond b (Some (end_of t own ks)) (start_of t own ks k)) ≡ cond b true (has ks k)

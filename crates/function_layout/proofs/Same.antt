@@ -7,7 +7,7 @@ use Rattle.std.proofs.lemmas.Bool.Decides.{nat_tests}
 use Rattle.ebpf_items.specs.declared.instruction.bpf_insn.{bpf_insn}
 use Rattle.function_layout.specs.Layout.{Key, Table, ref_at, flat_option, IsLayout, start_of, marked, aimed, placed, linked}
 use Rattle.ebpf_items.specs.Instruction.{is_pseudo_call, dst_reg_of}
-use Rattle.function_layout.specs.Machines.{Outside, Ends, Shows, Move, Leave, Call, By, is_jump, move_of, slot_at, nat_of, Frame, may_run, SourceRun, source_leave, source_move, source_show, source_step, source_run, FlatRun, flat_leave, flat_move, place_of, flat_show, flat_run, ends_outside, SameSlot, SameEvent, Agree, VisitsSame}
+use Rattle.function_layout.specs.Machines.{Outside, Ends, Shows, Move, Leave, Call, By, is_jump, move_of, slot_at, nat_of, Frame, may_run, SourceRun, source_leave, source_move, source_show, source_step, source_run, FlatRun, flat_leave, flat_move, source_place, flat_show, flat_run, ends_outside, SameSlot, SameEvent, Agree, VisitsSame}
 use Rattle.function_layout.proofs.Keys.{IsOf, all_closed, closed_ref}
 use Rattle.function_layout.specs.Copies.{IsCopy}
 use Rattle.function_layout.proofs.Flat.{start_copy, has_start, fetch, place}
@@ -122,14 +122,14 @@ shown t own ks sg fg ih d r f fs s s' n p ps en st a m o =
     let rest = moves t own ks sg fg ih (move_of s d) r f fs s' (pos p) ps a m st.leads o in
     (event, subst (λ v. Agree t own ks (source_move sg (move_of s d) r f fs) (flat_move fg v s' (pos p) ps)) (sym (st.move d)) rest)
 
-may : (t : Table) (own : Key) (ks : List Key) (sg : SourceRun) (fg : FlatRun) → Follows t own ks sg fg → IsLayout t own ks → (d : Bool) (k : Key) (n b : ℕ) (fs : List Frame) (s : bpf_insn) (ps : List ℤ) (v : Bool) → may_run s (ref_at t k n) ≡ v → IsCopy t own ks k b → slice_get (t.slots k) n ≡ Some s → ((key : Key) → ref_at t k n ≡ Some key → (b : ℕ) × (start_of t own ks key ≡ Some b)) → AreAt t own ks fs ps → ends_outside (cond v (Shows (record { key = k; number = n; slot = s; target = ref_at t k n }) (source_move sg (move_of s d) (ref_at t k n) (record { key = k; slot = pos n }) fs)) (Ends Outside)) ≡ false → Agree t own ks (cond v (Shows (record { key = k; number = n; slot = s; target = ref_at t k n }) (source_move sg (move_of s d) (ref_at t k n) (record { key = k; slot = pos n }) fs)) (Ends Outside)) (flat_show fg d (slice_get (linked t own ks) (b + n)) (place_of t own ks (b + n)) (pos (b + n)) ps)
+may : (t : Table) (own : Key) (ks : List Key) (sg : SourceRun) (fg : FlatRun) → Follows t own ks sg fg → IsLayout t own ks → (d : Bool) (k : Key) (n b : ℕ) (fs : List Frame) (s : bpf_insn) (ps : List ℤ) (v : Bool) → may_run s (ref_at t k n) ≡ v → IsCopy t own ks k b → slice_get (t.slots k) n ≡ Some s → ((key : Key) → ref_at t k n ≡ Some key → (b : ℕ) × (start_of t own ks key ≡ Some b)) → AreAt t own ks fs ps → ends_outside (cond v (Shows (record { key = k; number = n; slot = s; target = ref_at t k n }) (source_move sg (move_of s d) (ref_at t k n) (record { key = k; slot = pos n }) fs)) (Ends Outside)) ≡ false → Agree t own ks (cond v (Shows (record { key = k; number = n; slot = s; target = ref_at t k n }) (source_move sg (move_of s d) (ref_at t k n) (record { key = k; slot = pos n }) fs)) (Ends Outside)) (flat_show fg d (slice_get (linked t own ks) (b + n)) (source_place t own ks (b + n)) (pos (b + n)) ps)
 may t own ks sg fg ih l d k n b fs s ps false e c g key m o = absurd (cc)
 may t own ks sg fg ih l d k n b fs s ps true e c g key m o =
     let all = shown t own ks sg fg ih d (ref_at t k n) (record { key = k; slot = pos n }) fs s (placed t own ks (ref_at t k n) (b + n) s) n (b + n) ps refl (stands t own ks (ref_at t k n) (b + n) s e key) (record { start = b; copy = c; position = refl }) m o in
     let src = Shows (record { key = k; number = n; slot = s; target = ref_at t k n }) (source_move sg (move_of s d) (ref_at t k n) (record { key = k; slot = pos n }) fs) in
     let at = fetch t own ks ks k b n s c g in
     let here = place t own ks k b n c (slice_get_within (t.slots k) n s g) in
-    subst (λ o1. Agree t own ks src (flat_show fg d o1 (place_of t own ks (b + n)) (pos (b + n)) ps)) (sym at)
+    subst (λ o1. Agree t own ks src (flat_show fg d o1 (source_place t own ks (b + n)) (pos (b + n)) ps)) (sym at)
     (subst (λ o2. Agree t own ks src (flat_show fg d (Some (placed t own ks (ref_at t k n) (b + n) s)) o2 (pos (b + n)) ps)) (sym here) all)
 
 copy_is : (t : Table) (own : Key) (ks : List Key) (k : Key) (b : ℕ) → IsCopy t own ks k b → IsOf own ks k
@@ -146,13 +146,13 @@ target t own ks k b n key l c e =
     let closed = all_closed t own ks k l (copy_is t own ks k b c) in
     has_start t own ks key (closed_ref ks (t.refs k) n key closed.none (named (slice_get (t.refs k) n) key e))
 
-found : (t : Table) (own : Key) (ks : List Key) (sg : SourceRun) (fg : FlatRun) → Follows t own ks sg fg → IsLayout t own ks → (d : Bool) (k : Key) (n b : ℕ) (fs : List Frame) (ps : List ℤ) (o : Option bpf_insn) → slice_get (t.slots k) n ≡ o → IsCopy t own ks k b → AreAt t own ks fs ps → ends_outside (source_show sg d o (ref_at t k n) (record { key = k; slot = pos n }) fs) ≡ false → Agree t own ks (source_show sg d o (ref_at t k n) (record { key = k; slot = pos n }) fs) (flat_show fg d (slice_get (linked t own ks) (b + n)) (place_of t own ks (b + n)) (pos (b + n)) ps)
+found : (t : Table) (own : Key) (ks : List Key) (sg : SourceRun) (fg : FlatRun) → Follows t own ks sg fg → IsLayout t own ks → (d : Bool) (k : Key) (n b : ℕ) (fs : List Frame) (ps : List ℤ) (o : Option bpf_insn) → slice_get (t.slots k) n ≡ o → IsCopy t own ks k b → AreAt t own ks fs ps → ends_outside (source_show sg d o (ref_at t k n) (record { key = k; slot = pos n }) fs) ≡ false → Agree t own ks (source_show sg d o (ref_at t k n) (record { key = k; slot = pos n }) fs) (flat_show fg d (slice_get (linked t own ks) (b + n)) (source_place t own ks (b + n)) (pos (b + n)) ps)
 found t own ks sg fg ih l d k n b fs ps None e c m o = absurd (cc)
 found t own ks sg fg ih l d k n b fs ps (Some s) e c m o =
     may t own ks sg fg ih l d k n b fs s ps (may_run s (ref_at t k n)) refl c e (λ key h. target t own ks k b n key l c h) m o
 
 -- one decision
-steps : (t : Table) (own : Key) (ks : List Key) (sg : SourceRun) (fg : FlatRun) → Follows t own ks sg fg → IsLayout t own ks → (d : Bool) (k : Key) (z : ℤ) (b : ℕ) (fs : List Frame) (ps : List ℤ) → IsCopy t own ks k b → AreAt t own ks fs ps → ends_outside (source_step t sg d (record { key = k; slot = z } ∷ fs)) ≡ false → Agree t own ks (source_step t sg d (record { key = k; slot = z } ∷ fs)) (flat_show fg d (slot_at (linked t own ks) (pos b +ℤ z)) (place_of t own ks (nat_of (pos b +ℤ z))) (pos b +ℤ z) ps)
+steps : (t : Table) (own : Key) (ks : List Key) (sg : SourceRun) (fg : FlatRun) → Follows t own ks sg fg → IsLayout t own ks → (d : Bool) (k : Key) (z : ℤ) (b : ℕ) (fs : List Frame) (ps : List ℤ) → IsCopy t own ks k b → AreAt t own ks fs ps → ends_outside (source_step t sg d (record { key = k; slot = z } ∷ fs)) ≡ false → Agree t own ks (source_step t sg d (record { key = k; slot = z } ∷ fs)) (flat_show fg d (slot_at (linked t own ks) (pos b +ℤ z)) (source_place t own ks (nat_of (pos b +ℤ z))) (pos b +ℤ z) ps)
 steps t own ks sg fg ih l d k (pos n) b fs ps c m o = found t own ks sg fg ih l d k n b fs ps (slice_get (t.slots k) n) refl c m o
 steps t own ks sg fg ih l d k (negsuc n) b fs ps c m o = absurd (cc)
 
@@ -160,7 +160,7 @@ stepping : (t : Table) (own : Key) (ks : List Key) → IsLayout t own ks → (d 
 stepping t own ks l d ds ih [] p ps m o = absurd m
 stepping t own ks l d ds ih (f ∷ fs) p ps m o =
     let go = flat_run t own ks (linked t own ks) ds in
-    subst (λ q. Agree t own ks (source_run t (d ∷ ds) (f ∷ fs)) (flat_show go d (slot_at (linked t own ks) q) (place_of t own ks (nat_of q)) q ps)) (sym m.0.position)
+    subst (λ q. Agree t own ks (source_run t (d ∷ ds) (f ∷ fs)) (flat_show go d (slot_at (linked t own ks) q) (source_place t own ks (nat_of q)) q ps)) (sym m.0.position)
     (steps t own ks (source_run t ds) go ih l d f.key f.slot m.0.start fs ps m.0.copy m.1 o)
 
 follows : (t : Table) (own : Key) (ks : List Key) → IsLayout t own ks → (ds : List Bool) → Follows t own ks (source_run t ds) (flat_run t own ks (linked t own ks) ds)

@@ -132,11 +132,11 @@ pub record Place : Type 0 where
   pub key : Key
   pub number : ℕ
 
-abbrev pub place_of : Table → Key → List Key → ℕ → Option Place
-place_of t own [] p =
+abbrev pub source_place : Table → Key → List Key → ℕ → Option Place
+source_place t own [] p =
     if nat_lt p (length (t.slots own)) then Some (record { key = own; number = p }) else None
-place_of t own (k ∷ ks) p =
-    if nat_lt p (end_of t own ks) then place_of t own ks p
+source_place t own (k ∷ ks) p =
+    if nat_lt p (end_of t own ks) then source_place t own ks p
     else
     (if nat_lt p (end_of t own (k ∷ ks))
     then Some (record { key = k; number = p - end_of t own ks })
@@ -159,7 +159,7 @@ flat_show go d (Some s) (Some at) p ps =
 abbrev pub flat_run : Table → Key → List Key → List bpf_insn → List Bool → FlatRun
 flat_run t own ks code [] p ps = Ends Cut
 flat_run t own ks code (d ∷ ds) p ps =
-    flat_show (flat_run t own ks code ds) d (slot_at code p) (place_of t own ks (nat_of p)) p ps
+    flat_show (flat_run t own ks code ds) d (slot_at code p) (source_place t own ks (nat_of p)) p ps
 
 abbrev pub ends_outside : {E : Type 0} → Trace E → Bool
 ends_outside (Ends Cut) = false

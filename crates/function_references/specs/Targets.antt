@@ -15,14 +15,14 @@ use Rattle.function_references.specs.declared.target.Target.{Target}
 use Rattle.function_references.specs.declared.target.Target.TheVariants.{Nothing, Function, UnknownSymbol}
 
 -- where a slot of a function stands in its section, in bytes
-abbrev pub place_of : FunctionContent → ℕ → ℕ
-place_of f slot = f.section_offset + 8 * slot
+abbrev pub slot_offset : FunctionContent → ℕ → ℕ
+slot_offset f slot = f.section_offset + 8 * slot
 
 -- the relocation of a slot; offsets of relocations are numbers of 64 bits
 abbrev pub relocation_of : List ℕ → FunctionContent → ℕ → Option Relocation
 relocation_of file f slot =
-    if nat_lt (place_of f slot) (2 ^ 64)
-    then relocation_at file f.section_index (place_of f slot)
+    if nat_lt (slot_offset f slot) (2 ^ 64)
+    then relocation_at file f.section_index (slot_offset f slot)
     else None
 
 abbrev pub is_text : SymbolKind → Bool
@@ -80,7 +80,7 @@ target_by r imm =
 abbrev pub called_by : FunctionContent → ℕ → bpf_insn → Target
 called_by f slot s =
     if is_pseudo_call s
-    then Function f.section_index (pos (place_of f slot) +ℤ pos 8 *ℤ (s.imm +ℤ pos 1))
+    then Function f.section_index (pos (slot_offset f slot) +ℤ pos 8 *ℤ (s.imm +ℤ pos 1))
     else Nothing
 
 -- what a slot of a function refers to

@@ -3,7 +3,7 @@
 ghost use Rattle.std.specs.Prelude.{◌≡◌, ◌+◌, ◌*◌, ◌<◌, ◌^◌, pos, ◌+ℤ◌, ◌*ℤ◌};
 ghost use Rattle.std.specs.BTreeSet.{contains};
 ghost use Rattle.std.specs.Ordering.{nat_cmp};
-ghost use Rattle.function_references.specs.Targets.{place_of, stands_for_function, reference_of, address_by, target_by, called_by, target_of};
+ghost use Rattle.function_references.specs.Targets.{slot_offset, stands_for_function, reference_of, address_by, target_by, called_by, target_of};
 
 use crate::target::Target;
 use ebpf_items::bpf_insn;
@@ -30,8 +30,8 @@ impl<'f, 'a> Model for Reference<'f, 'a> {
 }
 
 /// Where a slot of a function stands in its section, in bytes.
-fn place_of(function: &Function<'_>, slot: usize) -> u128
-    ensures value { result ≡ place_of function.now slot }
+fn slot_offset(function: &Function<'_>, slot: usize) -> u128
+    ensures value { result ≡ slot_offset function.now slot }
     ensures small { result < 2 ^ 68 }
 {
     function.section_offset as u128 + SLOT_SIZE as u128 * slot as u128
@@ -60,7 +60,7 @@ fn reference_of<'f, 'a>(
     ensures { result
         ≡ reference_of file.now (contains nat_cmp text_sections.now) function.now slot }
 {
-    let offset = u64::try_from(place_of(function, slot)).ok()?;
+    let offset = u64::try_from(slot_offset(function, slot)).ok()?;
     let relocation = file.relocation_at(function.section_index, offset)?;
     let index = relocation.symbol()?;
     let symbol = file.symbol_at(index)?.view();
@@ -119,9 +119,9 @@ fn signed(place: u128) -> i128
 
 /// The address that a call is to: its immediate counts slots from the next one on.
 fn called_address(function: &Function<'_>, index: usize, imm: i32) -> i128
-    ensures { result ≡ pos (place_of function.now index) +ℤ pos 8 *ℤ (imm +ℤ pos 1) }
+    ensures { result ≡ pos (slot_offset function.now index) +ℤ pos 8 *ℤ (imm +ℤ pos 1) }
 {
-    let place = signed(place_of(function, index));
+    let place = signed(slot_offset(function, index));
     place + 8 * (imm as i128 + 1)
 }
 

@@ -20,7 +20,7 @@ use Rattle.slot_relocation.specs.BySymbol.{symbol_index}
 use Rattle.slot_relocation.specs.Laws as maps
 use Rattle.slot_relocation.specs.Laws.{CarriesNumber, map_of, mark_of}
 use Rattle.slot_relocation.specs.Maps.{MapsGiven, NumberedMap}
-use Rattle.slot_relocation.specs.Writes.{place_of}
+use Rattle.slot_relocation.specs.Writes.{index_of_slot}
 use Rattle.slot_relocation.specs.declared.outcome.Write.{Write}
 use Rattle.load_plan.specs.Inputs.{Inputs, State, Under, keeps_helpers}
 use Rattle.load_plan.specs.Passes.{ExternSlots, Externs, FunctionRecords, GlobalValues, KernelTypes, Made, MapNumbers, MapSlots, Pass, TypeSlots, Types, first_of, maps_given, patching, second_of, unlinked_of}
@@ -187,7 +187,7 @@ module _ (i : Inputs) (has_helpers : Bool) (relocating typed mapped patched : St
       let p = subst (λ (z : FunctionContent). externs.PutsAt mapped.file mapped.externs.by_name z place y) same puts.2 in
       ap (for_helpers has_helpers) (same_some x y (slice_get k.instructions place) now (stages.externs.alone place y p within_mapped))
 
-  numbers_of : ((r : Relocation) (m : NumberedMap) → map_of (maps_given i.settings typed) r ≡ Some m → HasMap whole m) → (WritesSlot ExternSlots i mapped key place → ⊥) → (r : ℕ × Relocation) (w : Write) → place ≡ place_of f r.0 → maps.Writes (maps_given i.settings typed) f r w → NumbersMap (maps_given i.settings typed) whole r.1 (for_helpers has_helpers x)
+  numbers_of : ((r : Relocation) (m : NumberedMap) → map_of (maps_given i.settings typed) r ≡ Some m → HasMap whole m) → (WritesSlot ExternSlots i mapped key place → ⊥) → (r : ℕ × Relocation) (w : Write) → place ≡ index_of_slot f r.0 → maps.Writes (maps_given i.settings typed) f r w → NumbersMap (maps_given i.settings typed) whole r.1 (for_helpers has_helpers x)
   numbers_of among no_extern r w stands writes =
       let slot = stages.numbers.numbers r w writes in
       let same = same_some x slot.0 (slice_get k.instructions place) now (past_externs no_extern ∙ ap (slice_get h.instructions) stands ∙ slot.1) in
@@ -197,7 +197,7 @@ module _ (i : Inputs) (has_helpers : Bool) (relocating typed mapped patched : St
         among = among r.1;
       }
 
-  externs_of : (r : ℕ × Relocation) (w : Write) → place ≡ place_of h r.0 → externs.Writes mapped.file mapped.externs.by_name h r w → externs.CarriesExtern mapped.file mapped.externs.by_name r.1 (for_helpers has_helpers x)
+  externs_of : (r : ℕ × Relocation) (w : Write) → place ≡ index_of_slot h r.0 → externs.Writes mapped.file mapped.externs.by_name h r w → externs.CarriesExtern mapped.file mapped.externs.by_name r.1 (for_helpers has_helpers x)
   externs_of r w stands writes =
       let slot = stages.externs.carry r w writes in
       let same = same_some x slot.0 (slice_get k.instructions place) now (ap (slice_get k.instructions) stands ∙ slot.1) in
@@ -212,13 +212,13 @@ module _ (i : Inputs) (has_helpers : Bool) (relocating typed mapped patched : St
       alone = numbers_alone no_extern;
       carries = λ g r w here stands writes.
           let same = same_function g f (function_at typed.functions key) here stages.before in
-          numbers_of among no_extern r w (stands ∙ ap (λ z. place_of z r.0) same) (subst (λ z. maps.Writes (maps_given i.settings typed) z r w) same writes);
+          numbers_of among no_extern r w (stands ∙ ap (λ z. index_of_slot z r.0) same) (subst (λ z. maps.Writes (maps_given i.settings typed) z r w) same writes);
     };
     externs = record {
       alone = externs_alone;
       carries = λ g r w here stands writes.
           let same = same_function g h (function_at mapped.functions key) here stages.between in
-          externs_of r w (stands ∙ ap (λ z. place_of z r.0) same) (subst (λ z. externs.Writes mapped.file mapped.externs.by_name z r w) same writes);
+          externs_of r w (stands ∙ ap (λ z. index_of_slot z r.0) same) (subst (λ z. externs.Writes mapped.file mapped.externs.by_name z r w) same writes);
     };
   }
 

@@ -23,7 +23,7 @@ use Rattle.extern_relocation.specs.Laws as externs
 use Rattle.slot_relocation.specs.Laws as maps
 use Rattle.slot_relocation.specs.Laws.{CarriesNumber, map_of}
 use Rattle.slot_relocation.specs.Maps.{MapsGiven, NumberedMap}
-use Rattle.slot_relocation.specs.Writes.{place_of}
+use Rattle.slot_relocation.specs.Writes.{index_of_slot}
 use Rattle.slot_relocation.specs.declared.outcome.Write.{Write}
 use Rattle.type_relocation.specs.Laws as types
 use Rattle.load_plan.specs.Inputs.{Inputs, State, Under, keeps_helpers}
@@ -107,12 +107,12 @@ IsWritten (p ∷ ps) i u s t made key place =
 abbrev pub Carries : Pass → Inputs → List MapContent → State → Key → ℕ → bpf_insn → Type 0
 Carries MapSlots i whole s key place x = (f : FunctionContent) (r : ℕ × Relocation) (w : Write)
     → function_at s.functions key ≡ Some f
-    → place ≡ place_of f r.0
+    → place ≡ index_of_slot f r.0
     → maps.Writes (maps_given i.settings s) f r w
     → NumbersMap (maps_given i.settings s) whole r.1 x
 Carries ExternSlots i whole s key place x = (f : FunctionContent) (r : ℕ × Relocation) (w : Write)
     → function_at s.functions key ≡ Some f
-    → place ≡ place_of f r.0
+    → place ≡ index_of_slot f r.0
     → externs.Writes s.file s.externs.by_name f r w
     → externs.CarriesExtern s.file s.externs.by_name r.1 x
 Carries _ i whole s key place x = Unit {0}

@@ -3,7 +3,7 @@ use Rattle.std.proofs.Common.{◌≡◌, ◌-◌, ℕ, zero, suc, Bool, true, Li
 use Rattle.std.proofs.lemmas.List.Elements.{All-head, All-tail}
 use Rattle.std.specs.Prelude.{All, IfSome, ◌&&◌, nat_le, slice_get, if◌then◌else◌}
 use Rattle.std.specs.Option.{option_map, option_map_or, option_to_list}
-use Rattle.access_paths.specs.FieldPaths.{place_of}
+use Rattle.access_paths.specs.FieldPaths.{step_place}
 use Rattle.access_paths.specs.Laws.{AreAlike, IsReachedPath, LookupsRest}
 use Rattle.access_paths.specs.Lookups.{and_then, found_text, found_type, with_found, with_text, with_type}
 use Rattle.access_paths.specs.Variants.{variant_count, variant_name}
@@ -111,7 +111,7 @@ member-same b place target from here =
     (λ t _. ap (λ (r : Result (Option Found) AccessError). if nat_le max_parts from.parts && has_members t then Err errors.MaximumNestingLevelReached else passed_to from r)
     (b.searches.same b.reached b.one b.other b.alike m.btf_type member.reached name target root from.bits)))))
 
-step-same : (b : Both) (s : Step) (target : Table) (from : Progress) → b.reached (place_of s).type_id ≡ true → step_matched b.other s target from ≡ step_matched b.one s target from
+step-same : (b : Both) (s : Step) (target : Table) (from : Progress) → b.reached (step_place s).type_id ≡ true → step_matched b.other s target from ≡ step_matched b.one s target from
 step-same b (Element place) target from here = refl
 step-same b (Member place) target from here = member-same b place target from here
 step-same b (Variant place) target from here = refl
@@ -121,12 +121,12 @@ next-same : (b : Both) (target : Table) (id : ℕ) (steps ss : List Step) (o : O
 next-same b target id steps ss None h = refl
 next-same b target id steps ss (Some n) h = h (steps ++ option_to_list n.last) n
 
-from-same : (b : Both) (target : Table) (id : ℕ) (ss : List Step) → All (λ s. b.reached (place_of s).type_id ≡ true) ss → (steps : List Step) (from : Progress) → matched_from b.other target id steps from ss ≡ matched_from b.one target id steps from ss
+from-same : (b : Both) (target : Table) (id : ℕ) (ss : List Step) → All (λ s. b.reached (step_place s).type_id ≡ true) ss → (steps : List Step) (from : Progress) → matched_from b.other target id steps from ss ≡ matched_from b.one target id steps from ss
 unfolding matched_from
 from-same b target id [] here steps from = refl
 from-same b target id (s ∷ ss) here steps from =
-    let rest = All-tail (λ (x : Step). b.reached (place_of x).type_id ≡ true) s ss here in
-    then-same (step_matched b.one s target from) (step_matched b.other s target from) _ _ (step-same b s target from (All-head (λ (x : Step). b.reached (place_of x).type_id ≡ true) s ss here))
+    let rest = All-tail (λ (x : Step). b.reached (step_place x).type_id ≡ true) s ss here in
+    then-same (step_matched b.one s target from) (step_matched b.other s target from) _ _ (step-same b s target from (All-head (λ (x : Step). b.reached (step_place x).type_id ≡ true) s ss here))
     (λ next _. next-same b target id steps ss next (λ more n. from-same b target id ss rest more n))
 
 -- ---- variants
@@ -151,7 +151,7 @@ variant-same b place target id here =
     found-same (resolved_type target id) (resolved_type target id) _ _ refl
     (λ root _. type-same target target root _ _ refl (λ t _. counted-same b place target root t (variant_count t) here))
 
-enum-same : (b : Both) (o : Option Step) (target : Table) (id : ℕ) → IfSome o (λ s. b.reached (place_of s).type_id ≡ true) → enum_matched b.other o target id ≡ enum_matched b.one o target id
+enum-same : (b : Both) (o : Option Step) (target : Table) (id : ℕ) → IfSome o (λ s. b.reached (step_place s).type_id ≡ true) → enum_matched b.other o target id ≡ enum_matched b.one o target id
 enum-same b None target id here = refl
 enum-same b (Some (Element place)) target id here = refl
 enum-same b (Some (Member place)) target id here = refl
@@ -168,7 +168,7 @@ path-same : (b : Both) (subject : Subject) (path : AccessPath) → IsReachedPath
 path-same b subjects.Field path here target id = from-same b target id path.steps here.steps [] (first_progress id)
 path-same b subjects.Type path here target id =
     found-same (types_compatible b.one path.type_id target id) (types_compatible b.other path.type_id target id) _ _ (b.comparisons.types b.reached b.one b.other b.alike.records path.type_id here.root target id) (λ yes _. refl)
-path-same b subjects.Variant path here target id = enum-same b (slice_get path.steps (length path.steps - 1)) target id (at-index (λ (s : Step). b.reached (place_of s).type_id ≡ true) path.steps (length path.steps - 1) here.steps)
+path-same b subjects.Variant path here target id = enum-same b (slice_get path.steps (length path.steps - 1)) target id (at-index (λ (s : Step). b.reached (step_place s).type_id ≡ true) path.steps (length path.steps - 1) here.steps)
 
 pub matches_rest : LookupsRest → ComparisonsRest → SearchesRest → MatchesRest
 matches_rest lookups comparisons searches = record {

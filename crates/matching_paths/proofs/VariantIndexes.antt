@@ -8,7 +8,7 @@ use Rattle.access_paths.specs.Variants.{variant_count, variant_name}
 use Rattle.access_paths.specs.declared.error.AccessError.TheVariants.{BtfError as TypeError}
 use Rattle.btf_records.specs.declared.error.BtfError.TheVariants.{InvalidStringOffset}
 use Rattle.btf_records.specs.declared.types.BtfType.{BtfType}
-use Rattle.member_search.specs.Indexes.{name_hash}
+use Rattle.string_table.specs.NameHashes.{name_hash}
 use Rattle.btf_tables.specs.EssentialNames.{essential_name}
 use Rattle.btf_tables.specs.Tables.{Table, type_by_id}
 use Rattle.string_table.specs.Texts.{text_at}

@@ -11,7 +11,7 @@ use Rattle.access_paths.specs.declared.error.AccessError.TheVariants.{BtfError a
 use Rattle.btf_records.specs.declared.error.BtfError.TheVariants.{InvalidStringOffset}
 use Rattle.btf_tables.specs.EssentialNames.{essential_name}
 use Rattle.btf_tables.specs.Tables.{Table}
-use Rattle.member_search.specs.Indexes.{name_hash}
+use Rattle.string_table.specs.NameHashes.{name_hash}
 use Rattle.matching_paths.specs.VariantMatches.{first_variant, is_so_named}
 use Rattle.matching_paths.specs.declared.variant_index.FirstVariant.{FirstVariant}
 use Rattle.matching_paths.specs.declared.variant_index.VariantIndex.{VariantIndex}

@@ -10,9 +10,9 @@ use access_paths::{AccessError, variant_name};
 use btf_encoding::TypeRef;
 use btf_records::BtfError;
 use btf_tables::{Btf, essential_name};
-use member_search::name_hash;
 use std::alloc::AllocError;
 use std::collections::BTreeMap;
+use string_table::name_hash;
 
 /// The first variant of a hash.
 #[derive(Clone, Copy, Debug)]

@@ -11,9 +11,10 @@ use Rattle.access_paths.specs.declared.error.AccessError.{AccessError}
 use Rattle.btf_compatibility.specs.FieldCompatibility.{fields_compatible}
 use Rattle.btf_records.specs.declared.item.BtfMember.{BtfMember}
 use Rattle.btf_tables.specs.Tables.{Table}
+use Rattle.string_table.specs.NameHashes.{name_hash}
 use Rattle.string_table.specs.Texts.{text_at}
 use Rattle.member_search.specs.Collecting.{EntersFirst, EntersMore, EntersName, pass, pass_by_name}
-use Rattle.member_search.specs.Indexes.{AreFirst, Decides, ForOthers, entry_of, first_of, moved, name_hash}
+use Rattle.member_search.specs.Indexes.{AreFirst, Decides, ForOthers, entry_of, first_of, moved}
 use Rattle.member_search.specs.Looks.{Search, look_at, look_at_type, look_by_name, searched}
 use Rattle.member_search.specs.declared.look.Look.{Look}
 use Rattle.member_search.specs.declared.look.Look.TheVariants.{GoOn}

@@ -1,6 +1,6 @@
 -- An index of the members of a struct or union by hashes of their names, and of those of members
 -- without names.
-use Rattle.std.specs.Prelude.{◌≡◌, ℕ, ◌+◌, ◌-◌, ◌*◌, ◌%◌, ◌^◌, Bool, true, false, List, length, take, drop, fold, Option, None, Some, IfSome, Result, Ok, Err}
+use Rattle.std.specs.Prelude.{◌≡◌, ℕ, Bool, true, false, List, Option, None, Some, IfSome, Result, Ok, Err}
 use Rattle.std.specs.BTreeMap.{is_at}
 use Rattle.std.specs.Map.{lookup}
 use Rattle.std.specs.Ordering.{nat_cmp}
@@ -11,6 +11,7 @@ use Rattle.btf_compatibility.specs.FieldCompatibility.{fields_compatible}
 use Rattle.btf_records.specs.declared.error.BtfError.{BtfError}
 use Rattle.btf_records.specs.declared.error.BtfError.TheVariants.{InvalidStringOffset, MaximumTypeDepthReached, UnknownBtfType}
 use Rattle.btf_tables.specs.Tables.{Table}
+use Rattle.string_table.specs.NameHashes.{name_hash}
 use Rattle.string_table.specs.Texts.{text_at}
 use Rattle.member_search.specs.Looks.{Search, searched}
 use Rattle.member_search.specs.Searches.{member_found}
@@ -18,14 +19,6 @@ use Rattle.member_search.specs.declared.member_index.FirstMember.{FirstMember}
 use Rattle.member_search.specs.declared.member_index.WalkEnd.{WalkEnd}
 use Rattle.member_search.specs.declared.member_index.WalkEnd.TheVariants as ends
 use Rattle.member_search.specs.declared.search.Found.{Found}
-
-abbrev pub next_hash : ℕ → ℕ → ℕ
-next_hash hash byte = (hash * 1099511628211 % 2 ^ 64 + byte) % 2 ^ 64
-
--- the hash of a name, by its length, its beginning and its end
-unfoldable pub name_hash : List ℕ → ℕ
-name_hash name =
-    fold next_hash (fold next_hash (length name) (take 64 name)) (drop (length name - 64) name)
 
 -- the first member of a hash
 abbrev pub entry_of : List (ℕ × FirstMember) → ℕ → Option FirstMember

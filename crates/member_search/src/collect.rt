@@ -11,7 +11,7 @@ ghost use Rattle.member_search.specs.Looks.{LeadsInside};
 ghost use Rattle.member_search.specs.Stacks.{IsSound, IsSoundTurn, IsTurn, found_of, frames_of, stack_value, work};
 
 use crate::look::{Look, look_inside};
-use crate::member_index::{FirstMember, MemberIndex, WalkEnd, enter_first, failed_end, name_hash};
+use crate::member_index::{FirstMember, MemberIndex, WalkEnd, enter_first, failed_end};
 use crate::search::Found;
 use crate::turn::{Frame, Memory, Turn, entered, follow, leave, member_at, member_here};
 use access_paths::AccessError;
@@ -19,6 +19,7 @@ use btf_records::BtfMember;
 use btf_tables::Btf;
 use std::alloc::AllocError;
 use std::collections::BTreeMap;
+use string_table::name_hash;
 
 /// Looks at a member that is `here`, and enters it by its name.
 fn enter_member(

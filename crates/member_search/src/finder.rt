@@ -10,7 +10,7 @@ ghost use Rattle.string_table.specs.Texts.{text_at};
 ghost use Rattle.member_search.specs.Finders.{DecidesAs};
 ghost use Rattle.member_search.specs.Indexes.{begun_at, moved};
 
-use crate::member_index::{FirstMember, MemberIndex, name_hash};
+use crate::member_index::{FirstMember, MemberIndex};
 use crate::search::{Found, find_member};
 use access_paths::{AccessError, bits_after};
 use btf_compatibility::fields_are_compatible;
@@ -18,6 +18,7 @@ use btf_tables::Btf;
 use std::alloc::AllocError;
 use std::collections::BTreeMap;
 use std::marker::Model;
+use string_table::name_hash;
 
 /// How many searches in a struct or union go over its members; the next one makes an index of them.
 const WALKS: u8 = 7;

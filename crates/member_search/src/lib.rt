@@ -13,5 +13,4 @@ mod turn;
 
 pub use finder::MemberFinder;
 pub use laws::{nesting_never_decides, searches_rest};
-pub use member_index::name_hash;
 pub use search::{Found, find_member};

@@ -1,20 +1,16 @@
 //! An index of the members of a struct or union by hashes of their names.
 
-ghost use Rattle.std.specs.Prelude.{◌≡◌, ◌≢◌, ◌-◌, drop, fold, length, take, IfOk, IfSome, OnOk, Err};
+ghost use Rattle.std.specs.Prelude.{◌≡◌, ◌≢◌, IfOk, IfSome, OnOk, Err};
 ghost use Rattle.access_paths.specs.declared.error.AccessError.TheVariants.{BtfError as TypeError};
 ghost use Rattle.btf_records.specs.declared.error.BtfError.TheVariants.{OutOfMemory};
 ghost use Rattle.member_search.specs.Collecting.{EntersFirst};
-ghost use Rattle.member_search.specs.Indexes.{end_value, name_hash, next_hash};
+ghost use Rattle.member_search.specs.Indexes.{end_value};
 
 use crate::search::Found;
 use access_paths::AccessError;
 use btf_records::BtfError;
 use std::alloc::AllocError;
 use std::collections::BTreeMap;
-
-/// How many bytes of a name are hashed at its beginning, and as many at its end: many members may
-/// have one long name, or names that are ends of one long text.
-const HASHED: usize = 64;
 
 /// The first member of a hash in a struct or union that begins at bit 0.
 #[derive(Clone, Copy, Debug)]
@@ -46,43 +42,6 @@ pub(crate) enum WalkEnd {
 pub(crate) struct MemberIndex {
     pub(crate) by_hash: BTreeMap<u64, FirstMember>,
     pub(crate) walk_end: WalkEnd,
-}
-
-/// The hash with one more byte.
-fn next_hash(hash: u64, byte: u8) -> u64
-    ensures { result ≡ next_hash hash byte }
-{
-    hash.wrapping_mul(0x100_0000_01b3)
-        .wrapping_add(u64::from(byte))
-}
-
-/// The hash with the first bytes.
-fn hash_beginning(hash: u64, bytes: &[u8]) -> u64
-    ensures { result ≡ fold next_hash hash (take 64 bytes.now) }
-{
-    bytes
-        .iter()
-        .take(HASHED)
-        .fold(hash, |hash, byte| next_hash(hash, *byte))
-}
-
-/// The hash with the last bytes.
-fn hash_end(hash: u64, bytes: &[u8]) -> u64
-    ensures { result ≡ fold next_hash hash (drop (length bytes.now - 64) bytes.now) }
-{
-    bytes
-        .iter()
-        .skip(bytes.len().saturating_sub(HASHED))
-        .fold(hash, |hash, byte| next_hash(hash, *byte))
-}
-
-/// A hash of a name, by its length, its first 64 bytes and its last 64.
-#[tactic(auto, unfolding(crate::specs::Indexes::name_hash))]
-pub fn name_hash(name: &str) -> u64
-    ensures { result ≡ name_hash name.now }
-{
-    let bytes = name.as_bytes();
-    hash_end(hash_beginning(bytes.len() as u64, bytes), bytes)
 }
 
 /// Enters a member, if there is none of its hash.

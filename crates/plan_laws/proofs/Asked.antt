@@ -9,7 +9,7 @@ use Rattle.btf_records.specs.declared.kind.BtfKind.{BtfKind}
 use Rattle.btf_records.specs.declared.kind.BtfKind.TheVariants as kinds
 use Rattle.btf_records.specs.declared.types.BtfType.{BtfType}
 use Rattle.btf_encoding.specs.Records.{count_of}
-use Rattle.btf_sanitizing.specs.Answers.{Answers, answer_to, features, granted, is_same, noted, noted_all, place_of}
+use Rattle.btf_sanitizing.specs.Answers.{Answers, answer_to, features, granted, is_same, noted, noted_all, feature_number}
 use Rattle.btf_sanitizing.specs.Needs.{AreQuestions, is_empty_section, needs_as, needs_of, stays_global}
 use Rattle.string_table.specs.Texts.{text_at}
 use Rattle.load_plan.specs.Known.{GoByFeature}
@@ -22,7 +22,7 @@ feature_at n =
     (cond (n == 2) DataSec
     (cond (n == 3) DataSecZero (cond (n == 4) Float (cond (n == 5) DeclTag (cond (n == 6) TypeTag Enum64))))))
 
-at-place : (f : BtfFeature) → feature_at (place_of f) ≡ f
+at-place : (f : BtfFeature) → feature_at (feature_number f) ≡ f
 unfolding feature_at
 at-place Func = refl
 at-place FuncGlobal = refl
@@ -35,7 +35,7 @@ at-place Enum64 = refl
 
 same-feature : (f g : BtfFeature) → is_same f g ≡ true → f ≡ g
 same-feature f g same =
-    let place : place_of f ≡ place_of g = grind arith in
+    let place : feature_number f ≡ feature_number g = grind arith in
     sym (at-place f) ∙ ap feature_at place ∙ at-place g
 
 abbrev is_among : List BtfFeature → BtfFeature → Bool

@@ -17,7 +17,7 @@ use Rattle.std.proofs.lemmas.Nat.{le_bytes_2, le_bytes_4}
 use Rattle.btf_extension.specs.declared.record.bpf_func_info.{bpf_func_info}
 use Rattle.btf_extension.specs.declared.record.bpf_line_info.{bpf_line_info}
 use Rattle.btf_records.specs.declared.feature.BtfFeature.{BtfFeature}
-use Rattle.btf_sanitizing.specs.Answers.{Answers, AreDistinct, features, is_same, place_of, times}
+use Rattle.btf_sanitizing.specs.Answers.{Answers, AreDistinct, features, is_same, feature_number, times}
 use Rattle.ebpf_items.specs.Instruction.{bytes_of, slot_of, slots_in, slots_of}
 use Rattle.object_file.specs.Version.{IsKnownVersion}
 use Rattle.plan_lines.specs.LineReading.{are_words_of}
@@ -310,8 +310,8 @@ times_more f g (x ∷ fs) = omega (arith, times_more f g fs)
 same_place : (f g : BtfFeature) → is_same f g ≡ true → (fs : List BtfFeature) → times g fs ≡ times f fs
 same_place f g h [] = refl
 same_place f g h (x ∷ fs) =
-    let e : place_of f ≡ place_of g = grind (arith, nat_tests) in
-    ap₂ (λ (a b : ℕ). a + b) (ap (λ (n : ℕ). cond (place_of x == n) 1 0) (sym e)) (same_place f g h fs)
+    let e : feature_number f ≡ feature_number g = grind (arith, nat_tests) in
+    ap₂ (λ (a b : ℕ). a + b) (ap (λ (n : ℕ). cond (feature_number x == n) 1 0) (sym e)) (same_place f g h fs)
 
 distinct_with : (f : BtfFeature) (fs : List BtfFeature) → AreDistinct fs → times f fs ≡ 0 → AreDistinct (fs ++ f ∷ [])
 distinct_with f fs d z = record {

@@ -25,6 +25,6 @@ mod unsupported;
 
 pub use kernel_files::KernelFiles;
 pub use parsing::parse_text;
-pub use places::{Place, place_of};
+pub use places::{Place, place_of_error};
 pub use preparing::prepare_text;
 pub use refusal::Refusal;

@@ -4,7 +4,7 @@ use crate::contents::contents_hint;
 use crate::definitions::definition_hint;
 use crate::functions::two_at;
 use crate::names::SectionName;
-use crate::places::place_of;
+use crate::places::place_of_error;
 use crate::section_kinds::section_hint;
 use crate::unsupported::unsupported_hint;
 use btf_records::BtfError;
@@ -35,7 +35,7 @@ fn place_hint(
     object: &[u8],
     error: &ParseError,
 ) -> Result<Option<String>, AllocError> {
-    match place_of(alloc, object, error) {
+    match place_of_error(alloc, object, error) {
         Some(place) => Ok(Some(format!(in alloc; "{place}")?)),
         None => Ok(None),
     }

@@ -72,7 +72,7 @@ fn place_of_symbol(alloc: Global, object: &[u8]) -> Option<Place>
 
 /// Where a fault of an object file stands, for the errors that don't say it: a function without
 /// code, a symbol whose name can't be read. None for other errors, and where memory runs out.
-pub fn place_of(alloc: Global, object: &[u8], error: &ParseError) -> Option<Place>
+pub fn place_of_error(alloc: Global, object: &[u8], error: &ParseError) -> Option<Place>
     ensures { IfSome result (IsPlace object.now error.now) }
 {
     match error {

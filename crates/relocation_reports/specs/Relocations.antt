@@ -5,7 +5,7 @@ use Rattle.std.specs.Option.{option_map}
 use Rattle.btf_extension.specs.Groups.{Group}
 use Rattle.btf_extension.specs.declared.record.bpf_core_relo.{bpf_core_relo}
 use Rattle.object_parts.specs.Content.{FunctionContent, key_of}
-use Rattle.slot_relocation.specs.Writes.{place_of}
+use Rattle.slot_relocation.specs.Writes.{index_of_slot}
 use Rattle.type_relocation.specs.Relocations.{Groups, TypesGiven, function_holding, section_at}
 use Rattle.relocation_reports.specs.declared.relocations.Place.{Place}
 use Rattle.relocation_reports.specs.declared.relocations.RelocationAt.{RelocationAt}
@@ -16,10 +16,10 @@ place_in r f =
     option_map (λ slot.
     record {
       key = key_of f;
-      index = place_of f r.insn_off;
+      index = index_of_slot f r.insn_off;
       slot = slot;
-      next = slice_get f.instructions (place_of f r.insn_off + 1);
-    }) (slice_get f.instructions (place_of f r.insn_off))
+      next = slice_get f.instructions (index_of_slot f r.insn_off + 1);
+    }) (slice_get f.instructions (index_of_slot f r.insn_off))
 
 -- that of the first function, by key, of those of its section that holds it
 abbrev pub place_at : TypesGiven → Option ℕ → bpf_core_relo → Option Place

@@ -3,7 +3,7 @@ use Rattle.std.proofs.Common.{◌≡◌, ◌≤◌, ◌<◌, ◌-◌, ◌+◌, �
 use Rattle.std.proofs.lemmas.List.Elements.{All-head, All-tail}
 use Rattle.std.specs.Prelude.{All, IfOk, IfSome, slice_get, ◌==◌, nat_lt, if◌then◌else◌}
 use Rattle.std.specs.Option.{option_map_or}
-use Rattle.access_paths.specs.FieldPaths.{place_of}
+use Rattle.access_paths.specs.FieldPaths.{step_place}
 use Rattle.access_paths.specs.Laws.{AreAlike, IsReachedPath, LookupsRest}
 use Rattle.access_paths.specs.Lookups.{found_type, with_found, with_type}
 use Rattle.access_paths.specs.declared.error.AccessError.{AccessError}
@@ -141,20 +141,20 @@ at-index P [] i h = tt
 at-index P (x ∷ xs) zero h = All-head P x xs h
 at-index P (x ∷ xs) (suc i) h = at-index P xs i (All-tail P x xs h)
 
-step-same : (b : Both) (kind : RelocationKind) (path : AccessPath) (o : Option Step) → IfSome o (λ s. b.reached (place_of s).type_id ≡ true) → value_at b.other kind path o ≡ value_at b.one kind path o
+step-same : (b : Both) (kind : RelocationKind) (path : AccessPath) (o : Option Step) → IfSome o (λ s. b.reached (step_place s).type_id ≡ true) → value_at b.other kind path o ≡ value_at b.one kind path o
 step-same b kind path None here = refl
 step-same b kind path (Some (Element place)) here = element-same b kind place.type_id path.bit_offset here
 step-same b kind path (Some (Member place)) here = member-same b kind place path.bit_offset here
 step-same b kind path (Some (Variant place)) here = refl
 
-enum-same : (b : Both) (path : AccessPath) (o : Option Step) → IfSome o (λ s. b.reached (place_of s).type_id ≡ true) → enum_value_at b.other path o ≡ enum_value_at b.one path o
+enum-same : (b : Both) (path : AccessPath) (o : Option Step) → IfSome o (λ s. b.reached (step_place s).type_id ≡ true) → enum_value_at b.other path o ≡ enum_value_at b.one path o
 enum-same b path None here = refl
 enum-same b path (Some (Element place)) here = refl
 enum-same b path (Some (Member place)) here = refl
 enum-same b path (Some (Variant place)) here = type-same b.one b.other place.type_id _ _ (records b place.type_id here) (λ t known. refl)
 
-last : (b : Both) (path : AccessPath) → IsReachedPath b.reached path → IfSome (last_step path) (λ s. b.reached (place_of s).type_id ≡ true)
-last b path here = at-index (λ (s : Step). b.reached (place_of s).type_id ≡ true) path.steps (length path.steps - 1) here.steps
+last : (b : Both) (path : AccessPath) → IsReachedPath b.reached path → IfSome (last_step path) (λ s. b.reached (step_place s).type_id ≡ true)
+last b path here = at-index (λ (s : Step). b.reached (step_place s).type_id ≡ true) path.steps (length path.steps - 1) here.steps
 
 value-same : (b : Both) (kind : RelocationKind) (path : AccessPath) → IsReachedPath b.reached path → path_value b.other kind path ≡ path_value b.one kind path
 value-same b kinds.FieldExists path here = refl
@@ -202,7 +202,7 @@ element-within b kinds.FieldByteOffset id bits here = found-gives (HasReachedFie
 element-within b kinds.FieldByteSize id bits here = found-gives (HasReachedField b.reached) (type_size_in_32_bits b.one id) _ (λ size _. tt)
 element-within b _ id bits here = tt
 
-step-within : (b : Both) (kind : RelocationKind) (path : AccessPath) (o : Option Step) → IfSome o (λ s. b.reached (place_of s).type_id ≡ true) → IfOk (value_at b.one kind path o) (HasReachedField b.reached)
+step-within : (b : Both) (kind : RelocationKind) (path : AccessPath) (o : Option Step) → IfSome o (λ s. b.reached (step_place s).type_id ≡ true) → IfOk (value_at b.one kind path o) (HasReachedField b.reached)
 step-within b kind path None here = tt
 step-within b kind path (Some (Element place)) here = element-within b kind place.type_id path.bit_offset here
 step-within b kind path (Some (Member place)) here = field-within b kind path.bit_offset (field_at b.one place) (field-gives b place here)

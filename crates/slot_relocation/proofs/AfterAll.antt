@@ -4,7 +4,7 @@ use Rattle.std.specs.Prelude.{slice_get, fold}
 use Rattle.ebpf_items.specs.declared.instruction.bpf_insn.{bpf_insn}
 use Rattle.object_parts.specs.Content.{FunctionContent}
 use Rattle.slot_relocation.specs.declared.outcome.Write.{Write}
-use Rattle.slot_relocation.specs.Writes.{RuleOf, after, after_all, after_one, outcome_at, place_of}
+use Rattle.slot_relocation.specs.Writes.{RuleOf, after, after_all, after_one, outcome_at, index_of_slot}
 use Rattle.slot_relocation.specs.WriteLaws.{IsWritten, LengthsRemain, Makes, OneWrites, Puts, UnwrittenStay}
 use Rattle.slot_relocation.proofs.Walk.{fold_more}
 use Rattle.slot_relocation.proofs.Writing.{long_all, put_here, stays_at}
@@ -39,7 +39,7 @@ after_split rule f slots (b ∷ before) r rest = after_split rule f (after_one r
 longer : {A : Type 0} (a b : List A) → suc (length a) ≤ length b → b ≡ a → ⊥
 longer a b long same = let e = ap length same in omega (arith, e, long)
 
-one : {A E : Type 0} (rule : RuleOf A E) (f : FunctionContent) (rs : List (ℕ × A)) (r : ℕ × A) (w : Write) (place : ℕ) (s : bpf_insn) → (m : Makes rule f rs r w) → Puts (place_of f r.0) w place s → place < length f.instructions → ((o : IsWritten rule f rs place) → o.made.before ≡ m.before) → slice_get (after_all rule f rs) place ≡ Some s
+one : {A E : Type 0} (rule : RuleOf A E) (f : FunctionContent) (rs : List (ℕ × A)) (r : ℕ × A) (w : Write) (place : ℕ) (s : bpf_insn) → (m : Makes rule f rs r w) → Puts (index_of_slot f r.0) w place s → place < length f.instructions → ((o : IsWritten rule f rs place) → o.made.before ≡ m.before) → slice_get (after_all rule f rs) place ≡ Some s
 one rule f rs r w place s m puts within only =
     let slots = after_all rule f m.before in
     let there : place < length slots = let e = long_all rule f f.instructions m.before in omega (arith, e, within) in
@@ -47,8 +47,8 @@ one rule f rs r w place s m puts within only =
     ap (λ l. slice_get (after_all rule f l) place) (sym m.split)
     ∙ ap (λ l. slice_get l place) (after_split rule f f.instructions m.before r m.rest)
     ∙ rest_stays rule f rs place (suc (length m.before)) (m.before ++ (r ∷ [])) m.rest (after_one rule f slots r) (append_assoc m.before (r ∷ []) m.rest ∙ m.split) (sym (fold_more (after_one rule f) f.instructions m.before r)) more (λ o long. longer m.before o.made.before long (only o))
-    ∙ ap (λ o. slice_get (after slots (place_of f r.0) o) place) m.outcome
-    ∙ put_here slots (place_of f r.0) w place s puts there
+    ∙ ap (λ o. slice_get (after slots (index_of_slot f r.0) o) place) m.outcome
+    ∙ put_here slots (index_of_slot f r.0) w place s puts there
 
 pub one_writes : (A E : Type 0) → OneWrites A E
 one_writes A E = record { each = one }

@@ -15,7 +15,7 @@ use Rattle.object_parts.specs.Geometry.{is_inside}
 use Rattle.slot_relocation.specs.declared.outcome.Write.{Write}
 use Rattle.slot_relocation.specs.BySymbol.{Does, symbol_rule}
 use Rattle.slot_relocation.specs.WriteLaws.{IsKept, Makes, Reaches}
-use Rattle.slot_relocation.specs.Writes.{after, after_all, after_one, distance, place_of, relocations_inside}
+use Rattle.slot_relocation.specs.Writes.{after, after_all, after_one, distance, index_of_slot, relocations_inside}
 use Rattle.slot_relocation.proofs.AfterAll.{after_split}
 use Rattle.slot_relocation.proofs.BySymbol.{Stands, stands}
 use Rattle.slot_relocation.proofs.Rising.{AllAbove, IsRising, Placed, offsets_rise, rising_filter}
@@ -48,11 +48,11 @@ not_at : (p q : ℕ) (w : Write) → q < p → Reaches p w q → ⊥
 not_at p q w less (inl same) = omega arith
 not_at p q w less (inr next) = let same = next.1 in omega arith
 
-later_stay : (file : List ℕ) (does : Does) (f : FunctionContent) (r : Placed) (slots : List bpf_insn) (rest : List Placed) → f.section_offset ≤ r.0 → distance f r.0 % 8 ≡ 0 → AllAbove r.0 rest → slice_get (fold (after_one (symbol_rule file does) f) slots rest) (place_of f r.0) ≡ slice_get slots (place_of f r.0)
+later_stay : (file : List ℕ) (does : Does) (f : FunctionContent) (r : Placed) (slots : List bpf_insn) (rest : List Placed) → f.section_offset ≤ r.0 → distance f r.0 % 8 ≡ 0 → AllAbove r.0 rest → slice_get (fold (after_one (symbol_rule file does) f) slots rest) (index_of_slot f r.0) ≡ slice_get slots (index_of_slot f r.0)
 later_stay file does f r slots [] from whole up = refl
 later_stay file does f r slots (x ∷ rest) from whole up =
     later_stay file does f r (after_one (symbol_rule file does) f slots x) rest from whole up.1
-    ∙ stays_at (symbol_rule file does) f slots x (place_of f r.0) (λ w made. not_at (place_of f x.0) (place_of f r.0) w (behind_of f.section_offset r.0 x.0 from (above r.0 x.0 up.0) whole (stands file does slots (distance f x.0) x.1 w made).whole))
+    ∙ stays_at (symbol_rule file does) f slots x (index_of_slot f r.0) (λ w made. not_at (index_of_slot f x.0) (index_of_slot f r.0) w (behind_of f.section_offset r.0 x.0 from (above r.0 x.0 up.0) whole (stands file does slots (distance f x.0) x.1 w made).whole))
 
 inside_passed : (f : FunctionContent) (rs : List Placed) → AllByRecursion (λ r. is_inside f r.0 ≡ true) rs → AllInside f rs
 inside_passed f [] all = tt
@@ -62,17 +62,17 @@ inside_all : (file : List ℕ) (f : FunctionContent) → AllInside f (relocation
 inside_all file f = inside_passed f (relocations_inside file f) (recursion_from_All (λ r. is_inside f r.0 ≡ true) (relocations_inside file f) (filter_passes (λ r. is_inside f r.0) (relocations_by_offset file f.section_index)))
 
 -- what one writes into its own slot stays, whatever the others do
-kept : (file : List ℕ) (does : Does) (f : FunctionContent) (r : Placed) (w : Write) → (m : Makes (symbol_rule file does) f (relocations_inside file f) r w) → Stands file does (after_all (symbol_rule file does) f m.before) (distance f r.0) r.1 w → slice_get (after_all (symbol_rule file does) f (relocations_inside file f)) (place_of f r.0) ≡ Some w.first
+kept : (file : List ℕ) (does : Does) (f : FunctionContent) (r : Placed) (w : Write) → (m : Makes (symbol_rule file does) f (relocations_inside file f) r w) → Stands file does (after_all (symbol_rule file does) f m.before) (distance f r.0) r.1 w → slice_get (after_all (symbol_rule file does) f (relocations_inside file f)) (index_of_slot f r.0) ≡ Some w.first
 kept file does f r w m s =
     let rule = symbol_rule file does in
     let slots = after_all rule f m.before in
     let inside = inside_at f m.before r m.rest (subst (AllInside f) (sym m.split) (inside_all file f)) in
     let up = rising_from m.before r m.rest (subst IsRising (sym m.split) (rising_filter (λ x. is_inside f x.0) (relocations_by_offset file f.section_index) (offsets_rise file f.section_index))) in
-    ap (λ rs. slice_get (fold (after_one rule f) f.instructions rs) (place_of f r.0)) (sym m.split)
-    ∙ ap (λ l. slice_get l (place_of f r.0)) (after_split rule f f.instructions m.before r m.rest)
+    ap (λ rs. slice_get (fold (after_one rule f) f.instructions rs) (index_of_slot f r.0)) (sym m.split)
+    ∙ ap (λ l. slice_get l (index_of_slot f r.0)) (after_split rule f f.instructions m.before r m.rest)
     ∙ later_stay file does f r (after_one rule f slots r) m.rest (from_start f r.0 inside) s.whole up
-    ∙ ap (λ o. slice_get (after slots (place_of f r.0) o) (place_of f r.0)) m.outcome
-    ∙ written_here slots (place_of f r.0) w s.slot s.at
+    ∙ ap (λ o. slice_get (after slots (index_of_slot f r.0) o) (index_of_slot f r.0)) m.outcome
+    ∙ written_here slots (index_of_slot f r.0) w s.slot s.at
 
 pub is_kept : (file : List ℕ) (does : Does) (f : FunctionContent) (r : Placed) (w : Write) → Makes (symbol_rule file does) f (relocations_inside file f) r w → IsKept file does f r w
 is_kept file does f r w m =

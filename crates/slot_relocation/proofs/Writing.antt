@@ -7,7 +7,7 @@ use Rattle.object_parts.specs.Content.{FunctionContent}
 use Rattle.slot_relocation.specs.declared.outcome.Outcome.{Outcome}
 use Rattle.slot_relocation.specs.declared.outcome.Outcome.TheVariants.{Skipped, Written, Refused}
 use Rattle.slot_relocation.specs.declared.outcome.Write.{Write}
-use Rattle.slot_relocation.specs.Writes.{RuleOf, after, after_one, outcome_at, place_of, written}
+use Rattle.slot_relocation.specs.Writes.{RuleOf, after, after_one, outcome_at, index_of_slot, written}
 use Rattle.slot_relocation.specs.WriteLaws.{Puts, Reaches}
 
 set_here : (xs : List bpf_insn) (i : ℕ) (x y : bpf_insn) → slice_get xs i ≡ Some x → slice_get (slice_set xs i y) i ≡ Some y
@@ -45,8 +45,8 @@ stays_after slots place i Skipped never = refl
 stays_after slots place i (Written w) never = stays_next slots place i w.first w.next (never w refl)
 stays_after slots place i (Refused cause) never = refl
 
-pub stays_at : {A E : Type 0} (rule : RuleOf A E) (f : FunctionContent) (slots : List bpf_insn) (r : ℕ × A) (i : ℕ) → ((w : Write) → outcome_at rule f slots r ≡ Written w → Reaches (place_of f r.0) w i → ⊥) → slice_get (after_one rule f slots r) i ≡ slice_get slots i
-stays_at rule f slots r i never = stays_after slots (place_of f r.0) i (outcome_at rule f slots r) never
+pub stays_at : {A E : Type 0} (rule : RuleOf A E) (f : FunctionContent) (slots : List bpf_insn) (r : ℕ × A) (i : ℕ) → ((w : Write) → outcome_at rule f slots r ≡ Written w → Reaches (index_of_slot f r.0) w i → ⊥) → slice_get (after_one rule f slots r) i ≡ slice_get slots i
+stays_at rule f slots r i never = stays_after slots (index_of_slot f r.0) i (outcome_at rule f slots r) never
 
 -- and so does the number of slots
 long_next : (slots : List bpf_insn) (place : ℕ) (first : bpf_insn) (next : Option bpf_insn) → length (written slots place (record { first = first; next = next })) ≡ length slots
@@ -60,7 +60,7 @@ long_after slots place (Refused cause) = refl
 
 pub long_all : {A E : Type 0} (rule : RuleOf A E) (f : FunctionContent) (slots : List bpf_insn) (rs : List (ℕ × A)) → length (fold (after_one rule f) slots rs) ≡ length slots
 long_all rule f slots [] = refl
-long_all rule f slots (r ∷ rs) = long_all rule f (after_one rule f slots r) rs ∙ long_after slots (place_of f r.0) (outcome_at rule f slots r)
+long_all rule f slots (r ∷ rs) = long_all rule f (after_one rule f slots r) rs ∙ long_after slots (index_of_slot f r.0) (outcome_at rule f slots r)
 
 -- a slot that is there gets what is put into it
 set_in : (xs : List bpf_insn) (i : ℕ) (y : bpf_insn) → i < length xs → slice_get (slice_set xs i y) i ≡ Some y

@@ -11,14 +11,14 @@ use Rattle.slot_relocation.specs.declared.outcome.Write.{Write}
 use Rattle.slot_relocation.specs.Laws.{CarriesNumber, HaveNumbers, NumbersAreWritten, SlotsCarryNumbers, Writes, slots_after}
 use Rattle.slot_relocation.specs.Maps.{MapsGiven, map_rule, outcome_by}
 use Rattle.slot_relocation.specs.WriteLaws.{LengthsRemain, OneWrites, UnwrittenStay, WritesAreKept}
-use Rattle.slot_relocation.specs.Writes.{AreRelocated, after_all, distance, place_of, relocated, relocations_inside}
+use Rattle.slot_relocation.specs.Writes.{AreRelocated, after_all, distance, index_of_slot, relocated, relocations_inside}
 use Rattle.slot_relocation.proofs.Numbers.{made_by, source_marks}
 use Rattle.slot_relocation.proofs.Standing.{is_kept}
 
 pub writes_are_kept : WritesAreKept
 writes_are_kept = record { each = is_kept }
 
-carries : (g : MapsGiven) (f : FunctionContent) (r : ℕ × Relocation) (w : Write) → Writes g f r w → (s : bpf_insn) × (slice_get (slots_after g f) (place_of f r.0) ≡ Some s) × CarriesNumber g r.1 s
+carries : (g : MapsGiven) (f : FunctionContent) (r : ℕ × Relocation) (w : Write) → Writes g f r w → (s : bpf_insn) × (slice_get (slots_after g f) (index_of_slot f r.0) ≡ Some s) × CarriesNumber g r.1 s
 carries g f r w m =
     let made = made_by g (after_all (map_rule g) f m.before) (distance f r.0) r.1 w m.outcome in (
       w.first,

@@ -10,7 +10,7 @@ use Rattle.slot_relocation.specs.declared.outcome.Write.{Write}
 use Rattle.slot_relocation.specs.BySymbol.{symbol_index}
 use Rattle.slot_relocation.specs.Maps.{MapsGiven, NumberedMap, map_for, map_rule}
 use Rattle.slot_relocation.specs.WriteLaws.{IsWritten, Makes, WritesAlone}
-use Rattle.slot_relocation.specs.Writes.{AreRelocated, place_of, relocated, relocations_inside}
+use Rattle.slot_relocation.specs.Writes.{AreRelocated, index_of_slot, relocated, relocations_inside}
 
 -- the slots of a function after the relocations inside it
 abbrev pub slots_after : MapsGiven → FunctionContent → List bpf_insn
@@ -53,7 +53,7 @@ pub record SlotsCarryNumbers : Type 0 where
   pub each : (g : MapsGiven) (f : FunctionContent) (r : ℕ × Relocation) (w : Write)
       → Writes g f r w
       → (s : bpf_insn)
-      × (slice_get (slots_after g f) (place_of f r.0) ≡ Some s)
+      × (slice_get (slots_after g f) (index_of_slot f r.0) ≡ Some s)
       × CarriesNumber g r.1 s
 
 -- what holds of a function's slots after all relocations
@@ -61,7 +61,7 @@ pub record HasNumbers (g : MapsGiven) (old new : FunctionContent) : Type 0 where
   pub numbers : (r : ℕ × Relocation) (w : Write)
       → Writes g old r w
       → (s : bpf_insn)
-      × (slice_get new.instructions (place_of old r.0) ≡ Some s)
+      × (slice_get new.instructions (index_of_slot old r.0) ≡ Some s)
       × CarriesNumber g r.1 s
   pub alone : (place : ℕ) (s : bpf_insn)
       → PutsAt g old place s

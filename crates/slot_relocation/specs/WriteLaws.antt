@@ -8,7 +8,7 @@ use Rattle.object_file.specs.Symbols.{symbol_at}
 use Rattle.slot_relocation.specs.BySymbol.{Does, symbol_index, symbol_rule}
 use Rattle.slot_relocation.specs.declared.outcome.Outcome.TheVariants.{Written}
 use Rattle.slot_relocation.specs.declared.outcome.Write.{Write}
-use Rattle.slot_relocation.specs.Writes.{RuleOf, after_all, outcome_at, place_of, relocations_inside}
+use Rattle.slot_relocation.specs.Writes.{RuleOf, after_all, outcome_at, index_of_slot, relocations_inside}
 
 -- one of a function's relocations writes this, by the slots after those before it
 pub record Makes {A E : Type 0} (rule : RuleOf A E) (f : FunctionContent) (rs : List (ℕ × A)) (r : ℕ × A) (w : Write) : Type 0 where
@@ -30,7 +30,7 @@ pub record IsWritten {A E : Type 0} (rule : RuleOf A E) (f : FunctionContent) (r
   pub relocation : ℕ × A
   pub write : Write
   pub made : Makes rule f rs relocation write
-  pub at : Reaches (place_of f relocation.0) write place
+  pub at : Reaches (index_of_slot f relocation.0) write place
 
 -- a slot that none writes is as it was
 pub record UnwrittenStay (A E : Type 0) : Type 0 where
@@ -44,7 +44,7 @@ pub record OneWrites (A E : Type 0) : Type 0 where
   pub each : (rule : RuleOf A E) (f : FunctionContent) (rs : List (ℕ × A)) (r : ℕ × A) (w : Write)
       (place : ℕ) (s : bpf_insn)
       → (m : Makes rule f rs r w)
-      → Puts (place_of f r.0) w place s
+      → Puts (index_of_slot f r.0) w place s
       → place < length f.instructions
       → ((o : IsWritten rule f rs place) → o.made.before ≡ m.before)
       → slice_get (after_all rule f rs) place ≡ Some s
@@ -54,7 +54,7 @@ pub record WritesAlone {A E : Type 0} (rule : RuleOf A E) (f : FunctionContent) 
   pub relocation : ℕ × A
   pub write : Write
   pub made : Makes rule f rs relocation write
-  pub puts : Puts (place_of f relocation.0) write place s
+  pub puts : Puts (index_of_slot f relocation.0) write place s
   pub alone : (o : IsWritten rule f rs place) → o.made.before ≡ made.before
 
 -- a function keeps its number of slots
@@ -73,7 +73,7 @@ pub record IsKept (file : List ℕ) (does : Does) (f : FunctionContent) (r : ℕ
   pub known : symbol_at file (symbol_index r.1) ≡ Some symbol
   pub made : does slot next (symbol_index r.1) symbol ≡ Written w
   pub kept : slice_get (after_all (symbol_rule file does) f (relocations_inside file f))
-      (place_of f r.0)
+      (index_of_slot f r.0)
       ≡ Some w.first
 
 pub record WritesAreKept : Type 0 where

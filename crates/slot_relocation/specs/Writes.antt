@@ -40,8 +40,8 @@ abbrev pub distance : FunctionContent → ℕ → ℕ
 distance f offset = offset - f.section_offset
 
 -- the place of the slot at which the relocation of an offset stands
-abbrev pub place_of : FunctionContent → ℕ → ℕ
-place_of f offset = distance f offset / 8
+abbrev pub index_of_slot : FunctionContent → ℕ → ℕ
+index_of_slot f offset = distance f offset / 8
 
 -- what a relocation inside a function does to its slots as they stand
 abbrev pub outcome_at : {A E : Type 0}
@@ -59,7 +59,7 @@ abbrev pub after_one : {A E : Type 0}
     → List bpf_insn
     → ℕ × A
     → List bpf_insn
-after_one rule f slots r = after slots (place_of f r.0) (outcome_at rule f slots r)
+after_one rule f slots r = after slots (index_of_slot f r.0) (outcome_at rule f slots r)
 
 abbrev pub after_all : {A E : Type 0} → RuleOf A E → FunctionContent → List (ℕ × A) → List bpf_insn
 after_all rule f rs = fold (after_one rule f) f.instructions rs

@@ -1,3 +1,4 @@
 pub mod Ends
 pub mod LongTexts
+pub mod NameHashes
 pub mod Texts

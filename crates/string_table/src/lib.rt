@@ -3,7 +3,9 @@
 #![tactic(auto)]
 
 mod long_texts;
+mod name_hashes;
 mod text;
 
 pub use long_texts::LongTexts;
+pub use name_hashes::name_hash;
 pub use text::{is_text_at, text_at};

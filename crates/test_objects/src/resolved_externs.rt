@@ -78,17 +78,17 @@ struct Case {
 }
 
 /// The place of a name.
-fn place_of(name: &str) -> usize {
+fn number_of_name(name: &str) -> usize {
     NAMES.iter().position(|n| *n == name).unwrap_or(NAMES.len())
 }
 
 fn refusal_of(error: &KsymsError) -> Refusal {
     match error {
         KsymsError::TypedKsymRequiresKernelBtf => Refusal::NoKernelTypes,
-        KsymsError::VariableNotFound { name } => Refusal::NoVariable(place_of(name)),
-        KsymsError::FunctionNotFound { name } => Refusal::NoFunction(place_of(name)),
-        KsymsError::IncompatibleFunctionSignature { name } => Refusal::Signature(place_of(name)),
-        KsymsError::IncompatibleVariableType { name } => Refusal::VariableType(place_of(name)),
+        KsymsError::VariableNotFound { name } => Refusal::NoVariable(number_of_name(name)),
+        KsymsError::FunctionNotFound { name } => Refusal::NoFunction(number_of_name(name)),
+        KsymsError::IncompatibleFunctionSignature { name } => Refusal::Signature(number_of_name(name)),
+        KsymsError::IncompatibleVariableType { name } => Refusal::VariableType(number_of_name(name)),
         KsymsError::BtfError(BtfError::MaximumTypeDepthReached { type_id }) => {
             Refusal::TooDeep(*type_id)
         }
@@ -96,9 +96,9 @@ fn refusal_of(error: &KsymsError) -> Refusal {
             name,
             first_addr,
             second_addr,
-        } => Refusal::Ambiguous(place_of(name), *first_addr, *second_addr),
+        } => Refusal::Ambiguous(number_of_name(name), *first_addr, *second_addr),
         KsymsError::KallsymsAccessError(_) => Refusal::Access,
-        KsymsError::KallsymsParseError(name) => Refusal::Address(place_of(name)),
+        KsymsError::KallsymsParseError(name) => Refusal::Address(number_of_name(name)),
         KsymsError::OutOfMemory => Refusal::OutOfMemory,
         _ => Refusal::Other,
     }

@@ -356,7 +356,7 @@ fn externs(alloc: Global, has_externs: bool) -> Option<Externs<'static>> {
 }
 
 /// The place of a name.
-fn place_of(name: &str) -> usize {
+fn number_of_name(name: &str) -> usize {
     NAMES.iter().position(|n| *n == name).unwrap_or(NAMES.len())
 }
 
@@ -368,8 +368,8 @@ fn answer_of(error: &EbpfRelocationError) -> (bool, Refused) {
             relocation_number,
         } => Refused::Offset(*offset, *relocation_number),
         RelocationError::UnknownSymbol { index } => Refused::Symbol(*index),
-        RelocationError::ExternNotFound { name } => Refused::NoExtern(place_of(name)),
-        RelocationError::UnresolvableSymbol { name } => Refused::Unresolvable(place_of(name)),
+        RelocationError::ExternNotFound { name } => Refused::NoExtern(number_of_name(name)),
+        RelocationError::UnresolvableSymbol { name } => Refused::Unresolvable(number_of_name(name)),
         _ => Refused::Other,
     };
     (error.function() == "f", refused)

@@ -253,7 +253,7 @@ impl<'r, 'o, 'f, 't, 'k> Lookup<'r, 'o, 'f, 't, 'k> {
 
     /// Where a relocation of a group stands, by its number; of a number that none has it is the
     /// group.
-    fn place_of(
+    fn place_of_relocation(
         &self,
         group: &RelocationGroup,
         number: usize,
@@ -279,7 +279,7 @@ impl<'r, 'o, 'f, 't, 'k> Lookup<'r, 'o, 'f, 't, 'k> {
         ensures { result.error ≢ OutOfMemory → result.error ≡ cause }
     {
         let section = section_name(self.alloc, self.local, group.name_offset);
-        let place = self.place_of(group, number, &cause);
+        let place = self.place_of_relocation(group, number, &cause);
         BtfRelocationError::new(section, place, cause)
     }
 

@@ -82,7 +82,7 @@ fn placement_of(
 }
 
 /// Where a relocation stands at which a value doesn't fit.
-fn place_of(
+fn place_of_fault(
     alloc: Global,
     local: &Btf<'_>,
     functions: &Functions<'_>,
@@ -113,7 +113,7 @@ fn error_for(
     match stop {
         Stop::Fault(at) => {
             let section = section_name(alloc, local, at.fault.position.name_offset);
-            let place = place_of(alloc, local, functions, groups, &at);
+            let place = place_of_fault(alloc, local, functions, groups, &at);
             BtfRelocationError::new(section, place, cause_of_write(alloc, at.fault))
         }
         Stop::OutOfMemory => BtfRelocationError::from(AllocError),
