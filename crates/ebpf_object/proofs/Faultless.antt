@@ -20,9 +20,9 @@ use Rattle.object_maps.specs.Faults.{MapFault, Says}
 use Rattle.object_maps.specs.Maps.{HasMapsFault, maps_faults}
 use Rattle.object_parse.specs.Faults.{HasSoundFunctions}
 use Rattle.btf_extension.specs.Faults.{ExtensionFault}
-use Rattle.ebpf_object.specs.Faults.{HasFault, HasMapFault, HasObjectFault, HasTableFault, IsFaultless, IsSound, SaysOfTypes, TableFaultOf}
-use Rattle.ebpf_object.specs.ParsedObject.{completed}
-use Rattle.ebpf_object.specs.Types.{HoldsRecords, HoldsRecordsIn, HoldsTypes, HoldsTypesIn, RecordsFault, TypesFault}
+use Rattle.ebpf_object.specs.Faults.{HasFault, HasMapFault, HasObjectFault, HasTableFault, IsFaultless, IsSound, TableFaultOf}
+use Rattle.ebpf_object.specs.Types.{HoldsRecords, HoldsRecordsIn, RecordsFault}
+use Rattle.object_externs.specs.Types.{HoldsTypes, HoldsTypesIn, SaysOfTypes, TypesFault, completed}
 
 -- a section holds one table alone
 unique : (order : Endianness) (bytes : Option (List ℕ)) (a b : Option Table) → HoldsTypesIn order bytes a → HoldsTypesIn order bytes b → b ≡ a

@@ -4,19 +4,13 @@ use Rattle.std.specs.Prelude.{ℕ, ◌⊎◌, List, Option, Some}
 use Rattle.btf_records.specs.declared.error.BtfError.{BtfError}
 use Rattle.btf_tables.specs.Tables.{Table}
 use Rattle.ebpf_items.specs.declared.error.ParseError.{ParseError}
-use Rattle.ebpf_items.specs.declared.error.ParseError.TheVariants as error
 use Rattle.elf64.specs.Symbols.{symbols_of}
 use Rattle.object_externs.specs.Faults.{ExternsFault}
+use Rattle.object_externs.specs.Types.{HoldsTypes, SaysOfTypes, TypesFault, completed}
 use Rattle.object_file.specs.Faults.{HasFileFault, IsFileFaultless}
 use Rattle.object_maps.specs.Maps.{HasMapsFault}
 use Rattle.object_parse.specs.Faults.{HasFunctionFault}
-use Rattle.ebpf_object.specs.ParsedObject.{completed}
-use Rattle.ebpf_object.specs.Types.{HoldsTypes, RecordsFault, TypesFault}
-
--- an error of type information says this
-abbrev pub SaysOfTypes : (BtfError → Type 0) → ParseError → Type 0
-SaysOfTypes Says (error.BtfError e) = Says e
-SaysOfTypes Says _ = ⊥
+use Rattle.ebpf_object.specs.Types.{RecordsFault}
 
 -- a fault of the table in the file's section of types
 abbrev pub HasTypesFault : List ℕ → ParseError → Type 0

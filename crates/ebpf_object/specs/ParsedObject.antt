@@ -1,16 +1,16 @@
 -- The parsed object.
-use Rattle.std.specs.Prelude.{◌≡◌, ℕ, List, [], Option, None, if◌then◌else◌}
+use Rattle.std.specs.Prelude.{◌≡◌, ℕ, List, Option}
 use Rattle.std.specs.Option.{option_map, option_map_or}
 use Rattle.btf_extension.specs.Extensions.{Extension}
 use Rattle.btf_tables.specs.Tables.{Table}
 use Rattle.ebpf_items.specs.Maps.{MapView}
 use Rattle.elf64.specs.Symbols.{symbols_of}
-use Rattle.object_externs.specs.Externs.{ExternsContent, externs_of, has_function}
-use Rattle.object_externs.specs.Placeholder.{with_placeholder}
+use Rattle.object_externs.specs.Externs.{ExternsContent, externs_of}
+use Rattle.object_externs.specs.Types.{HoldsTypes, completed, no_externs}
 use Rattle.object_maps.specs.Maps.{maps_of}
 use Rattle.object_parse.specs.Functions.{functions_of, programs_of}
 use Rattle.object_parts.specs.Content.{FunctionContent, ProgramContent}
-use Rattle.ebpf_object.specs.Types.{HoldsRecords, HoldsTypes}
+use Rattle.ebpf_object.specs.Types.{HoldsRecords}
 
 -- An object: the file, whose sections, symbols and relocations it has; its types and what stands
 -- beside them; maps, programs and externs by name, and functions by section index and address, all
@@ -23,13 +23,6 @@ pub record ObjectContent : Type 0 where
   pub programs : List (List ℕ × ProgramContent)
   pub functions : List ((ℕ × ℕ) × FunctionContent)
   pub externs : ExternsContent
-
-abbrev pub no_externs : ExternsContent
-no_externs = record { by_name = []; ksyms = None }
-
--- the table in which a variable stands for functions among the externs
-abbrev pub completed : Table → Table
-completed table = if has_function table then with_placeholder table else table
 
 -- The object that a file holds: its types are those of the section, completed. What stands beside
 -- them, the records of functions and the externs are of the types as they were read, the maps of

@@ -1,25 +1,13 @@
--- The types of an object: the table of its section `.BTF`, and what its section `.BTF.ext` says
--- beside it.
+-- What the section `.BTF.ext` of an object says beside its types.
 use Rattle.std.specs.Prelude.{ℕ, List, codes, ⊤, Option, Some, None}
 use Rattle.std.specs.Option.{IsSomeAnd}
 use Rattle.btf_extension.specs.Extensions.{Extension, HoldsExtension}
 use Rattle.btf_extension.specs.Faults.{ExtensionFault}
 use Rattle.btf_records.specs.declared.error.BtfError.{BtfError}
 use Rattle.btf_records.specs.declared.words.Endianness.{Endianness}
-use Rattle.btf_tables.specs.Sections.{HoldsTable}
-use Rattle.btf_tables.specs.Tables.{Table, TableFault}
+use Rattle.btf_tables.specs.Tables.{Table}
 use Rattle.object_file.specs.ByteOrders.{file_endianness}
 use Rattle.object_file.specs.Reading.{contents_named}
-
--- the bytes of the section hold the table; without the section there is none
-abbrev pub HoldsTypesIn : Endianness → Option (List ℕ) → Option Table → Type 0
-HoldsTypesIn order None None = ⊤
-HoldsTypesIn order (Some bytes) (Some table) = HoldsTable order bytes table
-HoldsTypesIn order _ _ = ⊥
-
-abbrev pub HoldsTypes : List ℕ → Option Table → Type 0
-HoldsTypes file table =
-    HoldsTypesIn (file_endianness file) (contents_named file (codes ".BTF")) table
 
 -- the bytes of the extension's section hold it, beside a table; without either there is none
 abbrev pub HoldsRecordsIn : Endianness → Option Table → Option (List ℕ) → Option Extension → Type 0
@@ -32,12 +20,6 @@ HoldsRecordsIn order _ _ _ = ⊥
 abbrev pub HoldsRecords : List ℕ → Option Table → Option Extension → Type 0
 HoldsRecords file table extension =
     HoldsRecordsIn (file_endianness file) table (contents_named file (codes ".BTF.ext")) extension
-
--- why no table is read
-abbrev pub TypesFault : List ℕ → BtfError → Type 0
-TypesFault file e =
-    IsSomeAnd (contents_named file (codes ".BTF")) (λ bytes.
-    TableFault (file_endianness file) bytes e)
 
 -- why no extension is read beside a table
 abbrev pub RecordsFault : List ℕ → Table → BtfError → Type 0

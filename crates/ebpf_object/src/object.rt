@@ -17,8 +17,8 @@ ghost use Rattle.object_file.specs.Version.{version_of, IsKnownVersion};
 ghost use Rattle.object_maps.specs.Maps.{HasMapsFault, maps_faults, maps_of};
 ghost use Rattle.object_parts.specs.Content.{HaveFunctions, key_cmp};
 ghost use Rattle.btf_parts.specs.Faultless.{IsFaultless as AreFaultless};
-ghost use Rattle.ebpf_object.specs.Faults.{HasFault, HasObjectFault, IsFaultless, IsSound, SaysOfTypes};
-ghost use Rattle.ebpf_object.specs.ParsedObject.{IsParsed, completed, no_externs};
+ghost use Rattle.ebpf_object.specs.Faults.{HasFault, HasObjectFault, IsFaultless, IsSound};
+ghost use Rattle.ebpf_object.specs.ParsedObject.{IsParsed};
 ghost use Rattle.linker.specs.Linked.{AllCanBeLinked, AreLinked, HasFaultOf, program_keys, unlinked};
 ghost use Rattle.relocation_errors.specs.declared.error.RelocationError.TheVariants as RelocationError;
 ghost use Rattle.std.specs.String.{string_bytes};
@@ -35,8 +35,8 @@ use btf_sanitizing::Answers;
 use btf_tables::Btf;
 use ebpf_items::ParseError;
 use linker::relocate_calls;
-use object_externs::{ExternDesc, Externs, read_externs};
-use object_file::{ObjectFile, ReadSymbol};
+use object_externs::{ExternDesc, Externs, declared_externs};
+use object_file::ObjectFile;
 use object_maps::{Maps, read_maps};
 use object_parse::read_code;
 use object_parts::{Function, Functions, Programs};
@@ -90,41 +90,6 @@ fn maps<'a>(
     ensures refused { IfErr result (λ e. e ≢ OutOfMemory → HasMapsFault file.now table.now e) }
 {
     read_maps(alloc, file, table.as_ref())
-}
-
-/// The externs of a table, which is completed for them.
-fn externs_of<'a>(
-    alloc: Global,
-    symbols: &[ReadSymbol<'a>],
-    table: &mut Btf<'a>,
-) -> Result<Externs<'a>, ParseError>
-    ensures value { IfOk result (λ externs. externs ≡ externs_of symbols.now table.old) }
-    ensures completed { OnOk result (table.new ≡ completed table.old) }
-    ensures accepted { OnOk result (AreFaultless (ExternsFault symbols.now table.old)) }
-    ensures refused { IfErr result (λ e.
-        e ≢ OutOfMemory → SaysOfTypes (ExternsFault symbols.now table.old) e) }
-{
-    Ok(read_externs(alloc, symbols, table)?)
-}
-
-/// The externs of a table, if there is one.
-fn externs<'a>(
-    alloc: Global,
-    symbols: &[ReadSymbol<'a>],
-    table: &mut Option<Btf<'a>>,
-) -> Result<Externs<'a>, ParseError>
-    ensures value { IfOk result (λ externs.
-        externs ≡ option_map_or (externs_of symbols.now) table.old no_externs) }
-    ensures completed { OnOk result (table.new ≡ option_map completed table.old) }
-    ensures accepted { OnOk result
-        (IfSome table.old (λ t. AreFaultless (ExternsFault symbols.now t))) }
-    ensures refused { IfErr result (λ e.
-        e ≢ OutOfMemory → IsSomeAnd table.old (λ t. SaysOfTypes (ExternsFault symbols.now t) e)) }
-{
-    match table {
-        Some(table) => externs_of(alloc, symbols, table),
-        None => Ok(Externs::none(alloc)),
-    }
 }
 
 impl<'a> Object<'a> {
@@ -255,7 +220,7 @@ impl<'a> Object<'a> {
         ensures refused { IfErr result (λ e. e ≢ OutOfMemory → HasObjectFault file.entry e) }
     {
         let mut types = read_types(alloc, &file)?;
-        let externs = externs(alloc, file.symbols(), &mut types.table)?;
+        let externs = declared_externs(alloc, file.symbols(), &mut types.table)?;
         let code = read_code(alloc, &file, types.extension.as_ref())?;
         let maps = maps(alloc, &file, &types.table)?;
         Ok(Object {

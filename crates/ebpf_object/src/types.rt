@@ -3,12 +3,14 @@
 ghost use Rattle.std.specs.Prelude.{◌≢◌, Some, IfErr, IfOk};
 ghost use Rattle.std.specs.Option.{IsSomeAnd};
 ghost use Rattle.ebpf_items.specs.declared.error.ParseError.TheVariants.{OutOfMemory};
-ghost use Rattle.ebpf_object.specs.Faults.{HasObjectFault, HasTypesFault, SaysOfTypes};
-ghost use Rattle.ebpf_object.specs.Types.{HoldsRecords, HoldsTypes, RecordsFault};
+ghost use Rattle.ebpf_object.specs.Faults.{HasObjectFault};
+ghost use Rattle.ebpf_object.specs.Types.{HoldsRecords, RecordsFault};
+ghost use Rattle.object_externs.specs.Types.{HoldsTypes, SaysOfTypes};
 
 use btf_extension::BtfExt;
 use btf_tables::Btf;
 use ebpf_items::ParseError;
+use object_externs::read_table;
 use object_file::ObjectFile;
 use std::alloc::Global;
 
@@ -17,17 +19,6 @@ use std::alloc::Global;
 pub(crate) struct Types<'a> {
     pub(crate) table: Option<Btf<'a>>,
     pub(crate) extension: Option<BtfExt<'a>>,
-}
-
-/// The table of the section `.BTF`, if there is one.
-fn read_table<'a>(alloc: Global, file: &ObjectFile<'a>) -> Result<Option<Btf<'a>>, ParseError>
-    ensures holds { IfOk result (λ table. HoldsTypes file.now table) }
-    ensures refused { IfErr result (λ e. e ≢ OutOfMemory → HasTypesFault file.now e) }
-{
-    match file.contents_of(".BTF") {
-        Some(bytes) => Ok(Some(Btf::parse(alloc, bytes, file.endianness())?)),
-        None => Ok(None),
-    }
 }
 
 /// What the section `.BTF.ext` says beside a table, if there is one.

@@ -4,3 +4,4 @@ pub mod Faultless
 pub mod Growth
 pub mod NamedSymbols
 pub mod Search
+pub mod TypesErrors

@@ -4,3 +4,4 @@ pub mod Names
 pub mod Placeholder
 pub mod Section
 pub mod Symbols
+pub mod Types

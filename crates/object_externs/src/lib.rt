@@ -9,8 +9,10 @@ mod placeholder;
 mod reading;
 mod section;
 mod symbols;
+mod types;
 
 pub use extern_desc::ExternDesc;
 pub use externs::Externs;
 pub use reading::read_externs;
 pub use symbols::is_extern_symbol;
+pub use types::{declared_externs, read_table};

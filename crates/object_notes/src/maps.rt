@@ -6,44 +6,19 @@ ghost use Rattle.btf_parts.specs.Faultless.{IsFaultless};
 ghost use Rattle.ebpf_items.specs.declared.error.ParseError.TheVariants.{OutOfMemory};
 ghost use Rattle.elf64.specs.Symbols.{symbols_of};
 ghost use Rattle.object_externs.specs.Faults.{ExternsFault};
+ghost use Rattle.object_externs.specs.Types.{completed};
 ghost use Rattle.object_maps.specs.Maps.{HasMapsFault, maps_faults, maps_of};
-ghost use Rattle.object_notes.specs.Maps.{HasExternsFault, HasMaps, HasReadingFault, HoldsTypes, LacksMaps, SaysOfTypes, TypesFault, completed};
+ghost use Rattle.object_notes.specs.Maps.{HasExternsFault, HasMaps, HasReadingFault, LacksMaps};
 
 use crate::memory::is_want_of_memory;
 use btf_tables::Btf;
 use ebpf_items::ParseError;
-use object_externs::read_externs;
-use object_file::{ObjectFile, ReadSymbol};
+use object_externs::{declared_externs, read_table};
+use object_file::ObjectFile;
 use object_maps::{Maps, read_maps};
 use std::alloc::{AllocError, Global};
 
-/// The table of a file's types, if it has one.
-fn read_table<'a>(alloc: Global, file: &ObjectFile<'a>) -> Result<Option<Btf<'a>>, ParseError>
-    ensures holds { IfOk result (λ table. HoldsTypes file.now table) }
-    ensures refused { IfErr result (λ e. e ≢ OutOfMemory → SaysOfTypes (TypesFault file.now) e) }
-{
-    match file.contents_of(".BTF") {
-        Some(bytes) => Ok(Some(Btf::parse(alloc, bytes, file.endianness())?)),
-        None => Ok(None),
-    }
-}
-
-/// Completes a table for the externs that it declares.
-fn complete<'a>(
-    alloc: Global,
-    symbols: &[ReadSymbol<'a>],
-    table: &mut Btf<'a>,
-) -> Result<(), ParseError>
-    ensures completed { OnOk result (table.new ≡ completed table.old) }
-    ensures accepted { OnOk result (IsFaultless (ExternsFault symbols.now table.old)) }
-    ensures refused { IfErr result (λ e.
-        e ≢ OutOfMemory → SaysOfTypes (ExternsFault symbols.now table.old) e) }
-{
-    let _externs = read_externs(alloc, symbols, table)?;
-    Ok(())
-}
-
-/// Completes the table of a file's types, if it has one.
+/// Completes the table of a file's types, if it has one, for the externs that it declares.
 fn complete_types<'a>(
     alloc: Global,
     file: &ObjectFile<'a>,
@@ -55,10 +30,8 @@ fn complete_types<'a>(
     ensures refused { IfErr result (λ e.
         e ≢ OutOfMemory → HasExternsFault file.now table.old e) }
 {
-    match table {
-        Some(table) => complete(alloc, file.symbols(), table),
-        None => Ok(()),
-    }
+    let _externs = declared_externs(alloc, file.symbols(), table)?;
+    Ok(())
 }
 
 /// The maps of a file whose types are these.

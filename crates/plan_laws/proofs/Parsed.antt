@@ -13,8 +13,9 @@ use Rattle.btf_extension.specs.Extensions.{Extension}
 use Rattle.btf_records.specs.declared.words.Endianness.{Endianness}
 use Rattle.btf_tables.specs.Tables.{Table}
 use Rattle.ebpf_items.specs.Maps.{MapView}
-use Rattle.ebpf_object.specs.ParsedObject.{IsParsed, completed, no_externs}
-use Rattle.ebpf_object.specs.Types.{HoldsRecordsIn, HoldsTypesIn}
+use Rattle.ebpf_object.specs.ParsedObject.{IsParsed}
+use Rattle.ebpf_object.specs.Types.{HoldsRecordsIn}
+use Rattle.object_externs.specs.Types.{HoldsTypesIn, completed, no_externs}
 use Rattle.elf64.specs.Sections.{Section}
 use Rattle.elf64.specs.Symbols.{Symbol, symbols_of}
 use Rattle.function_layout.specs.Layout.{Key}

@@ -6,7 +6,7 @@ use Rattle.btf_parts.specs.Faultless.{IsFaultless as AreFaultless}
 use Rattle.object_externs.specs.Faults.{ExternsFault}
 use Rattle.object_maps.specs.Maps.{HasMapsFault, maps_faults}
 use Rattle.ebpf_object.proofs.Faultless.{externs-fault, map-fault, sound}
-use Rattle.ebpf_object.specs.Faults.{SaysOfTypes}
+use Rattle.object_externs.specs.Types.{SaysOfTypes}
 use Rattle.ebpf_object.proofs.object.Object.from_file.Goals as goal
 
 pub returns-in_err-externs-clause-refused : goal.returns-in_err-externs-clause-refused
