@@ -1,5 +1,5 @@
 -- What records say of names, one record after another.
-use Rattle.std.proofs.Common.{◌≡◌, ◌≢◌, ℕ, zero, suc, ◌+◌, ◌-◌, ◌<◌, All, Bool, true, false, cond, List, [], ◌∷◌, length, Option, None, Some, Bor, refl, ap, sym, ◌∙◌, subst, arith, below_more, inl, inr, nat_eq}
+use Rattle.std.proofs.Common.{◌≡◌, ◌≢◌, ℕ, zero, suc, ◌+◌, ◌-◌, ◌<◌, All, Bool, true, false, cond, List, [], ◌∷◌, length, Option, None, Some, Bor, refl, ap, sym, ◌∙◌, subst, arith, below_more, inl, inr, nat_eq, nat_lt}
 use Rattle.std.specs.Prelude.{IfSome}
 use Rattle.std.proofs.lemmas.Bool.Decides.{nat_tests}
 use Rattle.std.proofs.lemmas.List.Elements.{All-head, All-nil, All-tail, All-weaker}
@@ -15,8 +15,9 @@ use Rattle.btf_records.specs.Fields.{kind_of_type, name_offset_of}
 use Rattle.btf_records.specs.declared.kind.BtfKind.{BtfKind}
 use Rattle.btf_records.specs.declared.types.BtfType.{BtfType}
 use Rattle.btf_tables.specs.Tables.{Table, type_by_id}
-use Rattle.btf_tables.specs.TypesByName.{IsNotNamed}
-use Rattle.extern_resolution.specs.Wanted.{AreSaid, IsBegun, IsLookedUp, IsNoted, Says, entered, ids_under, under}
+use Rattle.btf_tables.specs.TypesByName.{IsFirstNamed, IsNotNamed}
+use Rattle.first_bytes.specs.FirstBytes.{first_byte, is_marked}
+use Rattle.extern_resolution.specs.Wanted.{AreNotNamed, AreSaid, IsBegun, IsLookedUp, IsNoted, Says, entered, ids_under, under}
 use Rattle.extern_resolution.specs.declared.named_records.NamedRecords.{NamedRecords}
 use Rattle.string_table.specs.Texts.{text_at}
 
@@ -42,6 +43,7 @@ pub said_begun : (kernel : Table) (r : NamedRecords) → IsBegun r → AreSaid k
 said_begun kernel r begun = record {
   each = λ name. rw begun.readable (said_at kernel r.kind name (under r name) (begun.fresh name));
   looked_up = rw begun.none (All-nil (IsLookedUp kernel.strings r.ids.entries));
+  first = begun.first;
 }
 
 says_more : (kernel : Table) (kind : BtfKind) (below : ℕ) (hidden : Bool) (name : List ℕ) (found : Option ℕ) → Says kernel kind below hidden name found → (found ≡ None → hidden ≡ false → IsNotNamed kernel name kind below) → Says kernel kind (below + 1) hidden name found
@@ -58,6 +60,7 @@ said_more : (kernel : Table) (r : NamedRecords) (below : ℕ) → AreSaid kernel
 said_more kernel r below said here = record {
   each = λ name. said_more_at kernel r.kind below r.is_hidden name (under r name) (said.each name) (here name);
   looked_up = said.looked_up;
+  first = said.first;
 }
 
 pub none_there : (kernel : Table) (r : NamedRecords) (below : ℕ) → AreSaid kernel r below → type_by_id kernel below ≡ None → AreSaid kernel r (below + 1)
@@ -81,13 +84,21 @@ other_name : (entries : List (Bor (List ℕ) × Option ℕ)) (name : List ℕ) (
 other_name entries name None looked vacant = absurd looked
 other_name entries name (Some n) looked vacant = λ same. looked (ap (ids_under entries) same ∙ vacant)
 
--- its name was looked up
-pub looked_up_there : (kernel : Table) (r : NamedRecords) (below : ℕ) (t : BtfType) → AreSaid kernel r below → type_by_id kernel below ≡ Some t → list_any (is_at (nat_cmp (name_offset_of t))) r.looked_up.keys ≡ true → AreSaid kernel r (below + 1)
-looked_up_there kernel r below t said here any =
-    let looked : IsLookedUp kernel.strings r.ids.entries (name_offset_of t) = among (IsLookedUp kernel.strings r.ids.entries) (name_offset_of t) r.looked_up.keys said.looked_up any in
+-- its name isn't wanted, or was looked up
+pub passed_there : (kernel : Table) (r : NamedRecords) (below : ℕ) (t : BtfType) → AreSaid kernel r below → type_by_id kernel below ≡ Some t → IsLookedUp kernel.strings r.ids.entries (name_offset_of t) → AreSaid kernel r (below + 1)
+passed_there kernel r below t said here looked =
     said_more kernel r below said (λ name vacant shown. rw here (λ is. other_name r.ids.entries name (text_at kernel.strings (name_offset_of t)) looked vacant))
 
+pub looked_up_there : (kernel : Table) (r : NamedRecords) (below : ℕ) (t : BtfType) → AreSaid kernel r below → type_by_id kernel below ≡ Some t → list_any (is_at (nat_cmp (name_offset_of t))) r.looked_up.keys ≡ true → AreSaid kernel r (below + 1)
+looked_up_there kernel r below t said here any =
+    passed_there kernel r below t said here (among (IsLookedUp kernel.strings r.ids.entries) (name_offset_of t) r.looked_up.keys said.looked_up any)
+
 -- ---- a name that is entered
+
+entered_first : (id : ℕ) (o : Option (Option ℕ)) (marked : Bool) → IfSome o (λ _. marked ≡ true) → IfSome (entered id o) (λ _. marked ≡ true)
+entered_first id None marked h = tt
+entered_first id (Some None) marked h = h
+entered_first id (Some (Some first)) marked h = h
 
 entered_closed : (id : ℕ) (o : Option (Option ℕ)) → entered id o ≢ Some None
 entered_closed id None is = absurd cc
@@ -131,18 +142,67 @@ says_other : (kernel : Table) (kind : BtfKind) (below : ℕ) (text other : List 
 says_other kernel kind below text other t o here name differs says = said_more_at kernel kind below false other o says (λ vacant shown. rw here (λ is. rw name differs))
 
 -- a record whose name is entered where it is wanted
-pub entered_there : (kernel : Table) (old new : NamedRecords) (below : ℕ) (t : BtfType) (text : List ℕ) → AreSaid kernel old below → old.is_hidden ≡ false → type_by_id kernel below ≡ Some t → kind_of_type t ≡ old.kind → text_at kernel.strings (name_offset_of t) ≡ Some text → new.kind ≡ old.kind → new.is_hidden ≡ old.is_hidden → IsNoted old.looked_up.keys new.looked_up.keys (name_offset_of t) → ((other : List ℕ) → under new other ≡ cond (bytes_eq text other) (entered below (under old text)) (under old other)) → AreSaid kernel new (below + 1)
-entered_there kernel old new below t text said shown here is name same_kind same_hidden noted put = rw (same_kind, same_hidden ∙ shown) (record {
+pub entered_there : (kernel : Table) (old new : NamedRecords) (below : ℕ) (t : BtfType) (text : List ℕ) → AreSaid kernel old below → old.is_hidden ≡ false → type_by_id kernel below ≡ Some t → kind_of_type t ≡ old.kind → text_at kernel.strings (name_offset_of t) ≡ Some text → new.kind ≡ old.kind → new.is_hidden ≡ old.is_hidden → new.first_bytes ≡ old.first_bytes → IsNoted old.looked_up.keys new.looked_up.keys (name_offset_of t) → ((other : List ℕ) → under new other ≡ cond (bytes_eq text other) (entered below (under old text)) (under old other)) → AreSaid kernel new (below + 1)
+entered_there kernel old new below t text said shown here is name same_kind same_hidden same_first noted put = rw (same_kind, same_hidden ∙ shown, same_first) (record {
   each = λ other. under_name text below old.ids.entries new.ids.entries put (λ o. IfSome o (Says kernel old.kind (below + 1) false other)) other
       (λ same. subst (λ (n : List ℕ). IfSome (entered below (under old text)) (Says kernel old.kind (below + 1) false n)) same (says_entered kernel old.kind below text t (under old text) here is name (vacant text)))
       (λ differs. says_other kernel old.kind below text other t (under old other) here name differs (vacant other));
   looked_up = all_noted (IsLookedUp kernel.strings new.ids.entries) old.looked_up.keys new.looked_up.keys (name_offset_of t) noted
       (All-weaker (IsLookedUp kernel.strings old.ids.entries) (IsLookedUp kernel.strings new.ids.entries) (λ offset h. still_looked_up text below old.ids.entries new.ids.entries kernel.strings offset put h) old.looked_up.keys said.looked_up)
       (rw name (closed_here text below old.ids.entries new.ids.entries put));
+  first = record {
+    each = λ other. under_name text below old.ids.entries new.ids.entries put (λ o. IfSome o (λ _. is_marked old.first_bytes (first_byte other) ≡ true)) other
+        (λ same. subst (λ (n : List ℕ). IfSome (entered below (under old text)) (λ _. is_marked old.first_bytes (first_byte n) ≡ true)) same (entered_first below (under old text) (is_marked old.first_bytes (first_byte text)) (said.first.each text)))
+        (λ differs. said.first.each other);
+  };
 })
   where
     vacant : (n : List ℕ) → IfSome (under old n) (Says kernel old.kind below false n)
     vacant n = subst (λ (b : Bool). IfSome (under old n) (Says kernel old.kind below b n)) shown (said.each n)
+
+-- ---- a name that can't be read
+
+no_text : (text : Option (List ℕ)) (name : List ℕ) → text ≡ None → IsSomeAnd text (λ n. n ≢ name) → ⊥
+no_text None name none isnt = isnt
+no_text (Some n) name none isnt = absurd cc
+
+no_name : (text : Option (List ℕ)) (name : List ℕ) → text ≡ None → text ≡ Some name → ⊥
+no_name None name none named = absurd cc
+no_name (Some n) name none named = absurd cc
+
+unlike_text : (text : Option (List ℕ)) (name : List ℕ) → text ≡ Some name → IsSomeAnd text (λ n. n ≢ name) → ⊥
+unlike_text None name named isnt = isnt
+unlike_text (Some n) name named isnt = isnt cc
+
+unlike : (strings name : List ℕ) (kind : BtfKind) (o : Option BtfType) → IsSomeAnd o (λ t. (kind_of_type t ≡ kind) × (text_at strings (name_offset_of t) ≡ Some name)) → IfSome o (λ t. kind_of_type t ≡ kind → IsSomeAnd (text_at strings (name_offset_of t)) (λ text. text ≢ name)) → ⊥
+unlike strings name kind None named isnt = named
+unlike strings name kind (Some t) named isnt = unlike_text (text_at strings (name_offset_of t)) name named.1 (isnt named.0)
+
+module _ (kernel : Table) (kind : BtfKind) (below : ℕ) (name : List ℕ) (t : BtfType) (here : type_by_id kernel below ≡ Some t) (is : kind_of_type t ≡ kind) (none : text_at kernel.strings (name_offset_of t) ≡ None) where
+  hidden_at : (id : ℕ) → IsFirstNamed kernel name kind id → AreNotNamed kernel name kind below → (before after : Bool) → before ≡ nat_lt id below → after ≡ nat_lt below id → ⊥
+  hidden_at id first says true after b a = unlike kernel.strings name kind (type_by_id kernel id) first.named (says.each id (grind (arith, nat_tests, b)))
+  hidden_at id first says false true b a =
+      no_text (text_at kernel.strings (name_offset_of t)) name none
+      (subst (λ (o : Option BtfType). IfSome o (λ u. kind_of_type u ≡ kind → IsSomeAnd (text_at kernel.strings (name_offset_of u)) (λ text. text ≢ name))) here (first.first below (grind (arith, nat_tests, a))) is)
+  hidden_at id first says false false b a =
+      let same : id ≡ below = grind (arith, nat_tests, a, b) in
+      let named : IsSomeAnd (Some t) (λ u. (kind_of_type u ≡ kind) × (text_at kernel.strings (name_offset_of u) ≡ Some name)) = subst (λ (o : Option BtfType). IsSomeAnd o (λ u. (kind_of_type u ≡ kind) × (text_at kernel.strings (name_offset_of u) ≡ Some name))) (ap (type_by_id kernel) same ∙ here) first.named in
+      no_name (text_at kernel.strings (name_offset_of t)) name none named.1
+
+  hidden_says : (found : Option ℕ) → Says kernel kind below false name found → Says kernel kind (below + 1) true name found
+  hidden_says None says = record { none = λ id first. hidden_at id first says (nat_lt id below) (nat_lt below id) refl refl }
+  hidden_says (Some id) says = says
+
+  hidden_under : (o : Option (Option ℕ)) → IfSome o (Says kernel kind below false name) → IfSome o (Says kernel kind (below + 1) true name)
+  hidden_under None says = tt
+  hidden_under (Some found) says = hidden_says found says
+
+pub hidden_there : (kernel : Table) (r : NamedRecords) (below : ℕ) (t : BtfType) → AreSaid kernel r below → r.is_hidden ≡ false → type_by_id kernel below ≡ Some t → kind_of_type t ≡ r.kind → text_at kernel.strings (name_offset_of t) ≡ None → AreSaid kernel (record r { is_hidden = true }) (below + 1)
+hidden_there kernel r below t said shown here is none = record {
+  each = λ name. hidden_under kernel r.kind below name t here is none (under r name) (subst (λ (b : Bool). IfSome (under r name) (Says kernel r.kind below b name)) shown (said.each name));
+  looked_up = said.looked_up;
+  first = said.first;
+}
 
 -- ---- what a write leaves
 

@@ -1,6 +1,7 @@
 pub mod Composed
 pub mod Each
 pub mod Entries
+pub mod FirstBytes
 pub mod FirstNamed
 pub mod Found
 pub mod Growing

@@ -1,13 +1,15 @@
 //! What the kernel's table has of the functions and variables that externs are declared as.
 
-ghost use Rattle.std.specs.Prelude.{◌≡◌, ◌+◌, length, slice_get, IfOk, OnOk};
+ghost use Rattle.std.specs.Prelude.{◌≡◌, ◌+◌, length, slice_get, true, IfOk, OnOk};
 ghost use Rattle.std.specs.Option.{option_copied};
+ghost use Rattle.first_bytes.specs.FirstBytes.{AreTexts};
 ghost use Rattle.extern_resolution.specs.Gathering.{AreAllSaid, AreBegun, AreEntriesWanted, SameWanted, WantsEntry, declares, declares_at};
 ghost use Rattle.extern_resolution.specs.Wanted.{AreKnown, id_of};
 
 use crate::named_records::NamedRecords;
 use btf_records::BtfKind;
 use btf_tables::{Btf, essential_name};
+use first_bytes::are_texts;
 use object_externs::{ExternDesc, Externs};
 use std::alloc::{AllocError, Global};
 
@@ -94,32 +96,35 @@ impl<'n> KernelRecords<'n> {
     }
 
     /// Takes the record of an id, after those of lesser ids.
-    fn take(&mut self, kernel: &Btf<'_>, id: u32) -> Result<(), AllocError>
-        requires { AreAllSaid kernel.now self.old id }
+    fn take(&mut self, kernel: &Btf<'_>, are_texts: bool, id: u32) -> Result<(), AllocError>
+        requires texts { are_texts ≡ true → AreTexts kernel.now.strings }
+        requires said { AreAllSaid kernel.now self.old id }
         ensures said { OnOk result (AreAllSaid kernel.now self.new (id + 1)) }
         ensures wanted { OnOk result (SameWanted self.old self.new) }
     {
         let Ok(t) = kernel.type_by_id(id) else {
             return Ok(());
         };
-        self.functions.take(kernel, id, &t)?;
-        self.variables.take(kernel, id, &t)?;
+        self.functions.take(kernel, are_texts, id, &t)?;
+        self.variables.take(kernel, are_texts, id, &t)?;
         Ok(())
     }
 
-    /// Goes through a table. Of types that are no functions or variables the kind alone is read.
+    /// Goes through a table. Of types that are no functions or variables the kind alone is read, and
+    /// of most others the first byte of the name.
     fn go_through(&mut self, kernel: &Btf<'_>) -> Result<(), AllocError>
         requires { AreBegun self.old }
         ensures said { OnOk result (AreAllSaid kernel.now self.new (length kernel.now.types + 1)) }
         ensures wanted { OnOk result (SameWanted self.old self.new) }
     {
+        let are_texts = are_texts(kernel.strings().as_slice());
         let types = kernel.kinds();
         let count = kernel.len() + 1;
         for id in 0..count {
             if !declares_at(types, id) {
                 continue;
             }
-            self.take(kernel, id as u32)?;
+            self.take(kernel, are_texts, id as u32)?;
         }
         Ok(())
     }

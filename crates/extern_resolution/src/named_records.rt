@@ -1,13 +1,15 @@
 //! The records of a kernel's table that have wanted names.
 
-ghost use Rattle.std.specs.Prelude.{◌≡◌, ◌+◌, ◌||◌, ℕ, List, None, Some, false, if◌then◌else◌, is_some, IfOk, OnOk};
+ghost use Rattle.std.specs.Prelude.{◌≡◌, ◌+◌, ◌||◌, ℕ, List, None, Some, false, true, if◌then◌else◌, is_some, IfOk, OnOk};
 ghost use Rattle.std.specs.Str.{bytes_eq};
 ghost use Rattle.btf_tables.specs.Tables.{type_by_id};
-ghost use Rattle.extern_resolution.specs.Wanted.{AreSaid, IsBegun, IsNoted, SameNames, Wants, entered, id_under, ids_under};
+ghost use Rattle.first_bytes.specs.FirstBytes.{AreTexts};
+ghost use Rattle.extern_resolution.specs.Wanted.{AreFirstBytes, AreSaid, IsBegun, IsLookedUp, IsNoted, SameNames, Wants, entered, id_under, ids_under};
 
 use btf_encoding::TypeRef;
 use btf_records::BtfKind;
 use btf_tables::Btf;
+use first_bytes::{MarkedBytes, first_byte, first_byte_at};
 use std::alloc::{AllocError, Global};
 use std::collections::{BTreeMap, BTreeSet};
 
@@ -20,6 +22,8 @@ pub(crate) struct NamedRecords<'n> {
     pub(crate) kind: BtfKind,
     /// The id under each wanted name, where a record was met that has it.
     pub(crate) ids: BTreeMap<&'n str, Option<u32>>,
+    /// The first bytes of the wanted names.
+    pub(crate) first_bytes: MarkedBytes,
     /// The offsets of long names that were looked up.
     pub(crate) looked_up: BTreeSet<u32>,
     /// Whether a record was met whose name can't be read, which hides those after it.
@@ -69,6 +73,7 @@ impl<'n> NamedRecords<'n> {
         NamedRecords {
             kind,
             ids: BTreeMap::new(alloc),
+            first_bytes: MarkedBytes::new(),
             looked_up: BTreeSet::new(alloc),
             is_hidden: false,
         }
@@ -78,16 +83,32 @@ impl<'n> NamedRecords<'n> {
     pub(crate) fn want(&mut self, name: &'n str) -> Result<(), AllocError>
         ensures { OnOk result (Wants self.old self.new name.now) }
     {
+        self.first_bytes.mark(first_byte(name));
         want(&mut self.ids, name)
     }
 
-    /// Takes the record of an id, after those of lesser ids.
+    /// Whether a name that isn't wanted is at an offset, as its first byte tells.
+    fn is_passed_over(&self, strings: &[u8], are_texts: bool, offset: u32) -> bool
+        requires texts { are_texts ≡ true → AreTexts strings.now }
+        requires first { AreFirstBytes self.now.ids.entries self.now.first_bytes }
+        ensures { result ≡ true → IsLookedUp strings.now self.now.ids.entries offset }
+    {
+        match first_byte_at(strings, offset) {
+            Some(byte) => are_texts && !self.first_bytes.contains(byte),
+            None => false,
+        }
+    }
+
+    /// Takes the record of an id, after those of lesser ids. It is told whether each byte of the
+    /// kernel's strings begins a text.
     pub(crate) fn take(
         &mut self,
         kernel: &Btf<'_>,
+        are_texts: bool,
         id: u32,
         t: &TypeRef<'_>,
     ) -> Result<(), AllocError>
+        requires texts { are_texts ≡ true → AreTexts kernel.now.strings }
         requires here { type_by_id kernel.now id ≡ Some t.now }
         requires said { AreSaid kernel.now self.old id }
         ensures said { OnOk result (AreSaid kernel.now self.new (id + 1)) }
@@ -100,6 +121,9 @@ impl<'n> NamedRecords<'n> {
             return Ok(());
         }
         let offset = t.name_offset();
+        if self.is_passed_over(kernel.strings().as_slice(), are_texts, offset) {
+            return Ok(());
+        }
         if self.looked_up.contains(&offset) {
             return Ok(());
         }

@@ -1,86 +1,22 @@
--- Strings in which each byte begins a text.
-use Rattle.std.proofs.Common.{◌≡◌, ℕ, zero, suc, ◌+◌, ◌-◌, ◌<◌, Bool, true, false, cond, nat_eq, nat_lt, not, List, [], ◌∷◌, Option, None, Some, drop, take, length, length-drop, get_or, refl, ap, sym, ◌∙◌, subst, arith}
-use Rattle.std.specs.Prelude.{◌==◌, IfSome, is_some, option_and_then, slice_get}
-use Rattle.std.proofs.lemmas.Bool.Decides.{nat_tests}
-use Rattle.std.proofs.lemmas.List.{drop_more, get_or-drop}
-use Rattle.std.proofs.lemmas.Option.{get_or_from_slice_get, slice_get_within}
-use Rattle.std.proofs.lemmas.Str.{IsAscii-drop, IsAscii-take, IsUtf8-from_ascii, is_utf8-from_IsUtf8}
-use Rattle.std.specs.List.{position_or_len}
-use Rattle.std.specs.Option.{option_map}
-use Rattle.std.specs.Str.{IsAscii, is_utf8}
+-- Texts that are passed over by their first bytes.
+use Rattle.std.proofs.Common.{◌≡◌, ℕ, Bool, true, false, not, List, Option, None, Some, refl, ap, sym, subst}
+use Rattle.std.specs.Prelude.{IfSome, is_some, slice_get}
+use Rattle.std.proofs.lemmas.Option.{slice_get_within}
 use Rattle.btf_tables.specs.Tables.{Table}
-use Rattle.string_table.specs.Texts.{before_nul, text_at, text_of}
-use Rattle.type_candidates.specs.FirstBytes.{BeginsNone, first_byte}
+use Rattle.first_bytes.specs.FirstBytes.{first_byte}
+use Rattle.string_table.specs.Texts.{text_at}
+use Rattle.type_candidates.specs.FirstBytes.{BeginsNone}
 use Rattle.type_candidates.specs.NamedTypes.{AreNumbersAt, AreNumbersOf, HasNoNumber, KnownNames, of_name, of_number}
 use Rattle.type_candidates.specs.declared.sighting.Sighting.TheVariants.{Other}
 
-abbrev nul_at : List ℕ → ℕ
-nul_at bytes = position_or_len (λ b. b == 0) bytes
+-- ---- texts that begin otherwise
 
-below_by : (test : Bool) (n len : ℕ) → (test ≡ false → n < len) → cond (not test) (1 + n) 0 < suc len
-below_by true n len h = omega arith
-below_by false n len h = omega (arith, h refl)
+some_passed : (numbers : List (List ℕ × ℕ)) (strings : List ℕ) (offset b : ℕ) (text : Option (List ℕ)) → text_at strings offset ≡ text → is_some text ≡ true → ((other : List ℕ) → text_at strings offset ≡ Some other → first_byte other ≡ b) → BeginsNone numbers b → HasNoNumber numbers text
+some_passed numbers strings offset b (Some text) is some first none = none text (first text is)
+some_passed numbers strings offset b None is some first none = absurd cc
 
-below_first : (b n len : ℕ) → b ≡ 0 → cond (not (nat_eq b 0)) (1 + n) 0 < suc len
-below_first b n len is = let yes : nat_eq b 0 ≡ true = grind (arith, nat_tests) in rw yes (omega arith)
-
--- a NUL is found where one stands
-below : (bytes : List ℕ) (k : ℕ) → k < length bytes → get_or bytes k 1 ≡ 0 → nul_at bytes < length bytes
-below [] k lt is = absurd (omega (arith, lt))
-below (b ∷ bs) zero lt is = below_first b (nul_at bs) (length bs) is
-below (b ∷ bs) (suc k) lt is = below_by (nat_eq b 0) (nul_at bs) (length bs) (λ _. below bs k (omega (arith, lt)) is)
-
-text_by : (test : Bool) (len : ℕ) (bytes : List ℕ) → IsAscii bytes → test ≡ true → is_some (option_and_then text_of (option_map (λ n. take n bytes) (cond test (Some len) None))) ≡ true
-text_by true len bytes ascii is = ap (λ (b : Bool). is_some (cond b (Some (take len bytes)) None)) (is_utf8-from_IsUtf8 (take len bytes) (IsUtf8-from_ascii (take len bytes) (IsAscii-take bytes len ascii)))
-text_by false len bytes ascii is = absurd cc
-
--- bytes of ASCII with a NUL among them begin with a text
-text_before : (bytes : List ℕ) → IsAscii bytes → nul_at bytes < length bytes → is_some (option_and_then text_of (before_nul bytes)) ≡ true
-text_before bytes ascii lt = let yes : nat_lt (nul_at bytes) (length bytes) ≡ true = grind (arith, nat_tests, lt) in text_by (nat_lt (nul_at bytes) (length bytes)) (nul_at bytes) bytes ascii yes
-
-last_left : (strings : List ℕ) (offset : ℕ) → slice_get strings (length strings - 1) ≡ Some 0 → offset < length strings → get_or (drop offset strings) (length strings - 1 - offset) 1 ≡ 0
-last_left strings offset last lt =
-    let at : offset + (length strings - 1 - offset) ≡ length strings - 1 = omega (arith, lt) in
-    get_or-drop offset strings (length strings - 1 - offset) 1 ∙ ap (λ (k : ℕ). get_or strings k 1) at ∙ get_or_from_slice_get strings (length strings - 1) 0 1 last
-
-left_len : (strings : List ℕ) (offset : ℕ) → offset < length strings → length strings - 1 - offset < length (drop offset strings)
-left_len strings offset lt = omega (arith, lt, length-drop offset strings)
-
--- each byte of strings of ASCII that a NUL ends begins a text
-pub all_texts : (strings : List ℕ) → slice_get strings (length strings - 1) ≡ Some 0 → IsAscii strings → (offset : ℕ) → offset < length strings → is_some (text_at strings offset) ≡ true
-unfolding text_at
-all_texts strings last ascii offset lt =
-    text_before (drop offset strings) (IsAscii-drop strings offset ascii) (below (drop offset strings) (length strings - 1 - offset) (left_len strings offset lt) (last_left strings offset last lt))
-
--- ---- the first byte of a text
-
-whole : (test : Bool) (bytes text : List ℕ) → cond test (Some bytes) None ≡ Some text → bytes ≡ text
-whole true bytes text e = cc
-whole false bytes text e = absurd cc
-
-taken : (test : Bool) (len : ℕ) (bytes text : List ℕ) → option_and_then text_of (option_map (λ n. take n bytes) (cond test (Some len) None)) ≡ Some text → take len bytes ≡ text
-taken true len bytes text e = whole (is_utf8 (take len bytes)) (take len bytes) text e
-taken false len bytes text e = absurd cc
-
-first_by : (test : Bool) (b n : ℕ) (bs : List ℕ) → test ≡ nat_eq b 0 → first_byte (take (cond (not test) (1 + n) 0) (b ∷ bs)) ≡ b
-first_by true b n bs is = grind (arith, nat_tests, is)
-first_by false b n bs is = ap (λ (m : ℕ). first_byte (take m (b ∷ bs))) (let e : 1 + n ≡ suc n = omega arith in e)
-
-first_taken : (b : ℕ) (bs text : List ℕ) → option_and_then text_of (before_nul (b ∷ bs)) ≡ Some text → first_byte text ≡ b
-first_taken b bs text e = sym (ap first_byte (taken (nat_lt (nul_at (b ∷ bs)) (length (b ∷ bs))) (nul_at (b ∷ bs)) (b ∷ bs) text e)) ∙ first_by (nat_eq b 0) b (nul_at bs) bs refl
-
-pub first_here : (strings text : List ℕ) (offset b : ℕ) → text_at strings offset ≡ Some text → slice_get strings offset ≡ Some b → first_byte text ≡ b
-unfolding text_at
-first_here strings text offset b e at =
-    let split : drop offset strings ≡ b ∷ drop (offset + 1) strings = drop_more strings offset b (slice_get_within strings offset b at) ∙ ap (λ (x : ℕ). x ∷ drop (offset + 1) strings) (get_or_from_slice_get strings offset b b at) in
-    first_taken b (drop (offset + 1) strings) text (sym (ap (λ (bytes : List ℕ). option_and_then text_of (before_nul bytes)) split) ∙ e)
-
-some_passed : (numbers : List (List ℕ × ℕ)) (strings : List ℕ) (offset b : ℕ) (text : Option (List ℕ)) → text_at strings offset ≡ text → is_some text ≡ true → slice_get strings offset ≡ Some b → BeginsNone numbers b → HasNoNumber numbers text
-some_passed numbers strings offset b (Some text) is some at none = none text (first_here strings text offset b is at)
-some_passed numbers strings offset b None is some at none = absurd cc
-
-pub passed_over : (numbers : List (List ℕ × ℕ)) (strings : List ℕ) (known : KnownNames) (offset b : ℕ) → AreNumbersOf numbers strings known → known.are_texts ≡ true → slice_get strings offset ≡ Some b → BeginsNone numbers b → HasNoNumber numbers (text_at strings offset)
-passed_over numbers strings known offset b are sure at none = some_passed numbers strings offset b (text_at strings offset) refl (are.texts sure offset (slice_get_within strings offset b at)) at none
+pub passed_over : (numbers : List (List ℕ × ℕ)) (strings : List ℕ) (known : KnownNames) (offset b : ℕ) → AreNumbersOf numbers strings known → known.are_texts ≡ true → slice_get strings offset ≡ Some b → ((other : List ℕ) → text_at strings offset ≡ Some other → first_byte other ≡ b) → BeginsNone numbers b → HasNoNumber numbers (text_at strings offset)
+passed_over numbers strings known offset b are sure at first none = some_passed numbers strings offset b (text_at strings offset) refl ((are.texts sure).each offset (slice_get_within strings offset b at)) first none
 
 pub passed_is_other : (numbers : List (List ℕ × ℕ)) (kind : ℕ) (text : Option (List ℕ)) → HasNoNumber numbers text → Other ≡ of_name numbers kind text
 passed_is_other numbers kind (Some text) none = sym (ap of_number none)
@@ -90,8 +26,8 @@ not_false : (b : Bool) → not b ≡ true → b ≡ false
 not_false true e = absurd cc
 not_false false e = refl
 
-pub passed_not : (numbers : List (List ℕ × ℕ)) (strings : List ℕ) (known : KnownNames) (offset b : ℕ) (may : Bool) → AreNumbersOf numbers strings known → known.are_texts ≡ true → slice_get strings offset ≡ Some b → (may ≡ false → BeginsNone numbers b) → not may ≡ true → HasNoNumber numbers (text_at strings offset)
-passed_not numbers strings known offset b may are sure at none e = passed_over numbers strings known offset b are sure at (none (not_false may e))
+pub passed_not : (numbers : List (List ℕ × ℕ)) (strings : List ℕ) (known : KnownNames) (offset b : ℕ) (may : Bool) → AreNumbersOf numbers strings known → known.are_texts ≡ true → slice_get strings offset ≡ Some b → ((other : List ℕ) → text_at strings offset ≡ Some other → first_byte other ≡ b) → (may ≡ false → BeginsNone numbers b) → not may ≡ true → HasNoNumber numbers (text_at strings offset)
+passed_not numbers strings known offset b may are sure at first none e = passed_over numbers strings known offset b are sure at first (none (not_false may e))
 
 known_by : (numbers : List (List ℕ × ℕ)) (strings : List ℕ) (known : KnownNames) (target : Option Table) → IfSome target (λ t. strings ≡ t.strings) → AreNumbersOf numbers strings known → IfSome target (λ t. AreNumbersOf numbers t.strings known)
 known_by numbers strings known None is are = tt

@@ -1,5 +1,5 @@
 -- The types of a kernel that have wanted names, found in one walk over each table.
-use Rattle.std.specs.Prelude.{◌≡◌, ℕ, ◌-◌, ◌<◌, ◌==◌, ◌&&◌, ◌||◌, nat_eq, codes, drop, length, not, All, Bool, true, false, List, [], ◌∷◌, ◌++◌, filter, find, map, slice_get, slice_index_or, IfSome, Option, None, Some, is_some, if◌then◌else◌}
+use Rattle.std.specs.Prelude.{◌≡◌, ℕ, ◌-◌, ◌<◌, ◌==◌, ◌&&◌, ◌||◌, nat_eq, codes, drop, length, not, All, Bool, true, false, List, [], ◌∷◌, ◌++◌, filter, find, map, slice_get, slice_index_or, IfSome, Option, None, Some, if◌then◌else◌}
 use Rattle.std.specs.BTreeMap.{is_at}
 use Rattle.std.specs.Borrow.{Bor}
 use Rattle.std.specs.Cmp.Lexicographic.{slice_cmp}
@@ -14,6 +14,7 @@ use Rattle.btf_records.specs.declared.kind.BtfKind.TheVariants.{Enum64, Unknown}
 use Rattle.btf_records.specs.declared.types.BtfType.{BtfType}
 use Rattle.btf_tables.specs.EssentialNames.{essential_name}
 use Rattle.btf_tables.specs.Tables.{Table, type_by_id}
+use Rattle.first_bytes.specs.FirstBytes.{AreTexts}
 use Rattle.string_table.specs.Texts.{text_at}
 use Rattle.type_candidates.specs.Candidates.{Wanted, all_types, asked_of, first_types, is_candidate, is_of_kind, is_unreadable_at, types_at}
 use Rattle.type_candidates.specs.declared.kernel_type.KernelType.{KernelType}
@@ -64,10 +65,7 @@ pub record KnownNames : Type 0 where
 
 pub record AreNumbersOf (numbers : List (List ℕ × ℕ)) (strings : List ℕ) (known : KnownNames) : Type 0 where
   pub each : All (IsNumberAt numbers strings) known.names
-  pub texts : known.are_texts ≡ true
-      → (offset : ℕ)
-      → offset < length strings
-      → is_some (text_at strings offset) ≡ true
+  pub texts : known.are_texts ≡ true → AreTexts strings
 
 -- among the strings of a table
 abbrev pub AreNumbersAt : List (List ℕ × ℕ) → List Table → ℕ → KnownNames → Type 0

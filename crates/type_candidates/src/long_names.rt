@@ -1,12 +1,13 @@
 //! The names of a table, looked up among the wanted ones.
 
-ghost use Rattle.std.specs.Prelude.{◌≡◌, ◌<◌, ℕ, List, IfOk, IfSome, is_some, length, slice_get, true};
+ghost use Rattle.std.specs.Prelude.{◌≡◌, ℕ, List, IfOk, IfSome, true};
 ghost use Rattle.string_table.specs.Texts.{text_at};
 ghost use Rattle.type_candidates.specs.NamedTypes.{AreNumbersOf, HasNoNumber, IsFoundAt, of_name, of_number};
 
 use crate::sighting::Sighting;
 use crate::wanted_names::WantedNames;
 use btf_tables::Btf;
+use first_bytes::{are_texts, first_byte_at};
 use std::alloc::{AllocError, Global};
 use std::collections::BTreeMap;
 use std::marker::Model;
@@ -40,25 +41,6 @@ impl Model for LongNames {
     ghost view = { λ n. record { names = values_of n.names.entries; are_texts = n.are_texts } };
 }
 
-/// The byte at an offset.
-fn byte_at(bytes: &[u8], offset: u32) -> Option<u8>
-    ensures { result ≡ slice_get bytes.now offset }
-{
-    bytes.get(offset as usize).copied()
-}
-
-/// Whether each byte of these strings is known to begin a text: they are ASCII, and end in a NUL.
-#[tactic(auto, using(crate::proofs::Texts::all_texts))]
-fn are_texts(strings: &[u8]) -> bool
-    ensures { result ≡ true → (offset : ℕ) → offset < length strings.now
-        → is_some (text_at strings.now offset) ≡ true }
-{
-    match strings.last() {
-        Some(0) => strings.is_ascii(),
-        _ => false,
-    }
-}
-
 /// What a type is whose name has this number.
 fn of_number(number: Option<usize>) -> Sighting
     ensures { result ≡ of_number number }
@@ -85,7 +67,7 @@ impl LongNames {
         requires { AreNumbersOf names.now strings.now self.now }
         ensures { result ≡ true → HasNoNumber names.now (text_at strings.now offset) }
     {
-        match byte_at(strings, offset) {
+        match first_byte_at(strings, offset) {
             Some(byte) => self.are_texts && !names.may_begin(byte),
             None => false,
         }

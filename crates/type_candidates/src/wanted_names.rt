@@ -1,6 +1,6 @@
 //! The names of the types that are wanted.
 
-ghost use Rattle.std.specs.Prelude.{◌≡◌, [], IfNone, IfSome, None, drop, false, length, slice_index_or};
+ghost use Rattle.std.specs.Prelude.{◌≡◌, [], IfNone, IfSome, None, drop, false, length};
 ghost use Rattle.std.specs.BTreeMap.{btree_map_len};
 ghost use Rattle.std.specs.List.{list_any};
 ghost use Rattle.btf_tables.specs.EssentialNames.{essential_name};
@@ -8,6 +8,7 @@ ghost use Rattle.type_candidates.specs.FirstBytes.{AreFirstBytes, BeginsNone, Ma
 ghost use Rattle.type_candidates.specs.NamedTypes.{AreApart, AreLengths, AreNumbered, by_bytes, may_end, number_of_name};
 
 use btf_tables::essential_name;
+use first_bytes::MarkedBytes;
 use std::alloc::{AllocError, Global};
 use std::collections::{BTreeMap, BTreeSet};
 use std::marker::Model;
@@ -19,7 +20,7 @@ pub(crate) struct WantedNames<'l> {
     /// How many bytes the names have.
     lengths: BTreeSet<usize>,
     /// Which bytes a text of such a name, with its NUL, can begin with.
-    first_bytes: [bool; 256],
+    first_bytes: MarkedBytes,
 }
 
 impl<'l> Model for WantedNames<'l> {
@@ -40,25 +41,15 @@ impl<'l> Model for WantedNames<'l> {
 /// Marks the bytes that a text of a name can begin with: the name's first, and of the empty name
 /// that of a flavour, or the NUL.
 #[tactic(auto, using(crate::proofs::FirstBytes::one_marked, crate::proofs::FirstBytes::two_marked))]
-fn mark_first(first_bytes: &mut [bool; 256], name: &str)
+fn mark_first(first_bytes: &mut MarkedBytes, name: &str)
     ensures { MarksFirst name.now first_bytes.old first_bytes.new }
 {
     match name.as_bytes() {
-        [first, ..] => first_bytes[*first as usize] = true,
+        [first, ..] => first_bytes.mark(*first),
         [] => {
-            first_bytes[0] = true;
-            first_bytes[b'_' as usize] = true;
+            first_bytes.mark(0);
+            first_bytes.mark(b'_');
         }
-    }
-}
-
-/// Whether a byte is marked.
-fn is_marked(first_bytes: &[bool], byte: u8) -> bool
-    ensures { result ≡ slice_index_or first_bytes.now byte false }
-{
-    match first_bytes.get(byte as usize) {
-        Some(is) => *is,
-        None => false,
     }
 }
 
@@ -66,7 +57,7 @@ fn is_marked(first_bytes: &[bool], byte: u8) -> bool
 fn enter<'l>(
     numbers: &mut BTreeMap<&'l str, usize>,
     lengths: &mut BTreeSet<usize>,
-    first_bytes: &mut [bool; 256],
+    first_bytes: &mut MarkedBytes,
     name: &'l str,
 ) -> Result<(), AllocError>
     requires numbered { AreNumbered (by_bytes numbers.old.entries) (btree_map_len numbers.old) }
@@ -120,7 +111,7 @@ impl<'l> WantedNames<'l> {
         WantedNames {
             numbers: BTreeMap::new(alloc),
             lengths: BTreeSet::new(alloc),
-            first_bytes: [false; 256],
+            first_bytes: MarkedBytes::new(),
         }
     }
 
@@ -155,7 +146,7 @@ impl<'l> WantedNames<'l> {
     pub(crate) fn may_begin(&self, byte: u8) -> bool
         ensures { result ≡ false → BeginsNone self.now byte }
     {
-        is_marked(&self.first_bytes, byte)
+        self.first_bytes.contains(byte)
     }
 
     /// The number of a name without its flavour.
