@@ -1,10 +1,9 @@
 //! Each front of an object, and the object with each byte set to 0 and to 255 in turn: how many
 //! answers are as they must be.
 
-use crate::error::ExerciseError;
-use crate::files::read_next;
 use ebpf_object::{Object, ParseError};
 use elf64::ElfError;
+use measures::{ExerciseError, read_next};
 use std::alloc::Global;
 use std::env::Args;
 

@@ -1,8 +1,8 @@
 //! Linked programs of objects beside those that the plain linker makes: how many programs and slots
 //! are alike.
 
-use crate::error::ExerciseError;
 use ebpf_object::{Object, bpf_insn};
+use measures::ExerciseError;
 use plain_linker::plain_slots;
 use std::alloc::Global;
 use std::collections::BTreeSet;

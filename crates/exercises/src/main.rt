@@ -12,23 +12,15 @@
 #![tactic(auto)]
 
 mod changed_objects;
-mod error;
-mod files;
 mod linked_objects;
 mod matchings;
-mod measured_maps;
-mod measured_matching;
-mod measured_objects;
-mod measured_symbols;
-mod measured_types;
 mod memory_calls;
 mod object_steps;
 mod relocated_objects;
 mod rewritten_tables;
 mod thousand_structs;
-mod times;
 
-use error::ExerciseError;
+use measures::{ExerciseError, measure_matching, measure_object, measure_symbols, measure_types};
 use std::env;
 use std::env::Args;
 use std::process::ExitCode;
@@ -54,10 +46,10 @@ fn run(rt: &HostRuntime, exercise: &str, words: &mut Args) -> ExitCode {
         "refused-objects" => status_of(rt, relocated_objects::run(rt, words)),
         "refused-structs" => thousand_structs::run(rt),
         "refused-tables" => rewritten_tables::run(rt),
-        "measure-types" => status_of(rt, measured_types::run(rt, words)),
-        "measure-matching" => status_of(rt, measured_matching::run(rt, words)),
-        "measure-symbols" => status_of(rt, measured_symbols::run(rt, words)),
-        "measure-object" => status_of(rt, measured_objects::run(rt, words)),
+        "measure-types" => status_of(rt, measure_types(rt, words)),
+        "measure-matching" => status_of(rt, measure_matching(rt, words)),
+        "measure-symbols" => status_of(rt, measure_symbols(rt, words)),
+        "measure-object" => status_of(rt, measure_object(rt, words)),
         _ => status_of(rt, Err(ExerciseError::Usage)),
     }
 }

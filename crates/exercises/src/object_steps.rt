@@ -1,11 +1,11 @@
 //! Steps on an object, and what becomes of it.
 
-use crate::error::ExerciseError;
 use btf::Btf;
 use ebpf_object::{
     BtfRelocationCause, BtfRelocationError, Function, GlobalValues, KsymsError, Maps, NumberedMap,
     Object, ParseError, Watched,
 };
+use measures::ExerciseError;
 use relocation_errors::{EbpfRelocationError, RelocationError};
 use std::alloc::{AllocError, Global};
 use std::collections::BTreeSet;

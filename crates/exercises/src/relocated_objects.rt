@@ -5,13 +5,12 @@
 //! Where memory is refused to one of these steps, the object must be as it was, and the step is
 //! made again; where it is refused elsewhere, status 3 says so.
 
-use crate::error::ExerciseError;
-use crate::files::read_next;
 use crate::object_steps::{
     AS_BEFORE, Kernel, put_value, relocate_types, resolve_externs, write_externs, write_numbers,
 };
 use btf::{Btf, Endianness};
 use ebpf_object::Object;
+use measures::{ExerciseError, read_next};
 use std::alloc::Global;
 use std::env::Args;
 use std::fs;

@@ -1,4 +1,4 @@
-//! Why an exercise ends early.
+//! Why an exercise or a measure ends early.
 
 use btf::BtfError;
 use ebpf_object::ParseError;
@@ -8,8 +8,9 @@ use std::io;
 use std::io::ErrorKind;
 use thiserror::Error;
 
+/// Why an exercise or a measure ends early.
 #[derive(Debug, Drop, Error)]
-pub(crate) enum ExerciseError {
+pub enum ExerciseError {
     #[error("call it with an exercise and its words")]
     Usage,
     #[error("{0}")]
@@ -35,7 +36,7 @@ impl<T: Drop> From<AllocFailed<T>> for ExerciseError {
 impl ExerciseError {
     /// The status that the program ends with: 3 where memory was refused, 2 where it is called
     /// otherwise, else 1.
-    pub(crate) fn status(&self) -> u8 {
+    pub fn status(&self) -> u8 {
         match self {
             ExerciseError::OutOfMemory(_) | ExerciseError::Parse(ParseError::OutOfMemory) => 3,
             ExerciseError::Btf(BtfError::OutOfMemory) => 3,

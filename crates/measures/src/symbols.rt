@@ -98,7 +98,7 @@ fn measure(rt: &HostRuntime, text: &str, words: &mut Args) -> Result<(), Exercis
 }
 
 /// Reads the file of the first word, and finds the names of the other words.
-pub(crate) fn run(rt: &HostRuntime, words: &mut Args) -> Result<(), ExerciseError> {
+pub fn measure_symbols(rt: &HostRuntime, words: &mut Args) -> Result<(), ExerciseError> {
     let Some(file) = words.next() else {
         return Err(ExerciseError::Usage);
     };

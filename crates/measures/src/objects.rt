@@ -2,7 +2,7 @@
 //! leads to, and to put values into its maps and their numbers into its slots.
 
 use crate::error::ExerciseError;
-use crate::measured_maps::{measure_numbers, measure_values};
+use crate::maps::{measure_numbers, measure_values};
 use crate::times::{micros, print_times};
 use ebpf_object::Object;
 use std::env::Args;
@@ -114,7 +114,7 @@ fn measure(rt: &HostRuntime, bytes: &[u8], most: usize) -> Result<(), ExerciseEr
 
 /// Measures the object of the file that the first word names; the next one says how many variables
 /// get values.
-pub(crate) fn run(rt: &HostRuntime, words: &mut Args) -> Result<(), ExerciseError> {
+pub fn measure_object(rt: &HostRuntime, words: &mut Args) -> Result<(), ExerciseError> {
     let Some(file) = words.next() else {
         return Err(ExerciseError::Usage);
     };

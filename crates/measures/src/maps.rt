@@ -2,7 +2,7 @@
 //! slots.
 
 use crate::error::ExerciseError;
-use crate::measured_objects::ROUNDS;
+use crate::objects::ROUNDS;
 use crate::times::{micros, print_times};
 use ebpf_object::{
     EbpfSectionKind, GlobalValues, Maps, NumberedMap, Object, ObjectFile, ParseError, ReadSymbol,

@@ -237,7 +237,7 @@ fn measure(rt: &HostRuntime, section: &[u8], words: &mut Args) -> Result<(), Exe
 }
 
 /// Measures relocations in the file of the first word, for the structs that the other words name.
-pub(crate) fn run(rt: &HostRuntime, words: &mut Args) -> Result<(), ExerciseError> {
+pub fn measure_matching(rt: &HostRuntime, words: &mut Args) -> Result<(), ExerciseError> {
     let section = read_next(rt, words)?;
     measure(rt, section.as_slice(), words)
 }

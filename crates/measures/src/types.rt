@@ -202,7 +202,7 @@ fn measure(rt: &HostRuntime, section: &[u8], words: &mut Args) -> Result<(), Exe
 }
 
 /// Parses the file of the first word, and finds the structs of the other words.
-pub(crate) fn run(rt: &HostRuntime, words: &mut Args) -> Result<(), ExerciseError> {
+pub fn measure_types(rt: &HostRuntime, words: &mut Args) -> Result<(), ExerciseError> {
     let section = read_next(rt, words)?;
     measure(rt, section.as_slice(), words)
 }

@@ -1,0 +1,18 @@
+//! How long the libraries' calls take, for the program of exercises.
+#![tactic(auto)]
+
+mod error;
+mod files;
+mod maps;
+mod matching;
+mod objects;
+mod symbols;
+mod times;
+mod types;
+
+pub use error::ExerciseError;
+pub use files::read_next;
+pub use matching::measure_matching;
+pub use objects::measure_object;
+pub use symbols::measure_symbols;
+pub use types::measure_types;
