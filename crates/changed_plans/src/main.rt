@@ -100,12 +100,12 @@ fn count_texts(rt: &HostRuntime, words: &mut Args) -> Result<(), ChangesError> {
     let mut text = fs::read(rt, next_word(words)?.as_str())?;
     let fronts = count_refused_texts(rt.alloc(), text.as_slice());
     println!(rt;
-        "{fronts} of {} fronts are refused at the line behind their last whole one",
+        "{fronts} of {} fronts are refused at the line after their last whole one",
         text.len()
     )?;
     let counts = changed_text_counts(rt.alloc(), text.as_mut_slice());
     println!(rt;
-        "{} of {} texts with another byte are read and written alike, or refused at the line of the byte or behind it",
+        "{} of {} texts with another byte are read and written alike, or refused at the line of the byte or after it",
         counts.read.saturating_add(counts.refused),
         counts.all
     )?;
