@@ -9,8 +9,8 @@ use ebpf_items::{
 };
 use elf64::{ElfError, ElfFile};
 use sample_objects::{ONE_PROGRAM, with_bytes};
-use std::alloc::Global;
-use std::test::Fail;
+use std::alloc::{AllocError, Global};
+use std::process::Abort;
 
 const CALL: [u8; 8] = [0x85, 0x10, 0, 0, 0xff, 0xff, 0xff, 0xff];
 
@@ -21,26 +21,32 @@ const SLOTS: [([u8; 8], (u8, i16, i32, u8, u8)); 3] = [
     ([0x61, 0x10, 0xff, 0x7f, 0, 0, 0, 0], (0x61, 32767, 0, 0, 1)),
 ];
 
+// What a slot's code, offset, immediate, destination and source are.
+fn numbers(slot: &bpf_insn) -> (u8, i16, i32, u8, u8) {
+    (
+        slot.code,
+        slot.off,
+        slot.imm,
+        slot.dst_reg(),
+        slot.src_reg(),
+    )
+}
+
+fn check_slot(rt: &impl Abort, bytes: [u8; 8], expected: (u8, i16, i32, u8, u8)) {
+    let mut slot = bpf_insn::from_bytes(bytes);
+    assert!(rt; numbers(&slot) == expected);
+    assert!(rt; slot.to_bytes() == bytes);
+    assert!(rt; slot.is_pseudo_call() == (bytes == CALL));
+    // Of a register's number the low four bits count.
+    slot.set_dst_reg(0xff);
+    slot.set_src_reg(0x12);
+    assert!(rt; slot.to_bytes()[1] == 0x2f);
+}
+
 #[test]
 fn encodes_slots(rt: HostRuntime) {
-    for (bytes, numbers) in SLOTS.iter() {
-        let mut slot = bpf_insn::from_bytes(*bytes);
-        assert_eq!(rt;
-            (
-                slot.code,
-                slot.off,
-                slot.imm,
-                slot.dst_reg(),
-                slot.src_reg()
-            ),
-            *numbers
-        );
-        assert_eq!(rt; slot.to_bytes(), *bytes);
-        assert_eq!(rt; slot.is_pseudo_call(), *bytes == CALL);
-        // Of a register's number the low four bits count.
-        slot.set_dst_reg(0xff);
-        slot.set_src_reg(0x12);
-        assert_eq!(rt; slot.to_bytes()[1], 0x2f);
+    for (bytes, expected) in SLOTS {
+        check_slot(&rt, bytes, expected);
     }
 }
 
@@ -49,32 +55,47 @@ const PROBES: &[u8] = &[
     0x85, 0, 0, 0, 0x71, 0, 0, 0, 0x85, 0, 0, 0, 0x73, 0, 0, 0, 0x95, 0, 0, 0, 0, 0, 0, 0,
 ];
 
+fn immediate(slots: &Slots<'_>, index: usize) -> Option<i32> {
+    Some(slots.get(index)?.imm)
+}
+
 // Whether the slots stand in the file, how many there are, and the first two immediates.
 fn seen(slots: &Slots<'_>) -> (bool, usize, Option<i32>, Option<i32>) {
     (
         slots.is_borrowed(),
         slots.len(),
-        slots.get(0).map(|slot| slot.imm),
-        slots.get(1).map(|slot| slot.imm),
+        immediate(slots, 0),
+        immediate(slots, 1),
     )
 }
 
+fn check_no_newer_helper(rt: &impl Abort, slots: &Slots<'_>) {
+    for slot in slots.iter() {
+        assert!(rt; !slot.calls_newer_helper());
+    }
+}
+
 #[test]
-fn keeps_slots_in_the_file(rt: HostRuntime) -> Result<(), Fail> {
-    let mut slots = Slots::borrowed(rt.alloc(), PROBES).ok_or("whole slots")?;
-    assert_eq!(rt; seen(&slots), (true, 3, Some(113), Some(115)));
+fn keeps_slots_in_the_file(rt: HostRuntime) {
+    let mut slots = Slots::borrowed(rt.alloc(), PROBES).expect(&rt, "whole slots");
+    assert!(rt; seen(&slots) == (true, 3, Some(113), Some(115)));
     slots.rename_helpers();
-    assert_eq!(rt; seen(&slots), (true, 3, Some(4), Some(45)));
-    assert!(rt; !slots.iter().any(|slot| slot.calls_newer_helper()));
-    let mut copy = slots.try_clone()?;
-    assert_eq!(rt; seen(&copy), (true, 3, Some(4), Some(45)));
+    assert!(rt; seen(&slots) == (true, 3, Some(4), Some(45)));
+    check_no_newer_helper(&rt, &slots);
+}
+
+#[test]
+fn copies_have_slots_of_their_own(rt: HostRuntime) {
+    let mut slots = Slots::borrowed(rt.alloc(), PROBES).expect(&rt, "whole slots");
+    slots.rename_helpers();
+    let mut copy = slots.try_clone().expect(&rt, "memory");
+    assert!(rt; seen(&copy) == (true, 3, Some(4), Some(45)));
     assert!(rt; copy.len() > 1);
-    copy.set(1, bpf_insn::from_bytes(CALL))?;
-    assert_eq!(rt; seen(&copy), (false, 3, Some(4), Some(-1)));
-    assert_eq!(rt; seen(&slots), (true, 3, Some(4), Some(45)));
-    let again = copy.try_clone()?;
-    assert_eq!(rt; seen(&again), (false, 3, Some(4), Some(-1)));
-    Ok(())
+    assert!(rt; copy.set(1, bpf_insn::from_bytes(CALL)).is_ok());
+    assert!(rt; seen(&copy) == (false, 3, Some(4), Some(-1)));
+    assert!(rt; seen(&slots) == (true, 3, Some(4), Some(45)));
+    let again = copy.try_clone().expect(&rt, "memory");
+    assert!(rt; seen(&again) == (false, 3, Some(4), Some(-1)));
 }
 
 // Whether a list of slots is made of bytes, which it isn't of a cut slot.
@@ -86,36 +107,35 @@ fn is_code(alloc: Global, bytes: &[u8]) -> bool {
 }
 
 #[test]
-fn copies_whole_slots(rt: HostRuntime) -> Result<(), Fail> {
-    let mut slots = match copy_instructions(rt.alloc(), PROBES) {
-        Ok(list) => Slots::owned(list),
-        Err(_) => return Err(Fail::from("refused")),
-    };
-    slots.rename_helpers();
-    assert_eq!(rt; seen(&slots), (false, 3, Some(4), Some(45)));
-    let mut program = Vec::new(rt.alloc());
-    slots.append_to(&mut program)?;
-    slots.append_to(&mut program)?;
-    assert_eq!(rt; program.len(), 6);
+fn takes_whole_slots(rt: HostRuntime) {
     assert!(rt; !is_code(rt.alloc(), &CALL[..7]));
     assert!(rt; is_code(rt.alloc(), &CALL));
-    Ok(())
+}
+
+#[test]
+fn copies_whole_slots(rt: HostRuntime) {
+    let list = copy_instructions(rt.alloc(), PROBES)
+        .ok()
+        .expect(&rt, "slots");
+    let mut slots = Slots::owned(list);
+    slots.rename_helpers();
+    assert!(rt; seen(&slots) == (false, 3, Some(4), Some(45)));
+    let mut program = Vec::new(rt.alloc());
+    assert!(rt; slots.append_to(&mut program).is_ok());
+    assert!(rt; slots.append_to(&mut program).is_ok());
+    assert!(rt; program.len() == 6);
 }
 
 #[test]
 fn numbers_kinds(rt: HostRuntime) {
-    assert_eq!(rt;
-        RelocationKind::try_from(0).ok(),
-        Some(RelocationKind::FieldByteOffset)
-    );
-    assert_eq!(rt;
-        RelocationKind::try_from(11).ok(),
-        Some(RelocationKind::EnumVariantValue)
-    );
-    assert_eq!(rt; RelocationKind::try_from(12).ok(), None);
-    assert_eq!(rt; RelocationKind::TypeIdLocal.number(), 6);
-    assert_eq!(rt; PinningType::try_from(1).ok(), Some(PinningType::ByName));
-    assert_eq!(rt; PinningType::try_from(2).ok(), None);
+    let first = RelocationKind::FieldByteOffset;
+    let last = RelocationKind::EnumVariantValue;
+    assert!(rt; RelocationKind::try_from(0).ok() == Some(first));
+    assert!(rt; RelocationKind::try_from(11).ok() == Some(last));
+    assert!(rt; RelocationKind::try_from(12).ok() == None);
+    assert!(rt; RelocationKind::TypeIdLocal.number() == 6);
+    assert!(rt; PinningType::try_from(1).ok() == Some(PinningType::ByName));
+    assert!(rt; PinningType::try_from(2).ok() == None);
 }
 
 // What the kernel tells of a map, with ids of the types of its keys and values.
@@ -156,18 +176,27 @@ fn place(map: &Map) -> (PinningType, usize, EbpfSectionKind, Option<usize>) {
 }
 
 #[test]
-fn reads_what_the_kernel_tells(rt: HostRuntime) {
-    for (key, value, is_btf) in [(0, 0, false), (3, 0, false), (0, 3, true)] {
+fn reads_what_the_kernel_tells_of_maps_without_types(rt: HostRuntime) {
+    for (key, value) in [(0, 0), (3, 0)] {
         let map = parse_map_info(rt.alloc(), told(key, value), PinningType::ByName);
-        assert_eq!(rt; matches!(map, Map::Btf(_)), is_btf);
-        let (extra, kind, symbol) = if is_btf {
-            (5, EbpfSectionKind::BtfMaps, Some(0))
-        } else {
-            (0, EbpfSectionKind::Undefined, None)
-        };
-        assert_eq!(rt; words(&map), (1, 4, 8, 16, 128, extra));
-        assert_eq!(rt; place(&map), (PinningType::ByName, 0, kind, symbol));
+        check_plain_map(&rt, &map);
     }
+}
+
+fn check_plain_map(rt: &impl Abort, map: &Map) {
+    assert!(rt; matches!(map, Map::Legacy(_)));
+    assert!(rt; words(map) == (1, 4, 8, 16, 128, 0));
+    let kind = EbpfSectionKind::Undefined;
+    assert!(rt; place(map) == (PinningType::ByName, 0, kind, None));
+}
+
+#[test]
+fn reads_what_the_kernel_tells_of_a_map_with_types(rt: HostRuntime) {
+    let map = parse_map_info(rt.alloc(), told(0, 3), PinningType::ByName);
+    assert!(rt; matches!(map, Map::Btf(_)));
+    assert!(rt; words(&map) == (1, 4, 8, 16, 128, 5));
+    let kind = EbpfSectionKind::BtfMaps;
+    assert!(rt; place(&map) == (PinningType::ByName, 0, kind, Some(0)));
 }
 
 // Keeps the first bytes of a map, `count` of them.
@@ -178,56 +207,75 @@ fn shorten(map: &mut Map, count: usize)
     map.data_mut().truncate(count);
 }
 
-// A map of constants, and a map that types define, each holding maps.
-fn outer_maps(alloc: Global, contents: Vec<u8>, more: Vec<u8>) -> [Map; 2] {
-    let constants = LegacyMap {
+// A map of constants that holds maps.
+fn map_of_constants(contents: Vec<u8>) -> Map {
+    Map::Legacy(LegacyMap {
         def: bpf_map_def::default(),
         inner_def: Some(bpf_map_def::default()),
         section_index: 3,
         section_kind: EbpfSectionKind::Rodata,
         symbol_index: Some(1),
         contents,
-    };
+    })
+}
+
+// A map of maps that types define.
+fn map_of_types(alloc: Global) -> Map {
     let words = BtfMapDef::default();
-    let mut typed = Map::Btf(BtfMap::new(alloc, words, Some(words), 3, 1));
-    *typed.data_mut() = more;
-    [Map::Legacy(constants), typed]
+    Map::Btf(BtfMap::new(alloc, words, Some(words), 3, 1))
+}
+
+// A map is changed, and a copy of it stays as it is.
+fn check_changes(rt: &impl Abort, map: &mut Map) {
+    let copy = map.try_clone().expect(rt, "memory");
+    map.set_value_size(24);
+    map.set_max_entries(2);
+    shorten(map, 3);
+    assert!(rt; words(map) == (0, 0, 24, 2, 0, 0));
+    assert!(rt; map.data() == [1, 2, 3].as_slice());
+    check_outer(rt, &copy);
+}
+
+// A map is as it was made, and so is the one that it holds.
+fn check_outer(rt: &impl Abort, map: &Map) {
+    assert!(rt; words(map) == (0, 0, 0, 0, 0, 0));
+    assert!(rt; map.data().len() > 3);
+    assert!(rt; (map.section_index(), map.symbol_index()) == (3, Some(1)));
+    let inner = map.inner().expect(rt, "an inner map");
+    assert!(rt; (inner.section_index(), inner.data().len()) == (0, 0));
+    assert!(rt; inner.inner().is_none());
 }
 
 #[test]
-fn changes_maps(rt: HostRuntime) -> Result<(), Fail> {
-    let bytes = Vec::from_slice(rt.alloc(), &[1, 2, 3, 4, 5, 6, 7, 8])?;
-    let more = Vec::from_slice(rt.alloc(), &[1, 2, 3, 4])?;
-    for mut map in outer_maps(rt.alloc(), bytes, more) {
-        let copy = map.try_clone()?;
-        map.set_value_size(24);
-        map.set_max_entries(2);
-        shorten(&mut map, 3);
-        assert_eq!(rt; words(&map), (0, 0, 24, 2, 0, 0));
-        assert_eq!(rt; map.data(), [1, 2, 3].as_slice());
-        assert_eq!(rt; words(&copy), (0, 0, 0, 0, 0, 0));
-        assert!(rt; copy.data().len() > 3);
-        assert_eq!(rt; (copy.section_index(), copy.symbol_index()), (3, Some(1)));
-        let inner = copy.inner().ok_or("an inner map")?;
-        assert_eq!(rt; (inner.section_index(), inner.data().len()), (0, 0));
-        assert!(rt; inner.inner().is_none());
-    }
-    Ok(())
+fn changes_maps(rt: HostRuntime) {
+    let bytes = [1, 2, 3, 4, 5, 6, 7, 8];
+    let contents = Vec::from_slice(rt.alloc(), &bytes).expect(&rt, "memory");
+    check_changes(&rt, &mut map_of_constants(contents));
+    let mut typed = map_of_types(rt.alloc());
+    assert!(rt; typed.data_mut().extend_from_slice(&bytes[..4]).is_ok());
+    check_changes(&rt, &mut typed);
+}
+
+fn has_text(alloc: Global, error: &ParseError, text: &str) -> Result<bool, AllocError> {
+    Ok(format!(in alloc; "{error}")?.as_str() == text)
 }
 
 #[test]
-fn says_what_is_wrong(rt: HostRuntime) -> Result<(), Fail> {
+fn says_that_a_symbol_is_missing(rt: HostRuntime) {
     let error = ParseError::UnknownSymbol {
         section_index: 2,
         address: 8,
     };
-    let text = format!(in rt.alloc(); "{error}")?;
-    assert_eq!(rt; text.as_str(), "no function of section 2 at address 0x8");
-    let bytes = Vec::from_slice(rt.alloc(), b"GPL\0x\0")?;
+    let text = "no function of section 2 at address 0x8";
+    assert!(rt; has_text(rt.alloc(), &error, text) == Ok(true));
+}
+
+#[test]
+fn says_that_a_license_is_wrong(rt: HostRuntime) {
+    let bytes = Vec::from_slice(rt.alloc(), b"GPL\0x\0").expect(&rt, "memory");
     let error = ParseError::InvalidLicense { bytes };
-    let text = format!(in rt.alloc(); "{error}")?;
-    assert_eq!(rt; text.as_str(), "invalid license \"GPL\\x00x\\x00\"");
-    Ok(())
+    let text = "invalid license \"GPL\\x00x\\x00\"";
+    assert!(rt; has_text(rt.alloc(), &error, text) == Ok(true));
 }
 
 // Where the program's section of the sample has its name and its offset.
@@ -235,41 +283,41 @@ const NAME: usize = 312;
 
 const OFFSET: usize = 336;
 
-// The index, address, size and kind of the program's section, or why it can't be read.
-fn section(object: &[u8]) -> Result<(usize, u64, u64, EbpfSectionKind), ParseError> {
-    let file = ElfFile::parse(object)?;
-    let Some(view) = file.sections().nth(1) else {
-        return Err(ParseError::NoBTF);
+// What a section comes to: its index, address, size and kind, or what is wrong with which.
+#[derive(Clone, Copy, PartialEq)]
+enum Answer {
+    Section(usize, u64, u64, EbpfSectionKind),
+    Unreadable(usize, ElfError),
+    Other,
+}
+
+// What the program's section comes to.
+fn answer_of(object: &[u8]) -> Answer {
+    let Ok(file) = ElfFile::parse(object) else {
+        return Answer::Other;
     };
-    let section = Section::try_from(&view)?;
-    Ok((section.index, section.address, section.size, section.kind))
+    let Some(view) = file.sections().nth(1) else {
+        return Answer::Other;
+    };
+    match Section::try_from(&view) {
+        Ok(section) => {
+            Answer::Section(section.index, section.address, section.size, section.kind)
+        }
+        Err(ParseError::SectionError { index, error }) => Answer::Unreadable(index, error),
+        Err(_) => Answer::Other,
+    }
+}
+
+fn check_section(rt: &impl Abort, at: usize, bytes: &[u8], expected: Answer) {
+    assert!(rt; answer_of(&with_bytes(&ONE_PROGRAM, &[(at, bytes)])) == expected);
 }
 
 #[test]
 fn reads_sections(rt: HostRuntime) {
-    let section_of = |at: usize, bytes: &[u8]| section(&with_bytes(&ONE_PROGRAM, &[(at, bytes)]));
-    assert!(rt;
-        matches!(
-            section_of(OFFSET, &[0x48]),
-            Ok((2, 0, 16, EbpfSectionKind::Program))
-        )
-    );
-    assert!(rt;
-        matches!(
-            section_of(OFFSET, &[0, 0, 0, 1]),
-            Err(ParseError::SectionError {
-                index: 2,
-                error: ElfError::SectionData
-            })
-        )
-    );
-    assert!(rt;
-        matches!(
-            section_of(NAME, &[0, 0, 0, 1]),
-            Err(ParseError::SectionError {
-                index: 2,
-                error: ElfError::Name
-            })
-        )
-    );
+    let program = Answer::Section(2, 0, 16, EbpfSectionKind::Program);
+    check_section(&rt, OFFSET, &[0x48], program);
+    let no_data = Answer::Unreadable(2, ElfError::SectionData);
+    check_section(&rt, OFFSET, &[0, 0, 0, 1], no_data);
+    let no_name = Answer::Unreadable(2, ElfError::Name);
+    check_section(&rt, NAME, &[0, 0, 0, 1], no_name);
 }

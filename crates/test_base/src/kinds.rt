@@ -7,7 +7,7 @@ use program_kinds::{
     CgroupSkbAttachType, CgroupSockAttachType, EbpfSectionKind, ProgramSection, XdpAttachType,
     bpf_attach_type, bpf_map_type, bpf_prog_type,
 };
-use std::test::Fail;
+use std::process::Abort;
 
 // The kind's place in the list of kinds, and its fields: 0 or 1, or places in the lists of attach
 // types.
@@ -123,15 +123,24 @@ static KINDS: [(&str, (u8, u8, u8)); 66] = [
     ("iter", (29, 0, 0)),
 ];
 
-#[test]
-fn names_each_kind_of_program(rt: HostRuntime) -> Result<(), Fail> {
-    for (name, expected) in KINDS.iter() {
-        let kind: ProgramSection = name.parse().map_err(|_| "no kind")?;
-        assert_eq!(rt; numbers(&kind), *expected, "{name}");
+// What the program of a section's name is, if it names a kind.
+fn named(name: &str) -> Option<(u8, u8, u8)> {
+    match name.parse::<ProgramSection>() {
+        Ok(kind) => Some(numbers(&kind)),
+        Err(_) => None,
     }
-    let iter: ProgramSection = "iter.s/task".parse().map_err(|_| "no kind")?;
-    assert_eq!(rt; numbers(&iter), (29, 1, 0));
-    Ok(())
+}
+
+fn check_named(rt: &impl Abort, name: &str, expected: Option<(u8, u8, u8)>) {
+    assert!(rt; named(name) == expected, "{name}");
+}
+
+#[test]
+fn names_each_kind_of_program(rt: HostRuntime) {
+    for (name, expected) in &KINDS {
+        check_named(&rt, name, Some(*expected));
+    }
+    check_named(&rt, "iter.s/task", Some((29, 1, 0)));
 }
 
 // Each row of the tables gives its kind: none stands after another of its name.
@@ -182,110 +191,113 @@ fn row_gives_its_kind(index: usize)
     rows_give_their_kinds();
 }
 
+static NO_KINDS: [&str; 21] = [
+    "",
+    "/kprobe",
+    "kprobe.s",
+    "kprobe.multi",
+    "kretprobe.s",
+    "xdp/foo",
+    "xdp/",
+    "xdp.s",
+    "sk_skb",
+    "sk_skb/",
+    "sk_skb/stream_parser_",
+    "sk_reuseport/",
+    "cgroup_skb",
+    "cgroup_skb/skb",
+    "cgroup",
+    "cgroup/",
+    "cgroup/bind",
+    "lsm_cgroup.s",
+    "iter.multi",
+    "Kprobe",
+    "kprob",
+];
+
 #[test]
 fn refuses_other_names(rt: HostRuntime) {
-    for name in [
-        "",
-        "/kprobe",
-        "kprobe.s",
-        "kprobe.multi",
-        "kretprobe.s",
-        "xdp/foo",
-        "xdp/",
-        "xdp.s",
-        "sk_skb",
-        "sk_skb/",
-        "sk_skb/stream_parser_",
-        "sk_reuseport/",
-        "cgroup_skb",
-        "cgroup_skb/skb",
-        "cgroup",
-        "cgroup/",
-        "cgroup/bind",
-        "lsm_cgroup.s",
-        "iter.multi",
-        "Kprobe",
-        "kprob",
-    ] {
-        assert!(rt; name.parse::<ProgramSection>().is_err(), "{name}");
+    for name in &NO_KINDS {
+        check_named(&rt, name, None);
     }
 }
+
+static SECTIONS: [(&str, EbpfSectionKind); 12] = [
+    ("license2", EbpfSectionKind::License),
+    ("version", EbpfSectionKind::Version),
+    ("maps/foo", EbpfSectionKind::Maps),
+    (".maps", EbpfSectionKind::BtfMaps),
+    (".text.unlikely", EbpfSectionKind::Text),
+    (".bss", EbpfSectionKind::Bss),
+    (".data.rel", EbpfSectionKind::Data),
+    (".rodata.str1.1", EbpfSectionKind::Rodata),
+    (".BTF", EbpfSectionKind::Btf),
+    (".BTF.ext", EbpfSectionKind::BtfExt),
+    (".BTF.", EbpfSectionKind::Undefined),
+    ("kprobe", EbpfSectionKind::Undefined),
+];
+
+// A name, whether the section is of code, its size, and its kind.
+static SECTIONS_OF_CODE: [(&str, bool, u64, EbpfSectionKind); 4] = [
+    ("kprobe", true, 16, EbpfSectionKind::Program),
+    ("kprobe", true, 0, EbpfSectionKind::Undefined),
+    ("kprobe", false, 16, EbpfSectionKind::Undefined),
+    (".text", true, 16, EbpfSectionKind::Text),
+];
 
 #[test]
 fn names_kinds_of_sections(rt: HostRuntime) {
-    for (name, kind) in [
-        ("license2", EbpfSectionKind::License),
-        ("version", EbpfSectionKind::Version),
-        ("maps/foo", EbpfSectionKind::Maps),
-        (".maps", EbpfSectionKind::BtfMaps),
-        (".text.unlikely", EbpfSectionKind::Text),
-        (".bss", EbpfSectionKind::Bss),
-        (".data.rel", EbpfSectionKind::Data),
-        (".rodata.str1.1", EbpfSectionKind::Rodata),
-        (".BTF", EbpfSectionKind::Btf),
-        (".BTF.ext", EbpfSectionKind::BtfExt),
-        (".BTF.", EbpfSectionKind::Undefined),
-        ("kprobe", EbpfSectionKind::Undefined),
-    ] {
-        assert_eq!(rt; EbpfSectionKind::from_name(name), kind, "{name}");
+    for (name, kind) in &SECTIONS {
+        assert!(rt; EbpfSectionKind::from_name(name) == *kind, "{name}");
     }
-    assert_eq!(rt;
-        EbpfSectionKind::of_section("kprobe", true, 16),
-        EbpfSectionKind::Program
-    );
-    assert_eq!(rt;
-        EbpfSectionKind::of_section("kprobe", true, 0),
-        EbpfSectionKind::Undefined
-    );
-    assert_eq!(rt;
-        EbpfSectionKind::of_section("kprobe", false, 16),
-        EbpfSectionKind::Undefined
-    );
-    assert_eq!(rt;
-        EbpfSectionKind::of_section(".text", true, 16),
-        EbpfSectionKind::Text
-    );
 }
 
 #[test]
-fn numbers_bindings(rt: HostRuntime) {
-    assert!(rt;
-        matches!(
-            bpf_map_type::try_from(0),
-            Ok(bpf_map_type::BPF_MAP_TYPE_UNSPEC)
-        )
-    );
-    assert!(rt;
-        matches!(
-            bpf_map_type::try_from(27),
-            Ok(bpf_map_type::BPF_MAP_TYPE_RINGBUF)
-        )
-    );
-    assert!(rt;
-        matches!(
-            bpf_map_type::try_from(34),
-            Ok(bpf_map_type::BPF_MAP_TYPE_INSN_ARRAY)
-        )
-    );
-    assert!(rt; matches!(bpf_map_type::try_from(35), Err(error) if error.value == 35));
-    assert!(rt;
-        matches!(
-            bpf_prog_type::try_from(2),
-            Ok(bpf_prog_type::BPF_PROG_TYPE_KPROBE)
-        )
-    );
-    assert!(rt;
-        matches!(
-            bpf_prog_type::try_from(32),
-            Ok(bpf_prog_type::BPF_PROG_TYPE_NETFILTER)
-        )
-    );
-    assert!(rt; matches!(bpf_prog_type::try_from(33), Err(error) if error.value == 33));
-    assert_eq!(rt; bpf_map_type::BPF_MAP_TYPE_INSN_ARRAY as u32, 34);
-    assert_eq!(rt; bpf_prog_type::BPF_PROG_TYPE_NETFILTER as u32, 32);
-    assert_eq!(rt; bpf_attach_type::from(XdpAttachType::Interface) as u32, 37);
-    assert_eq!(rt;
-        bpf_attach_type::from(CgroupSockAttachType::default()) as u32,
-        2
-    );
+fn sections_of_code_have_kinds(rt: HostRuntime) {
+    for (name, is_code, size, kind) in &SECTIONS_OF_CODE {
+        assert!(rt;
+            EbpfSectionKind::of_section(name, *is_code, *size) == *kind,
+            "{name}"
+        );
+    }
+}
+
+// The type of a map, or the number that is none.
+fn map_type(number: u32) -> Result<bpf_map_type, u32> {
+    match bpf_map_type::try_from(number) {
+        Ok(kind) => Ok(kind),
+        Err(error) => Err(error.value),
+    }
+}
+
+// The type of a program, or the number that is none.
+fn program_type(number: u32) -> Result<bpf_prog_type, u32> {
+    match bpf_prog_type::try_from(number) {
+        Ok(kind) => Ok(kind),
+        Err(error) => Err(error.value),
+    }
+}
+
+#[test]
+fn numbers_types_of_maps(rt: HostRuntime) {
+    assert!(rt; map_type(0) == Ok(bpf_map_type::BPF_MAP_TYPE_UNSPEC));
+    assert!(rt; map_type(27) == Ok(bpf_map_type::BPF_MAP_TYPE_RINGBUF));
+    assert!(rt; map_type(34) == Ok(bpf_map_type::BPF_MAP_TYPE_INSN_ARRAY));
+    assert!(rt; map_type(35) == Err(35));
+    assert!(rt; bpf_map_type::BPF_MAP_TYPE_INSN_ARRAY as u32 == 34);
+}
+
+#[test]
+fn numbers_types_of_programs(rt: HostRuntime) {
+    assert!(rt; program_type(2) == Ok(bpf_prog_type::BPF_PROG_TYPE_KPROBE));
+    assert!(rt; program_type(32) == Ok(bpf_prog_type::BPF_PROG_TYPE_NETFILTER));
+    assert!(rt; program_type(33) == Err(33));
+    assert!(rt; bpf_prog_type::BPF_PROG_TYPE_NETFILTER as u32 == 32);
+}
+
+#[test]
+fn numbers_types_of_attaching(rt: HostRuntime) {
+    let xdp = bpf_attach_type::from(XdpAttachType::Interface);
+    let socket = bpf_attach_type::from(CgroupSockAttachType::default());
+    assert!(rt; (xdp as u32, socket as u32) == (37, 2));
 }

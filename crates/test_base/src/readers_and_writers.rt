@@ -4,6 +4,7 @@ ghost use Rattle.std.specs.Prelude.{◌≤◌, IfOk};
 
 use std::io;
 use std::io::{ErrorKind, Read, Write};
+use std::process::Abort;
 use watched::Watched;
 
 // Reads and writes a byte a call, a number of times; then it fails, or answers 0.
@@ -62,15 +63,19 @@ const READS: [(usize, bool, [Option<usize>; 4], usize); 2] = [
     (2, false, [Some(1), Some(1), Some(0), Some(0)], 4),
 ];
 
+fn check_read(rt: &impl Abort, reader: &mut Watched<Scarce>, answer: Option<usize>) {
+    assert!(rt; reader.read(&mut [0; 4]).ok() == answer);
+    assert!(rt; reader.failed() == answer.is_none());
+}
+
 #[test]
 fn keeps_a_reader_s_failure(rt: HostRuntime) {
-    for (left, fails, answers, calls) in READS.iter() {
-        let mut reader = watched(*left, *fails);
+    for (left, fails, answers, calls) in READS {
+        let mut reader = watched(left, fails);
         for answer in answers {
-            assert_eq!(rt; reader.read(&mut [0; 4]).ok(), *answer);
-            assert_eq!(rt; reader.failed(), answer.is_none());
+            check_read(&rt, &mut reader, answer);
         }
-        assert_eq!(rt; reader.into_inner().calls, *calls);
+        assert!(rt; reader.into_inner().calls == calls);
     }
 }
 
@@ -82,19 +87,26 @@ const WRITES: [(usize, bool, bool, usize); 3] = [
     (4, false, false, 5),
 ];
 
+fn check_writer(rt: &impl Abort, left: usize, fails: bool, is_written: bool, calls: usize) {
+    let mut writer = watched(left, fails);
+    writer.send(b"plan\n");
+    writer.send(b"");
+    assert!(rt; writer.failed() != is_written);
+    if !is_written {
+        writer.send(b"more");
+    }
+    assert!(rt; writer.into_inner().calls == calls);
+}
+
 #[test]
 fn keeps_a_writer_s_failure(rt: HostRuntime) {
-    for (left, fails, is_written, calls) in WRITES.iter() {
-        let mut writer = watched(*left, *fails);
-        writer.send(b"plan\n");
-        writer.send(b"");
-        assert_eq!(rt; writer.failed(), !*is_written);
-        if !*is_written {
-            writer.send(b"more");
-        }
-        assert_eq!(rt; writer.into_inner().calls, *calls);
+    for (left, fails, is_written, calls) in WRITES {
+        check_writer(&rt, left, fails, is_written, calls);
     }
-    // Nothing that is asked for is no failure where nothing is taken.
+}
+
+#[test]
+fn nothing_that_is_asked_for_is_no_failure(rt: HostRuntime) {
     let mut writer = watched(0, false);
     assert!(rt; matches!(writer.write(b""), Ok(0)));
     assert!(rt; writer.write(b"x").is_err());

@@ -1,6 +1,9 @@
 //! Texts of string tables, short and long.
 
+ghost use Rattle.string_table.specs.LongTexts.{AreLongTextsOf};
+
 use std::alloc::{AllocError, Global};
+use std::process::Abort;
 use std::test::Fail;
 use string_table::{LongTexts, is_text_at, text_at};
 
@@ -25,18 +28,28 @@ static TEXTS: [Option<&str>; 14] = [
     None,
 ];
 
+/// Texts that are asked for at each offset.
+static WANTED: [&str; 6] = ["", "a", "ab", "b", "é", "ab\0"];
+
+/// Of the texts asked for it is this one, or none, that stands at an offset.
+fn check_text(rt: &impl Abort, offset: u32, text: Option<&str>) {
+    assert!(rt; text_at(&STRINGS, offset) == text, "at {offset}");
+    for wanted in &WANTED {
+        check_wanted(rt, offset, wanted, text == Some(*wanted));
+    }
+}
+
+fn check_wanted(rt: &impl Abort, offset: u32, wanted: &str, is_there: bool) {
+    assert!(rt;
+        is_text_at(&STRINGS, offset, wanted) == is_there,
+        "{wanted} at {offset}"
+    );
+}
+
 #[test]
 fn a_text_ends_at_the_next_nul(rt: HostRuntime) {
     for (offset, text) in TEXTS.iter().enumerate() {
-        assert_eq!(rt; text_at(&STRINGS, offset as u32), *text, "at {offset}");
-        for wanted in ["", "a", "ab", "b", "é", "ab\0"] {
-            let is_wanted = *text == Some(wanted);
-            assert_eq!(rt;
-                is_text_at(&STRINGS, offset as u32, wanted),
-                is_wanted,
-                "at {offset}"
-            );
-        }
+        check_text(&rt, offset as u32, *text);
     }
 }
 
@@ -70,21 +83,38 @@ fn long_strings(alloc: Global) -> Result<Vec<u8>, AllocError> {
     Ok(strings)
 }
 
+/// The text at an offset is the same with the long texts as without.
+fn check_long_text(rt: &impl Abort, texts: &LongTexts, strings: &[u8], offset: u32)
+    requires { AreLongTextsOf strings.now texts.now }
+{
+    let text = texts.text_at(strings, offset);
+    assert!(rt; text == text_at(strings, offset), "at {offset}");
+}
+
+fn check_long_texts(rt: &impl Abort, texts: &LongTexts, strings: &[u8])
+    requires { AreLongTextsOf strings.now texts.now }
+{
+    for offset in 0..1700 {
+        check_long_text(rt, texts, strings, offset);
+    }
+}
+
 #[test]
 fn long_texts_are_the_texts(rt: HostRuntime) -> Result<(), Fail> {
     let strings = long_strings(rt.alloc())?;
-    let strings = strings.as_slice();
-    let texts = LongTexts::new(rt.alloc(), strings)?;
-    let copy = texts.try_clone()?;
+    let texts = LongTexts::new(rt.alloc(), &strings)?;
+    check_long_texts(&rt, &texts, &strings);
+    check_long_texts(&rt, &texts.try_clone()?, &strings);
+    Ok(())
+}
+
+#[test]
+fn long_texts_grow(rt: HostRuntime) -> Result<(), Fail> {
+    let strings = long_strings(rt.alloc())?;
     assert!(rt; strings.len() > 500);
     let (first, _) = strings.split_at(500);
     let mut grown = LongTexts::new(rt.alloc(), first)?;
-    grown.extend(strings, 500)?;
-    for offset in 0..1700 {
-        let text = text_at(strings, offset);
-        assert_eq!(rt; texts.text_at(strings, offset), text, "at {offset}");
-        assert_eq!(rt; copy.text_at(strings, offset), text, "at {offset}");
-        assert_eq!(rt; grown.text_at(strings, offset), text, "at {offset}");
-    }
+    grown.extend(&strings, 500)?;
+    check_long_texts(&rt, &grown, &strings);
     Ok(())
 }

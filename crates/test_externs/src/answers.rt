@@ -1,12 +1,15 @@
 //! Externs by hand, and what is known of them once they were to be resolved.
 
+use crate::tables::{kernel_table, object_table};
 use btf_records::BtfError;
 use btf_tables::{Btf, essential_name};
 use extern_resolution::{KsymsError, resolve_externs};
 use object_externs::{ExternDesc, Externs};
-use std::alloc::{AllocError, Global};
+use std::alloc::Global;
 use std::collections::BTreeMap;
 use std::io::BufRead;
+use std::process::Abort;
+use std::slice;
 use watched::Watched;
 
 /// An extern: its name, the id of what declares it, its type, whether it is weak, and the address
@@ -22,7 +25,7 @@ pub(crate) const UNKNOWN: Known = (false, None, None);
 pub(crate) const MISSING: Known = (false, None, Some(0));
 
 /// Why externs can't be resolved.
-#[derive(Clone, Copy, Debug, PartialEq, Eq)]
+#[derive(Clone, Copy, PartialEq)]
 pub(crate) enum Refusal {
     NoKernelTypes,
     NoVariable(&'static str),
@@ -39,11 +42,22 @@ pub(crate) enum Refusal {
 }
 
 /// What is known of two externs, whether the reader of symbols failed, and why that is all.
-#[derive(Clone, Copy, Debug, PartialEq, Eq)]
+#[derive(Clone, Copy, PartialEq)]
 pub(crate) struct Answer {
     pub known: [Option<Known>; 2],
     pub has_failed: bool,
     pub refusal: Option<Refusal>,
+}
+
+impl Answer {
+    /// The answer where the reader didn't fail.
+    pub(crate) fn new(known: [Known; 2], refusal: Option<Refusal>) -> Answer {
+        Answer {
+            known: [Some(known[0]), Some(known[1])],
+            has_failed: false,
+            refusal,
+        }
+    }
 }
 
 /// The names that errors may say.
@@ -80,26 +94,30 @@ fn refusal_of(error: &KsymsError) -> Refusal {
     }
 }
 
+fn described(declared: &Declared) -> ExternDesc<'static> {
+    let (name, btf_id, type_id, is_weak, address) = *declared;
+    ExternDesc {
+        name,
+        btf_id,
+        is_weak,
+        is_resolved: address.is_some(),
+        kernel_btf_id: None,
+        ksym_addr: address,
+        type_id,
+        essential_name: essential_name(name),
+    }
+}
+
 /// Externs by name.
 fn by_name(
     alloc: Global,
     declared: &[Declared; 2],
-) -> Result<BTreeMap<&'static str, ExternDesc<'static>>, AllocError> {
+) -> Option<BTreeMap<&'static str, ExternDesc<'static>>> {
     let mut by_name = BTreeMap::new(alloc);
-    for (name, btf_id, type_id, is_weak, address) in declared.iter().copied() {
-        let desc = ExternDesc {
-            name,
-            btf_id,
-            is_weak,
-            is_resolved: address.is_some(),
-            kernel_btf_id: None,
-            ksym_addr: address,
-            type_id,
-            essential_name: essential_name(name),
-        };
-        by_name.insert(name, desc)?;
+    for one in declared {
+        by_name.insert(one.0, described(one)).ok()?;
     }
-    Ok(by_name)
+    Some(by_name)
 }
 
 /// What is known of an extern.
@@ -116,16 +134,14 @@ fn known(externs: &Externs<'_>, declared: &Declared) -> Option<Known> {
 }
 
 /// What becomes of two externs of an object with this table by a kernel's types and symbols.
-pub(crate) fn answer_of<R: BufRead>(
+fn answer_of<R: BufRead>(
     alloc: Global,
     declared: &[Declared; 2],
     table: Option<&Btf<'_>>,
     kernel: &[Btf<'_>],
     symbols: &mut Watched<R>,
 ) -> Option<Answer> {
-    let Ok(by_name) = by_name(alloc, declared) else {
-        return None;
-    };
+    let by_name = by_name(alloc, declared)?;
     let mut externs = Externs::none(alloc);
     externs.set_by_name(by_name);
     let refusal = match resolve_externs(alloc, &mut externs, table, kernel, symbols) {
@@ -137,4 +153,58 @@ pub(crate) fn answer_of<R: BufRead>(
         has_failed: symbols.failed(),
         refusal,
     })
+}
+
+/// What becomes of two externs of an object with this table is what is expected.
+pub(crate) fn check<R: BufRead + Drop>(
+    rt: &impl Abort,
+    alloc: Global,
+    declared: &[Declared; 2],
+    table: Option<&Btf<'_>>,
+    kernel: &[Btf<'_>],
+    symbols: R,
+    expected: Answer,
+) {
+    let mut symbols = Watched::new(symbols);
+    let answer = answer_of(alloc, declared, table, kernel, &mut symbols);
+    assert!(rt;
+        answer == Some(expected),
+        "{} and {}",
+        declared[0].0,
+        declared[1].0
+    );
+}
+
+/// The same for the object whose types are known, where the kernel's aren't.
+pub(crate) fn check_without_kernel<R: BufRead + Drop>(
+    rt: &impl Abort,
+    alloc: Global,
+    declared: &[Declared; 2],
+    symbols: R,
+    expected: Answer,
+) {
+    let object = object_table(rt, alloc);
+    check(rt, alloc, declared, Some(&object), &[], symbols, expected);
+}
+
+/// The same where the kernel's types are known too.
+pub(crate) fn check_with_kernel<R: BufRead + Drop>(
+    rt: &impl Abort,
+    alloc: Global,
+    declared: &[Declared; 2],
+    symbols: R,
+    expected: Answer,
+) {
+    let object = object_table(rt, alloc);
+    let kernel = kernel_table(rt, alloc);
+    let kernel = slice::from_ref(&kernel);
+    check(
+        rt,
+        alloc,
+        declared,
+        Some(&object),
+        kernel,
+        symbols,
+        expected,
+    );
 }

@@ -1,12 +1,11 @@
 //! What declares externs, with and without a table of the object and the kernel's types.
 
-use crate::answers::{Answer, Declared, Known, MISSING, Refusal, UNKNOWN, answer_of};
-use crate::tables::{
-    FUNCTION, INTEGER, NOTHING, OBJECT, POINTER, SIGNATURE, VARIABLE, kernel_section, section_of,
-    table,
+use crate::answers::{
+    Answer, Declared, Known, MISSING, Refusal, UNKNOWN, check, check_with_kernel,
+    check_without_kernel,
 };
-use std::io;
-use watched::Watched;
+use crate::tables::{FUNCTION, INTEGER, NOTHING, POINTER, SIGNATURE, VARIABLE, kernel_table};
+use std::{io, slice};
 
 /// Two externs by name, what is then known of them, and why that is all.
 type Case = (&'static [Declared; 2], [Known; 2], Option<Refusal>);
@@ -141,53 +140,34 @@ static WITHOUT_KERNEL_TYPES: [Case; 6] = [
 
 #[test]
 fn declarations_are_looked_at(rt: HostRuntime) {
-    let alloc = rt.alloc();
-    let section = section_of(&rt, alloc, OBJECT);
-    let object = table(&rt, alloc, section.as_slice());
-    let kernel = kernel_section(&rt, alloc);
-    let kernel = [table(&rt, alloc, kernel.as_slice())];
     for (declared, known, refusal) in &WITH_KERNEL_TYPES {
-        let mut symbols = Watched::new(io::empty());
-        let answer = answer_of(alloc, declared, Some(&object), &kernel, &mut symbols);
-        let expected = Answer {
-            known: [Some(known[0]), Some(known[1])],
-            has_failed: false,
-            refusal: *refusal,
-        };
-        assert_eq!(rt; answer, Some(expected));
+        let expected = Answer::new(*known, *refusal);
+        check_with_kernel(&rt, rt.alloc(), declared, io::empty(), expected);
     }
 }
 
 #[test]
 fn kernel_types_are_needed(rt: HostRuntime) {
-    let alloc = rt.alloc();
-    let section = section_of(&rt, alloc, OBJECT);
-    let object = table(&rt, alloc, section.as_slice());
     for (declared, known, refusal) in &WITHOUT_KERNEL_TYPES {
-        let mut symbols = Watched::new(io::empty());
-        let answer = answer_of(alloc, declared, Some(&object), &[], &mut symbols);
-        let expected = Answer {
-            known: [Some(known[0]), Some(known[1])],
-            has_failed: false,
-            refusal: *refusal,
-        };
-        assert_eq!(rt; answer, Some(expected));
+        let expected = Answer::new(*known, *refusal);
+        check_without_kernel(&rt, rt.alloc(), declared, io::empty(), expected);
     }
 }
 
 #[test]
 fn nothing_is_done_without_a_table(rt: HostRuntime) {
-    let alloc = rt.alloc();
-    let kernel = kernel_section(&rt, alloc);
-    let kernel = [table(&rt, alloc, kernel.as_slice())];
+    let kernel = kernel_table(&rt, rt.alloc());
+    let kernel = slice::from_ref(&kernel);
+    let expected = Answer::new([UNKNOWN, RESOLVED], None);
     for (declared, _known, _refusal) in &WITH_KERNEL_TYPES {
-        let mut symbols = Watched::new(io::empty());
-        let answer = answer_of(alloc, declared, None, &kernel, &mut symbols);
-        let expected = Answer {
-            known: [Some(UNKNOWN), Some(RESOLVED)],
-            has_failed: false,
-            refusal: None,
-        };
-        assert_eq!(rt; answer, Some(expected));
+        check(
+            &rt,
+            rt.alloc(),
+            declared,
+            None,
+            kernel,
+            io::empty(),
+            expected,
+        );
     }
 }

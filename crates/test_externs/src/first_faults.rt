@@ -1,12 +1,11 @@
 //! Of externs with several faults that of the first by name is named, of those with a type before
 //! the others, and of the text of symbols that of its first line.
 
-use crate::answers::{Answer, Declared, Refusal, UNKNOWN, answer_of};
-use crate::tables::{
-    FUNCTION, INTEGER, NOTHING, OBJECT, SIGNATURE, VARIABLE, kernel_section, section_of, table,
-};
+use crate::answers::{Answer, Declared, Refusal, UNKNOWN, check_with_kernel, check_without_kernel};
+use crate::tables::{FUNCTION, INTEGER, NOTHING, SIGNATURE, VARIABLE};
 use sample_objects::SlowText;
-use watched::Watched;
+use std::alloc::Global;
+use std::process::Abort;
 
 /// What an extern that must be there is: a function, a variable, a variable without a type, or one
 /// of a type that an integer declares or that nothing declares.
@@ -89,26 +88,20 @@ static FAULTS: [Fault; 13] = [
     ),
 ];
 
+/// Two externs, whichever stands first, come to the fault.
+fn check_fault(rt: &impl Abort, alloc: Global, fault: &Fault) {
+    let (sorts, refusal) = *fault;
+    let one = declared(sorts[0].0, sorts[0].1);
+    let other = declared(sorts[1].0, sorts[1].1);
+    let expected = Answer::new([UNKNOWN; 2], Some(refusal));
+    check_with_kernel(rt, alloc, &[one, other], &b"1 T b\n"[..], expected);
+    check_with_kernel(rt, alloc, &[other, one], &b"1 T b\n"[..], expected);
+}
+
 #[test]
 fn first_name_is_named(rt: HostRuntime) {
-    let alloc = rt.alloc();
-    let section = section_of(&rt, alloc, OBJECT);
-    let object = table(&rt, alloc, section.as_slice());
-    let kernel = kernel_section(&rt, alloc);
-    let kernel = [table(&rt, alloc, kernel.as_slice())];
-    for (sorts, refusal) in &FAULTS {
-        let expected = Answer {
-            known: [Some(UNKNOWN); 2],
-            has_failed: false,
-            refusal: Some(*refusal),
-        };
-        let one = declared(sorts[0].0, sorts[0].1);
-        let other = declared(sorts[1].0, sorts[1].1);
-        for pair in [[one, other], [other, one]] {
-            let mut symbols = Watched::new(&b"1 T b\n"[..]);
-            let answer = answer_of(alloc, &pair, Some(&object), &kernel, &mut symbols);
-            assert_eq!(rt; answer, Some(expected));
-        }
+    for fault in &FAULTS {
+        check_fault(&rt, rt.alloc(), fault);
     }
 }
 
@@ -152,25 +145,22 @@ static TEXT_FAULTS: [TextFault; 12] = [
     (b"1 D a\n", NEVER, Refusal::NoVariable("z")),
 ];
 
+/// The text comes to the fault, a byte at a time and whole.
+fn check_text_fault(rt: &impl Abort, alloc: Global, fault: &TextFault) {
+    let (text, fails_at, refusal) = *fault;
+    let declared = [declared("z", Sort::Untyped), declared("a", Sort::Untyped)];
+    let mut expected = Answer::new([UNKNOWN; 2], Some(refusal));
+    expected.has_failed = fails_at < 7 && refusal == Refusal::Access;
+    let slowly = SlowText::new(text, fails_at);
+    check_without_kernel(rt, alloc, &declared, slowly, expected);
+    if fails_at == NEVER {
+        check_without_kernel(rt, alloc, &declared, text, expected);
+    }
+}
+
 #[test]
 fn first_line_is_named(rt: HostRuntime) {
-    let alloc = rt.alloc();
-    let section = section_of(&rt, alloc, OBJECT);
-    let object = table(&rt, alloc, section.as_slice());
-    for (text, fails_at, refusal) in &TEXT_FAULTS {
-        let expected = Answer {
-            known: [Some(UNKNOWN); 2],
-            has_failed: *fails_at < 7 && *refusal == Refusal::Access,
-            refusal: Some(*refusal),
-        };
-        let declared = [declared("z", Sort::Untyped), declared("a", Sort::Untyped)];
-        let mut slowly = Watched::new(SlowText::new(text, *fails_at));
-        let answer = answer_of(alloc, &declared, Some(&object), &[], &mut slowly);
-        assert_eq!(rt; answer, Some(expected));
-        if *fails_at == NEVER {
-            let mut whole = Watched::new(*text);
-            let answer = answer_of(alloc, &declared, Some(&object), &[], &mut whole);
-            assert_eq!(rt; answer, Some(expected));
-        }
+    for fault in &TEXT_FAULTS {
+        check_text_fault(&rt, rt.alloc(), fault);
     }
 }

@@ -8,7 +8,7 @@ use object_file::ObjectFile;
 use object_parts::{Function, Functions, MatchedTables};
 use relocation_errors::{EbpfRelocationError, RelocationError};
 use sample_objects::with_bytes;
-use std::alloc::{AllocError, Global};
+use std::alloc::Global;
 use std::collections::BTreeMap;
 
 /// An object with the sections `kprobe` (index 2) and `xdp` (3), and a relocation of each, of `xdp`
@@ -68,7 +68,7 @@ pub(crate) type Relocation = (u64, u8);
 pub(crate) type Written = [[u8; 8]; 2];
 
 /// Why relocations are refused.
-#[derive(Clone, Copy, Debug, PartialEq, Eq)]
+#[derive(Clone, Copy, PartialEq)]
 pub(crate) enum Refused {
     Offset(u64, usize),
     NoExtern(&'static str),
@@ -78,7 +78,7 @@ pub(crate) enum Refused {
 
 /// What becomes of the functions `f` of `kprobe` and `g` of `xdp`, none where they stay in the
 /// file, and of which function a relocation is refused.
-#[derive(Clone, Copy, Debug, PartialEq, Eq)]
+#[derive(Clone, Copy, PartialEq)]
 pub(crate) struct Relocated {
     pub f: Option<Written>,
     pub g: Option<Written>,
@@ -108,28 +108,31 @@ fn refusal_of(error: &EbpfRelocationError) -> (&'static str, Refused) {
     (named(error.function()), refused)
 }
 
-/// The externs `kernel` and, where something is known of it, `other`.
-fn externs(
-    alloc: Global,
-    known: [Option<Known>; 2],
-) -> Result<BTreeMap<&'static str, ExternDesc<'static>>, AllocError> {
+fn described(name: &'static str, known: Known) -> ExternDesc<'static> {
+    let (is_weak, is_resolved, kernel_btf_id, ksym_addr) = known;
+    ExternDesc {
+        name,
+        btf_id: 1,
+        is_weak,
+        is_resolved,
+        kernel_btf_id,
+        ksym_addr,
+        type_id: None,
+        essential_name: name,
+    }
+}
+
+/// The externs `kernel` and `other` of which something is known.
+fn externs(alloc: Global, known: [Option<Known>; 2]) -> Option<Externs<'static>> {
     let mut by_name = BTreeMap::new(alloc);
     for (name, known) in [("kernel", known[0]), ("other", known[1])] {
-        if let Some((is_weak, is_resolved, kernel_btf_id, ksym_addr)) = known {
-            let desc = ExternDesc {
-                name,
-                btf_id: 1,
-                is_weak,
-                is_resolved,
-                kernel_btf_id,
-                ksym_addr,
-                type_id: None,
-                essential_name: name,
-            };
-            by_name.insert(name, desc)?;
+        if let Some(known) = known {
+            by_name.insert(name, described(name, known)).ok()?;
         }
     }
-    Ok(by_name)
+    let mut externs = Externs::none(alloc);
+    externs.set_by_name(by_name);
+    Some(externs)
 }
 
 /// A function at the beginning of a section with these slots.
@@ -139,18 +142,31 @@ fn function<'a>(
     section_index: usize,
     slots: &'a [u8],
 ) -> Option<Function<'a>> {
+    let instructions = Slots::borrowed(alloc, slots)?;
     Some(Function {
         address: 0,
         name,
         section_index,
         section_offset: 0,
-        instructions: Slots::borrowed(alloc, slots)?,
+        instructions,
         func_info: FuncSecInfo::from_records(Vec::new(alloc)),
         line_info: LineSecInfo::from_records(Vec::new(alloc)),
         func_info_rec_size: 0,
         line_info_rec_size: 0,
         matched_tables: MatchedTables::new(alloc),
     })
+}
+
+fn insert<'a>(functions: &mut Functions<'a>, function: Option<Function<'a>>) -> Option<()> {
+    functions.insert(function?).ok()
+}
+
+/// The functions `f` of `kprobe` and `g` of `xdp`, each with these slots.
+fn functions_of<'a>(alloc: Global, slots: &'a [u8]) -> Option<Functions<'a>> {
+    let mut functions = Functions::new(alloc);
+    insert(&mut functions, function(alloc, "f", 2, slots))?;
+    insert(&mut functions, function(alloc, "g", 3, slots))?;
+    Some(functions)
 }
 
 /// The slots of a function that has a list of its own.
@@ -160,6 +176,25 @@ fn written(functions: &Functions<'_>, section_index: usize) -> Option<Written> {
         return None;
     }
     Some([slots.get(0)?.to_bytes(), slots.get(1)?.to_bytes()])
+}
+
+/// What becomes of two functions of these slots in a file.
+fn relocated_in(
+    alloc: Global,
+    file: &ObjectFile<'_>,
+    slots: &[u8; 16],
+    externs: &Externs<'_>,
+) -> Option<Relocated> {
+    let mut functions = functions_of(alloc, slots)?;
+    let refused = match relocate_externs(alloc, file, &mut functions, externs) {
+        Ok(()) => None,
+        Err(error) => Some(refusal_of(&error)),
+    };
+    Some(Relocated {
+        f: written(&functions, 2),
+        g: written(&functions, 3),
+        refused,
+    })
 }
 
 /// What becomes of two functions of these slots by a relocation of each section, that of `kprobe`
@@ -179,19 +214,9 @@ pub(crate) fn answer_of(
             (RELOCATIONS_AT[1] + SYMBOL, &[relocations[1].1]),
         ],
     );
-    let file = ObjectFile::parse(alloc, &object).ok()?;
-    let mut functions = Functions::new(alloc);
-    functions.insert(function(alloc, "f", 2, slots)?).ok()?;
-    functions.insert(function(alloc, "g", 3, slots)?).ok()?;
-    let mut all = Externs::none(alloc);
-    all.set_by_name(externs(alloc, known).ok()?);
-    let refused = match relocate_externs(alloc, &file, &mut functions, &all) {
-        Ok(()) => None,
-        Err(error) => Some(refusal_of(&error)),
-    };
-    Some(Relocated {
-        f: written(&functions, 2),
-        g: written(&functions, 3),
-        refused,
-    })
+    let externs = externs(alloc, known)?;
+    match ObjectFile::parse(alloc, &object) {
+        Ok(file) => relocated_in(alloc, &file, slots, &externs),
+        Err(_) => None,
+    }
 }

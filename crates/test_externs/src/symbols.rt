@@ -1,11 +1,10 @@
 //! When the text of symbols is read, and for which externs.
 
-use crate::answers::{Answer, Declared, Known, MISSING, answer_of};
-use crate::tables::{
-    FUNCTION, INTEGER, OBJECT, SIGNATURE, VARIABLE, kernel_section, section_of, table,
-};
+use crate::answers::{Answer, Declared, Known, MISSING, check_with_kernel, check_without_kernel};
+use crate::tables::{FUNCTION, INTEGER, SIGNATURE, VARIABLE};
 use sample_objects::SlowText;
-use watched::Watched;
+use std::alloc::Global;
+use std::process::Abort;
 
 const STRONG: bool = false;
 
@@ -49,20 +48,10 @@ static UNREAD: [Case; 4] = [
 
 #[test]
 fn reader_is_left_unread(rt: HostRuntime) {
-    let alloc = rt.alloc();
-    let section = section_of(&rt, alloc, OBJECT);
-    let object = table(&rt, alloc, section.as_slice());
-    let kernel = kernel_section(&rt, alloc);
-    let kernel = [table(&rt, alloc, kernel.as_slice())];
     for (declared, known) in &UNREAD {
-        let mut symbols = Watched::new(SlowText::new(b"1 D a\n", 0));
-        let answer = answer_of(alloc, declared, Some(&object), &kernel, &mut symbols);
-        let expected = Answer {
-            known: [Some(known[0]), Some(known[1])],
-            has_failed: false,
-            refusal: None,
-        };
-        assert_eq!(rt; answer, Some(expected));
+        let symbols = SlowText::new(b"1 D a\n", 0);
+        let expected = Answer::new(*known, None);
+        check_with_kernel(&rt, rt.alloc(), declared, symbols, expected);
     }
 }
 
@@ -113,26 +102,22 @@ static TEXTS: [Text; 7] = [
     ),
 ];
 
+/// The text comes to what is expected, whole and a byte at a time.
+fn check_text(rt: &impl Abort, alloc: Global, case: &Text) {
+    let (text, type_id, known) = *case;
+    let declared = [
+        ("a", VARIABLE, type_id, MAY_MISS, None),
+        ("z", VARIABLE, None, STRONG, None),
+    ];
+    let expected = Answer::new(known, None);
+    check_without_kernel(rt, alloc, &declared, text, expected);
+    let slowly = SlowText::new(text, usize::MAX);
+    check_without_kernel(rt, alloc, &declared, slowly, expected);
+}
+
 #[test]
 fn names_without_types_are_looked_for(rt: HostRuntime) {
-    let alloc = rt.alloc();
-    let section = section_of(&rt, alloc, OBJECT);
-    let object = table(&rt, alloc, section.as_slice());
-    for (text, type_id, known) in &TEXTS {
-        let declared = [
-            ("a", VARIABLE, *type_id, MAY_MISS, None),
-            ("z", VARIABLE, None, STRONG, None),
-        ];
-        let expected = Answer {
-            known: [Some(known[0]), Some(known[1])],
-            has_failed: false,
-            refusal: None,
-        };
-        let mut whole = Watched::new(*text);
-        let answer = answer_of(alloc, &declared, Some(&object), &[], &mut whole);
-        assert_eq!(rt; answer, Some(expected));
-        let mut slowly = Watched::new(SlowText::new(text, usize::MAX));
-        let answer = answer_of(alloc, &declared, Some(&object), &[], &mut slowly);
-        assert_eq!(rt; answer, Some(expected));
+    for case in &TEXTS {
+        check_text(&rt, rt.alloc(), case);
     }
 }

@@ -1,37 +1,30 @@
 //! Tables of types by hand, from the kernel's BTF documentation.
 
-ghost use Rattle.std.specs.Prelude.{◌<◌, ◌^◌, length};
-
 use btf_records::Endianness;
 use btf_tables::Btf;
-use std::alloc::{AllocError, Global};
+use std::alloc::Global;
 use std::process::Abort;
 
-const INT: u32 = 0x0100_0000;
-
-const PTR: u32 = 0x0200_0000;
-
-/// A function with a body.
-const FUNC: u32 = 0x0c00_0001;
-
-/// A prototype without parameters.
-const PROTO: u32 = 0x0d00_0000;
-
-/// One of a parameter.
-const PROTO_1: u32 = 0x0d00_0001;
-
-const VAR: u32 = 0x0e00_0000;
-
-/// `f`, `g`, `v` and `w`, at 1, 3, 5 and 7.
-const STRINGS: [u8; 9] = *b"\0f\0g\0v\0w\0";
-
-/// The types of an object: an integer, a prototype that takes it, a function of that, a variable of
-/// the integer, and a pointer to it.
-pub(crate) const OBJECT: &[u32] = &[
-    0, INT, 4, 0x20, 0, PROTO_1, 1, 0, 1, 0, FUNC, 2, 0, VAR, 1, 2, 0, PTR, 1,
+/// The types of an object, least byte first.
+static OBJECT: [u8; 109] = [
+    // The header: magic, version 1, its length, and where the types and the names lie.
+    0x9f, 0xeb, 1, 0, 0x18, 0, 0, 0, 0, 0, 0, 0, 0x4c, 0, 0, 0, 0x4c, 0, 0, 0, 9, 0, 0, 0,
+    // 1: an integer of 4 bytes.
+    0, 0, 0, 0, 0, 0, 0, 1, 4, 0, 0, 0, 0x20, 0, 0, 0,
+    // 2: a prototype of a parameter, which takes and returns the integer.
+    0, 0, 0, 0, 1, 0, 0, 0x0d, 1, 0, 0, 0, 0, 0, 0, 0, 1, 0, 0, 0,
+    // 3: a function with a body, of that prototype.
+    0, 0, 0, 0, 1, 0, 0, 0x0c, 2, 0, 0, 0,
+    // 4: a variable of the integer, outside the object.
+    0, 0, 0, 0, 0, 0, 0, 0x0e, 1, 0, 0, 0, 2, 0, 0, 0,
+    // 5: a pointer to the integer.
+    0, 0, 0, 0, 0, 0, 0, 2, 1, 0, 0, 0,
+    // The names: none, and `f`, `g`, `v` and `w` at 1, 3, 5 and 7.
+    0, 0x66, 0, 0x67, 0, 0x76, 0, 0x77, 0,
 ];
 
-/// The ids of the integer, the prototype, the function and the variable, and an id of no type.
+/// The ids of the integer, the prototype, the function, the variable and the pointer, and an id of
+/// no type.
 pub(crate) const INTEGER: u32 = 1;
 
 pub(crate) const SIGNATURE: u32 = 2;
@@ -44,50 +37,41 @@ pub(crate) const POINTER: u32 = 5;
 
 pub(crate) const NOTHING: u32 = 99;
 
-/// The types of a kernel: the function `f` as the object's (3), `g` of no parameter (5), the
-/// variable `v` of an integer (6), and `w` of a pointer (8).
-const KERNEL: &[u32] = &[
-    0, INT, 4, 0x20, 0, PROTO_1, 1, 0, 1, 1, FUNC, 2, 0, PROTO, 1, 3, FUNC, 4, 5, VAR, 1, 1, 0,
-    PTR, 1, 7, VAR, 7, 1,
+/// The types of a kernel, least byte first.
+static KERNEL: [u8; 149] = [
+    // The header: magic, version 1, its length, and where the types and the names lie.
+    0x9f, 0xeb, 1, 0, 0x18, 0, 0, 0, 0, 0, 0, 0, 0x74, 0, 0, 0, 0x74, 0, 0, 0, 9, 0, 0, 0,
+    // 1: an integer of 4 bytes.
+    0, 0, 0, 0, 0, 0, 0, 1, 4, 0, 0, 0, 0x20, 0, 0, 0,
+    // 2: a prototype of a parameter, which takes and returns the integer.
+    0, 0, 0, 0, 1, 0, 0, 0x0d, 1, 0, 0, 0, 0, 0, 0, 0, 1, 0, 0, 0,
+    // 3: the function `f` of that prototype.
+    1, 0, 0, 0, 1, 0, 0, 0x0c, 2, 0, 0, 0,
+    // 4: a prototype without parameters.
+    0, 0, 0, 0, 0, 0, 0, 0x0d, 1, 0, 0, 0,
+    // 5: the function `g` of that one.
+    3, 0, 0, 0, 1, 0, 0, 0x0c, 4, 0, 0, 0,
+    // 6: the variable `v` of the integer.
+    5, 0, 0, 0, 0, 0, 0, 0x0e, 1, 0, 0, 0, 1, 0, 0, 0,
+    // 7: a pointer to the integer.
+    0, 0, 0, 0, 0, 0, 0, 2, 1, 0, 0, 0,
+    // 8: the variable `w` of the pointer.
+    7, 0, 0, 0, 0, 0, 0, 0x0e, 7, 0, 0, 0, 1, 0, 0, 0,
+    // The names: none, and `f`, `g`, `v` and `w` at 1, 3, 5 and 7.
+    0, 0x66, 0, 0x67, 0, 0x76, 0, 0x77, 0,
 ];
 
-fn push_words(out: &mut Vec<u8>, words: &[u32]) -> Result<(), AllocError> {
-    for word in words {
-        out.extend_from_slice(&word.to_le_bytes())?;
-    }
-    Ok(())
-}
-
-/// A section of records with these words, least byte first.
-fn section(alloc: Global, words: &[u32]) -> Result<Vec<u8>, AllocError>
-    requires { length words.now < 2 ^ 16 }
-{
-    let types_len = 4 * words.len() as u32;
-    let mut out = Vec::new(alloc);
-    out.extend_from_slice(&[0x9f, 0xeb, 1, 0])?;
-    push_words(
-        &mut out,
-        &[24, 0, types_len, types_len, STRINGS.len() as u32],
-    )?;
-    push_words(&mut out, words)?;
-    out.extend_from_slice(&STRINGS)?;
-    Ok(out)
-}
-
-/// The section of records with these words.
-pub(crate) fn section_of(rt: &impl Abort, alloc: Global, words: &[u32]) -> Vec<u8> {
-    assert!(rt; words.len() < 0x1_0000);
-    section(alloc, words).expect(rt, "a section")
-}
-
-/// The section of a kernel's types.
-pub(crate) fn kernel_section(rt: &impl Abort, alloc: Global) -> Vec<u8> {
-    section_of(rt, alloc, KERNEL)
-}
-
 /// The table of a section.
-pub(crate) fn table<'a>(rt: &impl Abort, alloc: Global, section: &'a [u8]) -> Btf<'a> {
+fn table(rt: &impl Abort, alloc: Global, section: &'static [u8]) -> Btf<'static> {
     Btf::parse(alloc, section, Endianness::Little)
         .ok()
         .expect(rt, "a table")
+}
+
+pub(crate) fn object_table(rt: &impl Abort, alloc: Global) -> Btf<'static> {
+    table(rt, alloc, &OBJECT)
+}
+
+pub(crate) fn kernel_table(rt: &impl Abort, alloc: Global) -> Btf<'static> {
+    table(rt, alloc, &KERNEL)
 }

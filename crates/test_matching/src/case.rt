@@ -5,12 +5,24 @@ use btf_records::Endianness;
 use btf_tables::Btf;
 use ebpf_items::RelocationKind;
 use plain_matching::Answer;
-use std::alloc::{AllocError, Global};
+use std::alloc::Global;
 use std::process::Abort;
-use type_match::{TypeMatcher, TypeRelocation, relocation_outcome};
+use type_match::{
+    RelocationOutcome, TypeMatcher, TypeRelocation, TypeRelocationError, relocation_outcome,
+};
 
 /// The kind of a type relocation, its type id and its access string, and what it comes to.
 pub(crate) type Case = (RelocationKind, u32, &'static str, Answer);
+
+/// What a type relocation comes to, and in which of a kernel's tables.
+pub(crate) type Found = (Answer, Option<usize>);
+
+fn found(outcome: &Result<RelocationOutcome, TypeRelocationError>) -> Found {
+    match outcome {
+        Ok(found) => (Answer::of_outcome(found.outcome), found.table),
+        Err(error) => (Answer::refused(error), None),
+    }
+}
 
 /// The sections of a kernel's tables.
 fn kernel_sections(
@@ -18,12 +30,13 @@ fn kernel_sections(
     alloc: Global,
     order: Endianness,
     kernel: &[&[u32]],
-) -> Result<Vec<Vec<u8>>, AllocError> {
+) -> Vec<Vec<u8>> {
     let mut sections = Vec::new(alloc);
     for words in kernel {
-        sections.push(section_of(rt, alloc, order, words, ""))?;
+        let section = section_of(rt, alloc, order, words, "");
+        sections.push(section).expect(rt, "sections");
     }
-    Ok(sections)
+    sections
 }
 
 /// Their tables.
@@ -32,12 +45,13 @@ fn kernel_tables<'a>(
     alloc: Global,
     order: Endianness,
     sections: &'a [Vec<u8>],
-) -> Result<Vec<Btf<'a>>, AllocError> {
+) -> Vec<Btf<'a>> {
     let mut tables = Vec::new(alloc);
     for section in sections {
-        tables.push(parse(rt, alloc, section.as_slice(), order))?;
+        let table = parse(rt, alloc, section.as_slice(), order);
+        tables.push(table).expect(rt, "tables");
     }
-    Ok(tables)
+    tables
 }
 
 /// What a type relocation comes to over tables, and in which of a kernel's: looked for alone, and
@@ -47,14 +61,13 @@ fn outcome_in<'m>(
     local: &'m Btf<'m>,
     relocation: TypeRelocation,
     kernel: &'m [Btf<'m>],
-) -> Result<(Answer, Option<usize>), AllocError> {
-    let found = relocation_outcome(local, relocation, kernel);
-    let answer = Answer::of(&found);
-    let mut matcher = TypeMatcher::collect(local, &[relocation], kernel)?;
-    let collected = matcher.relocation_outcome(relocation);
-    assert_eq!(rt; Answer::of(&collected), answer);
-    let table = found.ok().and_then(|found| found.table);
-    Ok((answer, table))
+) -> Found {
+    let alone = found(&relocation_outcome(local, relocation, kernel));
+    let matcher = TypeMatcher::collect(local, &[relocation], kernel);
+    let mut matcher = matcher.expect(rt, "a matcher");
+    let collected = found(&matcher.relocation_outcome(relocation));
+    assert!(rt; collected == alone);
+    alone
 }
 
 /// What a type relocation comes to, and in which of a kernel's tables.
@@ -65,21 +78,36 @@ pub(crate) fn outcome(
     local: &[u32],
     kernel: &[&[u32]],
     asked: (RelocationKind, u32, &str),
-) -> (Answer, Option<usize>) {
+) -> Found {
     let (kind, type_id, access) = asked;
     let own = section_of(rt, alloc, order, local, access);
     let own = parse(rt, alloc, own.as_slice(), order);
-    let sections = kernel_sections(rt, alloc, order, kernel).expect(rt, "sections");
-    let tables = kernel_tables(rt, alloc, order, sections.as_slice()).expect(rt, "tables");
+    let sections = kernel_sections(rt, alloc, order, kernel);
+    let tables = kernel_tables(rt, alloc, order, sections.as_slice());
     let relocation = TypeRelocation {
         kind,
         type_id,
         access_str_off: ACCESS,
     };
-    outcome_in(rt, &own, relocation, tables.as_slice()).expect(rt, "memory")
+    outcome_in(rt, &own, relocation, tables.as_slice())
 }
 
 /// Relocates over an object's own types and a kernel's tables, in both byte orders.
+pub(crate) fn check_case(
+    rt: &impl Abort,
+    alloc: Global,
+    local: &[u32],
+    kernel: &[&[u32]],
+    case: Case,
+) {
+    let (kind, type_id, access, wanted) = case;
+    for order in ORDERS {
+        let asked = (kind, type_id, access);
+        let (found, _table) = outcome(rt, alloc, order, local, kernel, asked);
+        assert!(rt; found == wanted, "{kind:?} {type_id} {access}");
+    }
+}
+
 pub(crate) fn check(
     rt: &impl Abort,
     alloc: Global,
@@ -87,11 +115,12 @@ pub(crate) fn check(
     kernel: &[&[u32]],
     cases: &[Case],
 ) {
-    for order in ORDERS {
-        for (kind, type_id, access, wanted) in cases {
-            let asked = (*kind, *type_id, *access);
-            let (found, _table) = outcome(rt, alloc, order, local, kernel, asked);
-            assert_eq!(rt; found, *wanted, "{kind:?} {type_id} {access}");
-        }
+    for case in cases {
+        check_case(rt, alloc, local, kernel, *case);
     }
+}
+
+/// One case over one table of a kernel.
+pub(crate) fn check_one(rt: &impl Abort, alloc: Global, local: &[u32], kernel: &[u32], case: Case) {
+    check_case(rt, alloc, local, &[kernel], case);
 }

@@ -1,6 +1,6 @@
 //! Fields in structs with members that have no name, or another type, and what fields are like.
 
-use crate::case::check;
+use crate::case::{Case, check, check_one};
 use crate::tables::{
     A, B, BITS_1, CONST, D, EMPTY, ENUM_1, FLAVOURED_S, FWD, INT, PTR, S, SIGNED_ENUM_1, STRUCT,
     STRUCT_1, STRUCT_2, UNION_2, UNREADABLE,
@@ -8,8 +8,20 @@ use crate::tables::{
 use crate::worked::{AT_3, AT_64, FOUR, OBJECT};
 use ebpf_items::RelocationKind;
 use plain_matching::{Answer, Fault};
+use std::alloc::Global;
+use std::process::Abort;
 
 const OFFSET: RelocationKind = RelocationKind::FieldByteOffset;
+
+const SIZE: RelocationKind = RelocationKind::FieldByteSize;
+
+const EXISTS: RelocationKind = RelocationKind::FieldExists;
+
+const SIGNED: RelocationKind = RelocationKind::FieldSigned;
+
+const LEFT: RelocationKind = RelocationKind::FieldLShift64;
+
+const RIGHT: RelocationKind = RelocationKind::FieldRShift64;
 
 /// A nameless struct of `b` and `a`, and `s` with it after a `d`.
 const INSIDE: [u32; 19] = [
@@ -51,39 +63,35 @@ const UNREADABLE_LAST: [u32; 13] = [0, INT, 4, 0x20, S, STRUCT_2, 16, A, 1, 32, 
 /// `s` with a flavour.
 const FLAVOURED: [u32; 10] = [0, INT, 4, 0x20, FLAVOURED_S, STRUCT_1, 16, A, 1, 96];
 
+const UNKNOWN: Answer = Answer::Kernel(0, 2, Fault::UnknownBtfType(9));
+
+const NO_TEXT: Answer = Answer::Kernel(0, 2, Fault::InvalidStringOffset(23));
+
+/// Kernels, and where they have `a` of the object's `s`.
+static KERNELS: [(&[u32], Answer); 11] = [
+    (&INSIDE, Answer::Field(12, 1, 4)),
+    (&BEHIND_CONST, Answer::Field(8, 1, 4)),
+    (&BEHIND_POINTER, Answer::Field(8, 1, 4)),
+    (&POINTER_FIRST, Answer::Poison),
+    (&INSIDE_FIRST, Answer::Field(4, 1, 4)),
+    (&PASSED, Answer::Field(4, 1, 4)),
+    (&UNKNOWN_FIRST, UNKNOWN),
+    (&UNKNOWN_LAST, Answer::Field(4, 1, 4)),
+    (&UNREADABLE_FIRST, NO_TEXT),
+    (&UNREADABLE_LAST, Answer::Field(4, 1, 4)),
+    (&FLAVOURED, Answer::Field(12, 1, 4)),
+];
+
+fn check_offset(rt: &impl Abort, alloc: Global, local: &[u32], kernel: &[u32], wanted: Answer) {
+    check_one(rt, alloc, local, kernel, (OFFSET, 2, "0:0", wanted));
+}
+
 #[test]
 fn members_without_names_are_searched(rt: HostRuntime) {
-    let unknown = Answer::Kernel(0, 2, Fault::UnknownBtfType(9));
-    let unreadable = Answer::Kernel(0, 2, Fault::InvalidStringOffset(23));
-    let tables: [(&[u32], Answer); 11] = [
-        (&INSIDE, Answer::Field(12, 1, 4)),
-        (&BEHIND_CONST, Answer::Field(8, 1, 4)),
-        (&BEHIND_POINTER, Answer::Field(8, 1, 4)),
-        (&POINTER_FIRST, Answer::Poison),
-        (&INSIDE_FIRST, Answer::Field(4, 1, 4)),
-        (&PASSED, Answer::Field(4, 1, 4)),
-        (&UNKNOWN_FIRST, unknown),
-        (&UNKNOWN_LAST, Answer::Field(4, 1, 4)),
-        (&UNREADABLE_FIRST, unreadable),
-        (&UNREADABLE_LAST, Answer::Field(4, 1, 4)),
-        (&FLAVOURED, Answer::Field(12, 1, 4)),
-    ];
-    for (kernel, wanted) in &tables {
-        check(
-            &rt,
-            rt.alloc(),
-            &OBJECT,
-            &[*kernel],
-            &[(OFFSET, 2, "0:0", *wanted)],
-        );
+    for (kernel, wanted) in &KERNELS {
+        check_offset(&rt, rt.alloc(), &OBJECT, kernel, *wanted);
     }
-    check(
-        &rt,
-        rt.alloc(),
-        &FLAVOURED,
-        &[&AT_64],
-        &[(OFFSET, 2, "0:0", Answer::Field(8, 1, 4))],
-    );
+    check_offset(&rt, rt.alloc(), &FLAVOURED, &AT_64, Answer::Field(8, 1, 4));
 }
 
 /// `s` with a member without a name, and with one of an empty name.
@@ -91,25 +99,23 @@ const NAMELESS: [u32; 10] = [0, INT, 4, 0x20, S, STRUCT_1, 4, 0, 1, 0];
 
 const EMPTY_NAME: [u32; 10] = [0, INT, 4, 0x20, S, STRUCT_1, 4, EMPTY, 1, 0];
 
+/// The struct itself is what the path leads to.
+static WHOLE: [Case; 2] = [
+    (OFFSET, 2, "0:0", Answer::Field(0, 2, 16)),
+    (SIZE, 2, "0:0", Answer::Value(16)),
+];
+
+const NO_INDEX: Answer = Answer::Local(Fault::InvalidAccessIndex(2, 1, 1));
+
+const NO_KIND: Answer = Answer::Local(Fault::InvalidKindForType(1));
+
+static REFUSED: [Case; 2] = [(OFFSET, 2, "0:1", NO_INDEX), (OFFSET, 2, "0:0:0", NO_KIND)];
+
 #[test]
 fn members_without_names_make_no_step(rt: HostRuntime) {
-    // the struct itself is what the path leads to
-    let whole = [
-        (OFFSET, 2, "0:0", Answer::Field(0, 2, 16)),
-        (RelocationKind::FieldByteSize, 2, "0:0", Answer::Value(16)),
-    ];
-    check(&rt, rt.alloc(), &NAMELESS, &[&AT_64], &whole);
-    check(
-        &rt,
-        rt.alloc(),
-        &EMPTY_NAME,
-        &[&EMPTY_NAME],
-        &[(OFFSET, 2, "0:0", Answer::Poison)],
-    );
-    let index = Answer::Local(Fault::InvalidAccessIndex(2, 1, 1));
-    let kind = Answer::Local(Fault::InvalidKindForType(1));
-    let refused = [(OFFSET, 2, "0:1", index), (OFFSET, 2, "0:0:0", kind)];
-    check(&rt, rt.alloc(), &OBJECT, &[&AT_64], &refused);
+    check(&rt, rt.alloc(), &NAMELESS, &[&AT_64], &WHOLE);
+    check_offset(&rt, rt.alloc(), &EMPTY_NAME, &EMPTY_NAME, Answer::Poison);
+    check(&rt, rt.alloc(), &OBJECT, &[&AT_64], &REFUSED);
 }
 
 /// `s` with an integer `a` of this encoding, and what it is.
@@ -122,12 +128,16 @@ const ENCODINGS: [(u32, u64); 6] = [
     (0x0800_0020, 1),
 ];
 
+fn check_encoding(rt: &impl Abort, alloc: Global, encoding: u32, wanted: u64) {
+    let kernel = [0, INT, 4, encoding, S, STRUCT_1, 16, A, 1, 64];
+    let case = (SIGNED, 2, "0:0", Answer::Value(wanted));
+    check_one(rt, alloc, &OBJECT, &kernel, case);
+}
+
 #[test]
 fn integers_are_signed_by_encoding(rt: HostRuntime) {
     for (encoding, wanted) in ENCODINGS {
-        let kernel = [0, INT, 4, encoding, S, STRUCT_1, 16, A, 1, 64];
-        let cases = [(RelocationKind::FieldSigned, 2, "0:0", Answer::Value(wanted))];
-        check(&rt, rt.alloc(), &OBJECT, &[&kernel], &cases);
+        check_encoding(&rt, rt.alloc(), encoding, wanted);
     }
 }
 
@@ -141,54 +151,48 @@ const WITH_POINTER: [u32; 9] = [0, PTR, 0, S, STRUCT_1, 8, A, 1, 0];
 /// `s` with a member of which no more is known.
 const WITH_FWD: [u32; 9] = [D, FWD, 0, S, STRUCT_1, 8, A, 1, 0];
 
+/// Objects and kernels, and whether the field is signed.
+static OTHER_KINDS: [(&[u32], &[u32], Answer); 4] = [
+    (&WITH_ENUM, &WITH_ENUM, Answer::Value(0)),
+    (&WITH_ENUM, &WITH_SIGNED_ENUM, Answer::Value(1)),
+    (&WITH_POINTER, &WITH_POINTER, Answer::Value(0)),
+    (&WITH_POINTER, &AT_64, Answer::Poison),
+];
+
+const NO_SIZE: Answer = Answer::Local(Fault::UnexpectedBtfType(1));
+
+static WITHOUT_SIZE: [Case; 3] = [
+    (OFFSET, 2, "0:0", NO_SIZE),
+    (SIGNED, 2, "0:0", NO_SIZE),
+    (EXISTS, 2, "0:0", Answer::Value(1)),
+];
+
 #[test]
 fn fields_of_other_kinds(rt: HostRuntime) {
-    let signed = RelocationKind::FieldSigned;
-    let cases: [(&[u32], &[u32], Answer); 4] = [
-        (&WITH_ENUM, &WITH_ENUM, Answer::Value(0)),
-        (&WITH_ENUM, &WITH_SIGNED_ENUM, Answer::Value(1)),
-        (&WITH_POINTER, &WITH_POINTER, Answer::Value(0)),
-        (&WITH_POINTER, &AT_64, Answer::Poison),
-    ];
-    for (local, kernel, wanted) in &cases {
-        check(
-            &rt,
-            rt.alloc(),
-            local,
-            &[*kernel],
-            &[(signed, 2, "0:0", *wanted)],
-        );
+    for (local, kernel, wanted) in &OTHER_KINDS {
+        check_one(&rt, rt.alloc(), local, kernel, (SIGNED, 2, "0:0", *wanted));
     }
-    let no_size = Answer::Local(Fault::UnexpectedBtfType(1));
-    let cases = [
-        (OFFSET, 2, "0:0", no_size),
-        (signed, 2, "0:0", no_size),
-        (RelocationKind::FieldExists, 2, "0:0", Answer::Value(1)),
-    ];
-    check(&rt, rt.alloc(), &WITH_FWD, &[&WITH_FWD], &cases);
+    check(&rt, rt.alloc(), &WITH_FWD, &[&WITH_FWD], &WITHOUT_SIZE);
 }
+
+const NO_ELEMENT: Answer = Answer::Local(Fault::InvalidAccessIndex(2, 4, 4));
+
+static ELEMENTS: [Case; 10] = [
+    (OFFSET, 3, "0:0:3", Answer::Field(12, 1, 4)),
+    (SIZE, 3, "0:0:3", Answer::Value(4)),
+    (EXISTS, 3, "0:0:3", Answer::Value(1)),
+    (SIGNED, 3, "0:0:3", NO_KIND),
+    (LEFT, 3, "0:0:3", NO_KIND),
+    (RIGHT, 3, "0:0:3", NO_KIND),
+    (OFFSET, 3, "0:0:4", NO_ELEMENT),
+    (OFFSET, 3, "0:0", Answer::Field(0, 2, 16)),
+    (OFFSET, 3, "2", Answer::Field(64, 3, 32)),
+    (OFFSET, 1, "2", Answer::Field(8, 1, 4)),
+];
 
 #[test]
 fn elements_have_offset_and_size_alone(rt: HostRuntime) {
-    let refused = Answer::Local(Fault::InvalidKindForType(1));
-    let cases = [
-        (OFFSET, 3, "0:0:3", Answer::Field(12, 1, 4)),
-        (RelocationKind::FieldByteSize, 3, "0:0:3", Answer::Value(4)),
-        (RelocationKind::FieldExists, 3, "0:0:3", Answer::Value(1)),
-        (RelocationKind::FieldSigned, 3, "0:0:3", refused),
-        (RelocationKind::FieldLShift64, 3, "0:0:3", refused),
-        (RelocationKind::FieldRShift64, 3, "0:0:3", refused),
-        (
-            OFFSET,
-            3,
-            "0:0:4",
-            Answer::Local(Fault::InvalidAccessIndex(2, 4, 4)),
-        ),
-        (OFFSET, 3, "0:0", Answer::Field(0, 2, 16)),
-        (OFFSET, 3, "2", Answer::Field(64, 3, 32)),
-        (OFFSET, 1, "2", Answer::Field(8, 1, 4)),
-    ];
-    check(&rt, rt.alloc(), &FOUR, &[&FOUR], &cases);
+    check(&rt, rt.alloc(), &FOUR, &[&FOUR], &ELEMENTS);
 }
 
 /// `s` with an `a` of 16 bytes, and one at bit 3 that is no bit field.
@@ -201,34 +205,24 @@ const THREE_BYTES: [u32; 10] = [0, INT, 3, 0x18, S, BITS_1, 16, A, 1, 0x0500_001
 
 const NO_BYTES: [u32; 9] = [D, STRUCT, 0, S, BITS_1, 16, A, 1, 0x0500_0016];
 
+const NO_UNIT: Answer = Answer::Local(Fault::InvalidTypeInfo);
+
+static SHIFTS: [(&[u32], RelocationKind, Answer); 9] = [
+    (&AT_64, LEFT, Answer::Value(32)),
+    (&AT_64, RIGHT, Answer::Value(32)),
+    (&UNALIGNED, LEFT, Answer::Value(29)),
+    (&WIDE, LEFT, NO_UNIT),
+    (&WIDE, RIGHT, NO_UNIT),
+    (&THREE_BYTES, LEFT, Answer::Value(37)),
+    (&THREE_BYTES, SIZE, Answer::Value(6)),
+    (&THREE_BYTES, OFFSET, Answer::Value(0)),
+    (&NO_BYTES, OFFSET, NO_UNIT),
+];
+
 #[test]
 fn shifts_are_what_is_left_of_64_bits(rt: HostRuntime) {
-    let left = RelocationKind::FieldLShift64;
-    let right = RelocationKind::FieldRShift64;
-    let refused = Answer::Local(Fault::InvalidTypeInfo);
-    let tables: [(&[u32], RelocationKind, Answer); 9] = [
-        (&AT_64, left, Answer::Value(32)),
-        (&AT_64, right, Answer::Value(32)),
-        (&UNALIGNED, left, Answer::Value(29)),
-        (&WIDE, left, refused),
-        (&WIDE, right, refused),
-        (&THREE_BYTES, left, Answer::Value(37)),
-        (
-            &THREE_BYTES,
-            RelocationKind::FieldByteSize,
-            Answer::Value(6),
-        ),
-        (&THREE_BYTES, OFFSET, Answer::Value(0)),
-        (&NO_BYTES, OFFSET, refused),
-    ];
-    for (types, kind, wanted) in &tables {
-        check(
-            &rt,
-            rt.alloc(),
-            types,
-            &[*types],
-            &[(*kind, 2, "0:0", *wanted)],
-        );
+    for (types, kind, wanted) in &SHIFTS {
+        check_one(&rt, rt.alloc(), types, types, (*kind, 2, "0:0", *wanted));
     }
 }
 
@@ -284,25 +278,19 @@ const TWO_SIZES: [u32; 20] = [
     0, INT, 4, 0x20, 0, INT, 8, 0x40, S, STRUCT_1, 16, A, 1, 64, S, STRUCT_1, 16, A, 2, 64,
 ];
 
+static NOWHERE: [Case; 2] = [
+    (OFFSET, 2, "0:0", Answer::Poison),
+    (EXISTS, 2, "0:0", Answer::Value(1)),
+];
+
+static SIZES: [Case; 2] = [
+    (SIZE, 2, "0:0", Answer::ConflictingCandidates),
+    (OFFSET, 2, "0:0", Answer::Field(8, 1, 4)),
+];
+
 #[test]
 fn values_are_compared_where_both_are_there(rt: HostRuntime) {
-    let size = RelocationKind::FieldByteSize;
-    let exists = RelocationKind::FieldExists;
-    let first = [
-        (OFFSET, 2, "0:0", Answer::Poison),
-        (exists, 2, "0:0", Answer::Value(1)),
-    ];
-    check(&rt, rt.alloc(), &AT_3, &[&NOWHERE_FIRST], &first);
-    check(
-        &rt,
-        rt.alloc(),
-        &AT_3,
-        &[&NOWHERE_LAST],
-        &[(OFFSET, 2, "0:0", Answer::Value(0))],
-    );
-    let sizes = [
-        (size, 2, "0:0", Answer::ConflictingCandidates),
-        (OFFSET, 2, "0:0", Answer::Field(8, 1, 4)),
-    ];
-    check(&rt, rt.alloc(), &OBJECT, &[&TWO_SIZES], &sizes);
+    check(&rt, rt.alloc(), &AT_3, &[&NOWHERE_FIRST], &NOWHERE);
+    check_offset(&rt, rt.alloc(), &AT_3, &NOWHERE_LAST, Answer::Value(0));
+    check(&rt, rt.alloc(), &OBJECT, &[&TWO_SIZES], &SIZES);
 }

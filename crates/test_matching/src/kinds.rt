@@ -1,6 +1,6 @@
 //! Variants of enums, by name.
 
-use crate::case::check;
+use crate::case::{Case, check, check_one};
 use crate::tables::{
     A, ACCESS, B, C, ENUM_1, ENUM_2, ENUM64_1, ENUM64_2, FLAVOURED_C, INT, ORDERS, S, TYPEDEF,
     UNION_1, UNREADABLE, parse, section_of,
@@ -37,28 +37,38 @@ const LONG: [u32; 9] = [S, ENUM64_2, 8, B, 1, 2, A, 0x8000_0000, 0xf000_0000];
 /// A 64-bit `s` of `a` alone.
 const LONG_A: [u32; 6] = [S, ENUM64_1, 8, A, 5, 6];
 
+const NO_TEXT: Answer = Answer::Kernel(0, 1, Fault::InvalidStringOffset(23));
+
+/// Kernels, the index of one of the object's variants, whether it is there, and its value.
+static VARIANTS: [(&[u32], &str, Answer, Answer); 8] = [
+    (&OBJECT, "1", Answer::Value(1), Answer::Value(9)),
+    (&FLAVOURED, "1", Answer::Value(1), Answer::Value(5)),
+    (&FLAVOURED, "0", Answer::Value(0), Answer::Poison),
+    (&OTHER, "0", Answer::Value(1), Answer::Value(0xffff_ffff)),
+    (&OTHER, "1", Answer::Value(0), Answer::Poison),
+    (&UNREADABLE_FIRST, "0", NO_TEXT, NO_TEXT),
+    (&UNREADABLE_LAST, "0", Answer::Value(1), Answer::Value(2)),
+    (&LONG, "0", Answer::Value(0), Answer::Poison),
+];
+
+static LONG_VALUES: [Case; 2] = [
+    (VALUE, 1, "0", Answer::Value(0x0000_0002_0000_0001)),
+    (VALUE, 1, "1", Answer::Value(0xf000_0000_8000_0000)),
+];
+
 #[test]
 fn variants_have_names(rt: HostRuntime) {
-    let unreadable = Answer::Kernel(0, 1, Fault::InvalidStringOffset(23));
-    let tables: [(&[u32], &str, Answer, Answer); 8] = [
-        (&OBJECT, "1", Answer::Value(1), Answer::Value(9)),
-        (&FLAVOURED, "1", Answer::Value(1), Answer::Value(5)),
-        (&FLAVOURED, "0", Answer::Value(0), Answer::Poison),
-        (&OTHER, "0", Answer::Value(1), Answer::Value(0xffff_ffff)),
-        (&OTHER, "1", Answer::Value(0), Answer::Poison),
-        (&UNREADABLE_FIRST, "0", unreadable, unreadable),
-        (&UNREADABLE_LAST, "0", Answer::Value(1), Answer::Value(2)),
-        (&LONG, "0", Answer::Value(0), Answer::Poison),
-    ];
-    for (kernel, access, exists, value) in &tables {
-        let cases = [(EXISTS, 1, *access, *exists), (VALUE, 1, *access, *value)];
-        check(&rt, rt.alloc(), &OBJECT, &[*kernel], &cases);
+    for (kernel, access, exists, value) in &VARIANTS {
+        check_one(
+            &rt,
+            rt.alloc(),
+            &OBJECT,
+            kernel,
+            (EXISTS, 1, access, *exists),
+        );
+        check_one(&rt, rt.alloc(), &OBJECT, kernel, (VALUE, 1, access, *value));
     }
-    let long = [
-        (VALUE, 1, "0", Answer::Value(0x0000_0002_0000_0001)),
-        (VALUE, 1, "1", Answer::Value(0xf000_0000_8000_0000)),
-    ];
-    check(&rt, rt.alloc(), &LONG, &[&LONG], &long);
+    check(&rt, rt.alloc(), &LONG, &[&LONG], &LONG_VALUES);
 }
 
 /// An enum of `a`, and a TYPEDEF `s` of it; the same of 64 bits.
@@ -69,64 +79,59 @@ const NAMED_LONG: [u32; 9] = [B, ENUM64_1, 8, A, 4, 5, S, TYPEDEF, 1];
 /// A TYPEDEF `s` of an integer.
 const NAMED_INT: [u32; 7] = [B, INT, 4, 0x20, S, TYPEDEF, 1];
 
+static NAMED_VALUES: [(&[u32], Answer); 4] = [
+    (&NAMED, Answer::Value(3)),
+    (&NAMED_LONG, Answer::Value(0x0000_0005_0000_0004)),
+    (&NAMED_INT, Answer::Poison),
+    (&OBJECT, Answer::Poison),
+];
+
 #[test]
 fn enums_may_be_named_anew(rt: HostRuntime) {
-    let kernels: [(&[u32], Answer); 4] = [
-        (&NAMED, Answer::Value(3)),
-        (&NAMED_LONG, Answer::Value(0x0000_0005_0000_0004)),
-        (&NAMED_INT, Answer::Poison),
-        (&OBJECT, Answer::Poison),
-    ];
-    for (kernel, value) in &kernels {
-        check(
-            &rt,
-            rt.alloc(),
-            &NAMED,
-            &[*kernel],
-            &[(VALUE, 2, "0", *value)],
-        );
+    for (kernel, value) in &NAMED_VALUES {
+        check_one(&rt, rt.alloc(), &NAMED, kernel, (VALUE, 2, "0", *value));
     }
 }
 
+const NO_INDEX: Answer = Answer::Local(Fault::InvalidAccessIndex(1, 2, 2));
+
+const NO_KIND: Answer = Answer::Local(Fault::InvalidKindForType(1));
+
+const NO_ACCESS: Answer = Answer::Local(Fault::InvalidAccessString);
+
+const NO_NAME: Answer = Answer::Local(Fault::InvalidStringOffset(23));
+
+static COUNTED: [Case; 3] = [
+    (VALUE, 1, "2", NO_INDEX),
+    (EXISTS, 1, "0:0", NO_ACCESS),
+    (VALUE, 1, "x", NO_ACCESS),
+];
+
+static OF_INTEGERS: [Case; 3] = [
+    (VALUE, 1, "0", NO_KIND),
+    (EXISTS, 2, "0:0", NO_KIND),
+    (EXISTS, 1, "x", NO_ACCESS),
+];
+
+static UNNAMED: [Case; 1] = [(EXISTS, 1, "1", NO_NAME)];
+
 #[test]
 fn variants_are_counted(rt: HostRuntime) {
-    let kind = Answer::Local(Fault::InvalidKindForType(1));
-    let access = Answer::Local(Fault::InvalidAccessString);
-    let cases = [
-        (
-            VALUE,
-            1,
-            "2",
-            Answer::Local(Fault::InvalidAccessIndex(1, 2, 2)),
-        ),
-        (EXISTS, 1, "0:0", access),
-        (VALUE, 1, "x", access),
-    ];
-    check(&rt, rt.alloc(), &OBJECT, &[&OBJECT], &cases);
-    let cases = [
-        (VALUE, 1, "0", kind),
-        (EXISTS, 2, "0:0", kind),
-        (EXISTS, 1, "x", access),
-    ];
-    check(&rt, rt.alloc(), &NAMED_INT, &[&OBJECT], &cases);
-    let name = Answer::Local(Fault::InvalidStringOffset(23));
-    check(
-        &rt,
-        rt.alloc(),
-        &UNREADABLE_LAST,
-        &[&OBJECT],
-        &[(EXISTS, 1, "1", name)],
-    );
+    check(&rt, rt.alloc(), &OBJECT, &[&OBJECT], &COUNTED);
+    check(&rt, rt.alloc(), &NAMED_INT, &[&OBJECT], &OF_INTEGERS);
+    check(&rt, rt.alloc(), &UNREADABLE_LAST, &[&OBJECT], &UNNAMED);
+}
+
+fn is_granted(feature: BtfFeature) -> bool {
+    feature != BtfFeature::Enum64
 }
 
 /// Makes a union of a 64-bit enum.
 fn deny_enum64(table: &mut Btf<'_>, alloc: Global) -> bool {
     let sizes: BTreeMap<&str, u64> = BTreeMap::new(alloc);
     let offsets: BTreeMap<&str, u64> = BTreeMap::new(alloc);
-    let answer = table.fixup_and_sanitize(&sizes, &offsets, None, |feature| {
-        feature != BtfFeature::Enum64
-    });
-    answer.is_ok()
+    let answers = table.fixup_and_sanitize(&sizes, &offsets, None, is_granted);
+    answers.is_ok()
 }
 
 /// A union `s` with a member `a`.
@@ -148,18 +153,18 @@ fn answer_of_union(rt: &impl Abort, alloc: Global, kernel: &[u32], kind: Relocat
     Answer::of(&relocation_outcome(&own, relocation, &[table]))
 }
 
+static UNIONS: [(&[u32], RelocationKind, Answer); 6] = [
+    (&LONG, EXISTS, Answer::Value(1)),
+    (&LONG, VALUE, Answer::Value(0xf000_0000_8000_0000)),
+    (&UNION, VALUE, Answer::Poison),
+    (&OBJECT, VALUE, Answer::Poison),
+    (&LONG, RelocationKind::TypeExists, Answer::Value(0)),
+    (&UNION, RelocationKind::TypeExists, Answer::Value(1)),
+];
+
 #[test]
 fn unions_stand_for_64_bit_enums(rt: HostRuntime) {
-    let cases: [(&[u32], RelocationKind, Answer); 6] = [
-        (&LONG, EXISTS, Answer::Value(1)),
-        (&LONG, VALUE, Answer::Value(0xf000_0000_8000_0000)),
-        (&UNION, VALUE, Answer::Poison),
-        (&OBJECT, VALUE, Answer::Poison),
-        (&LONG, RelocationKind::TypeExists, Answer::Value(0)),
-        (&UNION, RelocationKind::TypeExists, Answer::Value(1)),
-    ];
-    for (kernel, kind, wanted) in cases {
-        let found = answer_of_union(&rt, rt.alloc(), kernel, kind);
-        assert_eq!(rt; found, wanted, "{kind:?}");
+    for (kernel, kind, wanted) in &UNIONS {
+        assert!(rt; answer_of_union(&rt, rt.alloc(), kernel, *kind) == *wanted);
     }
 }

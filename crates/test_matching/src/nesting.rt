@@ -1,13 +1,12 @@
 //! Paths of many parts, and structs inside themselves.
 
-use crate::case::{check, outcome};
-use crate::tables::{A, B, INT, ORDERS, S, STRUCT_1, STRUCT_2};
+use crate::case::{check_one, outcome};
+use crate::tables::{A, B, INT, ORDERS, S, STRUCT_1, STRUCT_2, append};
 use crate::worked::OBJECT;
 use ebpf_items::RelocationKind;
 use plain_matching::{Answer, Fault};
-use std::alloc::{AllocError, Global};
+use std::alloc::Global;
 use std::process::Abort;
-use std::test::Fail;
 
 const OFFSET: RelocationKind = RelocationKind::FieldByteOffset;
 
@@ -28,76 +27,66 @@ const TWICE: [u32; 19] = [
     0, INT, 4, 0x20, S, STRUCT_2, 16, 0, 3, 0, 0, 3, 64, B, STRUCT_1, 16, B, 1, 0,
 ];
 
+static KERNELS: [(&[u32], Answer); 4] = [
+    (&IN_ITSELF, TOO_DEEP),
+    (&FOUND_BEFORE, Answer::Field(8, 1, 4)),
+    (&IN_EACH_OTHER, TOO_DEEP),
+    (&TWICE, Answer::Poison),
+];
+
 #[test]
 fn a_struct_in_itself_is_too_deep(rt: HostRuntime) {
-    let tables: [(&[u32], Answer); 4] = [
-        (&IN_ITSELF, TOO_DEEP),
-        (&FOUND_BEFORE, Answer::Field(8, 1, 4)),
-        (&IN_EACH_OTHER, TOO_DEEP),
-        (&TWICE, Answer::Poison),
-    ];
-    for (kernel, wanted) in &tables {
-        check(
+    for (kernel, wanted) in &KERNELS {
+        check_one(
             &rt,
             rt.alloc(),
             &OBJECT,
-            &[*kernel],
-            &[(OFFSET, 2, "0:0", *wanted)],
+            kernel,
+            (OFFSET, 2, "0:0", *wanted),
         );
     }
 }
 
-/// An integer, and a number of structs `s`, each with a member `a` at bit 32: the next one, and at
-/// last the integer.
-fn nested(alloc: Global, count: u32) -> Result<Vec<u32>, AllocError> {
+/// An integer, and a number of structs, each with a member `a` at bit 32: the next one, and at last
+/// the integer. The first struct is `s`, and the others have this name.
+fn nested(rt: &impl Abort, alloc: Global, count: u32, others: u32) -> Vec<u32> {
     let mut words = Vec::new(alloc);
-    words.extend_from_slice(&[0, INT, 4, 0x20])?;
-    for id in 0..count {
-        let next = if id + 1 < count {
-            id.wrapping_add(3)
-        } else {
-            1
-        };
-        words.extend_from_slice(&[S, STRUCT_1, 4, A, next, 32])?;
+    append(rt, &mut words, &[0, INT, 4, 0x20]);
+    let mut name = S;
+    for next in 3..count.saturating_add(2) {
+        append(rt, &mut words, &[name, STRUCT_1, 4, A, next, 32]);
+        name = others;
     }
-    Ok(words)
+    append(rt, &mut words, &[name, STRUCT_1, 4, A, 1, 32]);
+    words
 }
 
-/// The numbers of a path with a number of steps after the first.
-fn zeros(alloc: Global, count: u32) -> Result<String, AllocError> {
+/// A path with a number of steps after the first.
+fn zeros(rt: &impl Abort, alloc: Global, count: u32) -> String {
     let mut access = String::new(alloc);
-    access.push('0')?;
+    access.push('0').expect(rt, "a path");
     for _ in 0..count {
-        access.push_str(":0")?;
+        access.push_str(":0").expect(rt, "a path");
     }
-    Ok(access)
+    access
 }
 
 /// What a path of a number of named steps comes to, where only the outermost struct is a candidate.
-fn steps(rt: &impl Abort, alloc: Global, count: u32) -> Result<Answer, AllocError> {
-    let words = nested(alloc, count)?;
-    let access = zeros(alloc, count)?;
-    let mut kernel = nested(alloc, count)?;
-    for at in (10..kernel.len()).step_by(6) {
-        kernel[at] = B;
-    }
-    let (found, _table) = outcome(
-        rt,
-        alloc,
-        ORDERS[0],
-        words.as_slice(),
-        &[kernel.as_slice()],
-        (OFFSET, 2, access.as_str()),
-    );
-    Ok(found)
+fn steps(rt: &impl Abort, alloc: Global, count: u32) -> Answer {
+    let words = nested(rt, alloc, count, S);
+    let kernel = nested(rt, alloc, count, B);
+    let kernel = [kernel.as_slice()];
+    let access = zeros(rt, alloc, count);
+    let asked = (OFFSET, 2, access.as_str());
+    let (found, _table) = outcome(rt, alloc, ORDERS[0], words.as_slice(), &kernel, asked);
+    found
 }
 
 #[test]
-fn paths_have_64_parts(rt: HostRuntime) -> Result<(), Fail> {
-    assert_eq!(rt; steps(&rt, rt.alloc(), 1)?, Answer::Field(4, 1, 4));
-    assert_eq!(rt; steps(&rt, rt.alloc(), 63)?, Answer::Field(252, 1, 4));
-    assert_eq!(rt; steps(&rt, rt.alloc(), 64)?, TOO_DEEP);
-    Ok(())
+fn paths_have_64_parts(rt: HostRuntime) {
+    assert!(rt; steps(&rt, rt.alloc(), 1) == Answer::Field(4, 1, 4));
+    assert!(rt; steps(&rt, rt.alloc(), 63) == Answer::Field(252, 1, 4));
+    assert!(rt; steps(&rt, rt.alloc(), 64) == TOO_DEEP);
 }
 
 /// `s` with an `a`, which is a struct with a `b`.
@@ -107,48 +96,33 @@ const A_THEN_B: [u32; 16] = [
 
 /// A struct with a `b`, and `s` with an `a` that is that struct, inside a number of members without
 /// names.
-fn wrapped(alloc: Global, count: u32) -> Result<Vec<u32>, AllocError> {
+fn wrapped(rt: &impl Abort, alloc: Global, count: u32) -> Vec<u32> {
     let mut words = Vec::new(alloc);
-    words.extend_from_slice(&[0, INT, 4, 0x20])?;
-    words.extend_from_slice(&[S, STRUCT_1, 4, 0, 4, 0])?;
-    words.extend_from_slice(&[A, STRUCT_1, 4, B, 1, 32])?;
-    for id in 1..count {
-        words.extend_from_slice(&[B, STRUCT_1, 4, 0, id.wrapping_add(4), 0])?;
+    append(rt, &mut words, &[0, INT, 4, 0x20]);
+    append(rt, &mut words, &[S, STRUCT_1, 4, 0, 4, 0]);
+    append(rt, &mut words, &[A, STRUCT_1, 4, B, 1, 32]);
+    for next in 5..count.saturating_add(4) {
+        append(rt, &mut words, &[B, STRUCT_1, 4, 0, next, 0]);
     }
-    words.extend_from_slice(&[B, STRUCT_1, 4, A, 3, 32])?;
-    Ok(words)
+    append(rt, &mut words, &[B, STRUCT_1, 4, A, 3, 32]);
+    words
 }
 
-/// What `s.a.b` comes to there.
-fn inside(rt: &impl Abort, alloc: Global, count: u32) -> Result<Answer, AllocError> {
-    let kernel = wrapped(alloc, count)?;
-    let (found, _table) = outcome(
-        rt,
-        alloc,
-        ORDERS[0],
-        &A_THEN_B,
-        &[kernel.as_slice()],
-        (OFFSET, 2, "0:0:0"),
-    );
-    Ok(found)
+/// What a path comes to there.
+fn inside(rt: &impl Abort, alloc: Global, count: u32, access: &str) -> Answer {
+    let kernel = wrapped(rt, alloc, count);
+    let kernel = [kernel.as_slice()];
+    let asked = (OFFSET, 2, access);
+    let (found, _table) = outcome(rt, alloc, ORDERS[0], &A_THEN_B, &kernel, asked);
+    found
 }
 
 #[test]
-fn members_without_names_are_parts(rt: HostRuntime) -> Result<(), Fail> {
-    assert_eq!(rt; inside(&rt, rt.alloc(), 1)?, Answer::Field(8, 1, 4));
-    assert_eq!(rt; inside(&rt, rt.alloc(), 61)?, Answer::Field(8, 1, 4));
-    assert_eq!(rt; inside(&rt, rt.alloc(), 62)?, TOO_DEEP);
-    assert_eq!(rt; inside(&rt, rt.alloc(), 100)?, TOO_DEEP);
+fn members_without_names_are_parts(rt: HostRuntime) {
+    assert!(rt; inside(&rt, rt.alloc(), 1, "0:0:0") == Answer::Field(8, 1, 4));
+    assert!(rt; inside(&rt, rt.alloc(), 61, "0:0:0") == Answer::Field(8, 1, 4));
+    assert!(rt; inside(&rt, rt.alloc(), 62, "0:0:0") == TOO_DEEP);
+    assert!(rt; inside(&rt, rt.alloc(), 100, "0:0:0") == TOO_DEEP);
     // the first step may go further
-    let kernel = wrapped(rt.alloc(), 100)?;
-    let (found, _table) = outcome(
-        &rt,
-        rt.alloc(),
-        ORDERS[0],
-        &A_THEN_B,
-        &[kernel.as_slice()],
-        (OFFSET, 2, "0:0"),
-    );
-    assert_eq!(rt; found, Answer::Field(4, 3, 4));
-    Ok(())
+    assert!(rt; inside(&rt, rt.alloc(), 100, "0:0") == Answer::Field(4, 3, 4));
 }

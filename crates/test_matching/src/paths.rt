@@ -3,12 +3,14 @@
 use crate::tables::{ACCESS, ORDERS, parse, section_of};
 use crate::worked::{AT_64, OBJECT};
 use access_paths::{AccessPath, Step, Subject, local_path, subject_of};
+use btf_records::Endianness;
 use btf_tables::Btf;
 use ebpf_items::RelocationKind;
 use matching_paths::matching_path;
 use member_search::find_member;
 use plain_matching::{Answer, Fault};
 use relocation_values::path_value;
+use std::alloc::Global;
 use std::process::Abort;
 use type_match::{kernel_matches, outcome_of};
 
@@ -16,11 +18,10 @@ const OFFSET: RelocationKind = RelocationKind::FieldByteOffset;
 
 /// Whether a path of two steps ends at the first member of a type.
 fn is_to_first_member(path: &AccessPath, type_id: u32) -> bool {
-    let is_there = match path.steps.last() {
-        Some(Step::Member(place)) => place.type_id == type_id && place.index == 0,
+    match path.steps.as_slice() {
+        [_, Step::Member(place)] => place.type_id == type_id && place.index == 0,
         _ => false,
-    };
-    is_there && path.steps.as_slice().len() == 2
+    }
 }
 
 /// The path to the member, the value in the object, and the member in the kernel's struct.
@@ -28,20 +29,20 @@ fn check_paths<'t>(rt: &impl Abort, own: &Btf<'t>, kernel: &Btf<'t>) {
     let path = local_path(own, OFFSET, 2, ACCESS).expect(rt, "a path");
     assert!(rt; is_to_first_member(&path, 2));
     let value = path_value(own, OFFSET, &path).expect(rt, "a value");
-    assert_eq!(rt; Answer::of_value(value), Answer::Field(0, 1, 4));
+    assert!(rt; Answer::of_value(value) == Answer::Field(0, 1, 4));
     let found = matching_path(Subject::Field, own, &path, kernel, 2).expect(rt, "a search");
     let found = found.expect(rt, "a match");
     assert!(rt; is_to_first_member(&found, 2));
-    assert_eq!(rt; found.bit_offset, 64);
+    assert!(rt; found.bit_offset == 64);
 }
 
 /// The member by its name.
 fn check_member<'t>(rt: &impl Abort, own: &Btf<'t>, kernel: &Btf<'t>) {
     let found = find_member(own, 1, "a", kernel, 2, Some(8)).expect(rt, "a search");
     let found = found.expect(rt, "a member");
-    assert_eq!(rt; found.bits, Some(72));
-    assert_eq!(rt; found.parts, 1);
-    assert_eq!(rt; found.type_id, 1);
+    assert!(rt; found.bits == Some(72));
+    assert!(rt; found.parts == 1);
+    assert!(rt; found.type_id == 1);
 }
 
 /// The matches in the kernel's tables, and what they come to.
@@ -49,29 +50,38 @@ fn check_matches<'t>(rt: &impl Abort, own: &Btf<'t>, kernel: &[Btf<'t>]) {
     let path = local_path(own, OFFSET, 2, ACCESS).expect(rt, "a path");
     let matches = kernel_matches(OFFSET, own, &path, kernel).expect(rt, "a search");
     let outcome = outcome_of(OFFSET, matches.as_slice()).expect(rt, "an outcome");
-    assert_eq!(rt; Answer::of_outcome(outcome), Answer::Field(8, 1, 4));
+    assert!(rt; Answer::of_outcome(outcome) == Answer::Field(8, 1, 4));
+}
+
+fn check_calls(rt: &impl Abort, alloc: Global, order: Endianness) {
+    let own = section_of(rt, alloc, order, &OBJECT, "0:0");
+    let own = parse(rt, alloc, own.as_slice(), order);
+    let kernel = section_of(rt, alloc, order, &AT_64, "");
+    let kernel = [parse(rt, alloc, kernel.as_slice(), order)];
+    check_paths(rt, &own, &kernel[0]);
+    check_member(rt, &own, &kernel[0]);
+    check_matches(rt, &own, &kernel);
 }
 
 #[test]
 fn a_relocation_is_made_of_calls(rt: HostRuntime) {
     for order in ORDERS {
-        let own = section_of(&rt, rt.alloc(), order, &OBJECT, "0:0");
-        let own = parse(&rt, rt.alloc(), own.as_slice(), order);
-        let kernel = section_of(&rt, rt.alloc(), order, &AT_64, "");
-        let kernel = [parse(&rt, rt.alloc(), kernel.as_slice(), order)];
-        check_paths(&rt, &own, &kernel[0]);
-        check_member(&rt, &own, &kernel[0]);
-        check_matches(&rt, &own, &kernel);
+        check_calls(&rt, rt.alloc(), order);
     }
     assert!(rt; subject_of(RelocationKind::TypeSize) == Subject::Type);
+}
+
+/// Why there is no path whose text stands at an offset.
+fn fault_at(own: &Btf<'_>, offset: u32) -> Option<Fault> {
+    match local_path(own, OFFSET, 2, offset) {
+        Ok(_path) => None,
+        Err(error) => Some(Fault::of(&error)),
+    }
 }
 
 #[test]
 fn texts_past_the_end_are_refused(rt: HostRuntime) {
     let own = section_of(&rt, rt.alloc(), ORDERS[0], &OBJECT, "0:0");
     let own = parse(&rt, rt.alloc(), own.as_slice(), ORDERS[0]);
-    match local_path(&own, OFFSET, 2, 29) {
-        Ok(_path) => panic!(rt; "a path"),
-        Err(error) => assert_eq!(rt; Fault::of(&error), Fault::InvalidStringOffset(29)),
-    }
+    assert!(rt; fault_at(&own, 29) == Some(Fault::InvalidStringOffset(29)));
 }

@@ -76,6 +76,11 @@ pub(crate) const ENUM64_1: u32 = 0x1300_0001;
 
 pub(crate) const ENUM64_2: u32 = 0x1300_0002;
 
+/// Adds words to others.
+pub(crate) fn append(rt: &impl Abort, words: &mut Vec<u32>, more: &[u32]) {
+    words.extend_from_slice(more).expect(rt, "words");
+}
+
 /// The section of a table with an access string.
 fn section_with(
     alloc: Global,

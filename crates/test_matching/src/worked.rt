@@ -1,10 +1,23 @@
 //! A struct `s` with an integer `a` in the object, and in kernels where it lies elsewhere.
 
-use crate::case::{check, outcome};
+use crate::case::{Case, check, check_case, check_one, outcome};
 use crate::tables::{A, ARRAY, B, BITS_1, INT, ORDERS, S, SIGNED_ENUM_1, STRUCT_1, STRUCT_2};
 use ebpf_items::RelocationKind;
 use plain_matching::{Answer, Fault};
+use std::alloc::Global;
 use std::process::Abort;
+
+const OFFSET: RelocationKind = RelocationKind::FieldByteOffset;
+
+const SIZE: RelocationKind = RelocationKind::FieldByteSize;
+
+const LEFT: RelocationKind = RelocationKind::FieldLShift64;
+
+const RIGHT: RelocationKind = RelocationKind::FieldRShift64;
+
+const TARGET: RelocationKind = RelocationKind::TypeIdTarget;
+
+const EXISTS: RelocationKind = RelocationKind::TypeExists;
 
 /// `s` with an `a` of four bytes.
 pub(crate) const OBJECT: [u32; 10] = [0, INT, 4, 0x20, S, STRUCT_1, 4, A, 1, 0];
@@ -28,62 +41,74 @@ const BOTH: [u32; 16] = [
     0, INT, 4, 0x20, S, STRUCT_1, 16, A, 1, 64, S, STRUCT_1, 16, A, 1, 96,
 ];
 
+const NO_PLACE: Answer = Answer::Local(Fault::InvalidTypeInfo);
+
+/// Kernels, and what a path comes to over the object.
+static PLACES: [(&[&[u32]], &str, Answer); 9] = [
+    (&[&AT_64], "0:0", Answer::Field(8, 1, 4)),
+    (&[&WITHOUT], "0:0", Answer::Poison),
+    (&[], "0:0", Answer::Poison),
+    (&[&OF_8_BYTES], "0:0", Answer::Field(8, 1, 8)),
+    (&[&FAR], "0:0", Answer::Field(32768, 1, 4)),
+    (&[&BOTH], "0:0", Answer::ConflictingCandidates),
+    (&[&AT_64], "1:0", Answer::Field(24, 1, 4)),
+    (&[&WITHOUT], "134217727:0", Answer::Poison),
+    (&[&WITHOUT], "134217728:0", NO_PLACE),
+];
+
 #[test]
 fn fields_lie_where_the_kernel_has_them(rt: HostRuntime) {
-    let offset = RelocationKind::FieldByteOffset;
-    let tables: [(&[&[u32]], &str, Answer); 9] = [
-        (&[&AT_64], "0:0", Answer::Field(8, 1, 4)),
-        (&[&WITHOUT], "0:0", Answer::Poison),
-        (&[], "0:0", Answer::Poison),
-        (&[&OF_8_BYTES], "0:0", Answer::Field(8, 1, 8)),
-        (&[&FAR], "0:0", Answer::Field(32768, 1, 4)),
-        (&[&BOTH], "0:0", Answer::ConflictingCandidates),
-        (&[&AT_64], "1:0", Answer::Field(24, 1, 4)),
-        (&[&WITHOUT], "134217727:0", Answer::Poison),
-        (
-            &[&WITHOUT],
-            "134217728:0",
-            Answer::Local(Fault::InvalidTypeInfo),
-        ),
-    ];
-    for (kernel, access, wanted) in &tables {
-        check(
+    for (kernel, access, wanted) in &PLACES {
+        check_case(
             &rt,
             rt.alloc(),
             &OBJECT,
             kernel,
-            &[(offset, 2, access, *wanted)],
+            (OFFSET, 2, access, *wanted),
         );
+    }
+}
+
+const AT_8: Answer = Answer::Field(8, 1, 4);
+
+const CONFLICT: Answer = Answer::ConflictingCandidates;
+
+const MISSING: Answer = Answer::MissingTargetDefinition;
+
+/// Kernels, what is asked, what it comes to, and in which table.
+type Searched = (
+    &'static [&'static [u32]],
+    RelocationKind,
+    &'static str,
+    Answer,
+    Option<usize>,
+);
+
+static SEARCHED: [Searched; 10] = [
+    (&[&WITHOUT, &AT_64], OFFSET, "0:0", AT_8, Some(1)),
+    (&[&AT_64, &AT_64], OFFSET, "0:0", AT_8, Some(0)),
+    (&[&AT_64, &AT_96], OFFSET, "0:0", CONFLICT, None),
+    (&[&WITHOUT, &AT_64, &AT_96], OFFSET, "0:0", CONFLICT, None),
+    (&[&WITHOUT, &AT_64], TARGET, "0", MISSING, None),
+    (&[&AT_64, &AT_96], TARGET, "0", Answer::Value(2), Some(0)),
+    (&[&BOTH], TARGET, "0", CONFLICT, None),
+    (&[&WITHOUT, &AT_64], EXISTS, "0", Answer::Value(1), Some(1)),
+    (&[&WITHOUT], EXISTS, "0", Answer::Value(0), None),
+    (&[], TARGET, "0", MISSING, None),
+];
+
+fn check_searched(rt: &impl Abort, alloc: Global, searched: &Searched) {
+    let (kernel, kind, access, answer, table) = *searched;
+    for order in ORDERS {
+        let found = outcome(rt, alloc, order, &OBJECT, kernel, (kind, 2, access));
+        assert!(rt; found == (answer, table), "{kind:?} {access}");
     }
 }
 
 #[test]
 fn tables_are_searched_in_order(rt: HostRuntime) {
-    let offset = RelocationKind::FieldByteOffset;
-    let exists = RelocationKind::TypeExists;
-    let target = RelocationKind::TypeIdTarget;
-    let at_8 = Answer::Field(8, 1, 4);
-    let conflict = Answer::ConflictingCandidates;
-    let missing = Answer::MissingTargetDefinition;
-    let tables: [(&[&[u32]], RelocationKind, &str, Answer, Option<usize>); 10] = [
-        (&[&WITHOUT, &AT_64], offset, "0:0", at_8, Some(1)),
-        (&[&AT_64, &AT_64], offset, "0:0", at_8, Some(0)),
-        (&[&AT_64, &AT_96], offset, "0:0", conflict, None),
-        (&[&WITHOUT, &AT_64, &AT_96], offset, "0:0", conflict, None),
-        (&[&WITHOUT, &AT_64], target, "0", missing, None),
-        (&[&AT_64, &AT_96], target, "0", Answer::Value(2), Some(0)),
-        (&[&BOTH], target, "0", conflict, None),
-        (&[&WITHOUT, &AT_64], exists, "0", Answer::Value(1), Some(1)),
-        (&[&WITHOUT], exists, "0", Answer::Value(0), None),
-        (&[], target, "0", missing, None),
-    ];
-    for order in ORDERS {
-        for (kernel, kind, access, wanted, table) in &tables {
-            let asked = (*kind, 2, *access);
-            let (found, in_table) = outcome(&rt, rt.alloc(), order, &OBJECT, kernel, asked);
-            assert_eq!(rt; found, *wanted, "{kind:?} {access}");
-            assert_eq!(rt; in_table, *table, "{kind:?} {access}");
-        }
+    for searched in &SEARCHED {
+        check_searched(&rt, rt.alloc(), searched);
     }
 }
 
@@ -110,22 +135,22 @@ const NONE_BEFORE: [u32; 19] = [
     0, INT, 4, 0x20, 0, ARRAY, 0, 1, 0, 0, S, STRUCT_2, 32, A, 2, 32, B, 1, 160,
 ];
 
+static ELEMENTS: [(&[u32], Answer); 4] = [
+    (&FOUR_LATER, Answer::Field(12, 1, 4)),
+    (&TWO, Answer::Poison),
+    (&NONE_LAST, Answer::Field(12, 1, 4)),
+    (&NONE_BEFORE, Answer::Poison),
+];
+
 #[test]
 fn elements_are_counted(rt: HostRuntime) {
-    let offset = RelocationKind::FieldByteOffset;
-    let tables: [(&[u32], Answer); 4] = [
-        (&FOUR_LATER, Answer::Field(12, 1, 4)),
-        (&TWO, Answer::Poison),
-        (&NONE_LAST, Answer::Field(12, 1, 4)),
-        (&NONE_BEFORE, Answer::Poison),
-    ];
-    for (kernel, wanted) in &tables {
-        check(
+    for (kernel, wanted) in &ELEMENTS {
+        check_one(
             &rt,
             rt.alloc(),
             &FOUR,
-            &[*kernel],
-            &[(offset, 3, "0:0:2", *wanted)],
+            kernel,
+            (OFFSET, 3, "0:0:2", *wanted),
         );
     }
 }
@@ -138,80 +163,74 @@ const AT_30: [u32; 10] = [0, INT, 4, 0x20, S, BITS_1, 16, A, 1, 0x0500_001e];
 
 pub(crate) const AT_60: [u32; 10] = [0, INT, 4, 0x20, S, BITS_1, 16, A, 1, 0x0500_003c];
 
+static HERE: [Case; 5] = [
+    (LEFT, 2, "0:0", Answer::Value(56)),
+    (RIGHT, 2, "0:0", Answer::Value(59)),
+    (OFFSET, 2, "0:0", Answer::Value(0)),
+    (SIZE, 2, "0:0", Answer::Value(4)),
+    (RelocationKind::FieldExists, 2, "0:0", Answer::Value(1)),
+];
+
+/// Four bytes end at bit 32, so it is read in eight.
+static DOUBLED: [Case; 4] = [
+    (LEFT, 2, "0:0", Answer::Value(29)),
+    (RIGHT, 2, "0:0", Answer::Value(59)),
+    (OFFSET, 2, "0:0", Answer::Value(0)),
+    (SIZE, 2, "0:0", Answer::Value(8)),
+];
+
+/// Eight bytes end at bit 64, and no unit is larger.
+static NOWHERE: [Case; 3] = [
+    (LEFT, 2, "0:0", Answer::Poison),
+    (OFFSET, 2, "0:0", Answer::Poison),
+    (RelocationKind::FieldExists, 2, "0:0", Answer::Value(1)),
+];
+
+static REFUSED: [Case; 1] = [(LEFT, 2, "0:0", NO_PLACE)];
+
 #[test]
 fn bit_fields_lie_in_units(rt: HostRuntime) {
-    let left = RelocationKind::FieldLShift64;
-    let right = RelocationKind::FieldRShift64;
-    let offset = RelocationKind::FieldByteOffset;
-    let size = RelocationKind::FieldByteSize;
-    let here = [
-        (left, 2, "0:0", Answer::Value(56)),
-        (right, 2, "0:0", Answer::Value(59)),
-        (offset, 2, "0:0", Answer::Value(0)),
-        (size, 2, "0:0", Answer::Value(4)),
-        (RelocationKind::FieldExists, 2, "0:0", Answer::Value(1)),
-    ];
-    check(&rt, rt.alloc(), &AT_3, &[&AT_3], &here);
-    // four bytes end at bit 32, so it is read in eight
-    let doubled = [
-        (left, 2, "0:0", Answer::Value(29)),
-        (right, 2, "0:0", Answer::Value(59)),
-        (offset, 2, "0:0", Answer::Value(0)),
-        (size, 2, "0:0", Answer::Value(8)),
-    ];
-    check(&rt, rt.alloc(), &AT_3, &[&AT_30], &doubled);
-    // eight bytes end at bit 64, and no unit is larger
-    let nowhere = [
-        (left, 2, "0:0", Answer::Poison),
-        (offset, 2, "0:0", Answer::Poison),
-        (RelocationKind::FieldExists, 2, "0:0", Answer::Value(1)),
-    ];
-    check(&rt, rt.alloc(), &AT_3, &[&AT_60], &nowhere);
-    let refused = Answer::Local(Fault::InvalidTypeInfo);
-    check(
-        &rt,
-        rt.alloc(),
-        &AT_60,
-        &[&AT_3],
-        &[(left, 2, "0:0", refused)],
-    );
-    check(&rt, rt.alloc(), &AT_60, &[], &[(left, 2, "0:0", refused)]);
+    check(&rt, rt.alloc(), &AT_3, &[&AT_3], &HERE);
+    check(&rt, rt.alloc(), &AT_3, &[&AT_30], &DOUBLED);
+    check(&rt, rt.alloc(), &AT_3, &[&AT_60], &NOWHERE);
+    check(&rt, rt.alloc(), &AT_60, &[&AT_3], &REFUSED);
+    check(&rt, rt.alloc(), &AT_60, &[], &REFUSED);
 }
 
 /// A signed enum `s` with a variant `a` of -1.
 const MINUS_ONE: [u32; 5] = [S, SIGNED_ENUM_1, 4, A, 0xffff_ffff];
 
+static EXTENDED: [Case; 1] = [(
+    RelocationKind::EnumVariantValue,
+    1,
+    "0",
+    Answer::Value(0xffff_ffff_ffff_ffff),
+)];
+
 #[test]
 fn signed_variants_are_extended(rt: HostRuntime) {
-    let value = RelocationKind::EnumVariantValue;
-    let wanted = Answer::Value(0xffff_ffff_ffff_ffff);
-    check(
-        &rt,
-        rt.alloc(),
-        &MINUS_ONE,
-        &[&MINUS_ONE],
-        &[(value, 1, "0", wanted)],
-    );
+    check(&rt, rt.alloc(), &MINUS_ONE, &[&MINUS_ONE], &EXTENDED);
 }
+
+static NOT_THERE: [Case; 9] = [
+    (SIZE, 2, "0:0", Answer::Poison),
+    (RelocationKind::FieldExists, 2, "0:0", Answer::Value(0)),
+    (RelocationKind::FieldSigned, 2, "0:0", Answer::Poison),
+    (LEFT, 2, "0:0", Answer::Poison),
+    (RIGHT, 2, "0:0", Answer::Poison),
+    (RelocationKind::TypeIdLocal, 2, "0", Answer::Value(2)),
+    (TARGET, 2, "0", MISSING),
+    (EXISTS, 2, "0", Answer::Value(0)),
+    (RelocationKind::TypeSize, 2, "0", MISSING),
+];
+
+static NO_VARIANTS: [Case; 2] = [
+    (RelocationKind::EnumVariantExists, 1, "0", Answer::Value(0)),
+    (RelocationKind::EnumVariantValue, 1, "0", Answer::Poison),
+];
 
 #[test]
 fn what_is_not_there(rt: HostRuntime) {
-    let missing = Answer::MissingTargetDefinition;
-    let cases = [
-        (RelocationKind::FieldByteSize, 2, "0:0", Answer::Poison),
-        (RelocationKind::FieldExists, 2, "0:0", Answer::Value(0)),
-        (RelocationKind::FieldSigned, 2, "0:0", Answer::Poison),
-        (RelocationKind::FieldLShift64, 2, "0:0", Answer::Poison),
-        (RelocationKind::FieldRShift64, 2, "0:0", Answer::Poison),
-        (RelocationKind::TypeIdLocal, 2, "0", Answer::Value(2)),
-        (RelocationKind::TypeIdTarget, 2, "0", missing),
-        (RelocationKind::TypeExists, 2, "0", Answer::Value(0)),
-        (RelocationKind::TypeSize, 2, "0", missing),
-    ];
-    check(&rt, rt.alloc(), &OBJECT, &[&WITHOUT], &cases);
-    let variants = [
-        (RelocationKind::EnumVariantExists, 1, "0", Answer::Value(0)),
-        (RelocationKind::EnumVariantValue, 1, "0", Answer::Poison),
-    ];
-    check(&rt, rt.alloc(), &MINUS_ONE, &[&WITHOUT], &variants);
+    check(&rt, rt.alloc(), &OBJECT, &[&WITHOUT], &NOT_THERE);
+    check(&rt, rt.alloc(), &MINUS_ONE, &[&WITHOUT], &NO_VARIANTS);
 }

@@ -1,8 +1,6 @@
-//! Tests of what an object holds: its maps, functions, records and externs.
+//! Tests of what an object holds: its maps, functions and records.
 #![tactic(auto)]
 
-#[cfg(test)]
-mod externs;
 #[cfg(test)]
 mod helper_calls;
 #[cfg(test)]
@@ -11,5 +9,3 @@ mod maps_of_objects;
 mod parsed_objects;
 #[cfg(test)]
 mod records_of_functions;
-#[cfg(test)]
-mod resolved_externs;

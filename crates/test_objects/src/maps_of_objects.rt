@@ -10,8 +10,10 @@ use object_file::ObjectFile;
 use object_maps::{Maps, read_maps};
 use objects::{Section, Symbol, object};
 use std::alloc::Global;
-use std::test::Fail;
-use types::{COMMON, NESTED_INNER, PINNED_INNER, SECTION, STRUCT, UNNAMED, section};
+use std::process::Abort;
+use types::{
+    COMMON, NESTED_INNER, PINNED_INNER, SECTION, STRUCT_1, STRUCT_5, STRUCT_6, UNNAMED, section,
+};
 
 /// The records of a type table, if there is one.
 type Types = Option<&'static [&'static [u32]]>;
@@ -95,95 +97,175 @@ fn words(map: &Map) -> Words {
     )
 }
 
-fn is_row(name: &str, map: &Map, row: &Row) -> bool {
-    name == row.name
-        && words(map) == row.words
-        && map.inner().map(|inner| words(&inner)) == row.inner
+fn inner_words(map: &Map) -> Option<Words> {
+    match map.inner() {
+        Some(inner) => Some(words(&inner)),
+        None => None,
+    }
+}
+
+fn is_row(map: &Map, row: &Row) -> bool {
+    words(map) == row.words
+        && inner_words(map) == row.inner
         && map.section_index() == row.section
         && map.symbol_index() == row.symbol
         && map.data() == row.contents
+}
+
+/// Whether each row is the map of its name.
+fn are_found(maps: &Maps<'_>, rows: &[Row]) -> bool {
+    for row in rows {
+        match maps.get(row.name) {
+            Some(map) if is_row(map, row) => {}
+            _ => return false,
+        }
+    }
+    true
+}
+
+/// Whether the maps have the names of the rows, in this order.
+fn are_in_order(maps: &Maps<'_>, rows: &[Row]) -> bool {
+    for ((name, _), row) in maps.iter().zip(rows.iter()) {
+        if *name != row.name {
+            return false;
+        }
+    }
+    true
 }
 
 /// Whether these are the maps, by name.
 fn are_rows(maps: &Maps<'_>, rows: &[Row]) -> bool {
     maps.len() == rows.len()
         && maps.is_empty() == rows.is_empty()
-        && rows.iter().all(|row| maps
-            .get(row.name)
-            .is_some_and(|map| is_row(row.name, map, row)))
-        && maps
-            .iter()
-            .zip(rows.iter())
-            .all(|((name, _), row)| *name == row.name)
+        && are_found(maps, rows)
+        && are_in_order(maps, rows)
 }
 
-/// What the maps of an object and a table come to: whether they are these, or this refusal.
-fn comes_to(
-    alloc: Global,
-    sections: &[Section],
-    symbols: &[Symbol],
+/// What a reading of maps comes to.
+#[derive(Clone, Copy)]
+enum Outcome {
+    Maps(&'static [Row]),
+    Refused(Refusal),
+}
+
+/// The sections, symbols and types of an object, and what the reading of its maps comes to.
+#[derive(Clone, Copy)]
+struct Case {
+    title: &'static str,
+    sections: &'static [Section],
+    symbols: &'static [Symbol],
     types: Types,
-    expected: Result<&[Row], Refusal>,
-) -> Result<bool, Fail> {
-    let bytes = object(alloc, sections, symbols)?;
-    let Ok(file) = ObjectFile::parse(alloc, &bytes) else {
-        return Err(Fail::from("an object file"));
+    outcome: Outcome,
+}
+
+fn are_expected(maps: &Maps<'_>, outcome: Outcome) -> bool {
+    match outcome {
+        Outcome::Maps(rows) => are_rows(maps, rows),
+        Outcome::Refused(_) => false,
+    }
+}
+
+fn is_expected(error: &ParseError, outcome: Outcome) -> bool {
+    match outcome {
+        Outcome::Maps(_) => false,
+        Outcome::Refused(refusal) => is_refusal(error, refusal),
+    }
+}
+
+/// Whether the maps of an object's file and a table come to this.
+fn maps_come_to(
+    alloc: Global,
+    file: &ObjectFile<'_>,
+    table: Option<&Btf<'_>>,
+    outcome: Outcome,
+) -> bool {
+    match read_maps(alloc, file, table) {
+        Ok(maps) => are_expected(&maps, outcome),
+        Err(error) => is_expected(&error, outcome),
+    }
+}
+
+/// The same, of the section of a table.
+fn typed_come_to(alloc: Global, file: &ObjectFile<'_>, section: &[u8], outcome: Outcome) -> bool {
+    match Btf::parse(alloc, section, Endianness::Little) {
+        Ok(table) => maps_come_to(alloc, file, Some(&table), outcome),
+        Err(_) => false,
+    }
+}
+
+/// The same, of the records of a table, if there is one.
+fn file_comes_to(alloc: Global, file: &ObjectFile<'_>, types: Types, outcome: Outcome) -> bool {
+    let Some(records) = types else {
+        return maps_come_to(alloc, file, None, outcome);
     };
-    let answer = match types {
-        Some(records) => {
-            let bytes = section(alloc, records)?;
-            let Ok(table) = Btf::parse(alloc, &bytes, Endianness::Little) else {
-                return Err(Fail::from("a table"));
-            };
-            read_maps(alloc, &file, Some(&table))
-        }
-        None => read_maps(alloc, &file, None),
-    };
-    Ok(match (answer, expected) {
-        (Ok(maps), Ok(rows)) => are_rows(&maps, rows),
-        (Err(error), Err(refusal)) => is_refusal(&error, refusal),
-        _ => false,
-    })
-}
-
-const fn bytes_of(name: &'static str, bytes: &'static [u8]) -> Section {
-    Section {
-        name,
-        kind: 1,
-        size: bytes.len() as u64,
-        bytes,
+    match section(alloc, records) {
+        Ok(section) => typed_come_to(alloc, file, section.as_slice(), outcome),
+        Err(_) => false,
     }
 }
 
-const fn nobits(name: &'static str, size: u64) -> Section {
-    Section {
-        name,
-        kind: 8,
-        size,
-        bytes: &[],
+/// The same, of an object's bytes.
+fn bytes_come_to(alloc: Global, bytes: &[u8], types: Types, outcome: Outcome) -> bool {
+    match ObjectFile::parse(alloc, bytes) {
+        Ok(file) => file_comes_to(alloc, &file, types, outcome),
+        Err(_) => false,
     }
 }
 
-/// A global variable of section 1, at an offset and of a size.
-const fn variable(name: &'static str, value: u64, size: u64) -> Symbol {
-    Symbol {
-        name,
-        section: 1,
-        info: 0x11,
-        value,
-        size,
+/// Whether the reading of a case comes to what the case says.
+fn holds(alloc: Global, case: &Case) -> bool {
+    match object(alloc, case.sections, case.symbols) {
+        Ok(bytes) => bytes_come_to(alloc, bytes.as_slice(), case.types, case.outcome),
+        Err(_) => false,
     }
 }
 
-/// The words 1 to 7.
-const SEVEN: &[u8] = &[
-    1, 0, 0, 0, 2, 0, 0, 0, 3, 0, 0, 0, 4, 0, 0, 0, 5, 0, 0, 0, 6, 0, 0, 0, 7, 0, 0, 0,
-];
+fn check(rt: &impl Abort, alloc: Global, case: &Case) {
+    assert!(rt; holds(alloc, case), "{}", case.title);
+}
 
-/// The same, but pinned.
-const PINNED: &[u8] = &[
-    1, 0, 0, 0, 2, 0, 0, 0, 3, 0, 0, 0, 4, 0, 0, 0, 5, 0, 0, 0, 6, 0, 0, 0, 1, 0, 0,
-];
+/// Section types.
+const PROGBITS: u32 = 1;
+
+const NOBITS: u32 = 8;
+
+/// A global variable of section 1.
+const M: Symbol = Symbol {
+    name: "m",
+    section: 1,
+    info: 0x11,
+    value: 0,
+    size: 40,
+};
+
+const N: Symbol = Symbol { name: "n", ..M };
+
+/// A symbol of section 1 itself.
+const OWN: Symbol = Symbol {
+    name: "",
+    info: 3,
+    size: 0,
+    ..M
+};
+
+/// A section of maps by words: 1 to 7.
+const UNPINNED: Section = Section {
+    name: "maps",
+    kind: PROGBITS,
+    size: 28,
+    bytes: &[
+        1, 0, 0, 0, 2, 0, 0, 0, 3, 0, 0, 0, 4, 0, 0, 0, 5, 0, 0, 0, 6, 0, 0, 0, 7, 0, 0, 0,
+    ],
+};
+
+/// The same, but pinned, and without the last byte.
+const PINNED: Section = Section {
+    size: 27,
+    bytes: &[
+        1, 0, 0, 0, 2, 0, 0, 0, 3, 0, 0, 0, 4, 0, 0, 0, 5, 0, 0, 0, 6, 0, 0, 0, 1, 0, 0,
+    ],
+    ..UNPINNED
+};
 
 const LEGACY: Row = Row {
     name: "m",
@@ -194,62 +276,88 @@ const LEGACY: Row = Row {
     contents: &[],
 };
 
+const BY_WORDS: Case = Case {
+    title: "five words, then two that are no part of them",
+    sections: &[UNPINNED],
+    symbols: &[Symbol { size: 20, ..M }, OWN],
+    types: None,
+    outcome: Outcome::Maps(&[LEGACY]),
+};
+
+static WORDS: [Case; 7] = [
+    BY_WORDS,
+    Case {
+        title: "an id and a pinning of three bytes",
+        sections: &[PINNED],
+        symbols: &[Symbol { size: 27, ..M }, OWN],
+        outcome: Outcome::Maps(&[Row {
+            words: (1, 2, 3, 4, 5, 0, true, 6, 0),
+            ..LEGACY
+        }]),
+        ..BY_WORDS
+    },
+    Case {
+        title: "of two of a name the later",
+        symbols: &[
+            Symbol { size: 20, ..M },
+            Symbol {
+                value: 4,
+                size: 24,
+                ..M
+            },
+        ],
+        outcome: Outcome::Maps(&[Row {
+            words: (2, 3, 4, 5, 6, 0, false, 7, 0),
+            symbol: Some(2),
+            ..LEGACY
+        }]),
+        ..BY_WORDS
+    },
+    Case {
+        title: "a byte too few",
+        symbols: &[Symbol { size: 19, ..M }, OWN],
+        outcome: Outcome::Refused(Refusal::BadDefinition("m")),
+        ..BY_WORDS
+    },
+    Case {
+        title: "a byte past the section's end",
+        symbols: &[
+            Symbol {
+                value: 9,
+                size: 20,
+                ..M
+            },
+            OWN,
+        ],
+        outcome: Outcome::Refused(Refusal::BadDefinition("m")),
+        ..BY_WORDS
+    },
+    Case {
+        title: "far past the section's end",
+        symbols: &[
+            Symbol {
+                value: u64::MAX,
+                size: 20,
+                ..M
+            },
+            OWN,
+        ],
+        outcome: Outcome::Refused(Refusal::BadDefinition("m")),
+        ..BY_WORDS
+    },
+    Case {
+        title: "no symbol but the section's",
+        symbols: &[OWN, OWN],
+        outcome: Outcome::Refused(Refusal::NoSymbols("maps")),
+        ..BY_WORDS
+    },
+];
+
 #[test]
-fn reads_words(rt: HostRuntime) -> Result<(), Fail> {
-    // Bytes, symbols, and the maps.
-    let own = Symbol {
-        name: "",
-        section: 1,
-        info: 3,
-        value: 0,
-        size: 0,
-    };
-    let cases: [(&'static [u8], [Symbol; 2], Result<Row, Refusal>); 7] = [
-        (SEVEN, [variable("m", 0, 20), own], Ok(LEGACY)),
-        (
-            PINNED,
-            [variable("m", 0, 27), own],
-            Ok(Row {
-                words: (1, 2, 3, 4, 5, 0, true, 6, 0),
-                ..LEGACY
-            }),
-        ),
-        (
-            SEVEN,
-            [variable("m", 0, 20), variable("m", 4, 24)],
-            Ok(Row {
-                words: (2, 3, 4, 5, 6, 0, false, 7, 0),
-                symbol: Some(2),
-                ..LEGACY
-            }),
-        ),
-        (
-            SEVEN,
-            [variable("m", 0, 19), own],
-            Err(Refusal::BadDefinition("m")),
-        ),
-        (
-            SEVEN,
-            [variable("m", 9, 20), own],
-            Err(Refusal::BadDefinition("m")),
-        ),
-        (
-            SEVEN,
-            [variable("m", u64::MAX, 20), own],
-            Err(Refusal::BadDefinition("m")),
-        ),
-        (SEVEN, [own, own], Err(Refusal::NoSymbols("maps"))),
-    ];
-    for (bytes, symbols, expected) in cases.iter() {
-        let sections = [bytes_of("maps", bytes)];
-        let rows = [expected.unwrap_or(LEGACY)];
-        let expected = match expected {
-            Ok(_) => Ok(rows.as_slice()),
-            Err(refusal) => Err(*refusal),
-        };
-        assert!(rt; comes_to(rt.alloc(), &sections, symbols, None, expected)?);
+fn reads_words(rt: HostRuntime) {
+    for case in &WORDS {
+        check(&rt, rt.alloc(), case);
     }
-    Ok(())
 }
 
 const VARIABLES: Row = Row {
@@ -261,41 +369,94 @@ const VARIABLES: Row = Row {
     contents: b"12345678",
 };
 
+/// A section of variables.
+const DATA: Section = Section {
+    name: ".data",
+    kind: PROGBITS,
+    size: 8,
+    bytes: b"12345678",
+};
+
+const BY_SECTION: Case = Case {
+    title: "of two sections of a name the later",
+    sections: &[
+        Section {
+            size: 4,
+            bytes: b"1234",
+            ..DATA
+        },
+        DATA,
+    ],
+    symbols: &[],
+    types: None,
+    outcome: Outcome::Maps(&[VARIABLES]),
+};
+
+static SECTIONS: [Case; 3] = [
+    BY_SECTION,
+    Case {
+        title: "sections without bytes, of which `.bss` has zeros, and one that is only read",
+        sections: &[
+            Section {
+                kind: NOBITS,
+                size: 5,
+                bytes: &[],
+                ..DATA
+            },
+            Section {
+                name: ".rodata.str",
+                size: 2,
+                bytes: b"12",
+                ..DATA
+            },
+            Section {
+                name: ".bss",
+                kind: NOBITS,
+                size: 3,
+                bytes: &[],
+            },
+        ],
+        outcome: Outcome::Maps(&[
+            Row {
+                name: ".bss",
+                words: (2, 4, 3, 1, 0, 0, false, 0, 0),
+                section: 3,
+                contents: &[0, 0, 0],
+                ..VARIABLES
+            },
+            Row {
+                words: (2, 4, 5, 1, 0, 0, false, 0, 0),
+                section: 1,
+                contents: &[],
+                ..VARIABLES
+            },
+            Row {
+                name: ".rodata.str",
+                words: (2, 4, 2, 1, 128, 0, false, 0, 0),
+                contents: b"12",
+                ..VARIABLES
+            },
+        ]),
+        ..BY_SECTION
+    },
+    Case {
+        title: "a size of more than 32 bits",
+        sections: &[Section {
+            kind: NOBITS,
+            size: 0x1_0000_0000,
+            bytes: &[],
+            ..DATA
+        }],
+        outcome: Outcome::Refused(Refusal::BadDefinition(".data")),
+        ..BY_SECTION
+    },
+];
+
 #[test]
-fn reads_variables(rt: HostRuntime) -> Result<(), Fail> {
-    let twice = [bytes_of(".data", b"1234"), bytes_of(".data", b"12345678")];
-    assert!(rt; comes_to(rt.alloc(), &twice, &[], None, Ok(&[VARIABLES]))?);
-    let several = [
-        nobits(".data", 5),
-        bytes_of(".rodata.str", b"12"),
-        nobits(".bss", 3),
-    ];
-    let rows = [
-        Row {
-            name: ".bss",
-            words: (2, 4, 3, 1, 0, 0, false, 0, 0),
-            section: 3,
-            contents: &[0, 0, 0],
-            ..VARIABLES
-        },
-        Row {
-            words: (2, 4, 5, 1, 0, 0, false, 0, 0),
-            section: 1,
-            contents: &[],
-            ..VARIABLES
-        },
-        Row {
-            name: ".rodata.str",
-            words: (2, 4, 2, 1, 128, 0, false, 0, 0),
-            contents: b"12",
-            ..VARIABLES
-        },
-    ];
-    assert!(rt; comes_to(rt.alloc(), &several, &[], None, Ok(&rows))?);
-    let large = [nobits(".data", 0x1_0000_0000)];
-    let refused = Err(Refusal::BadDefinition(".data"));
-    assert!(rt; comes_to(rt.alloc(), &large, &[], None, refused)?);
-    Ok(())
+fn reads_variables(rt: HostRuntime) {
+    for case in &SECTIONS {
+        check(&rt, rt.alloc(), case);
+    }
 }
 
 const TYPED: Row = Row {
@@ -309,152 +470,120 @@ const TYPED: Row = Row {
 
 /// `type` 2, `key` and `value` `int`, `max_entries` 16, pinned.
 const FULL: &[u32] = &[
-    0,
-    STRUCT + 5,
-    40,
-    9,
-    3,
-    0,
-    14,
-    8,
-    0,
-    18,
-    8,
-    0,
-    24,
-    5,
-    0,
-    36,
-    7,
-    0,
+    0, STRUCT_5, 40, 9, 3, 0, 14, 8, 0, 18, 8, 0, 24, 5, 0, 36, 7, 0,
 ];
 
 /// `key_size` 2 and 16, `note`, `map_extra` 16, `values`, `type` 16.
 const HOLDER: &[u32] = &[
-    0,
-    STRUCT + 6,
-    48,
-    51,
-    3,
-    0,
-    51,
-    5,
-    0,
-    70,
-    1,
-    0,
-    60,
-    5,
-    0,
-    44,
-    11,
-    0,
-    9,
-    5,
-    0,
+    0, STRUCT_6, 48, 51, 3, 0, 51, 5, 0, 70, 1, 0, 60, 5, 0, 44, 11, 0, 9, 5, 0,
 ];
 
-const M: Symbol = Symbol {
-    name: "m",
-    section: 1,
-    info: 0x11,
-    value: 0,
+/// A section of maps by types.
+const MAPS: Section = Section {
+    name: ".maps",
+    kind: NOBITS,
     size: 40,
+    bytes: &[],
 };
 
-const N: Symbol = Symbol { name: "n", ..M };
+const BY_TYPES: Case = Case {
+    title: "a map by types",
+    sections: &[MAPS],
+    symbols: &[M, M],
+    types: Some(&[COMMON, FULL, SECTION]),
+    outcome: Outcome::Maps(&[TYPED]),
+};
 
-// Symbols, records, and the map or why it is refused.
-const TYPED_CASES: [([Symbol; 2], Types, Result<Row, Refusal>); 13] = [
-    ([M, M], Some(&[COMMON, FULL, SECTION]), Ok(TYPED)),
-    (
-        [N, M],
-        Some(&[COMMON, HOLDER, SECTION]),
-        Ok(Row {
+static TYPED_CASES: [Case; 14] = [
+    BY_TYPES,
+    Case {
+        title: "a map of maps, whose keys have the later of two sizes",
+        symbols: &[N, M],
+        types: Some(&[COMMON, HOLDER, SECTION]),
+        outcome: Outcome::Maps(&[Row {
             words: (16, 16, 4, 0, 0, 16, false, 0, 0),
             inner: Some((2, 16, 0, 0, 0, 0, false, 0, 0)),
             ..TYPED
-        }),
-    ),
-    ([M, M], None, Err(Refusal::NoTable)),
-    (
-        [N, N],
-        Some(&[COMMON, FULL, SECTION]),
-        Err(Refusal::NoSymbol("m")),
-    ),
-    (
-        [M, M],
-        Some(&[COMMON, FULL, SECTION, UNNAMED]),
-        Err(Refusal::NoText(99)),
-    ),
-    // `type` of an `int`, which holds no type, and of a variable, which holds 13.
-    (
-        [M, M],
-        Some(&[COMMON, &[0, STRUCT + 1, 8, 9, 1, 0], SECTION]),
-        Err(Refusal::Unexpected(0)),
-    ),
-    (
-        [M, M],
-        Some(&[COMMON, &[0, STRUCT + 1, 8, 9, 12, 0], SECTION]),
-        Err(Refusal::Unexpected(13)),
-    ),
-    // `key` of a variable names the variable.
-    (
-        [M, M],
-        Some(&[COMMON, &[0, STRUCT + 1, 8, 14, 12, 0], SECTION]),
-        Err(Refusal::Unexpected(12)),
-    ),
-    (
-        [M, M],
-        Some(&[COMMON, &[0, STRUCT + 1, 8, 18, 15, 0], SECTION]),
-        Err(Refusal::TooLarge),
-    ),
-    (
-        [M, M],
-        Some(&[COMMON, &[0, STRUCT + 1, 8, 44, 2, 0], SECTION]),
-        Err(Refusal::Counted("m")),
-    ),
-    (
-        [M, M],
-        Some(&[
-            COMMON,
-            &[0, STRUCT + 1, 8, 44, 19, 0],
-            SECTION,
-            PINNED_INNER,
-        ]),
-        Err(Refusal::Pinned("m")),
-    ),
-    (
-        [M, M],
-        Some(&[
-            COMMON,
-            &[0, STRUCT + 1, 8, 44, 19, 0],
-            SECTION,
-            NESTED_INNER,
-        ]),
-        Err(Refusal::Nested("m")),
-    ),
-    // A member whose name can't be read.
-    (
-        [M, M],
-        Some(&[COMMON, &[0, STRUCT + 1, 8, 98, 3, 0], SECTION]),
-        Err(Refusal::NoText(98)),
-    ),
+        }]),
+        ..BY_TYPES
+    },
+    Case {
+        title: "no table",
+        types: None,
+        outcome: Outcome::Refused(Refusal::NoTable),
+        ..BY_TYPES
+    },
+    Case {
+        title: "no symbol of the name",
+        symbols: &[N, N],
+        outcome: Outcome::Refused(Refusal::NoSymbol("m")),
+        ..BY_TYPES
+    },
+    Case {
+        title: "a section whose name can't be read",
+        types: Some(&[COMMON, FULL, SECTION, UNNAMED]),
+        outcome: Outcome::Refused(Refusal::NoText(99)),
+        ..BY_TYPES
+    },
+    Case {
+        title: "`type` of an `int`, which holds no type",
+        types: Some(&[COMMON, &[0, STRUCT_1, 8, 9, 1, 0], SECTION]),
+        outcome: Outcome::Refused(Refusal::Unexpected(0)),
+        ..BY_TYPES
+    },
+    Case {
+        title: "`type` of a variable, which holds 13",
+        types: Some(&[COMMON, &[0, STRUCT_1, 8, 9, 12, 0], SECTION]),
+        outcome: Outcome::Refused(Refusal::Unexpected(13)),
+        ..BY_TYPES
+    },
+    Case {
+        title: "`key` of a variable names the variable",
+        types: Some(&[COMMON, &[0, STRUCT_1, 8, 14, 12, 0], SECTION]),
+        outcome: Outcome::Refused(Refusal::Unexpected(12)),
+        ..BY_TYPES
+    },
+    Case {
+        title: "`value` of more bytes than 32 bits can count",
+        types: Some(&[COMMON, &[0, STRUCT_1, 8, 18, 15, 0], SECTION]),
+        outcome: Outcome::Refused(Refusal::TooLarge),
+        ..BY_TYPES
+    },
+    Case {
+        title: "`values` that are no array without elements",
+        types: Some(&[COMMON, &[0, STRUCT_1, 8, 44, 2, 0], SECTION]),
+        outcome: Outcome::Refused(Refusal::Counted("m")),
+        ..BY_TYPES
+    },
+    Case {
+        title: "an inner map that is pinned",
+        types: Some(&[COMMON, &[0, STRUCT_1, 8, 44, 19, 0], SECTION, PINNED_INNER]),
+        outcome: Outcome::Refused(Refusal::Pinned("m")),
+        ..BY_TYPES
+    },
+    Case {
+        title: "an inner map of maps",
+        types: Some(&[COMMON, &[0, STRUCT_1, 8, 44, 19, 0], SECTION, NESTED_INNER]),
+        outcome: Outcome::Refused(Refusal::Nested("m")),
+        ..BY_TYPES
+    },
+    Case {
+        title: "a member whose name can't be read",
+        types: Some(&[COMMON, &[0, STRUCT_1, 8, 98, 3, 0], SECTION]),
+        outcome: Outcome::Refused(Refusal::NoText(98)),
+        ..BY_TYPES
+    },
+    Case {
+        title: "no symbol at all",
+        symbols: &[],
+        outcome: Outcome::Refused(Refusal::NoSymbols(".maps")),
+        ..BY_TYPES
+    },
 ];
 
 #[test]
-fn reads_types(rt: HostRuntime) -> Result<(), Fail> {
-    let sections = [nobits(".maps", 40)];
-    for (symbols, types, expected) in TYPED_CASES.iter() {
-        let rows = [expected.unwrap_or(TYPED)];
-        let expected = match expected {
-            Ok(_) => Ok(rows.as_slice()),
-            Err(refusal) => Err(*refusal),
-        };
-        assert!(rt; comes_to(rt.alloc(), &sections, symbols, *types, expected)?);
+fn reads_types(rt: HostRuntime) {
+    for case in &TYPED_CASES {
+        check(&rt, rt.alloc(), case);
     }
-    let refused = Err(Refusal::NoSymbols(".maps"));
-    let types: Types = Some(&[COMMON, FULL, SECTION]);
-    assert!(rt; comes_to(rt.alloc(), &sections, &[], types, refused)?);
-    Ok(())
 }

@@ -24,7 +24,7 @@ struct Content {
     version: Option<u32>,
     key: (usize, u64),
     offset: usize,
-    codes: [Option<u8>; 3],
+    codes: (Option<u8>, Option<u8>, Option<u8>),
 }
 
 /// Why an object is refused.
@@ -88,70 +88,121 @@ fn content_of(object: &Object<'_>) -> Option<Content> {
         version: object.kernel_version(),
         key: program.function_key(),
         offset: function.section_offset,
-        codes: [code(slots, 0), code(slots, 1), code(slots, 2)],
+        codes: (code(slots, 0), code(slots, 1), code(slots, 2)),
     })
 }
 
 /// The code of a slot, if there is one.
 fn code(slots: &Slots<'_>, index: usize) -> Option<u8> {
-    slots.get(index).map(|slot| slot.code)
+    match slots.get(index) {
+        Some(slot) => Some(slot.code),
+        None => None,
+    }
+}
+
+/// What the object of one program holds.
+const ONE: Content = Content {
+    endianness: Endianness::Little,
+    version: None,
+    key: (2, 0),
+    offset: 0,
+    codes: (Some(0xb7), Some(0x95), None),
+};
+
+/// What it holds where numbers stand most significant byte first.
+const BIG: Content = Content {
+    endianness: Endianness::Big,
+    ..ONE
+};
+
+/// Changes of the object of one program, and what it then holds.
+static ACCEPTED: [(Changes, Content); 5] = [
+    (&[], ONE),
+    // The license's section is called `version` in its place, and the default license holds.
+    (
+        &[(142, b"version")],
+        Content {
+            version: Some(0x004c_5047),
+            ..ONE
+        },
+    ),
+    (&[(142, b"version"), (64, &[0xfe, 0xff, 0xff, 0xff])], ONE),
+    // The function of the second slot, and one without any.
+    (
+        &[(120, &[8]), (128, &[8])],
+        Content {
+            key: (2, 8),
+            offset: 8,
+            codes: (Some(0x95), None, None),
+            ..ONE
+        },
+    ),
+    (
+        &[(128, &[0])],
+        Content {
+            codes: (None, None, None),
+            ..ONE
+        },
+    ),
+];
+
+/// The same where numbers stand most significant byte first.
+static ACCEPTED_BIG: [(Changes, Content); 2] = [
+    (&[], BIG),
+    (
+        &[(142, b"version")],
+        Content {
+            version: Some(0x4750_4c00),
+            ..BIG
+        },
+    ),
+];
+
+/// What a changed object holds.
+fn changed_content(alloc: Global, object: &[u8; 568], changes: Changes) -> Option<Content> {
+    let bytes = with_bytes(object, changes);
+    match Object::parse(alloc, &bytes) {
+        Ok(object) => content_of(&object),
+        Err(_) => None,
+    }
 }
 
 #[test]
 fn accepted_objects(rt: HostRuntime) {
-    let one = Content {
-        endianness: Endianness::Little,
-        version: None,
-        key: (2, 0),
-        offset: 0,
-        codes: [Some(0xb7), Some(0x95), None],
-    };
-    let big = Content {
-        endianness: Endianness::Big,
-        ..one
-    };
-    let second = Content {
-        key: (2, 8),
-        offset: 8,
-        codes: [Some(0x95), None, None],
-        ..one
-    };
-    let empty = Content {
-        codes: [None, None, None],
-        ..one
-    };
-    let named = Content {
-        version: Some(0x004c_5047),
-        ..one
-    };
-    let big_named = Content {
-        version: Some(0x4750_4c00),
-        ..big
-    };
-    let questions: [(&[u8; 568], Changes, Content); 7] = [
-        (&ONE_PROGRAM, &[], one),
-        (&ONE_PROGRAM_BIG, &[], big),
-        // The license's section is called `version` in its place, and the default license holds.
-        (&ONE_PROGRAM, &[(142, b"version")], named),
-        (&ONE_PROGRAM_BIG, &[(142, b"version")], big_named),
-        (
-            &ONE_PROGRAM,
-            &[(142, b"version"), (64, &[0xfe, 0xff, 0xff, 0xff])],
-            one,
-        ),
-        // The function of the second slot, and one without any.
-        (&ONE_PROGRAM, &[(120, &[8]), (128, &[8])], second),
-        (&ONE_PROGRAM, &[(128, &[0])], empty),
-    ];
-    for (object, changes, expected) in questions {
-        let bytes = with_bytes(object, changes);
-        let found = match Object::parse(rt.alloc(), &bytes) {
-            Ok(object) => content_of(&object),
-            Err(_) => None,
-        };
-        assert!(rt; found == Some(expected));
+    for (changes, content) in &ACCEPTED {
+        let found = changed_content(rt.alloc(), &ONE_PROGRAM, changes);
+        assert!(rt; found == Some(*content));
+    }
+    for (changes, content) in &ACCEPTED_BIG {
+        let found = changed_content(rt.alloc(), &ONE_PROGRAM_BIG, changes);
+        assert!(rt; found == Some(*content));
     }
 }
+
+/// Changes of the object of one program, and why it is then refused.
+static REFUSED: [(Changes, Refusal); 14] = [
+    (&[(280, &[0])], Refusal::InvalidLicense(b"")),
+    (&[(280, &[1]), (64, &[0])], Refusal::InvalidLicense(b"\0")),
+    (&[(65, &[0])], Refusal::InvalidLicense(b"G\0L\0")),
+    (&[(280, &[3])], Refusal::UnendedLicense(b"GPL")),
+    (
+        &[(142, b"version"), (280, &[3])],
+        Refusal::InvalidVersion(b"GPL"),
+    ),
+    // Code of one slot and a half, past the section's bytes, far away, below its address.
+    (&[(128, &[12])], Refusal::NoCode),
+    (&[(128, &[24])], Refusal::NoCode),
+    (
+        &[(120, &[0xf8, 0xff, 0xff, 0xff, 0xff, 0xff, 0xff, 0xff])],
+        Refusal::NoCode,
+    ),
+    (&[(328, &[8])], Refusal::NoCode),
+    (&[(118, &[1])], Refusal::NoSymbols("kprobe")),
+    (&[(312, &[10])], Refusal::UnknownProgram("probe")),
+    (&[(112, &[200])], Refusal::UnnamedSymbol),
+    (&[(312, &[200])], Refusal::Section(ElfError::Name)),
+    (&[(336, &[48, 2])], Refusal::Section(ElfError::SectionData)),
+];
 
 /// Whether an object is refused as expected.
 fn is_refused(alloc: Global, bytes: &[u8], expected: Refusal) -> bool {
@@ -163,32 +214,9 @@ fn is_refused(alloc: Global, bytes: &[u8], expected: Refusal) -> bool {
 
 #[test]
 fn refused_objects(rt: HostRuntime) {
-    let questions: [(Changes, Refusal); 14] = [
-        (&[(280, &[0])], Refusal::InvalidLicense(b"")),
-        (&[(280, &[1]), (64, &[0])], Refusal::InvalidLicense(b"\0")),
-        (&[(65, &[0])], Refusal::InvalidLicense(b"G\0L\0")),
-        (&[(280, &[3])], Refusal::UnendedLicense(b"GPL")),
-        (
-            &[(142, b"version"), (280, &[3])],
-            Refusal::InvalidVersion(b"GPL"),
-        ),
-        // Code of one slot and a half, past the section's bytes, far away, below its address.
-        (&[(128, &[12])], Refusal::NoCode),
-        (&[(128, &[24])], Refusal::NoCode),
-        (
-            &[(120, &[0xf8, 0xff, 0xff, 0xff, 0xff, 0xff, 0xff, 0xff])],
-            Refusal::NoCode,
-        ),
-        (&[(328, &[8])], Refusal::NoCode),
-        (&[(118, &[1])], Refusal::NoSymbols("kprobe")),
-        (&[(312, &[10])], Refusal::UnknownProgram("probe")),
-        (&[(112, &[200])], Refusal::UnnamedSymbol),
-        (&[(312, &[200])], Refusal::Section(ElfError::Name)),
-        (&[(336, &[48, 2])], Refusal::Section(ElfError::SectionData)),
-    ];
-    for (changes, expected) in questions {
+    for (changes, expected) in &REFUSED {
         let bytes = with_bytes(&ONE_PROGRAM, changes);
-        assert!(rt; is_refused(rt.alloc(), &bytes, expected));
+        assert!(rt; is_refused(rt.alloc(), &bytes, *expected));
     }
     assert!(rt; is_refused(rt.alloc(), b"foo", Refusal::NoElf));
 }

@@ -4,7 +4,7 @@ use btf_extension::{BtfExt, FuncSecInfo, LineSecInfo, bpf_func_info, bpf_line_in
 use btf_records::Endianness;
 use btf_tables::Btf;
 use function_records::SectionRecords;
-use std::process::Abort;
+use std::alloc::Global;
 
 /// A table without types, whose strings hold `kprobe` at 1.
 static TABLE: [u8; 32] = [
@@ -41,46 +41,121 @@ static LINES: [(u64, u64, bool, &[(u32, u32)]); 5] = [
     (0x1_0000_0000, 0xffff_ffff_ffff_ffff, true, &[]),
 ];
 
-fn check_functions(rt: &impl Abort, functions: &FuncSecInfo<'_>, wanted: &[(u32, u32)]) {
-    assert_eq!(rt; functions.num_info() as usize, wanted.len());
-    for (index, (insn_off, type_id)) in wanted.iter().enumerate() {
-        let function = bpf_func_info {
-            insn_off: *insn_off,
-            type_id: *type_id,
-        };
-        assert_eq!(rt; functions.get(index), Some(function));
+/// Whether a function begins at a slot and has a type.
+fn is_function(function: Option<bpf_func_info>, wanted: (u32, u32)) -> bool {
+    match function {
+        Some(function) => (function.insn_off, function.type_id) == wanted,
+        None => false,
     }
 }
 
-fn place(line: bpf_line_info) -> (u32, u32) {
-    (line.insn_off, line.file_name_off)
+fn are_functions(functions: &FuncSecInfo<'_>, wanted: &[(u32, u32)]) -> bool {
+    for (index, function) in wanted.iter().enumerate() {
+        if !is_function(functions.get(index), *function) {
+            return false;
+        }
+    }
+    functions.num_info() as usize == wanted.len()
 }
 
-fn check_lines(rt: &impl Abort, lines: &LineSecInfo<'_>, wanted: &[(u32, u32)]) {
-    assert_eq!(rt; lines.num_info() as usize, wanted.len());
-    for (index, wanted) in wanted.iter().enumerate() {
-        assert_eq!(rt; lines.get(index).map(place), Some(*wanted));
+/// Whether a line begins at a slot, and its file's name stands there.
+fn is_line(line: Option<bpf_line_info>, wanted: (u32, u32)) -> bool {
+    match line {
+        Some(line) => (line.insn_off, line.file_name_off) == wanted,
+        None => false,
+    }
+}
+
+fn are_lines(lines: &LineSecInfo<'_>, wanted: &[(u32, u32)]) -> bool {
+    for (index, line) in wanted.iter().enumerate() {
+        if !is_line(lines.get(index), *line) {
+            return false;
+        }
+    }
+    lines.num_info() as usize == wanted.len()
+}
+
+/// Whether the functions that begin at a slot are these.
+fn begin_at(
+    alloc: Global,
+    records: &SectionRecords<'_>,
+    start: u64,
+    relative: bool,
+    wanted: &[(u32, u32)],
+) -> bool {
+    match records.functions_at(alloc, start, relative) {
+        Ok(functions) => are_functions(&functions, wanted),
+        Err(_) => false,
+    }
+}
+
+/// Whether the lines that begin in some slots are these.
+fn begin_in(
+    alloc: Global,
+    records: &SectionRecords<'_>,
+    slots: (u64, u64),
+    relative: bool,
+    wanted: &[(u32, u32)],
+) -> bool {
+    let (start, count) = slots;
+    match records.lines_in(alloc, start, count, relative) {
+        Ok(lines) => are_lines(&lines, wanted),
+        Err(_) => false,
+    }
+}
+
+/// Whether the functions of a section are those of [`FUNCTIONS`].
+fn has_functions(alloc: Global, records: &SectionRecords<'_>) -> bool {
+    for (start, relative, wanted) in &FUNCTIONS {
+        if !begin_at(alloc, records, *start, *relative, wanted) {
+            return false;
+        }
+    }
+    true
+}
+
+/// Whether its lines are those of [`LINES`].
+fn has_lines(alloc: Global, records: &SectionRecords<'_>) -> bool {
+    for (start, count, relative, wanted) in &LINES {
+        if !begin_in(alloc, records, (*start, *count), *relative, wanted) {
+            return false;
+        }
+    }
+    true
+}
+
+/// Whether `kprobe` has its functions, and its lines.
+fn has_records(alloc: Global, extension: &BtfExt<'_>) -> (bool, bool) {
+    match SectionRecords::new(alloc, extension, "kprobe") {
+        Ok(records) => (has_functions(alloc, &records), has_lines(alloc, &records)),
+        Err(_) => (false, false),
+    }
+}
+
+/// Whether a section of which nothing is said has no function.
+fn others_have_none(alloc: Global, extension: &BtfExt<'_>) -> bool {
+    match SectionRecords::new(alloc, extension, "xdp") {
+        Ok(records) => begin_at(alloc, &records, 0, true, &[]),
+        Err(_) => false,
+    }
+}
+
+/// Whether `kprobe` has its functions, and its lines, and another section has none.
+fn kept(alloc: Global, table: &Btf<'_>) -> (bool, bool, bool) {
+    match BtfExt::parse(alloc, &EXTENSION, Endianness::Little, table) {
+        Ok(extension) => {
+            let (functions, lines) = has_records(alloc, &extension);
+            (functions, lines, others_have_none(alloc, &extension))
+        }
+        Err(_) => (false, false, false),
     }
 }
 
 #[test]
 fn functions_keep_their_records(rt: HostRuntime) {
-    let alloc = rt.alloc();
-    let table = Btf::parse(alloc, &TABLE, Endianness::Little).expect(&rt, "a table");
-    let extension = BtfExt::parse(alloc, &EXTENSION, Endianness::Little, &table);
-    let extension = extension.expect(&rt, "an extension");
-    let records = SectionRecords::new(alloc, &extension, "kprobe").expect(&rt, "records");
-    for (start, relative, wanted) in &FUNCTIONS {
-        let functions = records.functions_at(alloc, *start, *relative);
-        check_functions(&rt, &functions.expect(&rt, "functions"), wanted);
-    }
-    for (start, slots, relative, wanted) in &LINES {
-        let lines = records.lines_in(alloc, *start, *slots, *relative);
-        check_lines(&rt, &lines.expect(&rt, "lines"), wanted);
-    }
-    let none = SectionRecords::new(alloc, &extension, "xdp").expect(&rt, "no records");
-    let functions = none
-        .functions_at(alloc, 0, true)
-        .expect(&rt, "no functions");
-    check_functions(&rt, &functions, &[]);
+    let table = Btf::parse(rt.alloc(), &TABLE, Endianness::Little).expect(&rt, "a table");
+    let (functions, lines, others) = kept(rt.alloc(), &table);
+    assert!(rt; functions, "functions");
+    assert!(rt; lines, "lines");
+    assert!(rt; others, "another section");
 }

@@ -1,14 +1,17 @@
 //! Random programs, linked by `relocate_calls` and by the plain linker.
 
+ghost use Rattle.object_parts.specs.Content.{HaveFunctions};
+
 use crate::graphs::{Numbers, PROGRAM_SECTION, PROGRAM_SIZE, random_object};
-use crate::linking::{have_functions, text_sections};
+use crate::linking::text_sections;
 use ebpf_items::bpf_insn;
 use linker::relocate_calls;
 use object_file::ObjectFile;
 use object_parse::read_code;
-use object_parts::{Code, Functions};
+use object_parts::{Code, Functions, Programs};
 use plain_linker::{plain_layout, plain_slots};
 use std::alloc::Global;
+use std::collections::BTreeSet;
 
 const GRAPHS: u32 = 250;
 
@@ -65,33 +68,58 @@ fn has_slots(functions: &Functions<'_>, key: Key, slots: &[bpf_insn]) -> bool {
     true
 }
 
-/// Whether the programs of an object are linked to the slots of the plain linker.
-fn are_linked_plainly(alloc: Global, object: &[u8], met: &mut Met) -> Option<bool> {
-    let first = (PROGRAM_SECTION as usize, 0);
-    let second = (PROGRAM_SECTION as usize, PROGRAM_SIZE as u64);
-    let file = ObjectFile::parse(alloc, object).ok()?;
-    let Code {
-        programs,
-        mut functions,
-    } = read_code(alloc, &file, None).ok()?;
-    let text_sections = text_sections(alloc, &functions)?;
-    if !have_functions(&programs, &functions) {
+const FIRST: Key = (PROGRAM_SECTION as usize, 0);
+
+const SECOND: Key = (PROGRAM_SECTION as usize, PROGRAM_SIZE as u64);
+
+/// The slots of a program by the plain linker.
+fn plainly_linked(
+    alloc: Global,
+    file: &ObjectFile<'_>,
+    text_sections: &BTreeSet<usize>,
+    functions: &Functions<'_>,
+    key: Key,
+    met: &mut Met,
+) -> Option<Vec<bpf_insn>> {
+    let layout = plain_layout(alloc, file, text_sections, functions, key)?;
+    let slots = plain_slots(alloc, file, text_sections, functions, key)?;
+    met.meet(key, &layout, &slots, functions.len());
+    Some(slots)
+}
+
+/// Whether these programs are linked to the slots of the plain linker.
+fn are_linked_plainly(
+    alloc: Global,
+    file: &ObjectFile<'_>,
+    programs: &Programs<'_>,
+    functions: &mut Functions<'_>,
+    met: &mut Met,
+) -> Option<bool>
+    requires { HaveFunctions programs.now functions.old }
+{
+    let text_sections = text_sections(alloc, functions)?;
+    let first = plainly_linked(alloc, file, &text_sections, functions, FIRST, met)?;
+    let second = plainly_linked(alloc, file, &text_sections, functions, SECOND, met)?;
+    if relocate_calls(alloc, file, programs, functions, &text_sections).is_err() {
         return None;
     }
-    let mut plain = Vec::new(alloc);
-    for key in [first, second] {
-        let layout = plain_layout(alloc, &file, &text_sections, &functions, key)?;
-        let slots = plain_slots(alloc, &file, &text_sections, &functions, key)?;
-        met.meet(key, layout.as_slice(), slots.as_slice(), functions.len());
-        plain.push((key, slots)).ok()?;
+    Some(has_slots(functions, FIRST, &first) && has_slots(functions, SECOND, &second))
+}
+
+/// Whether the programs of an object are linked to the slots of the plain linker.
+fn is_linked_plainly(alloc: Global, object: &[u8], met: &mut Met) -> Option<bool> {
+    let Ok(file) = ObjectFile::parse(alloc, object) else {
+        return None;
+    };
+    match read_code(alloc, &file, None) {
+        Ok(
+            Code {
+                programs,
+                mut functions,
+            },
+        ) => are_linked_plainly(alloc, &file, &programs, &mut functions, met),
+        Err(_) => None,
     }
-    relocate_calls(alloc, &file, &programs, &mut functions, &text_sections).ok()?;
-    for (key, slots) in &plain {
-        if !has_slots(&functions, *key, slots.as_slice()) {
-            return Some(false);
-        }
-    }
-    Some(true)
 }
 
 /// Whether the programs of a number of random objects are linked to the slots of the plain linker.
@@ -99,7 +127,7 @@ fn all_are_linked_plainly(alloc: Global, met: &mut Met) -> Option<bool> {
     let mut numbers = Numbers { state: SEED };
     for _ in 0..GRAPHS {
         let object = random_object(alloc, &mut numbers)?;
-        if !are_linked_plainly(alloc, object.as_slice(), met)? {
+        if !is_linked_plainly(alloc, &object, met)? {
             return Some(false);
         }
     }
@@ -114,7 +142,7 @@ fn links_random_programs_plainly(rt: HostRuntime) {
         partial: 0,
         back: 0,
     };
-    assert_eq!(rt; all_are_linked_plainly(rt.alloc(), &mut met), Some(true));
+    assert!(rt; all_are_linked_plainly(rt.alloc(), &mut met) == Some(true));
     assert!(rt; met.recursive > 100);
     assert!(rt; met.long > 100);
     assert!(rt; met.partial > 100);

@@ -1,19 +1,14 @@
-//! Tests of the passes over an object: values, numbers of maps, what is known of externs, and
-//! linking.
+//! Tests of the passes over an object: settings, values, faults and linking.
 #![tactic(auto)]
 
 #[cfg(test)]
 mod comparing;
-#[cfg(test)]
-mod extern_slots;
 #[cfg(test)]
 mod faults;
 #[cfg(test)]
 mod graphs;
 #[cfg(test)]
 mod linking;
-#[cfg(test)]
-mod map_slots;
 #[cfg(test)]
 mod objects;
 #[cfg(test)]

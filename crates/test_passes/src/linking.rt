@@ -1,18 +1,18 @@
 //! Programs with the functions that they call, linked.
 
-ghost use Rattle.std.specs.Prelude.{◌≡◌, true};
-ghost use Rattle.object_parts.specs.Content.{HaveFunctions};
-
 use crate::objects::{
     CALL, DEPTH_FIRST, EACH_OTHER, EMPTY_FUNCTION, SELF_CALL, TWO_CALLS, TWO_PROGRAMS,
 };
+use ebpf_items::Slots;
 use linker::relocate_calls;
 use object_file::ObjectFile;
 use object_parse::read_code;
-use object_parts::{Code, Functions, Programs};
+use object_parts::{Code, Functions};
 use relocation_errors::{EbpfRelocationError, RelocationError};
+use sample_objects::with_bytes;
 use std::alloc::Global;
 use std::collections::BTreeSet;
+use std::process::Abort;
 
 const EXIT: [u8; 8] = [0x95, 0, 0, 0, 0, 0, 0, 0];
 
@@ -59,16 +59,23 @@ const ROWS: [(&[u8], &str, &[[u8; 8]]); 9] = [
     ),
 ];
 
-/// Whether each program's function is there.
-pub(crate) fn have_functions(programs: &Programs<'_>, functions: &Functions<'_>) -> bool
-    ensures { result ≡ true → HaveFunctions programs.now functions.now }
-{
-    for (_, program) in programs.iter() {
-        if functions.get(program.function_key()).is_none() {
-            return false;
-        }
+/// What linking comes to.
+#[derive(Clone, Copy, PartialEq)]
+enum Answer {
+    Linked,
+    /// The function `f` of the program `f` calls this address, at which no function begins.
+    NoFunction(u64),
+    OtherFault,
+}
+
+fn fault_of(error: &EbpfRelocationError) -> Answer {
+    match error.error() {
+        RelocationError::UnknownFunction {
+            address,
+            caller_name,
+        } if error.function() == "f" && caller_name.as_str() == "f" => Answer::NoFunction(*address),
+        _ => Answer::OtherFault,
     }
-    true
 }
 
 /// The indexes of the sections with functions.
@@ -80,121 +87,106 @@ pub(crate) fn text_sections(alloc: Global, functions: &Functions<'_>) -> Option<
     Some(sections)
 }
 
-/// The programs and functions of an object, linked.
-fn linked<'a>(alloc: Global, object: &'a [u8]) -> Option<Code<'a>> {
-    let file = ObjectFile::parse(alloc, object).ok()?;
-    let Code {
-        programs,
-        mut functions,
-    } = read_code(alloc, &file, None).ok()?;
-    let text_sections = text_sections(alloc, &functions)?;
-    if !have_functions(&programs, &functions) {
-        return None;
+/// Whether the slots are these, one after the other.
+fn are_slots(slots: &Slots<'_>, wanted: &[[u8; 8]]) -> bool {
+    if slots.len() != wanted.len() {
+        return false;
     }
-    relocate_calls(alloc, &file, &programs, &mut functions, &text_sections).ok()?;
-    Some(Code {
-        programs,
-        functions,
-    })
+    for (slot, wanted) in slots.iter().zip(wanted.iter()) {
+        if slot.to_bytes() != *wanted {
+            return false;
+        }
+    }
+    true
 }
 
 /// Whether a program has these slots.
-fn has_slots(code: &Code<'_>, name: &str, slots: &[[u8; 8]]) -> bool {
+fn has_slots(code: &Code<'_>, name: &str, wanted: &[[u8; 8]]) -> bool {
     for (program_name, program) in code.programs.iter() {
         if *program_name == name {
-            let Some(function) = code.functions.get(program.function_key()) else {
-                return false;
+            return match code.functions.get(program.function_key()) {
+                Some(function) => are_slots(&function.instructions, wanted),
+                None => false,
             };
-            if function.instructions.len() != slots.len() {
-                return false;
-            }
-            let mut index = 0;
-            for slot in function.instructions.iter() {
-                if index >= slots.len() || slot.to_bytes() != slots[index] {
-                    return false;
-                }
-                index += 1;
-            }
-            return true;
         }
     }
     false
 }
 
-#[test]
-fn links_worked_programs(rt: HostRuntime) {
-    for (object, name, slots) in ROWS.iter() {
-        let holds = match linked(rt.alloc(), object) {
-            Some(code) => has_slots(&code, name, slots),
-            None => false,
-        };
-        assert!(rt; holds);
-    }
-}
-
-// Where the immediate of the call stands in the object that calls itself.
-const SELF_CALL_IMMEDIATE: usize = 76;
-
-/// The object that calls itself, whose call has another immediate.
-fn with_immediate(alloc: Global, immediate: [u8; 4]) -> Option<Vec<u8>> {
-    let mut object = Vec::new(alloc);
-    object
-        .extend_from_slice(SELF_CALL.get(..SELF_CALL_IMMEDIATE)?)
-        .ok()?;
-    object.extend_from_slice(&immediate).ok()?;
-    object
-        .extend_from_slice(SELF_CALL.get(SELF_CALL_IMMEDIATE + 4..)?)
-        .ok()?;
-    Some(object)
-}
-
-/// The address at which no function begins, of an error that names the function `f` as the program
-/// and as the caller.
-fn unknown_address(fault: &EbpfRelocationError) -> Option<u64> {
-    match fault.error() {
-        RelocationError::UnknownFunction {
-            address,
-            caller_name,
-        } if fault.function() == "f" && caller_name.as_str() == "f" => Some(*address),
-        _ => None,
-    }
-}
-
-/// The address at which no function begins, as the object that calls itself is refused where its
-/// call has another immediate. The function must then be as it was.
-fn refused(alloc: Global, immediate: [u8; 4]) -> Option<u64> {
-    let object = with_immediate(alloc, immediate)?;
-    let file = ObjectFile::parse(alloc, object.as_slice()).ok()?;
-    let Code {
-        programs,
-        mut functions,
-    } = read_code(alloc, &file, None).ok()?;
-    let text_sections = text_sections(alloc, &functions)?;
-    if !have_functions(&programs, &functions) {
+/// What linking the programs of a file comes to, and the code after it.
+fn linked<'a>(alloc: Global, file: &ObjectFile<'a>) -> Option<(Answer, Code<'a>)> {
+    let Ok(
+        Code {
+            programs,
+            mut functions,
+        },
+    ) = read_code(alloc, file, None)
+    else {
         return None;
-    }
-    let fault = relocate_calls(alloc, &file, &programs, &mut functions, &text_sections).err()?;
+    };
+    let text_sections = text_sections(alloc, &functions)?;
+    let answer = match relocate_calls(alloc, file, &programs, &mut functions, &text_sections) {
+        Ok(()) => Answer::Linked,
+        Err(error) => fault_of(&error),
+    };
     let code = Code {
         programs,
         functions,
     };
-    let [low, second, third, high] = immediate;
-    if !has_slots(
-        &code,
-        "f",
-        &[[0x85, 0x10, 0, 0, low, second, third, high], EXIT],
-    ) {
+    Some((answer, code))
+}
+
+/// What linking the programs of an object comes to, if a program has these slots then.
+fn answer_of(alloc: Global, object: &[u8], name: &str, slots: &[[u8; 8]]) -> Option<Answer> {
+    let Ok(file) = ObjectFile::parse(alloc, object) else {
         return None;
+    };
+    match linked(alloc, &file) {
+        Some((answer, code)) if has_slots(&code, name, slots) => Some(answer),
+        _ => None,
     }
-    unknown_address(&fault)
+}
+
+fn check(
+    rt: &impl Abort,
+    alloc: Global,
+    object: &[u8],
+    name: &str,
+    slots: &[[u8; 8]],
+    expected: Answer,
+) {
+    assert!(rt; answer_of(alloc, object, name, slots) == Some(expected));
+}
+
+#[test]
+fn links_worked_programs(rt: HostRuntime) {
+    for (object, name, slots) in &ROWS {
+        check(&rt, rt.alloc(), object, name, slots, Answer::Linked);
+    }
+}
+
+// Where the call stands in the object that calls itself.
+const SELF_CALL_AT: usize = 72;
+
+/// A call of the object that calls itself by another immediate leads to no function at an address,
+/// and the slots stay as they are.
+fn check_call(rt: &impl Abort, alloc: Global, call: [u8; 8], address: u64) {
+    let object = with_bytes(&SELF_CALL, &[(SELF_CALL_AT, &call)]);
+    let expected = Answer::NoFunction(address);
+    check(rt, alloc, &object, "f", &[call, EXIT], expected);
 }
 
 #[test]
 fn refuses_calls_of_no_function(rt: HostRuntime) {
-    assert_eq!(rt; refused(rt.alloc(), [100, 0, 0, 0]), Some(808));
-    assert_eq!(rt;
-        refused(rt.alloc(), [0xfe, 0xff, 0xff, 0xff]),
-        Some(0xffff_ffff_ffff_fff8)
+    let alloc = rt.alloc();
+    check_call(&rt, alloc, [0x85, 0x10, 0, 0, 100, 0, 0, 0], 808);
+    check_call(
+        &rt,
+        alloc,
+        [0x85, 0x10, 0, 0, 0xfe, 0xff, 0xff, 0xff],
+        0xffff_ffff_ffff_fff8,
     );
-    assert_eq!(rt; refused(rt.alloc(), [0xff, 0xff, 0xff, 0xff]), None);
+    let object = with_bytes(&SELF_CALL, &[(SELF_CALL_AT, &BACK_1)]);
+    let linked = [CALL_1, EXIT, BACK_1, EXIT];
+    check(&rt, alloc, &object, "f", &linked, Answer::Linked);
 }

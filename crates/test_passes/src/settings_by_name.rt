@@ -1,6 +1,8 @@
 //! Settings that are made.
 
+use global_values::GlobalValue;
 use settings::Settings;
+use std::process::Abort;
 use std::test::Fail;
 
 #[test]
@@ -19,6 +21,14 @@ fn the_last_of_a_name_counts(rt: HostRuntime) -> Result<(), Fail> {
     Ok(())
 }
 
+/// The next value is that of the name, whose bytes it has.
+fn check_next(rt: &impl Abort, next: Option<(&String, &GlobalValue)>, expected: &str) {
+    let (name, value) = next.expect(rt, "a value");
+    assert!(rt; name.as_str() == expected);
+    assert!(rt; value.bytes.as_slice() == expected.as_bytes());
+    assert!(rt; value.must_exist == (expected.len() == 1));
+}
+
 #[test]
 fn values_come_by_name(rt: HostRuntime) -> Result<(), Fail> {
     let mut settings = Settings::new(rt.alloc());
@@ -27,12 +37,7 @@ fn values_come_by_name(rt: HostRuntime) -> Result<(), Fail> {
     }
     let mut globals = settings.globals().iter();
     for expected in ["B", "a", "ab", "b"] {
-        let next = globals.next().map(|(name, value)| (
-            name.as_str(),
-            value.bytes.as_slice(),
-            value.must_exist,
-        ));
-        assert!(rt; next == Some((expected, expected.as_bytes(), expected.len() == 1)));
+        check_next(&rt, globals.next(), expected);
     }
     assert!(rt; globals.next().is_none());
     Ok(())

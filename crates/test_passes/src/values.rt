@@ -7,7 +7,7 @@ use object_file::ObjectFile;
 use object_maps::{Maps, read_maps};
 use sample_objects::{VARIABLES, with_bytes};
 use std::alloc::Global;
-use std::test::Fail;
+use std::process::Abort;
 
 /// Bytes of a file at an offset.
 type Change = (usize, &'static [u8]);
@@ -16,11 +16,12 @@ type Change = (usize, &'static [u8]);
 type Variable = (&'static str, &'static [u8], bool);
 
 /// Why a value is refused.
-#[derive(Clone, Copy)]
+#[derive(Clone, Copy, PartialEq)]
 enum Refusal {
     NoSymbol(&'static str),
     BadData(&'static str, u64, usize),
     NoMap(usize),
+    Other,
 }
 
 /// The bytes of `.data`, at 64 in the file.
@@ -165,67 +166,106 @@ static REFUSED: [Case; 14] = [
     ),
 ];
 
-fn is_refusal(error: &ParseError, expected: Refusal) -> bool {
-    match (error, expected) {
-        (ParseError::SymbolNotFound { name }, Refusal::NoSymbol(variable)) => {
-            name.as_str() == variable
+/// One of the names of variables.
+fn named(name: &str) -> &'static str {
+    for known in ["a", "x", "y", "z"] {
+        if known == name {
+            return known;
         }
-        (
-            ParseError::InvalidGlobalData {
-                name,
-                sym_size,
-                data_size,
-            },
-            Refusal::BadData(variable, symbol, data),
-        ) => name.as_str() == variable && *sym_size == symbol && *data_size == data,
-        (ParseError::MapNotFound { index }, Refusal::NoMap(section)) => *index == section,
-        _ => false,
+    }
+    "another name"
+}
+
+fn refusal_of(error: &ParseError) -> Refusal {
+    match error {
+        ParseError::SymbolNotFound { name } => Refusal::NoSymbol(named(name)),
+        ParseError::InvalidGlobalData {
+            name,
+            sym_size,
+            data_size,
+        } => Refusal::BadData(named(name), *sym_size, *data_size),
+        ParseError::MapNotFound { index } => Refusal::NoMap(*index),
+        _ => Refusal::Other,
     }
 }
 
-/// Whether the map `.data` has the same bytes in both.
-fn same_data(maps: &Maps<'_>, others: &Maps<'_>) -> bool {
-    match (maps.get(".data"), others.get(".data")) {
-        (Some(map), Some(other)) => map.data() == other.data(),
-        _ => false,
+/// The values of variables.
+fn values_of(alloc: Global, variables: &[Variable]) -> Option<GlobalValues> {
+    let mut values = GlobalValues::new(alloc);
+    for (name, value, must_exist) in variables {
+        values.set(name, value, *must_exist).ok()?;
+    }
+    Some(values)
+}
+
+/// The bytes of the map `.data`.
+fn data_of(alloc: Global, maps: &Maps<'_>) -> Option<Vec<u8>> {
+    Vec::from_slice(alloc, maps.get(".data")?.data()).ok()
+}
+
+fn has_data(maps: &Maps<'_>, bytes: &[u8]) -> bool {
+    match maps.get(".data") {
+        Some(map) => map.data() == bytes,
+        None => false,
     }
 }
 
-/// Whether a case comes to what it says.
-fn holds(alloc: Global, case: &Case) -> Result<bool, Fail> {
+/// Whether the values come to what is expected in these maps, which stay as they are where a value
+/// is refused.
+fn comes_to(
+    alloc: Global,
+    file: &ObjectFile<'_>,
+    maps: &mut Maps<'_>,
+    values: &GlobalValues,
+    expected: &Result<[u8; 8], Refusal>,
+) -> bool {
+    let Some(before) = data_of(alloc, maps) else {
+        return false;
+    };
+    let refusal = match patch_map_data(alloc, file, maps, values) {
+        Ok(()) => None,
+        Err(error) => Some(refusal_of(&error)),
+    };
+    match expected {
+        Ok(contents) => refusal == None && has_data(maps, contents),
+        Err(wanted) => refusal == Some(*wanted) && has_data(maps, &before),
+    }
+}
+
+/// Whether the values come to what is expected in the maps of an object.
+fn comes_to_in(
+    alloc: Global,
+    object: &[u8],
+    values: &GlobalValues,
+    expected: &Result<[u8; 8], Refusal>,
+) -> bool {
+    let Ok(file) = ObjectFile::parse(alloc, object) else {
+        return false;
+    };
+    match read_maps(alloc, &file, None) {
+        Ok(mut maps) => comes_to(alloc, &file, &mut maps, values, expected),
+        Err(_) => false,
+    }
+}
+
+/// A case comes to what it says.
+fn check(rt: &impl Abort, alloc: Global, case: &Case) {
     let (changes, variables, expected) = case;
     let object = with_bytes(&with_bytes(&VARIABLES, &[(64, &CONTENTS)]), changes);
-    let file = ObjectFile::parse(alloc, &object)?;
-    let mut maps = read_maps(alloc, &file, None)?;
-    let before = maps.try_clone()?;
-    let mut values = GlobalValues::new(alloc);
-    for (name, value, must_exist) in variables.iter() {
-        values.set(name, value, *must_exist)?;
-    }
-    match (patch_map_data(alloc, &file, &mut maps, &values), expected) {
-        (Ok(()), Ok(contents)) => match maps.get(".data") {
-            Some(map) => Ok(map.data() == contents.as_slice()),
-            None => Ok(false),
-        },
-        (Err(error), Err(refusal)) => {
-            Ok(is_refusal(&error, *refusal) && same_data(&maps, &before))
-        }
-        _ => Ok(false),
+    let values = values_of(alloc, variables).expect(rt, "memory");
+    assert!(rt; comes_to_in(alloc, &object, &values, expected));
+}
+
+#[test]
+fn puts_values(rt: HostRuntime) {
+    for case in &PATCHED {
+        check(&rt, rt.alloc(), case);
     }
 }
 
 #[test]
-fn puts_values(rt: HostRuntime) -> Result<(), Fail> {
-    for case in PATCHED.iter() {
-        assert!(rt; holds(rt.alloc(), case)?);
+fn refuses_values(rt: HostRuntime) {
+    for case in &REFUSED {
+        check(&rt, rt.alloc(), case);
     }
-    Ok(())
-}
-
-#[test]
-fn refuses_values(rt: HostRuntime) -> Result<(), Fail> {
-    for case in REFUSED.iter() {
-        assert!(rt; holds(rt.alloc(), case)?);
-    }
-    Ok(())
 }

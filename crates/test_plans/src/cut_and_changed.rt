@@ -56,11 +56,18 @@ fn are_lines(text: &[u8]) -> bool {
     }
 }
 
+/// Whether bytes are refused since they are no ELF file.
+fn is_no_file(alloc: Global, object: &[u8]) -> bool {
+    match plan_of(alloc, object) {
+        Err(PrepareError::Parse(ParseError::ElfError(_))) => true,
+        _ => false,
+    }
+}
+
 #[test]
 fn fronts(rt: HostRuntime) {
     for len in 0..ONE_PROGRAM.len() {
-        let result = plan_of(rt.alloc(), &ONE_PROGRAM[..len]);
-        assert!(rt; matches!(result, Err(PrepareError::Parse(ParseError::ElfError(_)))));
+        assert!(rt; is_no_file(rt.alloc(), &ONE_PROGRAM[..len]));
     }
 }
 
@@ -80,12 +87,16 @@ fn is_sound(alloc: Global, object: &[u8]) -> bool {
     }
 }
 
+/// The same of the object of one program with another byte at an offset.
+fn is_sound_with(alloc: Global, at: usize, byte: u8) -> bool {
+    let object = with_bytes(&ONE_PROGRAM, &[(at, &[byte])]);
+    is_sound(alloc, &object)
+}
+
 #[test]
 fn changed_bytes(rt: HostRuntime) {
-    for byte in [0u8, 0xff] {
-        for at in 0..ONE_PROGRAM.len() {
-            let object = with_bytes(&ONE_PROGRAM, &[(at, &[byte])]);
-            assert!(rt; is_sound(rt.alloc(), &object));
-        }
+    for at in 0..ONE_PROGRAM.len() {
+        assert!(rt; is_sound_with(rt.alloc(), at, 0));
+        assert!(rt; is_sound_with(rt.alloc(), at, 0xff));
     }
 }

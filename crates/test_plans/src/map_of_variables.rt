@@ -7,19 +7,17 @@ use plan_text::{MapWords, PlanMap};
 use sample_objects::VARIABLES;
 use settings::Settings;
 use std::alloc::Global;
-use std::test::Fail;
+use std::process::Abort;
 
-/// The names and the numbers of an object's maps, as relocations get them.
-fn numbers<'m>(
-    alloc: Global,
-    maps: &'m Maps<'_>,
-    settings: &Settings,
-) -> Result<Vec<(&'m str, i32)>, Fail> {
-    let mut list = Vec::new(alloc);
-    for numbered in numbered_maps(alloc, maps, settings)? {
-        list.push((numbered.name, numbered.number))?;
+/// Whether relocations get the one map `.data` under a number.
+fn is_numbered(alloc: Global, maps: &Maps<'_>, settings: &Settings, number: i32) -> bool {
+    match numbered_maps(alloc, maps, settings) {
+        Ok(list) => match list.as_slice() {
+            [numbered] => (numbered.name, numbered.number) == (".data", number),
+            _ => false,
+        },
+        Err(_) => false,
     }
-    Ok(list)
 }
 
 /// Whether a map of a plan is `.data` under a number: an array of one value of eight bytes.
@@ -38,21 +36,31 @@ fn is_data(map: &PlanMap<'_>, number: u32) -> bool {
         && map.inner().is_none()
 }
 
-#[test]
-fn one_map(rt: HostRuntime) -> Result<(), Fail> {
-    let file = ObjectFile::parse(rt.alloc(), &VARIABLES)?;
-    let maps = read_maps(rt.alloc(), &file, None)?;
-    let mut settings = Settings::new(rt.alloc());
-    settings.set_map("other", 6)?;
-    assert_eq!(rt; unnumbered_map(&maps, &settings), Some(".data"));
-    settings.set_map(".data", 0x7fff_ffff)?;
-    assert_eq!(rt; unnumbered_map(&maps, &settings), None);
-    let numbered = numbers(rt.alloc(), &maps, &settings)?;
-    assert_eq!(rt; numbered.as_slice(), [(".data", i32::MAX)].as_slice());
-    let plans = plan_maps(rt.alloc(), &maps, &settings)?;
-    assert_eq!(rt; plans.len(), 1);
-    for map in &plans {
-        assert!(rt; is_data(map, 0x7fff_ffff));
+/// Whether a plan has the one map `.data` under a number.
+fn is_planned(alloc: Global, maps: &Maps<'_>, settings: &Settings, number: u32) -> bool {
+    match plan_maps(alloc, maps, settings) {
+        Ok(plans) => match plans.as_slice() {
+            [map] => is_data(map, number),
+            _ => false,
+        },
+        Err(_) => false,
     }
-    Ok(())
+}
+
+/// Checks the numbers of an object's one map `.data`.
+fn check(rt: &impl Abort, alloc: Global, maps: &Maps<'_>, settings: &mut Settings) {
+    assert!(rt; settings.set_map("other", 6).is_ok());
+    assert!(rt; unnumbered_map(maps, settings) == Some(".data"));
+    assert!(rt; settings.set_map(".data", 0x7fff_ffff).is_ok());
+    assert!(rt; unnumbered_map(maps, settings).is_none());
+    assert!(rt; is_numbered(alloc, maps, settings, i32::MAX));
+    assert!(rt; is_planned(alloc, maps, settings, 0x7fff_ffff));
+}
+
+#[test]
+fn one_map(rt: HostRuntime) {
+    let file = ObjectFile::parse(rt.alloc(), &VARIABLES).expect(&rt, "an object");
+    let maps = read_maps(rt.alloc(), &file, None).expect(&rt, "maps");
+    let mut settings = Settings::new(rt.alloc());
+    check(&rt, rt.alloc(), &maps, &mut settings);
 }

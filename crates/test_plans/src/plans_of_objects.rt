@@ -5,9 +5,9 @@ mod objects;
 use load_plan::{BtfFeature, Order, ParseError, Plan, PrepareError, Settings, Watched, prepare};
 use objects::{FLOATS, RECORDS};
 use sample_objects::{ONE_PROGRAM, ONE_PROGRAM_PLAN, with_bytes};
-use std::alloc::Global;
+use std::alloc::{AllocError, Global};
 use std::io;
-use std::test::Fail;
+use std::process::Abort;
 
 /// The plan of an object without symbols and kernel types, for a kernel that has the newer helpers
 /// and lacks these features.
@@ -65,24 +65,46 @@ const PLANS: [(&[BtfFeature], &[u8], &[u8]); 5] = [
     ),
 ];
 
-#[test]
-fn plans(rt: HostRuntime) -> Result<(), Fail> {
-    let settings = Settings::new(rt.alloc());
-    for (lacking, object, text) in PLANS.iter() {
-        for order in [Order::RelocateFirst, Order::RewriteFirst] {
-            let plan = planned(rt.alloc(), object, &settings, order, lacking).map_err(
-                |_| "refused",
-            )?;
-            let mut out = Watched::new(Vec::new(rt.alloc()));
-            plan.write(&mut out)?;
-            assert_eq!(rt; out.into_inner().as_slice(), *text);
-        }
+/// Whether a plan has this text.
+fn has_text(alloc: Global, plan: &Plan<'_>, text: &[u8]) -> bool {
+    let mut out = Watched::new(Vec::new(alloc));
+    plan.write(&mut out).is_ok() && out.into_inner().as_slice() == text
+}
+
+/// Whether an object is planned in this order with this text, for a kernel that lacks these.
+fn is_planned(
+    alloc: Global,
+    object: &[u8],
+    order: Order,
+    lacking: &[BtfFeature],
+    text: &[u8],
+) -> bool {
+    let settings = Settings::new(alloc);
+    match planned(alloc, object, &settings, order, lacking) {
+        Ok(plan) => has_text(alloc, &plan, text),
+        Err(_) => false,
     }
-    Ok(())
 }
 
 #[test]
-fn slots_stay_in_the_file(rt: HostRuntime) -> Result<(), Fail> {
+fn plans(rt: HostRuntime) {
+    let alloc = rt.alloc();
+    for (lacking, object, text) in PLANS.iter() {
+        assert!(rt; is_planned(alloc, object, Order::RelocateFirst, lacking, text));
+        assert!(rt; is_planned(alloc, object, Order::RewriteFirst, lacking, text));
+    }
+}
+
+/// Whether the slots of the one program of a plan stand in the file.
+fn has_borrowed_slots(plan: &Plan<'_>) -> bool {
+    match plan.programs() {
+        [program] => program.slots().is_borrowed(),
+        _ => false,
+    }
+}
+
+#[test]
+fn slots_stay_in_the_file(rt: HostRuntime) {
     let settings = Settings::new(rt.alloc());
     let plan = planned(
         rt.alloc(),
@@ -90,13 +112,9 @@ fn slots_stay_in_the_file(rt: HostRuntime) -> Result<(), Fail> {
         &settings,
         Order::RelocateFirst,
         &[],
-    )
-    .map_err(|_| "refused")?;
-    assert_eq!(rt; plan.programs().len(), 1);
-    for program in plan.programs() {
-        assert!(rt; program.slots().is_borrowed());
-    }
-    Ok(())
+    );
+    let plan = plan.expect(&rt, "a plan");
+    assert!(rt; has_borrowed_slots(&plan));
 }
 
 /// Where fields of the object with one program lie.
@@ -106,14 +124,17 @@ const SECTION_NAMES: usize = 141;
 
 const LICENSE_SIZE: usize = 280;
 
-/// Why an object is refused.
-#[derive(Clone, Copy, Debug, PartialEq, Eq)]
-enum Refusal {
+/// What becomes of an object.
+#[derive(Clone, Copy, PartialEq)]
+enum Outcome {
+    Planned,
+    NoMemory,
     License,
     MapNumber,
     Symbol,
     Value,
     Map,
+    Other,
 }
 
 /// The name of the program's section, and one of zeros in its place.
@@ -121,115 +142,146 @@ const KPROBE: &[u8] = b"kprobe";
 
 const ZEROS: &[u8] = b".bss\0\0";
 
-// The name of the section of the one function, the size of the license, whether the map `.bss` has
-// a number, a global variable with its bytes and whether it must exist, and why the object is
-// refused.
+/// The name of the section of the one function, the size of the license, whether the map `.bss` has
+/// a number, a global variable with its bytes and whether it must exist, and what becomes of the
+/// object.
 type Change = (
     &'static [u8],
     u8,
     bool,
     Option<(&'static str, &'static [u8], bool)>,
-    Option<Refusal>,
+    Outcome,
 );
 
-const CHANGES: [Change; 10] = [
-    (KPROBE, 4, false, None, None),
-    (KPROBE, 4, true, Some(("limit", &[1], false)), None),
-    (ZEROS, 4, true, None, None),
-    (ZEROS, 4, true, Some(("foo", &[1; 16], true)), None),
+static CHANGES: [Change; 10] = [
+    (KPROBE, 4, false, None, Outcome::Planned),
+    (
+        KPROBE,
+        4,
+        true,
+        Some(("limit", &[1], false)),
+        Outcome::Planned,
+    ),
+    (ZEROS, 4, true, None, Outcome::Planned),
+    (
+        ZEROS,
+        4,
+        true,
+        Some(("foo", &[1; 16], true)),
+        Outcome::Planned,
+    ),
     (
         ZEROS,
         4,
         false,
         Some(("limit", &[1], true)),
-        Some(Refusal::MapNumber),
+        Outcome::MapNumber,
     ),
+    (ZEROS, 4, true, Some(("limit", &[1], true)), Outcome::Symbol),
     (
         ZEROS,
         4,
         true,
-        Some(("limit", &[1], true)),
-        Some(Refusal::Symbol),
+        Some(("limit", &[1], false)),
+        Outcome::Planned,
     ),
-    (ZEROS, 4, true, Some(("limit", &[1], false)), None),
     (
         ZEROS,
         4,
         true,
         Some(("foo", &[1; 15], true)),
-        Some(Refusal::Value),
+        Outcome::Value,
     ),
     (
         KPROBE,
         4,
         true,
         Some(("foo", &[1; 16], false)),
-        Some(Refusal::Map),
+        Outcome::Map,
     ),
     (
         ZEROS,
         1,
         false,
         Some(("limit", &[1], true)),
-        Some(Refusal::License),
+        Outcome::License,
     ),
 ];
 
-/// Why a change is refused.
-fn why_refused(alloc: Global, change: &Change) -> Result<Option<Refusal>, Fail> {
-    let (name, license, has_number, global, _) = *change;
-    let object = with_bytes(
-        &ONE_PROGRAM,
-        &[(SECTION_NAMES + 9, name), (LICENSE_SIZE, &[license])],
-    );
-    let mut settings = Settings::new(alloc);
-    if has_number {
+/// Whether the map's number and the variable's value that a change names are set.
+fn set(settings: &mut Settings, change: &Change) -> Result<(), AllocError> {
+    if change.2 {
         settings.set_map(".bss", 7)?;
     }
-    if let Some((name, bytes, must_exist)) = global {
-        settings.set_global(name, bytes, must_exist)?;
+    match change.3 {
+        Some((name, bytes, must_exist)) => settings.set_global(name, bytes, must_exist),
+        None => Ok(()),
     }
-    match planned(alloc, &object, &settings, Order::RelocateFirst, &[]) {
-        Ok(_) => Ok(None),
-        Err(PrepareError::MapNumberMissing { name: _ }) => Ok(Some(Refusal::MapNumber)),
-        Err(PrepareError::Parse(error)) => match error {
-            ParseError::InvalidLicense { bytes: _ } => Ok(Some(Refusal::License)),
-            ParseError::SymbolNotFound { name: _ } => Ok(Some(Refusal::Symbol)),
-            ParseError::InvalidGlobalData { .. } => Ok(Some(Refusal::Value)),
-            ParseError::MapNotFound { index: 2 } => Ok(Some(Refusal::Map)),
-            _ => Err(Fail::from("another fault")),
-        },
-        Err(_) => Err(Fail::from("another refusal")),
+}
+
+fn outcome_of_fault(error: &ParseError) -> Outcome {
+    match error {
+        ParseError::InvalidLicense { bytes: _ } => Outcome::License,
+        ParseError::SymbolNotFound { name: _ } => Outcome::Symbol,
+        ParseError::InvalidGlobalData { .. } => Outcome::Value,
+        ParseError::MapNotFound { index: 2 } => Outcome::Map,
+        _ => Outcome::Other,
+    }
+}
+
+fn outcome_of_refusal(error: &PrepareError) -> Outcome {
+    match error {
+        PrepareError::MapNumberMissing { name: _ } => Outcome::MapNumber,
+        PrepareError::Parse(error) => outcome_of_fault(error),
+        _ => Outcome::Other,
+    }
+}
+
+fn outcome_under(alloc: Global, object: &[u8], settings: &Settings) -> Outcome {
+    match planned(alloc, object, settings, Order::RelocateFirst, &[]) {
+        Ok(_) => Outcome::Planned,
+        Err(error) => outcome_of_refusal(&error),
+    }
+}
+
+/// What becomes of the changed object.
+fn outcome_of(alloc: Global, change: &Change) -> Outcome {
+    let object = with_bytes(
+        &ONE_PROGRAM,
+        &[(SECTION_NAMES + 9, change.0), (LICENSE_SIZE, &[change.1])],
+    );
+    let mut settings = Settings::new(alloc);
+    match set(&mut settings, change) {
+        Ok(()) => outcome_under(alloc, &object, &settings),
+        Err(_) => Outcome::NoMemory,
     }
 }
 
 #[test]
-fn maps_and_globals(rt: HostRuntime) -> Result<(), Fail> {
-    for change in CHANGES.iter() {
-        assert_eq!(rt; why_refused(rt.alloc(), change)?, change.4);
+fn maps_and_globals(rt: HostRuntime) {
+    for change in &CHANGES {
+        assert!(rt; outcome_of(rt.alloc(), change) == change.4);
     }
-    Ok(())
 }
 
-/// The slots of the object with one program, of which the first ones are changed to these, for a
-/// kernel that has or lacks the newer helpers, and how often the kernel is asked. The slots stay in
-/// the file.
-fn probed(
-    alloc: Global,
-    slots: &[[u8; 8]; 2],
-    has_helpers: bool,
-) -> Result<([[u8; 8]; 2], u32), Fail> {
-    let changes = [
-        (SLOTS, slots[0].as_slice()),
-        (SLOTS + 8, slots[1].as_slice()),
-    ];
-    let object = with_bytes(&ONE_PROGRAM, &changes);
+/// The two slots of the one program of a plan, if they stand in the file.
+fn slots_of(plan: &Plan<'_>) -> Option<[[u8; 8]; 2]> {
+    let slots = plan.programs().first()?.slots();
+    if !slots.is_borrowed() {
+        return None;
+    }
+    Some([slots.get(0)?.to_bytes(), slots.get(1)?.to_bytes()])
+}
+
+/// The two slots of an object's one program for a kernel that has or lacks the newer helpers, if they
+/// stand in the file, and how often the kernel is asked.
+fn probed(alloc: Global, object: &[u8], has_helpers: bool) -> Option<([[u8; 8]; 2], u32)> {
     let settings = Settings::new(alloc);
     let mut symbols = Watched::new(io::empty());
     let mut asked = 0u32;
-    let plan = prepare(
+    let result = prepare(
         alloc,
-        &object,
+        object,
         &[],
         &mut symbols,
         &settings,
@@ -240,15 +292,13 @@ fn probed(
             has_helpers
         },
     );
-    let plan = plan.map_err(|_| "refused")?;
-    let program = plan.programs().first().ok_or("no program")?;
-    let slots = program.slots();
-    if !slots.is_borrowed() {
-        return Err(Fail::from("copied"));
+    match result {
+        Ok(plan) => match slots_of(&plan) {
+            Some(slots) => Some((slots, asked)),
+            None => None,
+        },
+        Err(_) => None,
     }
-    let first = slots.get(0).ok_or("no slot")?;
-    let second = slots.get(1).ok_or("one slot")?;
-    Ok(([first.to_bytes(), second.to_bytes()], asked))
 }
 
 /// A call of a helper of a number.
@@ -256,22 +306,27 @@ fn call(helper: u8) -> [u8; 8] {
     [0x85, 0, 0, 0, helper, 0, 0, 0]
 }
 
-// The numbers of the helpers that two slots call, those for a kernel that lacks the newer helpers,
-// and how often a kernel is asked.
-const PROBES: [([u8; 2], [u8; 2], u32); 4] = [
+/// The numbers of the helpers that two slots call, those for a kernel that lacks the newer helpers,
+/// and how often a kernel is asked.
+static PROBES: [([u8; 2], [u8; 2], u32); 4] = [
     ([112, 6], [4, 6], 1),
     ([6, 115], [6, 45], 1),
     ([113, 114], [4, 45], 1),
     ([111, 116], [111, 116], 0),
 ];
 
+/// Checks the slots of the object with one program that calls these helpers.
+fn check_probes(rt: &impl Abort, alloc: Global, helpers: [u8; 2], older: [u8; 2], asked: u32) {
+    let slots = [call(helpers[0]), call(helpers[1])];
+    let older = [call(older[0]), call(older[1])];
+    let object = with_bytes(&ONE_PROGRAM, &[(SLOTS, &slots[0]), (SLOTS + 8, &slots[1])]);
+    assert!(rt; probed(alloc, &object, true) == Some((slots, asked)));
+    assert!(rt; probed(alloc, &object, false) == Some((older, asked)));
+}
+
 #[test]
-fn older_helpers(rt: HostRuntime) -> Result<(), Fail> {
-    for (helpers, older, asked) in PROBES {
-        let slots = [call(helpers[0]), call(helpers[1])];
-        let older = [call(older[0]), call(older[1])];
-        assert_eq!(rt; probed(rt.alloc(), &slots, true)?, (slots, asked));
-        assert_eq!(rt; probed(rt.alloc(), &slots, false)?, (older, asked));
+fn older_helpers(rt: HostRuntime) {
+    for (helpers, older, asked) in &PROBES {
+        check_probes(&rt, rt.alloc(), *helpers, *older, *asked);
     }
-    Ok(())
 }

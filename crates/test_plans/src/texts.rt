@@ -1,9 +1,10 @@
 //! Plans read from their texts and written again, and writers that fail.
 
-use plan_text::{BtfFeature, PinningType, Plan, PlanReadError, Watched};
+use plan_text::{BtfFeature, PinningType, Plan, PlanMap, PlanReadError, Watched};
 use std::alloc::Global;
 use std::io;
 use std::io::{ErrorKind, Write};
+use std::process::Abort;
 use std::test::Fail;
 
 /// The types of two functions.
@@ -105,7 +106,7 @@ const FROM_FIRST_VERSION: &[u8] = b"bpf-plan 2\n\
       end\n";
 
 /// Bytes that are no plan's text, with the first line with which none begins.
-const NO_PLANS: [(&[u8], usize); 22] = [
+static NO_PLANS: [(&[u8], usize); 22] = [
     (b"bpf-plan 3\n", 1),
     (b"bpf-plan 2\nlicense 47504C\nversion any\n", 2),
     (b"bpf-plan 2\nlicense 00\n", 2),
@@ -195,17 +196,35 @@ impl Write for Short {
     }
 }
 
-fn text_of(alloc: Global, plan: &Plan<'_>) -> io::Result<Vec<u8>> {
+fn has_text(alloc: Global, plan: &Plan<'_>, text: &[u8]) -> bool {
     let mut out = Watched::new(Vec::new(alloc));
-    plan.write(&mut out)?;
-    Ok(out.into_inner())
+    plan.write(&mut out).is_ok() && out.into_inner().as_slice() == text
 }
 
-fn read(alloc: Global, text: &[u8]) -> Result<Plan<'static>, Fail> {
+/// Whether a text is a plan's, which is then written as another.
+fn is_written_as(alloc: Global, text: &[u8], other: &[u8]) -> bool {
     match Plan::read(alloc, text) {
-        Ok(plan) => Ok(plan),
-        Err(_) => Err(Fail::from("no plan")),
+        Ok(plan) => has_text(alloc, &plan, other),
+        Err(_) => false,
     }
+}
+
+/// Texts that are written as they are read.
+static TEXTS: [&[u8]; 6] = [
+    MAPS_PLAN,
+    FUNCTIONS_PLAN,
+    LINES_PLAN,
+    INNER_PLAN,
+    FEATURES_PLAN,
+    EMPTY_PLAN,
+];
+
+#[test]
+fn texts_are_written_again(rt: HostRuntime) {
+    for text in &TEXTS {
+        assert!(rt; is_written_as(rt.alloc(), text, text));
+    }
+    assert!(rt; is_written_as(rt.alloc(), FIRST_VERSION, FROM_FIRST_VERSION));
 }
 
 /// The line that is named where bytes are no plan's text.
@@ -216,85 +235,127 @@ fn refused_line(alloc: Global, text: &[u8]) -> Option<usize> {
     }
 }
 
-#[test]
-fn texts_are_written_again(rt: HostRuntime) -> Result<(), Fail> {
-    let alloc = rt.alloc();
-    for text in [
-        MAPS_PLAN,
-        FUNCTIONS_PLAN,
-        LINES_PLAN,
-        INNER_PLAN,
-        FEATURES_PLAN,
-        EMPTY_PLAN,
-    ] {
-        let plan = read(alloc, text)?;
-        assert_eq!(rt; text_of(alloc, &plan)?.as_slice(), text);
+/// The line in which a text ends, counted from 1.
+fn last_line(text: &[u8]) -> usize {
+    let mut line = 1usize;
+    for byte in text {
+        if *byte == b'\n' {
+            line = line.saturating_add(1);
+        }
     }
-    let plan = read(alloc, FIRST_VERSION)?;
-    assert_eq!(rt; text_of(alloc, &plan)?.as_slice(), FROM_FIRST_VERSION);
-    Ok(())
+    line
+}
+
+/// Checks that of each front of a text the last line is refused.
+fn check_fronts(rt: &impl Abort, alloc: Global, text: &[u8]) {
+    for end in 0..text.len() {
+        let front = &text[..end];
+        assert!(rt; refused_line(alloc, front) == Some(last_line(front)));
+    }
 }
 
 #[test]
 fn fronts_are_refused(rt: HostRuntime) {
-    for text in [MAPS_PLAN, LINES_PLAN, INNER_PLAN, FIRST_VERSION] {
-        for end in 0..text.len() {
-            let front = &text[..end];
-            let lines = front.iter().filter(|byte| **byte == b'\n').count();
-            assert_eq!(rt; refused_line(rt.alloc(), front), lines.checked_add(1));
-        }
-    }
+    check_fronts(&rt, rt.alloc(), MAPS_PLAN);
+    check_fronts(&rt, rt.alloc(), LINES_PLAN);
+    check_fronts(&rt, rt.alloc(), INNER_PLAN);
+    check_fronts(&rt, rt.alloc(), FIRST_VERSION);
 }
 
 #[test]
 fn first_bad_line_is_named(rt: HostRuntime) {
-    for (text, line) in NO_PLANS {
-        assert_eq!(rt; refused_line(rt.alloc(), text), Some(line));
+    for (text, line) in &NO_PLANS {
+        assert!(rt; refused_line(rt.alloc(), text) == Some(*line));
+    }
+}
+
+/// Whether a map is one of the two of [`MAPS_PLAN`].
+fn is_plain(map: &PlanMap<'_>) -> bool {
+    !map.is_btf()
+        && map.inner().is_none()
+        && (map.name() == "counter") == (map.number() == 7)
+        && map.contents().is_empty() == (map.words().map_flags == 0)
+}
+
+/// Whether a map is that of [`INNER_PLAN`].
+fn is_outer(map: &PlanMap<'_>) -> bool {
+    let words = map.words();
+    map.is_btf()
+        && map.number() == 0x7fff_ffff
+        && words.pinning == PinningType::ByName
+        && words.map_extra == 0x8000_0000_0000_0000
+        && match map.inner() {
+            Some(inner) => inner.map_extra == 7,
+            None => false,
+        }
+}
+
+/// Whether a plan is read with two maps that are such.
+fn has_plain_maps(plan: &Plan<'_>) -> bool {
+    match plan.maps() {
+        [first, second] => is_plain(first) && is_plain(second),
+        _ => false,
+    }
+}
+
+fn has_outer_map(plan: &Plan<'_>) -> bool {
+    match plan.maps() {
+        [map] => is_outer(map),
+        _ => false,
     }
 }
 
 #[test]
-fn maps(rt: HostRuntime) -> Result<(), Fail> {
-    let plan = read(rt.alloc(), MAPS_PLAN)?;
-    assert_eq!(rt; plan.maps().len(), 2);
-    for map in plan.maps() {
-        assert!(rt; map.is_btf() == false && map.inner().is_none());
-        assert!(rt; (map.name() == "counter") == (map.number() == 7));
-        assert!(rt; map.contents().is_empty() == (map.words().map_flags == 0));
+fn maps(rt: HostRuntime) {
+    let plan = Plan::read(rt.alloc(), MAPS_PLAN).expect(&rt, "two maps");
+    assert!(rt; has_plain_maps(&plan));
+    let plan = Plan::read(rt.alloc(), INNER_PLAN).expect(&rt, "a map of maps");
+    assert!(rt; has_outer_map(&plan));
+}
+
+/// Whether the one program of a plan is that of [`FUNCTIONS_PLAN`].
+fn has_function(plan: &Plan<'_>) -> bool {
+    match plan.programs() {
+        [program] => {
+            program.name() == "f"
+                && program.slots().len() == 4
+                && program.tables() == Some([0, 12].as_slice())
+        }
+        _ => false,
     }
-    let plan = read(rt.alloc(), INNER_PLAN)?;
-    for map in plan.maps() {
-        assert!(rt; map.is_btf() && map.number() == 0x7fff_ffff);
-        assert!(rt; map.words().pinning == PinningType::ByName);
-        assert!(rt; map.words().map_extra == 0x8000_0000_0000_0000);
-        let extra = map.inner().map(|words| words.map_extra);
-        assert_eq!(rt; extra, Some(7));
+}
+
+/// Whether nothing is known of the tables of a plan's one program.
+fn lacks_tables(plan: &Plan<'_>) -> bool {
+    match plan.programs() {
+        [program] => program.tables().is_none(),
+        _ => false,
     }
-    Ok(())
 }
 
 #[test]
-fn programs(rt: HostRuntime) -> Result<(), Fail> {
-    let plan = read(rt.alloc(), FUNCTIONS_PLAN)?;
-    assert_eq!(rt; plan.type_bytes(), Some(TYPES.as_slice()));
-    for program in plan.programs() {
-        assert!(rt; program.name() == "f" && program.slots().len() == 4);
-        assert_eq!(rt; program.tables(), Some([0, 12].as_slice()));
-    }
-    let plan = read(rt.alloc(), FIRST_VERSION)?;
-    for program in plan.programs() {
-        assert!(rt; program.tables().is_none());
-    }
-    Ok(())
+fn programs(rt: HostRuntime) {
+    let plan = Plan::read(rt.alloc(), FUNCTIONS_PLAN).expect(&rt, "a program");
+    assert!(rt; plan.type_bytes() == Some(TYPES.as_slice()));
+    assert!(rt; has_function(&plan));
+    let plan = Plan::read(rt.alloc(), FIRST_VERSION).expect(&rt, "the first version");
+    assert!(rt; lacks_tables(&plan));
 }
 
 #[test]
-fn features(rt: HostRuntime) -> Result<(), Fail> {
-    let plan = read(rt.alloc(), FEATURES_PLAN)?;
-    assert_eq!(rt; plan.features().len(), 8);
-    assert!(rt; plan.features().first() == Some(&(BtfFeature::Func, true)));
-    assert!(rt; plan.features().last() == Some(&(BtfFeature::Enum64, false)));
-    Ok(())
+fn features(rt: HostRuntime) {
+    let plan = Plan::read(rt.alloc(), FEATURES_PLAN).expect(&rt, "features");
+    let features = plan.features();
+    assert!(rt; features.len() == 8);
+    assert!(rt; features.first() == Some(&(BtfFeature::Func, true)));
+    assert!(rt; features.last() == Some(&(BtfFeature::Enum64, false)));
+}
+
+fn read(alloc: Global, text: &[u8]) -> Result<Plan<'static>, Fail> {
+    match Plan::read(alloc, text) {
+        Ok(plan) => Ok(plan),
+        Err(_) => Err(Fail::from("no plan")),
+    }
 }
 
 #[test]

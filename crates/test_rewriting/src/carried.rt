@@ -10,7 +10,7 @@ use btf::{Answers, Btf, BtfError, BtfFeature, KsymsIds};
 use std::collections::BTreeMap;
 
 /// The sizes of a type before and after a rewriting, and the answers on which that rests.
-#[derive(Debug, Drop)]
+#[derive(Drop)]
 pub struct SizeBehind {
     pub answers: Answers,
     pub before: Option<u64>,

@@ -4,9 +4,10 @@ use crate::case::{ALL, Case, SIZES, check, sanitize};
 use crate::sections::{
     ALL_ONES, ARRAY, CONST, DATASEC, DATASEC_1, DECL_TAG, ENUM_1, ENUM64, ENUM64_1, FLOAT, FWD,
     INT, ORDERS, PROTO, PTR, RESTRICT, SIGNED, SIGNED_1, SIGNED64_2, STRUCT, STRUCT_1, TYPE_TAG,
-    TYPEDEF, UNION, UNION_1, UNION_2, VAR, VOLATILE, parse, section_of,
+    TYPEDEF, UNION, UNION_1, UNION_2, VAR, VOLATILE,
 };
-use btf::{Btf, BtfFeature};
+use btf::{Btf, BtfFeature, Endianness};
+use sample_tables::section;
 use std::alloc::Global;
 use std::process::Abort;
 
@@ -168,33 +169,48 @@ fn kinds_are_rewritten(rt: HostRuntime) {
     }
 }
 
-/// Whether the record of an id stands for an enum of this sign, of a variant of this value at this
+/// The sign of the enum that the record of an id stands for, and the value of its variant at an
 /// index.
-fn stands_for(table: &Btf<'_>, id: u32, signed: bool, index: usize, value: u64) -> bool {
-    let Ok(t) = table.type_by_id(id) else {
-        return false;
+fn enum_at(table: &Btf<'_>, id: u32, index: usize) -> Option<(bool, u64)> {
+    let t = table.type_by_id(id).ok()?;
+    let fallback = t.enum64_fallback()?;
+    let variant = fallback.variants.as_slice().get(index)?;
+    Some((fallback.signed, variant.value()))
+}
+
+/// The variants of the enums that a table's records stand for.
+fn enums(table: &Btf<'_>) -> [Option<(bool, u64)>; 4] {
+    [
+        enum_at(table, 1, 0),
+        enum_at(table, 1, 1),
+        enum_at(table, 2, 0),
+        enum_at(table, 3, 0),
+    ]
+}
+
+const NO_ENUMS: [Option<(bool, u64)>; 4] = [None; 4];
+
+const ENUMS_KEPT: [Option<(bool, u64)>; 4] = [
+    Some((true, u64::MAX)),
+    Some((true, 0x1_0000_0007)),
+    Some((false, 9)),
+    None,
+];
+
+fn check_enums(rt: &impl Abort, alloc: Global, order: Endianness) {
+    let bytes = section(alloc, order, &ENUMS_OF_64_BITS, b"\0e\0a\0b\0", &[]);
+    let bytes = bytes.expect(rt, "a section");
+    let Ok(mut table) = Btf::parse(alloc, bytes.as_slice(), order) else {
+        panic!(rt; "a table");
     };
-    let Some(fallback) = t.enum64_fallback() else {
-        return false;
-    };
-    let Some(variant) = fallback.variants.as_slice().get(index) else {
-        return false;
-    };
-    fallback.signed == signed && variant.value() == value
+    assert!(rt; enums(&table) == NO_ENUMS);
+    assert!(rt; sanitize(rt, alloc, &mut table, &SIZES, None, &[]).is_ok());
+    assert!(rt; enums(&table) == ENUMS_KEPT);
 }
 
 #[test]
 fn unions_keep_their_enums(rt: HostRuntime) {
-    let alloc = rt.alloc();
     for order in ORDERS {
-        let section = section_of(&rt, alloc, order, &ENUMS_OF_64_BITS, b"\0e\0a\0b\0", &[]);
-        let mut table = parse(&rt, alloc, section.as_slice(), order);
-        assert!(rt; !stands_for(&table, 1, true, 0, u64::MAX));
-        let answers = sanitize(&rt, alloc, &mut table, &SIZES, None, &[]);
-        assert!(rt; answers.is_ok());
-        assert!(rt; stands_for(&table, 1, true, 0, u64::MAX));
-        assert!(rt; stands_for(&table, 1, true, 1, 0x1_0000_0007));
-        assert!(rt; stands_for(&table, 2, false, 0, 9));
-        assert!(rt; !stands_for(&table, 3, false, 0, 9));
+        check_enums(&rt, rt.alloc(), order);
     }
 }

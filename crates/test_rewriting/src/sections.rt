@@ -1,11 +1,7 @@
-//! Sections of types by hand, from the kernel's BTF documentation. Info words are named by kind
-//! and, after a `_`, by the count of their items.
+//! Words of sections by hand, from the kernel's BTF documentation. Info words are named by kind and,
+//! after a `_`, by the count of their items.
 
-ghost use Rattle.std.specs.Prelude.{◌<◌, ◌^◌, length};
-
-use btf::{Btf, Endianness};
-use std::alloc::{AllocError, Global};
-use std::process::Abort;
+use btf::Endianness;
 
 pub(crate) const ORDERS: [Endianness; 2] = [Endianness::Little, Endianness::Big];
 
@@ -95,64 +91,3 @@ pub(crate) const SIGNED_INT: u32 = 0x0100_0020;
 
 /// A word of ones.
 pub(crate) const ALL_ONES: u32 = 0xffff_ffff;
-
-fn push_words(out: &mut Vec<u8>, order: Endianness, words: &[u32]) -> Result<(), AllocError> {
-    for word in words {
-        match order {
-            Endianness::Little => out.extend_from_slice(&word.to_le_bytes())?,
-            Endianness::Big => out.extend_from_slice(&word.to_be_bytes())?,
-        }
-    }
-    Ok(())
-}
-
-/// A section of records with these words, and of these strings and those after them.
-fn section(
-    alloc: Global,
-    order: Endianness,
-    words: &[u32],
-    strings: &[u8],
-    added: &[u8],
-) -> Result<Vec<u8>, AllocError>
-    requires words { length words.now < 2 ^ 16 }
-    requires strings { length strings.now < 2 ^ 16 }
-    requires added { length added.now < 2 ^ 16 }
-{
-    let mut out = Vec::new(alloc);
-    match order {
-        Endianness::Little => out.extend_from_slice(&[0x9f, 0xeb, 1, 0])?,
-        Endianness::Big => out.extend_from_slice(&[0xeb, 0x9f, 1, 0])?,
-    }
-    let types_len = 4 * words.len() as u32;
-    let strings_len = strings.len() as u32 + added.len() as u32;
-    push_words(&mut out, order, &[24, 0, types_len, types_len, strings_len])?;
-    push_words(&mut out, order, words)?;
-    out.extend_from_slice(strings)?;
-    out.extend_from_slice(added)?;
-    Ok(out)
-}
-
-/// The section of records with these words, and of these strings and those after them.
-pub(crate) fn section_of(
-    rt: &impl Abort,
-    alloc: Global,
-    order: Endianness,
-    words: &[u32],
-    strings: &[u8],
-    added: &[u8],
-) -> Vec<u8> {
-    assert!(rt; words.len() < 0x1_0000);
-    assert!(rt; strings.len() < 0x1_0000);
-    assert!(rt; added.len() < 0x1_0000);
-    section(alloc, order, words, strings, added).expect(rt, "a section")
-}
-
-/// The table of a section.
-pub(crate) fn parse<'a>(
-    rt: &impl Abort,
-    alloc: Global,
-    section: &'a [u8],
-    order: Endianness,
-) -> Btf<'a> {
-    Btf::parse(alloc, section, order).expect(rt, "a table")
-}

@@ -96,7 +96,7 @@ static GRANTED: [Case; 7] = [
         added: b"",
     },
     Case {
-        title: "an empty section gets a variable, and the integer behind it stays",
+        title: "an empty section gets a variable, and the integer after it stays",
         types: &[1, DATASEC, 0, 6, INT, 4, SIGNED_INT],
         strings: b"\0.bss\0i\0",
         ksyms: None,

@@ -1,9 +1,9 @@
-//! What a table answers, in values that can be compared.
+//! What a table or a section answers, in values that can be compared.
 
 use btf::{Btf, BtfError, BtfKind, fields_are_compatible, types_are_compatible};
 
 /// An answer, or why there is none.
-#[derive(Clone, Copy, Debug, PartialEq, Eq)]
+#[derive(Clone, Copy, PartialEq)]
 pub(crate) enum Answer {
     Yes,
     No,
@@ -17,6 +17,10 @@ pub(crate) enum Answer {
     UnexpectedBtfType(u32),
     UnknownBtfTypeName,
     MaximumTypeDepthReached(u32),
+    InvalidInfo(usize, usize, usize),
+    InvalidLineInfo(usize, usize, usize),
+    InvalidRelocationInfo,
+    InvalidRelocationKind(u32),
     OutOfMemory,
     Other,
 }
@@ -34,6 +38,18 @@ impl Answer {
             BtfError::MaximumTypeDepthReached { type_id } => {
                 Answer::MaximumTypeDepthReached(*type_id)
             }
+            BtfError::InvalidInfo {
+                offset,
+                len,
+                section_len,
+            } => Answer::InvalidInfo(*offset, *len, *section_len),
+            BtfError::InvalidLineInfo {
+                offset,
+                len,
+                section_len,
+            } => Answer::InvalidLineInfo(*offset, *len, *section_len),
+            BtfError::InvalidRelocationInfo => Answer::InvalidRelocationInfo,
+            BtfError::InvalidRelocationKind { kind } => Answer::InvalidRelocationKind(*kind),
             BtfError::OutOfMemory => Answer::OutOfMemory,
             _ => Answer::Other,
         }
@@ -48,7 +64,7 @@ pub(crate) fn yes_or_no(outcome: Result<bool, BtfError>) -> Answer {
     }
 }
 
-fn id(outcome: Result<u32, BtfError>) -> Answer {
+pub(crate) fn id(outcome: Result<u32, BtfError>) -> Answer {
     match outcome {
         Ok(id) => Answer::Id(id),
         Err(error) => Answer::refused(&error),
@@ -62,13 +78,23 @@ fn size(outcome: Result<u64, BtfError>) -> Answer {
     }
 }
 
+fn is_text(outcome: Result<&str, BtfError>, wanted: &str) -> Answer {
+    match outcome {
+        Ok(text) if text == wanted => Answer::Yes,
+        Ok(_) => Answer::No,
+        Err(error) => Answer::refused(&error),
+    }
+}
+
 /// What a table is asked.
-#[derive(Clone, Copy, Debug)]
+#[derive(Clone, Copy)]
 pub(crate) enum Question {
     Resolve(u32),
     Size(u32),
     SizeIn32Bits(u32),
     Find(&'static str, BtfKind),
+    /// Whether this text stands at an offset of the strings.
+    Text(u32, &'static str),
     /// Whether two types of the table are compatible.
     Types(u32, u32),
     /// Whether two members of these types are compatible.
@@ -82,6 +108,7 @@ impl Question {
             Question::Size(type_id) => size(table.type_size(type_id)),
             Question::SizeIn32Bits(type_id) => id(table.type_size_u32(type_id)),
             Question::Find(name, kind) => id(table.id_by_type_name_kind(name, kind)),
+            Question::Text(offset, text) => is_text(table.string_at(offset), text),
             Question::Types(l, r) => yes_or_no(types_are_compatible(table, l, table, r)),
             Question::Fields(l, r) => yes_or_no(fields_are_compatible(table, l, table, r)),
         }

@@ -1,28 +1,43 @@
 //! Questions on a table, with the wanted answers.
 
 use crate::answer::{Answer, Question};
-use crate::sections::{ORDERS, parse, section_of};
-use btf::Btf;
+use crate::sections::{ORDERS, parse};
+use btf::{Btf, Endianness};
+use sample_tables::section;
 use std::alloc::Global;
 use std::process::Abort;
 
-/// Asks a table of these words, in both byte orders.
-pub(crate) fn ask_all(
-    rt: &impl Abort,
-    alloc: Global,
-    words: &[u32],
-    strings: &[u8],
-    asked: &[(Question, Answer)],
-) {
-    for order in ORDERS {
-        let section = section_of(rt, alloc, order, words, strings);
-        let table = parse(rt, alloc, section.as_slice(), order);
-        ask(rt, &table, asked);
+/// Questions with the wanted answers.
+pub(crate) type Asked = &'static [(Question, Answer)];
+
+/// The words of a table's records, its strings, and what it is asked.
+#[derive(Drop)]
+pub(crate) struct Case<'w> {
+    pub(crate) title: &'static str,
+    pub(crate) words: &'w [u32],
+    pub(crate) strings: &'static [u8],
+    pub(crate) asked: Asked,
+}
+
+pub(crate) fn ask(rt: &impl Abort, title: &str, table: &Btf<'_>, asked: Asked) {
+    for (question, wanted) in asked {
+        check(rt, title, question.ask(table), *wanted);
     }
 }
 
-pub(crate) fn ask(rt: &impl Abort, table: &Btf<'_>, asked: &[(Question, Answer)]) {
-    for (question, wanted) in asked {
-        assert_eq!(rt; question.ask(table), *wanted, "{question:?}");
+fn check(rt: &impl Abort, title: &str, answer: Answer, wanted: Answer) {
+    assert!(rt; answer == wanted, "{title}");
+}
+
+fn ask_in(rt: &impl Abort, alloc: Global, order: Endianness, case: &Case<'_>) {
+    let bytes = section(alloc, order, case.words, case.strings, &[]).expect(rt, "a section");
+    let table = parse(rt, alloc, bytes.as_slice(), order);
+    ask(rt, case.title, &table, case.asked);
+}
+
+/// Asks the table of a case, in both byte orders.
+pub(crate) fn ask_case(rt: &impl Abort, alloc: Global, case: &Case<'_>) {
+    for order in ORDERS {
+        ask_in(rt, alloc, order, case);
     }
 }

@@ -3,7 +3,7 @@
 ghost use Rattle.std.specs.Prelude.{◌<◌, IfOk, vec_len};
 
 use crate::plain;
-use crate::sections::{ORDERS, push_words};
+use crate::sections::{ORDERS, append, spelled};
 use btf_encoding::{TypeRef, push_type, record_len};
 use btf_records::{
     Array, BtfEnum, BtfEnum64, BtfError, BtfKind, BtfMember, BtfParam, BtfType, Const, DataSec,
@@ -11,7 +11,7 @@ use btf_records::{
     IntEncoding, Ptr, Restrict, Struct, TypeTag, Typedef, Union, Var, VarLinkage, Volatile,
 };
 use std::alloc::{AllocError, Global};
-use std::test::Fail;
+use std::process::Abort;
 
 /// The words of a record of each kind, in order of kind, and of others that are written as they are
 /// read: bits that have no meaning are kept.
@@ -55,74 +55,99 @@ static OTHERS: [[&[u32]; 2]; 4] = [
     [&[9, 0xe0ff_0007, 1], &[0, 0, 0]],
 ];
 
-/// The bytes of words.
-fn spelled(alloc: Global, order: Endianness, words: &[u32]) -> Result<Vec<u8>, AllocError> {
-    let mut bytes = Vec::new(alloc);
-    push_words(&mut bytes, order, words)?;
-    Ok(bytes)
+/// The record that bytes begin with, where they begin with one.
+fn record(alloc: Global, order: Endianness, bytes: &[u8]) -> Option<BtfType> {
+    let view = TypeRef::read(order, bytes).ok()?;
+    view.to_type(alloc).ok()
 }
 
-/// The bytes as which the record that bytes begin with is written, where they begin with one.
-fn rewritten(
-    alloc: Global,
-    order: Endianness,
-    bytes: &[u8],
-) -> Result<Option<Vec<u8>>, AllocError> {
-    let Ok(view) = TypeRef::read(order, bytes) else {
-        return Ok(None);
+/// Whether a record is written as these bytes.
+fn is_written_as(alloc: Global, order: Endianness, t: &BtfType, bytes: &[u8]) -> bool {
+    let mut written = Vec::new(alloc);
+    push_type(&mut written, order, t).is_ok() && written.as_slice() == bytes
+}
+
+/// Whether a copy of a record is written as these bytes.
+fn copy_is_written_as(alloc: Global, order: Endianness, t: &BtfType, bytes: &[u8]) -> bool {
+    match t.try_clone() {
+        Ok(copy) => is_written_as(alloc, order, &copy, bytes),
+        Err(_) => false,
+    }
+}
+
+/// Whether the record that bytes begin with is written as these.
+fn becomes(alloc: Global, order: Endianness, read: &[u8], written: &[u8]) -> bool {
+    match record(alloc, order, read) {
+        Some(t) => copy_is_written_as(alloc, order, &t, written),
+        None => false,
+    }
+}
+
+/// Whether bytes are one record, by the reader and by its definition.
+fn is_one_record(order: Endianness, bytes: &[u8]) -> bool {
+    let len = record_len(order, bytes).ok();
+    len == Some(bytes.len()) && plain::len(order, bytes) == len
+}
+
+fn check_same(rt: &impl Abort, alloc: Global, order: Endianness, words: &[u32]) {
+    let bytes = spelled(alloc, order, words).expect(rt, "bytes");
+    assert!(rt; becomes(alloc, order, bytes.as_slice(), bytes.as_slice()));
+    assert!(rt; is_one_record(order, bytes.as_slice()));
+}
+
+fn check_other(rt: &impl Abort, alloc: Global, order: Endianness, [read, written]: [&[u32]; 2]) {
+    let read = spelled(alloc, order, read).expect(rt, "bytes");
+    let written = spelled(alloc, order, written).expect(rt, "bytes");
+    assert!(rt; becomes(alloc, order, read.as_slice(), written.as_slice()));
+}
+
+#[test]
+fn records_are_read_and_written(rt: HostRuntime) {
+    for order in ORDERS {
+        for words in &RECORDS {
+            check_same(&rt, rt.alloc(), order, words);
+        }
+        for pair in &OTHERS {
+            check_other(&rt, rt.alloc(), order, *pair);
+        }
+    }
+}
+
+/// Whether bytes are the front of a record that is cut.
+fn is_cut(order: Endianness, front: &[u8]) -> bool {
+    match record_len(order, front) {
+        Err(BtfError::InvalidTypeInfo) => true,
+        _ => false,
+    }
+}
+
+fn check_cuts(rt: &impl Abort, alloc: Global, order: Endianness, words: &[u32]) {
+    let bytes = spelled(alloc, order, words).expect(rt, "bytes");
+    for cut in 0..bytes.len() {
+        let (front, _) = bytes.as_slice().split_at(cut);
+        assert!(rt; is_cut(order, front));
+    }
+}
+
+/// Whether words are no record, since there is no such kind.
+fn is_no_kind(alloc: Global, order: Endianness, words: &[u32], number: u32) -> bool {
+    let Ok(bytes) = spelled(alloc, order, words) else {
+        return false;
     };
-    let t = view.to_type(alloc)?.try_clone()?;
-    let mut out = Vec::new(alloc);
-    push_type(&mut out, order, &t)?;
-    Ok(Some(out))
+    match record_len(order, bytes.as_slice()) {
+        Err(BtfError::InvalidTypeKind { kind }) => kind == number,
+        _ => false,
+    }
 }
 
 #[test]
-fn records_are_read_and_written(rt: HostRuntime) -> Result<(), AllocError> {
+fn no_record_is_cut(rt: HostRuntime) {
     for order in ORDERS {
-        for (row, words) in RECORDS.iter().enumerate() {
-            let bytes = spelled(rt.alloc(), order, words)?;
-            let bytes = bytes.as_slice();
-            let written = rewritten(rt.alloc(), order, bytes)?;
-            let written = written.as_ref().map(|written| written.as_slice());
-            assert_eq!(rt; written, Some(bytes), "row {row}");
-            assert_eq!(rt;
-                record_len(order, bytes).ok(),
-                Some(bytes.len()),
-                "row {row}"
-            );
-            assert_eq!(rt; plain::len(order, bytes), Some(bytes.len()), "row {row}");
+        for words in &RECORDS {
+            check_cuts(&rt, rt.alloc(), order, words);
         }
-        for [read, written] in &OTHERS {
-            let bytes = spelled(rt.alloc(), order, read)?;
-            let written = spelled(rt.alloc(), order, written)?;
-            let again = rewritten(rt.alloc(), order, bytes.as_slice())?;
-            let again = again.as_ref().map(|again| again.as_slice());
-            assert_eq!(rt; again, Some(written.as_slice()));
-        }
+        assert!(rt; is_no_kind(rt.alloc(), order, &[0, 0x1400_0000, 0], 20));
     }
-    Ok(())
-}
-
-#[test]
-fn no_record_is_cut(rt: HostRuntime) -> Result<(), AllocError> {
-    for order in ORDERS {
-        for (row, words) in RECORDS.iter().enumerate() {
-            let bytes = spelled(rt.alloc(), order, words)?;
-            for cut in 0..bytes.len() {
-                let (front, _) = bytes.as_slice().split_at(cut);
-                let len = record_len(order, front);
-                assert!(rt;
-                    matches!(len, Err(BtfError::InvalidTypeInfo)),
-                    "row {row} at {cut}"
-                );
-            }
-        }
-        let none = spelled(rt.alloc(), order, &[0, 0x1400_0000, 0])?;
-        let len = record_len(order, none.as_slice());
-        assert!(rt; matches!(len, Err(BtfError::InvalidTypeKind { kind: 20 })));
-    }
-    Ok(())
 }
 
 fn members(alloc: Global) -> Result<Vec<BtfMember>, AllocError>
@@ -166,26 +191,31 @@ fn entries(alloc: Global) -> Result<Vec<DataSecEntry>, AllocError>
     Ok(Vec::from_array(alloc, [entry])?)
 }
 
+fn signed_enum(alloc: Global) -> Result<Enum, AllocError> {
+    let variants = [BtfEnum::new(4, 0xffff_ffff), BtfEnum::new(6, 1)];
+    Ok(Enum::new(3, true, Vec::from_array(alloc, variants)?))
+}
+
+fn enum64(alloc: Global) -> Result<Enum64, AllocError> {
+    let variants = [BtfEnum64::new(4, 0x0123_4567_89ab_cdef)];
+    Ok(Enum64::new(9, false, Vec::from_array(alloc, variants)?))
+}
+
+fn union(alloc: Global) -> Result<Union, AllocError> {
+    let mut members = members(alloc)?;
+    members.truncate(1);
+    Ok(Union::new(0, members, 4))
+}
+
 /// The record with a list in a row of [`RECORDS`], made by its parts.
 fn made_with_list(alloc: Global, row: usize) -> Result<BtfType, AllocError> {
     match row {
         4 => Ok(BtfType::Struct(Struct::new(5, members(alloc)?, 12))),
-        6 => {
-            let variants = [BtfEnum::new(4, 0xffff_ffff), BtfEnum::new(6, 1)];
-            let variants = Vec::from_array(alloc, variants)?;
-            Ok(BtfType::Enum(Enum::new(3, true, variants)))
-        }
+        6 => Ok(BtfType::Enum(signed_enum(alloc)?)),
         13 => Ok(BtfType::FuncProto(FuncProto::new(params(alloc)?, 1))),
         15 => Ok(BtfType::DataSec(DataSec::new(9, entries(alloc)?, 4))),
-        19 => {
-            let variants = Vec::from_array(alloc, [BtfEnum64::new(4, 0x0123_4567_89ab_cdef)])?;
-            Ok(BtfType::Enum64(Enum64::new(9, false, variants)))
-        }
-        _ => {
-            let mut members = members(alloc)?;
-            members.truncate(1);
-            Ok(BtfType::Union(Union::new(0, members, 4)))
-        }
+        19 => Ok(BtfType::Enum64(enum64(alloc)?)),
+        _ => Ok(BtfType::Union(union(alloc)?)),
     }
 }
 
@@ -210,22 +240,23 @@ fn made(row: usize) -> Option<BtfType> {
     }
 }
 
+fn check_made(rt: &impl Abort, alloc: Global, order: Endianness, row: usize, words: &[u32]) {
+    let t = match made(row) {
+        Some(t) => t,
+        None => made_with_list(alloc, row).expect(rt, "a record"),
+    };
+    let wanted = spelled(alloc, order, words).expect(rt, "bytes");
+    assert!(rt; is_written_as(alloc, order, &t, wanted.as_slice()));
+    assert!(rt; t.kind() as usize == row);
+}
+
 #[test]
-fn made_records_are_written(rt: HostRuntime) -> Result<(), AllocError> {
+fn made_records_are_written(rt: HostRuntime) {
     for order in ORDERS {
-        for (row, words) in RECORDS.iter().enumerate().take(20) {
-            let t = match made(row) {
-                Some(t) => t,
-                None => made_with_list(rt.alloc(), row)?,
-            };
-            let mut written = Vec::new(rt.alloc());
-            push_type(&mut written, order, &t)?;
-            let wanted = spelled(rt.alloc(), order, words)?;
-            assert_eq!(rt; written.as_slice(), wanted.as_slice(), "row {row}");
-            assert_eq!(rt; t.kind() as usize, row);
+        for row in 0..20 {
+            check_made(&rt, rt.alloc(), order, row, RECORDS[row]);
         }
     }
-    Ok(())
 }
 
 /// The offsets of a struct's members and the types of a signature's parameters, place by place.
@@ -236,43 +267,59 @@ const PLACES: [(Option<u32>, Option<u32>); 4] = [
     (None, None),
 ];
 
-#[test]
-fn items_by_place(rt: HostRuntime) -> Result<(), Fail> {
-    for order in ORDERS {
-        let members = spelled(rt.alloc(), order, RECORDS[4])?;
-        let members = TypeRef::read(order, members.as_slice())?;
-        let params = spelled(rt.alloc(), order, RECORDS[13])?;
-        let params = TypeRef::read(order, params.as_slice())?;
-        for (index, (offset, btf_type)) in PLACES.iter().enumerate() {
-            assert_eq!(rt; members.member(index).map(|m| m.offset), *offset);
-            assert_eq!(rt; params.param(index).map(|p| p.btf_type), *btf_type);
-        }
-        let variants = spelled(rt.alloc(), order, RECORDS[19])?;
-        let variants = TypeRef::read(order, variants.as_slice())?;
-        let value = variants.variant64(0).map(|variant| variant.value());
-        assert_eq!(rt; value, Some(0x0123_4567_89ab_cdef));
-        assert!(rt; variants.variant64(1).is_none());
-        assert!(rt; variants.variant(0).is_none());
+fn check_places(rt: &impl Abort, order: Endianness, members: &[u8], params: &[u8]) {
+    let members = TypeRef::read(order, members).expect(rt, "a struct");
+    let params = TypeRef::read(order, params).expect(rt, "a signature");
+    for (index, place) in PLACES.iter().enumerate() {
+        let offset = members.member(index).map(|member| member.offset);
+        let btf_type = params.param(index).map(|param| param.btf_type);
+        assert!(rt; (offset, btf_type) == *place);
     }
-    assert_eq!(rt; TypeRef::void().kind(), BtfKind::Unknown);
-    Ok(())
+}
+
+fn check_variants(rt: &impl Abort, order: Endianness, variants: &[u8]) {
+    let variants = TypeRef::read(order, variants).expect(rt, "an enum");
+    let value = variants.variant64(0).map(|variant| variant.value());
+    assert!(rt; value == Some(0x0123_4567_89ab_cdef));
+    assert!(rt; variants.variant64(1).is_none());
+    assert!(rt; variants.variant(0).is_none());
+}
+
+fn check_items(rt: &impl Abort, alloc: Global, order: Endianness) {
+    let members = spelled(alloc, order, RECORDS[4]).expect(rt, "bytes");
+    let params = spelled(alloc, order, RECORDS[13]).expect(rt, "bytes");
+    let variants = spelled(alloc, order, RECORDS[19]).expect(rt, "bytes");
+    check_places(rt, order, members.as_slice(), params.as_slice());
+    check_variants(rt, order, variants.as_slice());
 }
 
 #[test]
-fn longest_list(rt: HostRuntime) -> Result<(), Fail> {
-    let mut words = Vec::from_array(rt.alloc(), [3, 0x0600_ffff, 4])?;
-    for value in 0..65535 {
-        words.push(1)?;
-        words.push(value)?;
+fn items_by_place(rt: HostRuntime) {
+    for order in ORDERS {
+        check_items(&rt, rt.alloc(), order);
     }
-    let bytes = spelled(rt.alloc(), Endianness::Big, words.as_slice())?;
-    let view = TypeRef::read(Endianness::Big, bytes.as_slice())?;
-    assert_eq!(rt; view.count(), 65535);
+    assert!(rt; TypeRef::void().kind() == BtfKind::Unknown);
+}
+
+/// The words of an enum with as many variants as there may be.
+fn longest(rt: &impl Abort, alloc: Global) -> Vec<u32> {
+    let mut words = Vec::new(alloc);
+    append(rt, &mut words, &[3, 0x0600_ffff, 4]);
+    for value in 0..65535 {
+        append(rt, &mut words, &[1, value]);
+    }
+    words
+}
+
+#[test]
+fn longest_list(rt: HostRuntime) {
+    let words = longest(&rt, rt.alloc());
+    let bytes = spelled(rt.alloc(), Endianness::Big, words.as_slice()).expect(&rt, "bytes");
+    let view = TypeRef::read(Endianness::Big, bytes.as_slice()).expect(&rt, "an enum");
+    assert!(rt; view.count() == 65535);
     let last = view.variant(65534).map(|variant| variant.value);
-    assert_eq!(rt; last, Some(65534));
+    assert!(rt; last == Some(65534));
     assert!(rt; view.variant(65535).is_none());
-    let written = rewritten(rt.alloc(), Endianness::Big, bytes.as_slice())?;
-    let written = written.as_ref().map(|written| written.as_slice());
-    assert_eq!(rt; written, Some(bytes.as_slice()));
-    Ok(())
+    let bytes = bytes.as_slice();
+    assert!(rt; becomes(rt.alloc(), Endianness::Big, bytes, bytes));
 }

@@ -1,10 +1,11 @@
 //! Sections by hand, from the kernel's BTF documentation, in both byte orders.
 
-use crate::sections::{ORDERS, push_words};
+use crate::answer::Answer;
+use crate::sections::{ORDERS, parse, push_words};
 use btf::{
-    Btf, BtfError, BtfExt, Endianness, FuncSecInfo, LineSecInfo, bpf_core_relo, bpf_func_info,
-    bpf_line_info,
+    Btf, BtfExt, Endianness, FuncSecInfo, LineSecInfo, SecInfo, bpf_func_info, bpf_line_info,
 };
+use btf_records::push_half_word;
 use std::alloc::{AllocError, Global};
 use std::process::Abort;
 
@@ -15,145 +16,19 @@ const TABLE: [u8; 43] = [
     0x65, 0x78, 0x74, 0, 0x78, 0x64, 0x70, 0, 0x2e, 0x74, 0x65, 0x78, 0x74, 0, 0xff, 0,
 ];
 
-/// What a section answers, in values that can be compared.
-#[derive(Clone, Copy, Debug, PartialEq, Eq)]
-enum Answer {
-    Nothing,
-    Number(usize),
-    Func(u32, u32),
-    Line(u32, u32, u32, u32),
-    Relocation(u32, u32, u32, u32),
-    InvalidHeader,
-    InvalidInfo(usize, usize, usize),
-    InvalidLineInfo(usize, usize, usize),
-    InvalidRelocationInfo,
-    InvalidRelocationKind(u32),
-    InvalidStringOffset(usize),
-    Other,
-}
+/// A record of a function by its fields, and one of a line or of a relocation.
+type Func = (u32, u32);
 
-impl Answer {
-    fn refused(error: &BtfError) -> Answer {
-        match error {
-            BtfError::InvalidHeader => Answer::InvalidHeader,
-            BtfError::InvalidInfo {
-                offset,
-                len,
-                section_len,
-            } => Answer::InvalidInfo(*offset, *len, *section_len),
-            BtfError::InvalidLineInfo {
-                offset,
-                len,
-                section_len,
-            } => Answer::InvalidLineInfo(*offset, *len, *section_len),
-            BtfError::InvalidRelocationInfo => Answer::InvalidRelocationInfo,
-            BtfError::InvalidRelocationKind { kind } => Answer::InvalidRelocationKind(*kind),
-            BtfError::InvalidStringOffset { offset } => Answer::InvalidStringOffset(*offset),
-            _ => Answer::Other,
-        }
-    }
+type Four = (u32, u32, u32, u32);
 
-    fn func(record: Option<bpf_func_info>) -> Answer {
-        match record {
-            Some(r) => Answer::Func(r.insn_off, r.type_id),
-            None => Answer::Nothing,
-        }
-    }
-
-    fn line(record: Option<bpf_line_info>) -> Answer {
-        match record {
-            Some(r) => Answer::Line(r.insn_off, r.file_name_off, r.line_off, r.line_col),
-            None => Answer::Nothing,
-        }
-    }
-
-    fn relocation(record: Option<bpf_core_relo>) -> Answer {
-        match record {
-            Some(r) => Answer::Relocation(r.insn_off, r.type_id, r.access_str_off, r.kind),
-            None => Answer::Nothing,
-        }
-    }
-}
-
-/// What a section is asked.
-#[derive(Clone, Copy, Debug)]
-enum Question {
-    FuncSize,
-    LineSize,
-    FuncCount(&'static str),
-    LineCount(&'static str),
-    FuncLen(&'static str),
-    LineLen(&'static str),
-    Func(&'static str, usize),
-    Line(&'static str, usize),
-    /// How many relocations the group of this name offset has.
-    RelocationCount(u32),
-    Relocation(u32, usize),
-}
-
-fn relocation_count(extension: &BtfExt<'_>, name_offset: u32) -> Answer {
-    for group in extension.relocations() {
-        if group.name_offset() == name_offset {
-            return Answer::Number(group.num_info() as usize);
-        }
-    }
-    Answer::Nothing
-}
-
-fn relocation(extension: &BtfExt<'_>, name_offset: u32, index: usize) -> Answer {
-    for group in extension.relocations() {
-        if group.name_offset() == name_offset {
-            return Answer::relocation(group.get(index));
-        }
-    }
-    Answer::Nothing
-}
-
-fn of_func(group: &FuncSecInfo<'_>, question: Question) -> Answer {
-    match question {
-        Question::FuncCount(_) => Answer::Number(group.num_info() as usize),
-        Question::FuncLen(_) => Answer::Number(group.len()),
-        Question::Func(_, index) => Answer::func(group.get(index)),
-        _ => Answer::Other,
-    }
-}
-
-fn of_line(group: &LineSecInfo<'_>, question: Question) -> Answer {
-    match question {
-        Question::LineCount(_) => Answer::Number(group.num_info() as usize),
-        Question::LineLen(_) => Answer::Number(group.len()),
-        Question::Line(_, index) => Answer::line(group.get(index)),
-        _ => Answer::Other,
-    }
-}
-
-impl Question {
-    fn ask(self, extension: &BtfExt<'_>) -> Answer {
-        match self {
-            Question::FuncSize => Answer::Number(extension.func_info_rec_size()),
-            Question::LineSize => Answer::Number(extension.line_info_rec_size()),
-            Question::FuncCount(name) | Question::FuncLen(name) | Question::Func(name, _) => {
-                match extension.func_info().get(name) {
-                    Some(group) => of_func(&group, self),
-                    None => Answer::Nothing,
-                }
-            }
-            Question::LineCount(name) | Question::LineLen(name) | Question::Line(name, _) => {
-                match extension.line_info(name) {
-                    Some(group) => of_line(&group, self),
-                    None => Answer::Nothing,
-                }
-            }
-            Question::RelocationCount(name_offset) => relocation_count(extension, name_offset),
-            Question::Relocation(name_offset, index) => relocation(extension, name_offset, index),
-        }
-    }
-}
-
-/// A section's words after magic, version and flags, and what it answers.
+/// A section's words after magic, version and flags; the sizes of its records of functions and of
+/// lines; and, of groups by name, or by the name's offset, the records, where there is a group.
 struct Row {
     words: &'static [u32],
-    asked: &'static [(Question, Answer)],
+    sizes: (usize, usize),
+    funcs: &'static [(&'static str, Option<&'static [Func]>)],
+    lines: &'static [(&'static str, Option<&'static [Four]>)],
+    relocations: &'static [(u32, Option<&'static [Four]>)],
 }
 
 /// Functions of records of 12 bytes, of two groups of `.text`; lines; and relocations, of which a
@@ -166,72 +41,204 @@ const WHOLE: &[u32] = &[
 static ROWS: [Row; 5] = [
     Row {
         words: &[32, 0, 20, 20, 0, 20, 0, 8, 0, 1, 16, 42],
-        asked: &[
-            (Question::FuncSize, Answer::Number(8)),
-            (Question::LineSize, Answer::Number(0)),
-            (Question::FuncCount(""), Answer::Number(1)),
-            (Question::FuncLen(""), Answer::Number(8)),
-            (Question::Func("", 0), Answer::Func(2, 42)),
-            (Question::Func("", 1), Answer::Nothing),
-            (Question::FuncCount("xdp"), Answer::Nothing),
-            (Question::LineCount(""), Answer::Nothing),
-            (Question::RelocationCount(0), Answer::Nothing),
-        ],
+        sizes: (8, 0),
+        funcs: &[("", Some(&[(2, 42)])), ("xdp", None)],
+        lines: &[("", None)],
+        relocations: &[(0, None)],
     },
     Row {
         words: WHOLE,
-        asked: &[
-            (Question::FuncSize, Answer::Number(12)),
-            (Question::LineSize, Answer::Number(16)),
-            (Question::FuncCount(".text"), Answer::Number(1)),
-            (Question::Func(".text", 0), Answer::Func(2, 9)),
-            (Question::Func("xdp", 0), Answer::Func(1, 7)),
-            (Question::LineCount("xdp"), Answer::Number(2)),
-            (Question::LineLen("xdp"), Answer::Number(32)),
-            (Question::Line("xdp", 0), Answer::Line(0, 1, 7, 1025)),
-            (Question::Line("xdp", 1), Answer::Line(1, 2, 3, 4)),
-            (Question::Line("xdp", 2), Answer::Nothing),
-            (Question::Line(".text", 0), Answer::Nothing),
-            (Question::RelocationCount(1), Answer::Number(2)),
-            (Question::Relocation(1, 0), Answer::Relocation(8, 3, 7, 0)),
-            (Question::Relocation(1, 1), Answer::Relocation(16, 4, 1, 11)),
-            (Question::Relocation(500, 0), Answer::Relocation(0, 1, 2, 3)),
-            (Question::Relocation(7, 0), Answer::Nothing),
+        sizes: (12, 16),
+        funcs: &[(".text", Some(&[(2, 9)])), ("xdp", Some(&[(1, 7)]))],
+        lines: &[
+            ("xdp", Some(&[(0, 1, 7, 1025), (1, 2, 3, 4)])),
+            (".text", None),
+        ],
+        relocations: &[
+            (1, Some(&[(8, 3, 7, 0), (16, 4, 1, 11)])),
+            (500, Some(&[(0, 1, 2, 3)])),
+            (7, None),
         ],
     },
     // A rest of eight bytes is no group, but a group without records before another one is.
     Row {
         words: &[32, 0, 28, 28, 0, 28, 0, 8, 0, 1, 16, 42, 7, 0],
-        asked: &[
-            (Question::FuncCount(""), Answer::Number(1)),
-            (Question::FuncCount("xdp"), Answer::Nothing),
-        ],
+        sizes: (8, 0),
+        funcs: &[("", Some(&[(2, 42)])), ("xdp", None)],
+        lines: &[],
+        relocations: &[],
     },
     Row {
         words: &[32, 0, 28, 28, 0, 28, 0, 8, 7, 0, 0, 1, 16, 42],
-        asked: &[
-            (Question::FuncCount("xdp"), Answer::Number(0)),
-            (Question::Func("", 0), Answer::Func(2, 42)),
-        ],
+        sizes: (8, 0),
+        funcs: &[("xdp", Some(&[])), ("", Some(&[(2, 42)]))],
+        lines: &[],
+        relocations: &[],
     },
     // A header of its least length.
     Row {
         words: &[8, 1, 2, 3],
-        asked: &[
-            (Question::FuncSize, Answer::Number(0)),
-            (Question::LineSize, Answer::Number(0)),
-        ],
+        sizes: (0, 0),
+        funcs: &[],
+        lines: &[],
+        relocations: &[],
     },
 ];
+
+/// Whether a group has these records, and their length.
+fn are_funcs(group: &FuncSecInfo<'_>, wanted: &[Func]) -> bool {
+    for (index, record) in wanted.iter().enumerate() {
+        let found = group.get(index).map(|r| (r.insn_off, r.type_id));
+        if found != Some(*record) {
+            return false;
+        }
+    }
+    let count = wanted.len();
+    let len = group.len();
+    group.num_info() as usize == count && len == count.wrapping_mul(8) && group.get(count).is_none()
+}
+
+fn are_lines(group: &LineSecInfo<'_>, wanted: &[Four]) -> bool {
+    for (index, record) in wanted.iter().enumerate() {
+        let found = group.get(index);
+        let found = found.map(|r| (r.insn_off, r.file_name_off, r.line_off, r.line_col));
+        if found != Some(*record) {
+            return false;
+        }
+    }
+    let count = wanted.len();
+    let len = group.len();
+    group.num_info() as usize == count
+        && len == count.wrapping_mul(16)
+        && group.get(count).is_none()
+}
+
+fn are_relocations(group: &SecInfo<'_>, wanted: &[Four]) -> bool {
+    for (index, record) in wanted.iter().enumerate() {
+        let found = group.get(index);
+        let found = found.map(|r| (r.insn_off, r.type_id, r.access_str_off, r.kind));
+        if found != Some(*record) {
+            return false;
+        }
+    }
+    let count = wanted.len();
+    group.num_info() as usize == count && group.get(count).is_none()
+}
+
+fn check_funcs(rt: &impl Abort, extension: &BtfExt<'_>, name: &str, wanted: Option<&[Func]>) {
+    match extension.func_info().get(name) {
+        Some(group) => assert!(rt; are_funcs(&group, wanted.expect(rt, "no group"))),
+        None => assert!(rt; wanted.is_none()),
+    }
+}
+
+fn check_lines(rt: &impl Abort, extension: &BtfExt<'_>, name: &str, wanted: Option<&[Four]>) {
+    match extension.line_info(name) {
+        Some(group) => assert!(rt; are_lines(&group, wanted.expect(rt, "no group"))),
+        None => assert!(rt; wanted.is_none()),
+    }
+}
+
+/// The group of relocations whose name stands at an offset.
+fn relocations_at<'e>(extension: &'e BtfExt<'_>, name_offset: u32) -> Option<SecInfo<'e>> {
+    for group in extension.relocations() {
+        if group.name_offset() == name_offset {
+            return Some(group);
+        }
+    }
+    None
+}
+
+fn check_relocations(rt: &impl Abort, extension: &BtfExt<'_>, name: u32, wanted: Option<&[Four]>) {
+    match relocations_at(extension, name) {
+        Some(group) => assert!(rt; are_relocations(&group, wanted.expect(rt, "no group"))),
+        None => assert!(rt; wanted.is_none()),
+    }
+}
+
+fn check_groups(rt: &impl Abort, extension: &BtfExt<'_>, row: &Row) {
+    let sizes = (
+        extension.func_info_rec_size(),
+        extension.line_info_rec_size(),
+    );
+    assert!(rt; sizes == row.sizes);
+    for (name, wanted) in row.funcs {
+        check_funcs(rt, extension, name, *wanted);
+    }
+    for (name, wanted) in row.lines {
+        check_lines(rt, extension, name, *wanted);
+    }
+    for (name, wanted) in row.relocations {
+        check_relocations(rt, extension, *name, *wanted);
+    }
+}
+
+fn check_copy(rt: &impl Abort, extension: &BtfExt<'_>, row: &Row) {
+    let copy = extension.try_clone().expect(rt, "a copy");
+    check_groups(rt, &copy, row);
+}
+
+/// The section of these words.
+fn section(alloc: Global, order: Endianness, words: &[u32]) -> Result<Vec<u8>, AllocError> {
+    let mut out = Vec::new(alloc);
+    push_half_word(&mut out, order, 0xeb9f)?;
+    out.extend_from_slice(&[1, 0])?;
+    push_words(&mut out, order, words)?;
+    Ok(out)
+}
+
+fn table(rt: &impl Abort, alloc: Global) -> Btf<'static> {
+    parse(rt, alloc, &TABLE, Endianness::Little)
+}
+
+fn is_read(
+    rt: &impl Abort,
+    alloc: Global,
+    order: Endianness,
+    table: &Btf<'_>,
+    bytes: &[u8],
+    row: &Row,
+) -> bool {
+    match BtfExt::parse(alloc, bytes, order, table) {
+        Ok(extension) => {
+            check_groups(rt, &extension, row);
+            check_copy(rt, &extension, row);
+            true
+        }
+        Err(_) => false,
+    }
+}
+
+fn check_row(rt: &impl Abort, alloc: Global, order: Endianness, table: &Btf<'_>, row: &Row) {
+    let bytes = section(alloc, order, row.words).expect(rt, "a section");
+    assert!(rt; is_read(rt, alloc, order, table, bytes.as_slice(), row));
+}
+
+#[test]
+fn sections_are_read(rt: HostRuntime) {
+    let table = table(&rt, rt.alloc());
+    for order in ORDERS {
+        for row in &ROWS {
+            check_row(&rt, rt.alloc(), order, &table, row);
+        }
+    }
+}
+
+const INFO: Answer = Answer::InvalidInfo(32, 20, 52);
+
+const LONG_INFO: Answer = Answer::InvalidInfo(32, 21, 52);
+
+const LINES: Answer = Answer::InvalidLineInfo(32, 20, 52);
+
+const RELOCATIONS: Answer = Answer::InvalidRelocationInfo;
+
+const TEXT: Answer = Answer::InvalidStringOffset(17);
 
 /// The words of sections that are refused, and by what; of several faults by the first.
 static REFUSED: [(&[u32], Answer); 20] = [
     (&[7], Answer::InvalidHeader),
     (&[9], Answer::InvalidHeader),
-    (
-        &[32, 0, 21, 20, 0, 20, 0, 8, 0, 1, 16, 42],
-        Answer::InvalidInfo(32, 21, 52),
-    ),
+    (&[32, 0, 21, 20, 0, 20, 0, 8, 0, 1, 16, 42], LONG_INFO),
     (
         &[32, 0, 20, 20, 0, 21, 0, 8, 0, 1, 16, 42],
         Answer::InvalidInfo(53, 0, 52),
@@ -240,38 +247,17 @@ static REFUSED: [(&[u32], Answer); 20] = [
         &[32, 0, 20, 0, 3, 20, 0, 8, 0, 1, 16, 42],
         Answer::InvalidInfo(32, 3, 52),
     ),
-    (
-        &[32, 0, 20, 20, 0, 20, 0, 7, 0, 1, 16, 42],
-        Answer::InvalidInfo(32, 20, 52),
-    ),
-    (
-        &[32, 0, 0, 0, 20, 0, 0, 15, 0, 1, 16, 42],
-        Answer::InvalidLineInfo(32, 20, 52),
-    ),
-    (
-        &[32, 0, 0, 0, 0, 0, 20, 15, 0, 1, 16, 42],
-        Answer::InvalidRelocationInfo,
-    ),
-    (
-        &[32, 0, 20, 20, 0, 20, 0, 8, 0, 2, 16, 42],
-        Answer::InvalidInfo(32, 20, 52),
-    ),
-    (
-        &[32, 0, 0, 0, 20, 0, 0, 16, 0, 1, 16, 42],
-        Answer::InvalidLineInfo(32, 20, 52),
-    ),
-    (
-        &[32, 0, 0, 0, 0, 0, 20, 16, 0, 1, 16, 42],
-        Answer::InvalidRelocationInfo,
-    ),
+    (&[32, 0, 20, 20, 0, 20, 0, 7, 0, 1, 16, 42], INFO),
+    (&[32, 0, 0, 0, 20, 0, 0, 15, 0, 1, 16, 42], LINES),
+    (&[32, 0, 0, 0, 0, 0, 20, 15, 0, 1, 16, 42], RELOCATIONS),
+    (&[32, 0, 20, 20, 0, 20, 0, 8, 0, 2, 16, 42], INFO),
+    (&[32, 0, 0, 0, 20, 0, 0, 16, 0, 1, 16, 42], LINES),
+    (&[32, 0, 0, 0, 0, 0, 20, 16, 0, 1, 16, 42], RELOCATIONS),
     (
         &[32, 0, 20, 20, 0, 20, 0, 0xffff_ffff, 0, 0xffff_ffff, 16, 42],
-        Answer::InvalidInfo(32, 20, 52),
+        INFO,
     ),
-    (
-        &[32, 0, 20, 20, 0, 20, 0, 8, 17, 1, 16, 42],
-        Answer::InvalidStringOffset(17),
-    ),
+    (&[32, 0, 20, 20, 0, 20, 0, 8, 17, 1, 16, 42], TEXT),
     (
         &[32, 0, 0, 0, 28, 0, 0, 16, 19, 1, 0, 0, 0, 0],
         Answer::InvalidStringOffset(19),
@@ -285,21 +271,15 @@ static REFUSED: [(&[u32], Answer); 20] = [
         Answer::InvalidRelocationKind(99),
     ),
     // Ends of regions before sizes, sizes before groups, functions before lines.
-    (
-        &[32, 0, 20, 20, 0, 0, 21, 7, 0, 1, 16, 42],
-        Answer::InvalidInfo(32, 21, 52),
-    ),
-    (
-        &[32, 0, 20, 20, 0, 20, 0, 8, 17, 2, 16, 42],
-        Answer::InvalidInfo(32, 20, 52),
-    ),
+    (&[32, 0, 20, 20, 0, 0, 21, 7, 0, 1, 16, 42], LONG_INFO),
+    (&[32, 0, 20, 20, 0, 20, 0, 8, 17, 2, 16, 42], INFO),
     (
         &[32, 0, 20, 20, 20, 40, 0, 8, 17, 1, 16, 42, 15, 0, 1, 16, 42],
-        Answer::InvalidStringOffset(17),
+        TEXT,
     ),
     (
         &[32, 0, 36, 0, 0, 0, 0, 8, 17, 1, 16, 42, 0, 9, 16, 42],
-        Answer::InvalidStringOffset(17),
+        TEXT,
     ),
 ];
 
@@ -309,14 +289,14 @@ static BYTES: [(&[u8], Answer); 4] = [
     (&[0x9f, 0xeb, 1, 0, 8, 0, 0], Answer::InvalidHeader),
     (
         &[0x9f, 0xeb, 1, 0, 10, 0, 0, 0, 0, 0, 20, 0, 0, 0, 9, 0, 0, 0],
-        Answer::Number(0),
+        Answer::Size(0),
     ),
     (
         &[
             0x9f, 0xeb, 1, 0, 13, 0, 0, 0, 0, 0, 0, 0, 20, 8, 0, 0, 0, 0, 0, 0, 0, 1, 0, 0, 0, 16,
             0, 0, 0, 42, 0, 0, 0,
         ],
-        Answer::Number(8),
+        Answer::Size(8),
     ),
     (
         &[
@@ -327,125 +307,117 @@ static BYTES: [(&[u8], Answer); 4] = [
     ),
 ];
 
-/// The section of these words.
-fn section(alloc: Global, order: Endianness, words: &[u32]) -> Result<Vec<u8>, AllocError> {
-    let mut out = Vec::new(alloc);
-    match order {
-        Endianness::Little => out.extend_from_slice(&[0x9f, 0xeb, 1, 0])?,
-        Endianness::Big => out.extend_from_slice(&[0xeb, 0x9f, 1, 0])?,
-    }
-    push_words(&mut out, order, words)?;
-    Ok(out)
-}
-
-fn table(rt: &impl Abort, alloc: Global) -> Btf<'static> {
-    Btf::parse(alloc, &TABLE, Endianness::Little).expect(rt, "a table")
-}
-
-#[test]
-fn sections_are_read(rt: HostRuntime) {
-    let table = table(&rt, rt.alloc());
-    for order in ORDERS {
-        for row in &ROWS {
-            let bytes = section(rt.alloc(), order, row.words).expect(&rt, "a section");
-            let extension = BtfExt::parse(rt.alloc(), bytes.as_slice(), order, &table);
-            let extension = extension.expect(&rt, "an extension");
-            for (question, wanted) in row.asked {
-                assert_eq!(rt; question.ask(&extension), *wanted, "{question:?}");
-            }
-            let other = extension.try_clone().expect(&rt, "a clone");
-            for (question, wanted) in row.asked {
-                assert_eq!(rt; question.ask(&other), *wanted, "{question:?} of the clone");
-            }
-        }
-    }
-}
-
-/// The answer to a question of a section, or why it is refused.
-fn first_answer(
-    alloc: Global,
-    bytes: &[u8],
-    order: Endianness,
-    table: &Btf<'_>,
-    question: Question,
-) -> Answer {
+/// The size of a section's records of functions, or why the section is refused.
+fn func_size(alloc: Global, order: Endianness, table: &Btf<'_>, bytes: &[u8]) -> Answer {
     match BtfExt::parse(alloc, bytes, order, table) {
-        Ok(extension) => question.ask(&extension),
+        Ok(extension) => Answer::Size(extension.func_info_rec_size() as u64),
         Err(error) => Answer::refused(&error),
     }
+}
+
+fn check_refused(
+    rt: &impl Abort,
+    alloc: Global,
+    order: Endianness,
+    table: &Btf<'_>,
+    (words, wanted): (&[u32], Answer),
+) {
+    let bytes = section(alloc, order, words).expect(rt, "a section");
+    assert!(rt; func_size(alloc, order, table, bytes.as_slice()) == wanted);
 }
 
 #[test]
 fn sections_are_refused(rt: HostRuntime) {
     let table = table(&rt, rt.alloc());
     for order in ORDERS {
-        for (words, wanted) in &REFUSED {
-            let bytes = section(rt.alloc(), order, words).expect(&rt, "a section");
-            let got = first_answer(
-                rt.alloc(),
-                bytes.as_slice(),
-                order,
-                &table,
-                Question::FuncSize,
-            );
-            assert_eq!(rt; got, *wanted, "{words:?}");
+        for case in &REFUSED {
+            check_refused(&rt, rt.alloc(), order, &table, *case);
         }
     }
     for (bytes, wanted) in &BYTES {
-        let got = first_answer(
-            rt.alloc(),
-            bytes,
-            Endianness::Little,
-            &table,
-            Question::FuncSize,
-        );
-        assert_eq!(rt; got, *wanted, "{bytes:?}");
+        assert!(rt; func_size(rt.alloc(), Endianness::Little, &table, bytes) == *wanted);
     }
 }
 
-/// The bytes of a group of functions, where there is one.
-fn func_bytes(alloc: Global, group: Option<FuncSecInfo<'_>>) -> Option<Vec<u8>> {
-    group?.try_clone().ok()?.func_info_bytes(alloc).ok()
+/// Whether a copy of records of functions is written as these bytes.
+fn funcs_are(alloc: Global, records: &FuncSecInfo<'_>, bytes: &[u8]) -> bool {
+    let Ok(copy) = records.try_clone() else {
+        return false;
+    };
+    match copy.func_info_bytes(alloc) {
+        Ok(written) => written.as_slice() == bytes,
+        Err(_) => false,
+    }
 }
 
-/// The bytes of a group of lines, where there is one.
-fn line_bytes(alloc: Global, group: Option<LineSecInfo<'_>>) -> Option<Vec<u8>> {
-    group?.try_clone().ok()?.line_info_bytes(alloc).ok()
+/// Whether a copy of records of lines is written as these bytes.
+fn lines_are(alloc: Global, records: &LineSecInfo<'_>, bytes: &[u8]) -> bool {
+    let Ok(copy) = records.try_clone() else {
+        return false;
+    };
+    match copy.line_info_bytes(alloc) {
+        Ok(written) => written.as_slice() == bytes,
+        Err(_) => false,
+    }
+}
+
+const FUNC_BYTES: [u8; 8] = [1, 0, 0, 0, 7, 0, 0, 0];
+
+const LINE_BYTES: [u8; 32] = [
+    0, 0, 0, 0, 1, 0, 0, 0, 7, 0, 0, 0, 1, 4, 0, 0, 1, 0, 0, 0, 2, 0, 0, 0, 3, 0, 0, 0, 4, 0, 0, 0,
+];
+
+fn writes_funcs(alloc: Global, extension: &BtfExt<'_>) -> bool {
+    match extension.func_info().get("xdp") {
+        Some(group) => funcs_are(alloc, &group, &FUNC_BYTES),
+        None => false,
+    }
+}
+
+fn writes_lines(alloc: Global, extension: &BtfExt<'_>) -> bool {
+    match extension.line_info("xdp") {
+        Some(group) => lines_are(alloc, &group, &LINE_BYTES),
+        None => false,
+    }
+}
+
+fn is_written(alloc: Global, order: Endianness, table: &Btf<'_>, bytes: &[u8]) -> bool {
+    match BtfExt::parse(alloc, bytes, order, table) {
+        Ok(extension) => writes_funcs(alloc, &extension) && writes_lines(alloc, &extension),
+        Err(_) => false,
+    }
+}
+
+fn check_written(rt: &impl Abort, alloc: Global, order: Endianness, table: &Btf<'_>) {
+    let bytes = section(alloc, order, WHOLE).expect(rt, "a section");
+    assert!(rt; is_written(alloc, order, table, bytes.as_slice()));
 }
 
 #[test]
 fn records_are_written_low_byte_first(rt: HostRuntime) {
     let table = table(&rt, rt.alloc());
     for order in ORDERS {
-        let bytes = section(rt.alloc(), order, WHOLE).expect(&rt, "a section");
-        let extension = BtfExt::parse(rt.alloc(), bytes.as_slice(), order, &table);
-        let extension = extension.expect(&rt, "an extension");
-        let written = func_bytes(rt.alloc(), extension.func_info().get("xdp"));
-        let written = written.expect(&rt, "records of functions");
-        assert_eq!(rt; written.as_slice(), [1, 0, 0, 0, 7, 0, 0, 0].as_slice());
-        let written = line_bytes(rt.alloc(), extension.line_info("xdp"));
-        let written = written.expect(&rt, "records of lines");
-        let wanted = [
-            0, 0, 0, 0, 1, 0, 0, 0, 7, 0, 0, 0, 1, 4, 0, 0, 1, 0, 0, 0, 2, 0, 0, 0, 3, 0, 0, 0, 4,
-            0, 0, 0,
-        ];
-        assert_eq!(rt; written.as_slice(), wanted.as_slice());
+        check_written(&rt, rt.alloc(), order, &table);
     }
 }
 
 #[test]
-fn records_of_a_list(rt: HostRuntime) {
+fn functions_of_a_list(rt: HostRuntime) {
     let func = bpf_func_info {
         insn_off: 0x0102_0304,
         type_id: 5,
     };
     let records = Vec::from_array(rt.alloc(), [func]).expect(&rt, "a list");
     let funcs = FuncSecInfo::from_records(records);
-    assert_eq!(rt; (funcs.num_info(), funcs.len()), (1, 8));
-    assert_eq!(rt; (funcs.get(0), funcs.get(1)), (Some(func), None));
-    let funcs = funcs.try_clone().expect(&rt, "a copy");
-    let written = funcs.func_info_bytes(rt.alloc()).expect(&rt, "bytes");
-    assert_eq!(rt; written.as_slice(), [4, 3, 2, 1, 5, 0, 0, 0].as_slice());
+    assert!(rt; funcs.num_info() == 1);
+    assert!(rt; funcs.len() == 8);
+    assert!(rt; funcs.get(0) == Some(func));
+    assert!(rt; funcs.get(1).is_none());
+    assert!(rt; funcs_are(rt.alloc(), &funcs, &[4, 3, 2, 1, 5, 0, 0, 0]));
+}
+
+#[test]
+fn lines_of_a_list(rt: HostRuntime) {
     let line = bpf_line_info {
         insn_off: 1,
         file_name_off: 2,
@@ -454,10 +426,13 @@ fn records_of_a_list(rt: HostRuntime) {
     };
     let records = Vec::from_array(rt.alloc(), [line, line]).expect(&rt, "a list");
     let lines = LineSecInfo::from_records(records);
-    assert_eq!(rt; (lines.num_info(), lines.len()), (2, 32));
-    assert_eq!(rt; (lines.get(1), lines.get(2)), (Some(line), None));
-    let lines = lines.try_clone().expect(&rt, "a copy");
-    let written = lines.line_info_bytes(rt.alloc()).expect(&rt, "bytes");
-    let wanted = [1, 0, 0, 0, 2, 0, 0, 0, 3, 0, 0, 0, 0, 0, 0, 4];
-    assert_eq!(rt; written.as_slice().get(..16), Some(wanted.as_slice()));
+    assert!(rt; lines.num_info() == 2);
+    assert!(rt; lines.len() == 32);
+    assert!(rt; lines.get(1) == Some(line));
+    assert!(rt; lines.get(2).is_none());
+    let wanted = [
+        1, 0, 0, 0, 2, 0, 0, 0, 3, 0, 0, 0, 0, 0, 0, 4, 1, 0, 0, 0, 2, 0, 0, 0, 3, 0, 0, 0, 0, 0,
+        0, 4,
+    ];
+    assert!(rt; lines_are(rt.alloc(), &lines, &wanted));
 }

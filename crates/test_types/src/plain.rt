@@ -1,26 +1,10 @@
 //! Records read slowly, as their definition says.
 
-ghost use Rattle.std.specs.Prelude.{◌≡◌, ◌+◌, ◌<◌, ◌≤◌, SomeIff, length};
+ghost use Rattle.std.specs.Prelude.{◌+◌, ◌<◌, ◌≤◌, SomeIff, length};
 ghost use Rattle.btf_records.specs.Kinds.{kind_count, kind_of};
-ghost use Rattle.btf_records.specs.Words.{word_at};
 ghost use Rattle.btf_encoding.specs.Records.{kind_number_at, len_behind, record_len};
 
-use btf_records::Endianness;
-
-/// The word at an offset, from its four bytes.
-#[tactic(auto, unfolding(btf_records::specs::Words::word_at))]
-fn word(order: Endianness, bytes: &[u8], offset: usize) -> u32
-    requires { offset + 4 ≤ length bytes.now }
-    ensures { result ≡ word_at order bytes.now offset }
-{
-    let four = &bytes[offset..];
-    let [lowest, low, high, highest] = match order {
-        Endianness::Little => [four[0], four[1], four[2], four[3]],
-        Endianness::Big => [four[3], four[2], four[1], four[0]],
-    };
-    u32::from(lowest)
-        + 0x100 * (u32::from(low) + 0x100 * (u32::from(high) + 0x100 * u32::from(highest)))
-}
+use btf_records::{Endianness, word};
 
 /// The number of bytes of a record, by the number of its kind.
 #[tactic(auto, unfolding(btf_records::specs::Kinds::kind_of))]

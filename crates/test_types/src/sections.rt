@@ -1,8 +1,7 @@
 //! Sections of types by hand, from the kernel's BTF documentation.
 
-ghost use Rattle.std.specs.Prelude.{◌<◌, ◌^◌, length};
-
 use btf::{Btf, Endianness};
+use btf_records::push_word;
 use std::alloc::{AllocError, Global};
 use std::process::Abort;
 
@@ -24,7 +23,7 @@ pub(crate) const ARRAY: u32 = 0x0300_0000;
 pub(crate) const STRUCT: u32 = 0x0400_0000;
 
 /// Of a struct with one member.
-pub(crate) const ONE_MEMBER: u32 = 0x0400_0001;
+pub(crate) const STRUCT_1: u32 = 0x0400_0001;
 
 pub(crate) const UNION: u32 = 0x0500_0000;
 
@@ -38,18 +37,14 @@ pub(crate) const FUNC: u32 = 0x0c00_0000;
 
 pub(crate) const VAR: u32 = 0x0e00_0000;
 
-/// Of a signature with two parameters.
-pub(crate) const SIGNATURE: u32 = 0x0d00_0002;
+/// Of signatures, and of one with two parameters.
+pub(crate) const PROTO: u32 = 0x0d00_0000;
 
-/// Of a signature without parameters.
-pub(crate) const NO_PARAMETERS: u32 = 0x0d00_0000;
+pub(crate) const PROTO_2: u32 = 0x0d00_0002;
 
-/// Writes a word.
-fn push_word(out: &mut Vec<u8>, order: Endianness, word: u32) -> Result<(), AllocError> {
-    match order {
-        Endianness::Little => out.extend_from_slice(&word.to_le_bytes()),
-        Endianness::Big => out.extend_from_slice(&word.to_be_bytes()),
-    }
+/// Adds words to others.
+pub(crate) fn append(rt: &impl Abort, words: &mut Vec<u32>, more: &[u32]) {
+    words.extend_from_slice(more).expect(rt, "words");
 }
 
 /// Writes words.
@@ -64,39 +59,15 @@ pub(crate) fn push_words(
     Ok(())
 }
 
-/// A section of records with these words, and of these strings.
-fn section(
+/// The bytes of words.
+pub(crate) fn spelled(
     alloc: Global,
     order: Endianness,
     words: &[u32],
-    strings: &[u8],
-) -> Result<Vec<u8>, AllocError>
-    requires words { length words.now < 2 ^ 16 }
-    requires strings { length strings.now < 2 ^ 16 }
-{
-    let mut out = Vec::new(alloc);
-    match order {
-        Endianness::Little => out.extend_from_slice(&[0x9f, 0xeb, 1, 0])?,
-        Endianness::Big => out.extend_from_slice(&[0xeb, 0x9f, 1, 0])?,
-    }
-    let len = 4 * words.len() as u32;
-    push_words(&mut out, order, &[24, 0, len, len, strings.len() as u32])?;
-    push_words(&mut out, order, words)?;
-    out.extend_from_slice(strings)?;
-    Ok(out)
-}
-
-/// The section of records with these words, and of these strings.
-pub(crate) fn section_of(
-    rt: &impl Abort,
-    alloc: Global,
-    order: Endianness,
-    words: &[u32],
-    strings: &[u8],
-) -> Vec<u8> {
-    assert!(rt; words.len() < 0x1_0000);
-    assert!(rt; strings.len() < 0x1_0000);
-    section(alloc, order, words, strings).expect(rt, "a section")
+) -> Result<Vec<u8>, AllocError> {
+    let mut bytes = Vec::new(alloc);
+    push_words(&mut bytes, order, words)?;
+    Ok(bytes)
 }
 
 /// The table of a section.

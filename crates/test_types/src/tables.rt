@@ -1,153 +1,138 @@
-//! Type tables: worked sections in both byte orders, broken ones, and memory that runs out.
+//! Type tables: worked sections in both byte orders, broken ones, and tables that grow.
 
-ghost use Rattle.std.specs.Prelude.{◌<◌};
-
-use crate::answer::{Answer, Question};
-use crate::asking::{ask, ask_all};
+use crate::answer::{Answer, Question, id};
+use crate::asking::{Asked, Case, ask, ask_case};
 use crate::sections::{
-    ARRAY, CONST, FWD, INT, INT_SECTION, ONE_MEMBER, ORDERS, PTR, VAR, parse, section_of,
+    ARRAY, CONST, FWD, INT, INT_SECTION, ORDERS, PTR, STRUCT_1, VAR, append, parse,
 };
 use btf::{Btf, BtfKind, BtfType, Endianness, Enum64Fallback, Int, IntEncoding, Items, Ptr, Union};
-use std::alloc::{AllocError, Global};
+use sample_tables::section;
+use std::alloc::Global;
 use std::process::Abort;
-use std::test::Fail;
 
-/// A record and a number of CONSTs, each of the type before.
-fn consts(alloc: Global, first: &[u32], count: u32) -> Result<Vec<u32>, AllocError>
-    requires { count < 100 }
-{
-    let mut words = Vec::with_capacity(alloc, 400)?;
-    words.extend_from_slice(first)?;
-    for id in 1..count + 1 {
-        words.extend_from_slice(&[0, CONST, id])?;
+/// A record, and CONSTs up to an id, each of the type before.
+struct Chain {
+    title: &'static str,
+    first: &'static [u32],
+    last: u32,
+    asked: Asked,
+}
+
+static CHAINS: [Chain; 3] = [
+    Chain {
+        title: "31 CONSTs above an INT",
+        first: &[0, INT, 4, 0x20],
+        last: 32,
+        asked: &[
+            (Question::Resolve(32), Answer::Id(1)),
+            (Question::Size(32), Answer::Size(4)),
+            (Question::Resolve(0), Answer::Id(0)),
+            (Question::Resolve(33), Answer::UnknownBtfType(33)),
+        ],
+    },
+    Chain {
+        title: "32 CONSTs above an INT",
+        first: &[0, INT, 4, 0x20],
+        last: 33,
+        asked: &[
+            (Question::Resolve(33), Answer::MaximumTypeDepthReached(33)),
+            (Question::Size(33), Answer::MaximumTypeDepthReached(33)),
+        ],
+    },
+    Chain {
+        title: "32 CONSTs, the last of no type",
+        first: &[0, CONST, 99],
+        last: 32,
+        asked: &[
+            (Question::Resolve(31), Answer::UnknownBtfType(99)),
+            (Question::Resolve(32), Answer::MaximumTypeDepthReached(32)),
+        ],
+    },
+];
+
+/// The words of a chain.
+fn words_of(rt: &impl Abort, alloc: Global, chain: &Chain) -> Vec<u32> {
+    let mut words = Vec::new(alloc);
+    append(rt, &mut words, chain.first);
+    for id in 1..chain.last {
+        append(rt, &mut words, &[0, CONST, id]);
     }
-    Ok(words)
+    words
 }
 
-// Chains of 31 and of 32 CONSTs above an INT, and of 32 CONSTs the last of which modifies no type.
-#[test]
-fn chains_end_at_32_types(rt: HostRuntime) -> Result<(), Fail> {
-    let alloc = rt.alloc();
-    let int = [0, INT, 4, 0x20];
-    let words = consts(alloc, &int, 31)?;
-    let asked = [
-        (Question::Resolve(32), Answer::Id(1)),
-        (Question::Size(32), Answer::Size(4)),
-        (Question::Resolve(0), Answer::Id(0)),
-        (Question::Resolve(33), Answer::UnknownBtfType(33)),
-    ];
-    ask_all(&rt, alloc, words.as_slice(), &[0], &asked);
-    let too_deep = Answer::MaximumTypeDepthReached(33);
-    let words = consts(alloc, &int, 32)?;
-    let asked = [
-        (Question::Resolve(33), too_deep),
-        (Question::Size(33), too_deep),
-    ];
-    ask_all(&rt, alloc, words.as_slice(), &[0], &asked);
-    let words = consts(alloc, &[0, CONST, 99], 31)?;
-    let asked = [
-        (Question::Resolve(31), Answer::UnknownBtfType(99)),
-        (Question::Resolve(32), Answer::MaximumTypeDepthReached(32)),
-    ];
-    ask_all(&rt, alloc, words.as_slice(), &[0], &asked);
-    Ok(())
+fn check_chain(rt: &impl Abort, alloc: Global, chain: &Chain) {
+    let words = words_of(rt, alloc, chain);
+    let case = Case {
+        title: chain.title,
+        words: words.as_slice(),
+        strings: &[0],
+        asked: chain.asked,
+    };
+    ask_case(rt, alloc, &case);
 }
 
 #[test]
-fn sizes_are_multiplied(rt: HostRuntime) {
-    let words = [
-        0,
-        INT,
-        1,
-        8,
-        0,
-        ARRAY,
-        0,
-        1,
-        1,
-        65535,
-        0,
-        ARRAY,
-        0,
-        2,
-        1,
-        65537,
-        0,
-        ARRAY,
-        0,
-        1,
-        1,
-        65536,
-        0,
-        ARRAY,
-        0,
-        4,
-        1,
-        65536,
-        0,
-        ARRAY,
-        0,
-        4,
-        1,
-        0,
-        0,
-        INT,
-        4,
-        0x20,
-        0,
-        ARRAY,
-        0,
-        7,
-        1,
-        0x4000_0000,
-        0,
-        PTR,
-        8,
-        0,
-        FWD,
-        0,
-    ];
-    let asked = [
-        (Question::Size(3), Answer::Size(4_294_967_295)),
-        (Question::SizeIn32Bits(3), Answer::Id(4_294_967_295)),
-        (Question::Size(5), Answer::InvalidTypeInfo),
-        (Question::Size(6), Answer::Size(0)),
-        (Question::Size(8), Answer::Size(4_294_967_296)),
-        (Question::SizeIn32Bits(8), Answer::InvalidTypeInfo),
-        (Question::Size(9), Answer::Size(8)),
-        (Question::Size(10), Answer::UnexpectedBtfType(10)),
-        (Question::Size(0), Answer::UnexpectedBtfType(0)),
-    ];
-    ask_all(&rt, rt.alloc(), &words, &[0], &asked);
+fn chains_end_at_32_types(rt: HostRuntime) {
+    for chain in &CHAINS {
+        check_chain(&rt, rt.alloc(), chain);
+    }
 }
 
-// Two INTs of one name, a PTR of that name, an INT whose name no NUL ends, and one of another name.
+const GIB: u32 = 0x4000_0000;
+
+static CASES: [Case<'static>; 2] = [
+    Case {
+        title: "sizes are multiplied",
+        words: &[
+            0, INT, 1, 8, 0, ARRAY, 0, 1, 1, 65535, 0, ARRAY, 0, 2, 1, 65537, 0, ARRAY, 0, 1, 1,
+            65536, 0, ARRAY, 0, 4, 1, 65536, 0, ARRAY, 0, 4, 1, 0, 0, INT, 4, 0x20, 0, ARRAY, 0, 7,
+            1, GIB, 0, PTR, 8, 0, FWD, 0,
+        ],
+        strings: &[0],
+        asked: &[
+            (Question::Size(3), Answer::Size(4_294_967_295)),
+            (Question::SizeIn32Bits(3), Answer::Id(4_294_967_295)),
+            (Question::Size(5), Answer::InvalidTypeInfo),
+            (Question::Size(6), Answer::Size(0)),
+            (Question::Size(8), Answer::Size(4_294_967_296)),
+            (Question::SizeIn32Bits(8), Answer::InvalidTypeInfo),
+            (Question::Size(9), Answer::Size(8)),
+            (Question::Size(10), Answer::UnexpectedBtfType(10)),
+            (Question::Size(0), Answer::UnexpectedBtfType(0)),
+        ],
+    },
+    // two INTs of one name, a PTR of that name, an INT whose name no NUL ends, and one of another
+    // name
+    Case {
+        title: "names are found",
+        words: &[
+            1, INT, 4, 0x20, 1, PTR, 1, 1, INT, 8, 0x40, 7, INT, 1, 8, 3, INT, 2, 16,
+        ],
+        strings: b"\0a\0b\0c\0d",
+        asked: &[
+            (Question::Find("a", BtfKind::Int), Answer::Id(1)),
+            (Question::Find("a", BtfKind::Ptr), Answer::Id(2)),
+            (Question::Find("", BtfKind::Unknown), Answer::Id(0)),
+            (
+                Question::Find("b", BtfKind::Int),
+                Answer::InvalidStringOffset(7),
+            ),
+            (
+                Question::Find("b", BtfKind::Ptr),
+                Answer::UnknownBtfTypeName,
+            ),
+            (Question::Text(5, "c"), Answer::Yes),
+            (Question::Text(7, "d"), Answer::InvalidStringOffset(7)),
+            (Question::Text(8, ""), Answer::InvalidStringOffset(8)),
+        ],
+    },
+];
+
 #[test]
-fn names_are_found(rt: HostRuntime) {
-    let words = [
-        1, INT, 4, 0x20, 1, PTR, 1, 1, INT, 8, 0x40, 7, INT, 1, 8, 3, INT, 2, 16,
-    ];
-    let strings = [0, 0x61, 0, 0x62, 0, 0x63, 0, 0x64];
-    let asked = [
-        (Question::Find("a", BtfKind::Int), Answer::Id(1)),
-        (Question::Find("a", BtfKind::Ptr), Answer::Id(2)),
-        (Question::Find("", BtfKind::Unknown), Answer::Id(0)),
-        (
-            Question::Find("b", BtfKind::Int),
-            Answer::InvalidStringOffset(7),
-        ),
-        (
-            Question::Find("b", BtfKind::Ptr),
-            Answer::UnknownBtfTypeName,
-        ),
-    ];
-    let alloc = rt.alloc();
-    ask_all(&rt, alloc, &words, &strings, &asked);
-    let section = section_of(&rt, alloc, Endianness::Little, &words, &strings);
-    let table = parse(&rt, alloc, section.as_slice(), Endianness::Little);
-    assert!(rt; table.string_at(5).is_ok_and(|text| text == "c"));
-    assert!(rt; table.string_at(7).is_err());
-    assert!(rt; table.string_at(8).is_err());
+fn sizes_and_names_are_found(rt: HostRuntime) {
+    for case in &CASES {
+        ask_case(&rt, rt.alloc(), case);
+    }
 }
 
 /// What becomes of a section that is parsed.
@@ -158,56 +143,80 @@ fn parsed(alloc: Global, section: &[u8]) -> Answer {
     }
 }
 
+fn check_parsed(rt: &impl Abort, alloc: Global, section: &[u8], wanted: Answer) {
+    assert!(rt; parsed(alloc, section) == wanted);
+}
+
+/// Changed bytes of the section of an `int`: one at a place, and the low byte of a count. They make
+/// another kind, a STRUCT with two members, and types that go past the end.
+static CHANGES: [(usize, u8, u8, Answer); 3] = [
+    (31, 20, 0, Answer::InvalidTypeKind(20)),
+    (31, 4, 2, Answer::InvalidTypeInfo),
+    (13, 1, 0, Answer::InvalidTypeInfo),
+];
+
+fn changed(at: usize, byte: u8, count: u8) -> [u8; 45] {
+    let mut section = INT_SECTION;
+    section[28] = count;
+    if let Some(place) = section.get_mut(at) {
+        *place = byte;
+    }
+    section
+}
+
 #[test]
 fn broken_sections_are_refused(rt: HostRuntime) {
-    let alloc = rt.alloc();
     for len in 0..45 {
-        let front = parsed(alloc, &INT_SECTION[..len]);
-        assert_eq!(rt; front, Answer::InvalidHeader, "at {len}");
+        check_parsed(&rt, rt.alloc(), &INT_SECTION[..len], Answer::InvalidHeader);
     }
-    // a kind, a STRUCT with two members, types that go past the end
-    let changes = [
-        (31, 20, 0, Answer::InvalidTypeKind(20)),
-        (31, 4, 2, Answer::InvalidTypeInfo),
-        (13, 1, 0, Answer::InvalidTypeInfo),
-    ];
-    for (at, byte, count, wanted) in changes {
-        let mut section = INT_SECTION;
-        section[28] = count;
-        section[at] = byte;
-        assert_eq!(rt; parsed(alloc, &section), wanted, "at {at}");
+    for (at, byte, count, wanted) in &CHANGES {
+        check_parsed(&rt, rt.alloc(), &changed(*at, *byte, *count), *wanted);
     }
 }
 
 /// Whether a table is written as these bytes.
 fn is_written_as(table: &Btf<'_>, bytes: &[u8]) -> bool {
-    table
-        .to_bytes()
-        .is_ok_and(|written| written.as_slice() == bytes)
+    match table.to_bytes() {
+        Ok(written) => written.as_slice() == bytes,
+        Err(_) => false,
+    }
+}
+
+/// Whether a copy of a table is written as these bytes.
+fn copy_is_written_as(table: &Btf<'_>, bytes: &[u8]) -> bool {
+    match table.try_clone() {
+        Ok(copy) => is_written_as(&copy, bytes),
+        Err(_) => false,
+    }
+}
+
+/// An INT, a FWD and an ARRAY whose third word isn't kept, void, a VAR, a STRUCT and an INT.
+static WORDS: [u32; 30] = [
+    0, INT, 4, 0x20, 0, FWD, 5, 0, ARRAY, 6, 1, 1, 3, 7, 0, 0, 0, VAR, 1, 9, 0, STRUCT_1, 4, 0, 1,
+    0, 0, INT, 2, 16,
+];
+
+/// The words as which they are written.
+static NORMAL: [u32; 30] = [
+    0, INT, 4, 0x20, 0, FWD, 0, 0, ARRAY, 0, 1, 1, 3, 0, 0, 0, 0, VAR, 1, 3, 0, STRUCT_1, 4, 0, 1,
+    0, 0, INT, 2, 16,
+];
+
+fn check_normal(rt: &impl Abort, alloc: Global, order: Endianness) {
+    let bytes = section(alloc, order, &WORDS, &[0], &[]).expect(rt, "a section");
+    let normal = section(alloc, order, &NORMAL, &[0], &[]).expect(rt, "a section");
+    let table = parse(rt, alloc, bytes.as_slice(), order);
+    assert!(rt; is_written_as(&table, normal.as_slice()));
 }
 
 #[test]
-fn sections_are_read_and_written(rt: HostRuntime) -> Result<(), Fail> {
-    let alloc = rt.alloc();
-    let table = parse(&rt, alloc, &INT_SECTION, Endianness::Little);
+fn sections_are_read_and_written(rt: HostRuntime) {
+    let table = parse(&rt, rt.alloc(), &INT_SECTION, Endianness::Little);
     assert!(rt; is_written_as(&table, &INT_SECTION));
-    assert!(rt; is_written_as(&table.try_clone()?, &INT_SECTION));
-    // an INT, a FWD and an ARRAY whose third word isn't kept, void, a VAR, a STRUCT and an INT
-    let words = [
-        0, INT, 4, 0x20, 0, FWD, 5, 0, ARRAY, 6, 1, 1, 3, 7, 0, 0, 0, VAR, 1, 9, 0, ONE_MEMBER, 4,
-        0, 1, 0, 0, INT, 2, 16,
-    ];
-    let normal = [
-        0, INT, 4, 0x20, 0, FWD, 0, 0, ARRAY, 0, 1, 1, 3, 0, 0, 0, 0, VAR, 1, 3, 0, ONE_MEMBER, 4,
-        0, 1, 0, 0, INT, 2, 16,
-    ];
+    assert!(rt; copy_is_written_as(&table, &INT_SECTION));
     for order in ORDERS {
-        let section = section_of(&rt, alloc, order, &words, &[0]);
-        let table = parse(&rt, alloc, section.as_slice(), order);
-        let normal = section_of(&rt, alloc, order, &normal, &[0]);
-        assert!(rt; is_written_as(&table, normal.as_slice()));
+        check_normal(&rt, rt.alloc(), order);
     }
-    Ok(())
 }
 
 /// An `int` that is signed, of four bytes.
@@ -226,44 +235,49 @@ const GROWN_SECTION: [u8; 59] = [
     0x78, 0,
 ];
 
+static GROWN: [(Question, Answer); 3] = [
+    (Question::Find("int", BtfKind::Int), Answer::Id(1)),
+    (Question::Size(1), Answer::Size(4)),
+    (Question::Size(2), Answer::Size(8)),
+];
+
 /// Adds the text `x` and a PTR to the type of id 1 to the table of an `int`.
 fn grow(rt: &impl Abort, table: &mut Btf<'_>) {
-    assert!(rt; table.add_string("x").is_ok_and(|offset| offset == 5));
-    let pointer = BtfType::Ptr(Ptr::new(0, 1));
-    assert!(rt; table.add_type(pointer).is_ok_and(|id| id == 2));
+    assert!(rt; id(table.add_string("x")) == Answer::Id(5));
+    assert!(rt; id(table.add_type(BtfType::Ptr(Ptr::new(0, 1)))) == Answer::Id(2));
     assert!(rt; is_written_as(table, &GROWN_SECTION));
-    let asked = [
-        (Question::Find("int", BtfKind::Int), Answer::Id(1)),
-        (Question::Size(1), Answer::Size(4)),
-        (Question::Size(2), Answer::Size(8)),
-    ];
-    ask(rt, table, &asked);
+    ask(rt, "a grown table", table, &GROWN);
+}
+
+/// Whether the name of an `int` is read as this text.
+fn int_is_named(table: &Btf<'_>, wanted: &str) -> bool {
+    match table.type_name(&int(1)) {
+        Ok(text) => text == wanted,
+        Err(_) => false,
+    }
 }
 
 #[test]
-fn a_table_grows(rt: HostRuntime) -> Result<(), Fail> {
-    let mut table = Btf::new(rt.alloc())?;
+fn a_table_grows(rt: HostRuntime) {
+    let mut table = Btf::new(rt.alloc()).expect(&rt, "a table");
     assert!(rt; table.is_empty());
     assert!(rt; is_written_as(&table, &NEW_SECTION));
-    assert!(rt; table.add_string("int").is_ok_and(|offset| offset == 1));
-    assert!(rt; table.add_type(int(1)).is_ok_and(|id| id == 1));
+    assert!(rt; id(table.add_string("int")) == Answer::Id(1));
+    assert!(rt; id(table.add_type(int(1))) == Answer::Id(1));
     assert!(rt; is_written_as(&table, &INT_SECTION));
-    assert!(rt; table.string_at(1).is_ok_and(|text| text == "int"));
-    assert!(rt; table.type_name(&int(1)).is_ok_and(|text| text == "int"));
-    assert_eq!(rt; table.types().count(), 2);
+    assert!(rt; Question::Text(1, "int").ask(&table) == Answer::Yes);
+    assert!(rt; int_is_named(&table, "int"));
+    assert!(rt; table.types().count() == 2);
     grow(&rt, &mut table);
-    Ok(())
 }
 
 // A table that borrows a section, and a copy of it that goes on to borrow it.
 #[test]
-fn a_borrowed_table_grows(rt: HostRuntime) -> Result<(), Fail> {
-    let section = INT_SECTION;
-    let mut table = parse(&rt, rt.alloc(), &section, Endianness::Little);
-    let copy = table.try_clone()?;
+fn a_borrowed_table_grows(rt: HostRuntime) {
+    let mut table = parse(&rt, rt.alloc(), &INT_SECTION, Endianness::Little);
+    let copy = table.try_clone().expect(&rt, "a copy");
     grow(&rt, &mut table);
-    assert!(rt; is_written_as(&copy, &section));
-    Ok(())
+    assert!(rt; is_written_as(&copy, &INT_SECTION));
 }
 
 /// A union that stands for an enum without variants.
@@ -289,16 +303,7 @@ fn stands_for_enum(table: &Btf<'_>) -> bool {
     stands
 }
 
-/// Whether a copy of the record of id 1 stands for an enum.
-fn copy_stands_for_enum(alloc: Global, table: &Btf<'_>) -> bool {
-    let Ok(t) = table.type_by_id(1) else {
-        return false;
-    };
-    let copy = t.to_type(alloc);
-    drop(t);
-    copy.is_ok_and(|t| t.kind() == BtfKind::Union && keeps_enum(&t))
-}
-
+/// Whether a union stands for an enum.
 fn keeps_enum(t: &BtfType) -> bool {
     match t {
         BtfType::Union(union) => union.enum64_fallback().is_some(),
@@ -306,34 +311,52 @@ fn keeps_enum(t: &BtfType) -> bool {
     }
 }
 
+/// A copy of the record of id 1.
+fn copy_of_first(alloc: Global, table: &Btf<'_>) -> Option<BtfType> {
+    let t = table.type_by_id(1).ok()?;
+    t.to_type(alloc).ok()
+}
+
+/// Whether a copy of the record of id 1 stands for an enum.
+fn copy_stands_for_enum(alloc: Global, table: &Btf<'_>) -> bool {
+    match copy_of_first(alloc, table) {
+        Some(t) => keeps_enum(&t),
+        None => false,
+    }
+}
+
+/// Whether the record of id 1 of a copy of the table stands for an enum.
+fn stands_in_copy(table: &Btf<'_>) -> bool {
+    match table.try_clone() {
+        Ok(copy) => stands_for_enum(&copy),
+        Err(_) => false,
+    }
+}
+
 #[test]
-fn a_union_keeps_its_enum(rt: HostRuntime) -> Result<(), Fail> {
-    let alloc = rt.alloc();
-    let mut table = Btf::new(alloc)?;
-    let added = table.add_type(union_for_enum(alloc));
-    assert!(rt; added.is_ok_and(|id| id == 1));
+fn a_union_keeps_its_enum(rt: HostRuntime) {
+    let mut table = Btf::new(rt.alloc()).expect(&rt, "a table");
+    assert!(rt; id(table.add_type(union_for_enum(rt.alloc()))) == Answer::Id(1));
     assert!(rt; stands_for_enum(&table));
-    assert!(rt; copy_stands_for_enum(alloc, &table));
-    assert!(rt; stands_for_enum(&table.try_clone()?));
-    Ok(())
+    assert!(rt; copy_stands_for_enum(rt.alloc(), &table));
+    assert!(rt; stands_in_copy(&table));
 }
 
 /// The words of 1,000 STRUCTs of one member.
-fn structs(alloc: Global) -> Result<Vec<u32>, AllocError> {
-    let mut words = Vec::with_capacity(alloc, 6000)?;
+fn structs(rt: &impl Abort, alloc: Global) -> Vec<u32> {
+    let mut words = Vec::new(alloc);
     for _ in 0..1000 {
-        words.extend_from_slice(&[0, ONE_MEMBER, 4, 0, 1, 0])?;
+        append(rt, &mut words, &[0, STRUCT_1, 4, 0, 1, 0]);
     }
-    Ok(words)
+    words
 }
 
 #[test]
-fn a_thousand_structs(rt: HostRuntime) -> Result<(), Fail> {
-    let alloc = rt.alloc();
-    let words = structs(alloc)?;
-    let section = section_of(&rt, alloc, Endianness::Little, words.as_slice(), &[0]);
-    let table = parse(&rt, alloc, section.as_slice(), Endianness::Little);
-    assert_eq!(rt; table.types().count(), 1001);
-    ask(&rt, &table, &[(Question::Size(1000), Answer::Size(4))]);
-    Ok(())
+fn a_thousand_structs(rt: HostRuntime) {
+    let words = structs(&rt, rt.alloc());
+    let bytes = section(rt.alloc(), Endianness::Little, words.as_slice(), &[0], &[]);
+    let bytes = bytes.expect(&rt, "a section");
+    let table = parse(&rt, rt.alloc(), bytes.as_slice(), Endianness::Little);
+    assert!(rt; table.types().count() == 1001);
+    assert!(rt; Question::Size(1000).ask(&table) == Answer::Size(4));
 }

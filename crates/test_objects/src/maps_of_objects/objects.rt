@@ -43,22 +43,51 @@ fn push_name(names: &mut Vec<u8>, name: &str) -> Result<u32, AllocError> {
     Ok(at)
 }
 
+fn push_u16(out: &mut Vec<u8>, number: u16) -> Result<(), AllocError> {
+    out.extend_from_slice(&number.to_le_bytes())
+}
+
+fn push_u32(out: &mut Vec<u8>, number: u32) -> Result<(), AllocError> {
+    out.extend_from_slice(&number.to_le_bytes())
+}
+
+fn push_u64(out: &mut Vec<u8>, number: u64) -> Result<(), AllocError> {
+    out.extend_from_slice(&number.to_le_bytes())
+}
+
 fn push_header(headers: &mut Vec<u8>, name: u32, header: Header) -> Result<(), AllocError> {
-    headers.extend_from_slice(&name.to_le_bytes())?;
-    headers.extend_from_slice(&header.kind.to_le_bytes())?;
+    push_u32(headers, name)?;
+    push_u32(headers, header.kind)?;
     headers.extend_from_slice(&[0; 16])?;
-    headers.extend_from_slice(&header.offset.to_le_bytes())?;
-    headers.extend_from_slice(&header.size.to_le_bytes())?;
-    headers.extend_from_slice(&header.link.to_le_bytes())?;
+    push_u64(headers, header.offset)?;
+    push_u64(headers, header.size)?;
+    push_u32(headers, header.link)?;
     headers.extend_from_slice(&[0; 20])
 }
 
 fn push_symbol(body: &mut Vec<u8>, name: u32, symbol: &Symbol) -> Result<(), AllocError> {
-    body.extend_from_slice(&name.to_le_bytes())?;
-    body.extend_from_slice(&[symbol.info, 0])?;
-    body.extend_from_slice(&symbol.section.to_le_bytes())?;
-    body.extend_from_slice(&symbol.value.to_le_bytes())?;
-    body.extend_from_slice(&symbol.size.to_le_bytes())
+    push_u32(body, name)?;
+    body.push(symbol.info)?;
+    body.push(0)?;
+    push_u16(body, symbol.section)?;
+    push_u64(body, symbol.value)?;
+    push_u64(body, symbol.size)
+}
+
+fn push_section(
+    headers: &mut Vec<u8>,
+    body: &mut Vec<u8>,
+    names: &mut Vec<u8>,
+    section: &Section,
+) -> Result<(), AllocError> {
+    let header = Header {
+        kind: section.kind,
+        offset: offset(body),
+        size: section.size,
+        link: 0,
+    };
+    push_header(headers, push_name(names, section.name)?, header)?;
+    body.extend_from_slice(section.bytes)
 }
 
 /// The headers and the bytes of sections, the first of index 1.
@@ -68,25 +97,9 @@ fn push_sections(
     names: &mut Vec<u8>,
     sections: &[Section],
 ) -> Result<(), AllocError> {
-    push_header(
-        headers,
-        0,
-        Header {
-            kind: 0,
-            offset: 0,
-            size: 0,
-            link: 0,
-        },
-    )?;
+    headers.extend_from_slice(&[0; 64])?;
     for section in sections {
-        let header = Header {
-            kind: section.kind,
-            offset: offset(body),
-            size: section.size,
-            link: 0,
-        };
-        push_header(headers, push_name(names, section.name)?, header)?;
-        body.extend_from_slice(section.bytes)?;
+        push_section(headers, body, names, section)?;
     }
     Ok(())
 }

@@ -1,7 +1,5 @@
 //! Type tables by hand.
 
-ghost use Rattle.std.specs.Prelude.{◌<◌, ◌^◌, length};
-
 use std::alloc::{AllocError, Global};
 
 /// Texts at 1 `.maps`, 7 `m`, 9 `type`, 14 `key`, 18 `value`, 24 `max_entries`, 36 `pinning`,
@@ -9,79 +7,34 @@ use std::alloc::{AllocError, Global};
 const STRINGS: &[u8] =
     b"\0.maps\0m\0type\0key\0value\0max_entries\0pinning\0values\0key_size\0map_extra\0note\0";
 
-/// Info words.
+/// Info words, named by kind and, after a `_`, by the count of their items.
 const INT: u32 = 0x0100_0000;
 
 const PTR: u32 = 0x0200_0000;
 
 const ARRAY: u32 = 0x0300_0000;
 
-pub(crate) const STRUCT: u32 = 0x0400_0000;
+pub(crate) const STRUCT_1: u32 = 0x0400_0001;
+
+const STRUCT_2: u32 = 0x0400_0002;
+
+pub(crate) const STRUCT_5: u32 = 0x0400_0005;
+
+pub(crate) const STRUCT_6: u32 = 0x0400_0006;
 
 const VAR: u32 = 0x0e00_0000;
 
 const DATASEC: u32 = 0x0f00_0000;
 
+const DATASEC_1: u32 = 0x0f00_0001;
+
 /// 1 `int`; 3, 5, 7 numbers: pointers to arrays of 2, 16 and 1; 8 a pointer to `int`; 9 a struct of
 /// `type` 2 and `key_size` 16, 10 a pointer to it, 11 an array without elements of these; 12 the
 /// variable `m`, whose struct is 13; 14 an array of 2^30 `int`, 15 a pointer to it.
 pub(crate) const COMMON: &[u32] = &[
-    0,
-    INT,
-    4,
-    32, //
-    0,
-    ARRAY,
-    0,
-    1,
-    1,
-    2,
-    0,
-    PTR,
-    2, //
-    0,
-    ARRAY,
-    0,
-    1,
-    1,
-    16,
-    0,
-    PTR,
-    4, //
-    0,
-    ARRAY,
-    0,
-    1,
-    1,
-    1,
-    0,
-    PTR,
-    6, //
-    0,
-    PTR,
-    1, //
-    0,
-    STRUCT + 2,
-    16,
-    9,
-    3,
-    0,
-    51,
-    5,
-    64,
-    0,
-    PTR,
-    9,
-    0,
-    ARRAY,
-    0,
-    10,
-    1,
-    0, //
-    7,
-    VAR,
-    13,
-    1,
+    0, INT, 4, 32, 0, ARRAY, 0, 1, 1, 2, 0, PTR, 2, 0, ARRAY, 0, 1, 1, 16, 0, PTR, 4, 0, ARRAY, 0,
+    1, 1, 1, 0, PTR, 6, 0, PTR, 1, 0, STRUCT_2, 16, 9, 3, 0, 51, 5, 64, 0, PTR, 9, 0, ARRAY, 0, 10,
+    1, 0, 7, VAR, 13, 1,
 ];
 
 /// After the struct 13: the array and the pointer 14 and 15, and 16 the section `.maps` of the
@@ -97,7 +50,7 @@ pub(crate) const SECTION: &[u32] = &[
     PTR,
     14,
     1,
-    DATASEC + 1,
+    DATASEC_1,
     40,
     12,
     0,
@@ -107,47 +60,23 @@ pub(crate) const SECTION: &[u32] = &[
 /// Further: 17 a struct with this member, 18 a pointer to it, 19 an array without elements of
 /// these.
 pub(crate) const PINNED_INNER: &[u32] = &[
-    0,
-    STRUCT + 1,
-    8,
-    36,
-    7,
-    0,
-    0,
-    PTR,
-    17,
-    0,
-    ARRAY,
-    0,
-    18,
-    1,
-    0,
+    0, STRUCT_1, 8, 36, 7, 0, 0, PTR, 17, 0, ARRAY, 0, 18, 1, 0,
 ];
 
 pub(crate) const NESTED_INNER: &[u32] = &[
-    0,
-    STRUCT + 1,
-    8,
-    44,
-    11,
-    0,
-    0,
-    PTR,
-    17,
-    0,
-    ARRAY,
-    0,
-    18,
-    1,
-    0,
+    0, STRUCT_1, 8, 44, 11, 0, 0, PTR, 17, 0, ARRAY, 0, 18, 1, 0,
 ];
 
 /// Further: 17 a section whose name can't be read.
 pub(crate) const UNNAMED: &[u32] = &[99, DATASEC, 0];
 
+fn push_word(out: &mut Vec<u8>, word: u32) -> Result<(), AllocError> {
+    out.extend_from_slice(&word.to_le_bytes())
+}
+
 fn push_words(out: &mut Vec<u8>, words: &[u32]) -> Result<(), AllocError> {
     for word in words {
-        out.extend_from_slice(&word.to_le_bytes())?;
+        push_word(out, *word)?;
     }
     Ok(())
 }

@@ -1,14 +1,14 @@
 //! Relocations by maps and by variables, over one object and some of its functions.
 
-use btf_extension::{FuncSecInfo, LineSecInfo};
-use ebpf_items::{EbpfSectionKind, LegacyMap, Map, Slots, bpf_map_def};
+use crate::functions::{
+    Both, EXIT, FAR, Refused, Relocated, Relocation, ZERO, functions, relocated, with_relocations,
+};
+use ebpf_items::{EbpfSectionKind, LegacyMap, Map, bpf_map_def};
 use object_file::ObjectFile;
-use object_parts::{Function, Functions, MatchedTables};
-use relocation_errors::{EbpfRelocationError, RelocationError};
-use sample_objects::with_bytes;
 use slot_relocation::{NumberedMap, relocate_maps};
 use std::alloc::Global;
 use std::collections::BTreeSet;
+use std::process::Abort;
 
 /// An object with a section `kprobe` (index 2) and two relocations of it (at 96 and 112: eight
 /// bytes of offset, four of type, four of symbol). Symbol 1 is its function `f`, symbol 2 a
@@ -60,11 +60,6 @@ static OBJECT: [u8; 1192] = [
     0, 0, 0, 0, 0, 0, 0, 0, 0, 0, 0, 0, 0, 0, 0, 8, 0, 0, 0, 0, 0, 0, 0, 0, 0, 0, 0, 0, 0, 0, 0,
 ];
 
-const RELOCATIONS_AT: [usize; 2] = [96, 112];
-
-/// From a relocation's beginning to its symbol.
-const SYMBOL: usize = 12;
-
 /// The maps: number, section, symbol, and how many bytes they have.
 const MAPS: [(i32, usize, Option<usize>, usize); 6] = [
     (7, 6, Some(4), 0),
@@ -75,65 +70,54 @@ const MAPS: [(i32, usize, Option<usize>, usize); 6] = [
     (11, 7, None, 0),
 ];
 
-/// An offset after the functions.
-const FAR: usize = 1000;
-
 /// The last eight of the offsets of 64 bits begin here.
 const LAST_SLOT: usize = 0xffff_ffff_ffff_fff8;
 
 /// Where functions `f` and `g` begin, the slots of each, and the offsets and symbols of the
 /// relocations.
-type Case = (usize, usize, &'static [u8; 24], [(u64, u8); 2]);
-
-/// The slots of a function that was written.
-type Written = [[u8; 8]; 3];
+type Case = (usize, usize, &'static [u8; 24], [Relocation; 2]);
 
 // A wide load and an exit.
-static LOAD: [u8; 24] = [
+const LOAD: [u8; 24] = [
     0x18, 0x01, 0, 0, 0, 0, 0, 0, 0, 0, 0, 0, 0, 0, 0, 0, 0x95, 0, 0, 0, 0, 0, 0, 0,
 ];
 
 // The same, of a place 2 bytes after the symbol, with a number in the second slot.
-static LOAD_BEHIND: [u8; 24] = [
+const LOAD_BEHIND: [u8; 24] = [
     0x18, 0x01, 0, 0, 2, 0, 0, 0, 0, 0, 0, 0, 5, 0, 0, 0, 0x95, 0, 0, 0, 0, 0, 0, 0,
 ];
 
 // One byte before the symbol.
-static LOAD_BEFORE: [u8; 24] = [
+const LOAD_BEFORE: [u8; 24] = [
     0x18, 0x01, 0, 0, 0xff, 0xff, 0xff, 0xff, 0, 0, 0, 0, 0, 0, 0, 0, 0x95, 0, 0, 0, 0, 0, 0, 0,
 ];
 
 // The last place that a symbol at address 4 leads to, and the one after it.
-static LOAD_LAST: [u8; 24] = [
+const LOAD_LAST: [u8; 24] = [
     0x18, 0x01, 0, 0, 0xfb, 0xff, 0xff, 0x7f, 0, 0, 0, 0, 0, 0, 0, 0, 0x95, 0, 0, 0, 0, 0, 0, 0,
 ];
 
-static LOAD_PAST: [u8; 24] = [
+const LOAD_PAST: [u8; 24] = [
     0x18, 0x01, 0, 0, 0xfc, 0xff, 0xff, 0x7f, 0, 0, 0, 0, 0, 0, 0, 0, 0x95, 0, 0, 0, 0, 0, 0, 0,
 ];
 
 // Destination 3, source 5 and an offset.
-static REGISTERS: [u8; 24] = [
+const REGISTERS: [u8; 24] = [
     0x18, 0x53, 1, 2, 0, 0, 0, 0, 0, 0, 0, 0, 0, 0, 0, 0, 0x95, 0, 0, 0, 0, 0, 0, 0,
 ];
 
 // A call of a function.
-static CALL: [u8; 24] = [
+const CALL: [u8; 24] = [
     0x85, 0x10, 0, 0, 0xff, 0xff, 0xff, 0xff, 0, 0, 0, 0, 0, 0, 0, 0, 0x95, 0, 0, 0, 0, 0, 0, 0,
 ];
 
-const NONE: (u64, u8) = (FAR as u64 + 64, 4);
-
-const ZERO: [u8; 8] = [0; 8];
-
-const EXIT: [u8; 8] = [0x95, 0, 0, 0, 0, 0, 0, 0];
+const NONE: Relocation = (FAR as u64 + 64, 4);
 
 const ONE_LOADED: [u8; 8] = [0x18, 0x11, 0, 0, 8, 0, 0, 0];
 
 const LIMIT_LOADED: [u8; 8] = [0x18, 0x21, 0, 0, 10, 0, 0, 0];
 
-// What becomes of `f` and `g`: none stays in the file.
-const WRITES: [(Case, (Option<Written>, Option<Written>)); 16] = [
+static WRITES: [(Case, Both); 16] = [
     // The last map of a symbol, in either function, with the slot's other fields kept.
     (
         (0, FAR, &LOAD, [(0, 4), NONE]),
@@ -234,17 +218,8 @@ const WRITES: [(Case, (Option<Written>, Option<Written>)); 16] = [
     ),
 ];
 
-/// Why relocations are refused, of which function.
-#[derive(Clone, Copy, Debug, PartialEq, Eq)]
-enum Refused {
-    Offset(u64, usize),
-    Symbol(usize),
-    /// A section, a symbol, and whether its name is `text`.
-    Section(usize, usize, bool),
-    Other,
-}
-
-const REFUSALS: [(Case, (bool, Refused)); 9] = [
+/// Why relocations are refused, and whether of `f`.
+static REFUSALS: [(Case, (bool, Refused)); 9] = [
     // At no whole slot, the first of two such ones, and one after another that is sound.
     (
         (0, FAR, &LOAD, [(4, 4), NONE]),
@@ -289,27 +264,6 @@ const REFUSALS: [(Case, (bool, Refused)); 9] = [
     ),
 ];
 
-/// A function of section 2 with these slots.
-fn function<'a>(
-    alloc: Global,
-    name: &'a str,
-    section_offset: usize,
-    slots: &'a [u8],
-) -> Option<Function<'a>> {
-    Some(Function {
-        address: section_offset as u64,
-        name,
-        section_index: 2,
-        section_offset,
-        instructions: Slots::borrowed(alloc, slots)?,
-        func_info: FuncSecInfo::from_records(Vec::new(alloc)),
-        line_info: LineSecInfo::from_records(Vec::new(alloc)),
-        func_info_rec_size: 0,
-        line_info_rec_size: 0,
-        matched_tables: MatchedTables::new(alloc),
-    })
-}
-
 /// A map of a section, with or without a symbol, with a number of bytes.
 fn map(
     alloc: Global,
@@ -328,52 +282,20 @@ fn map(
     }))
 }
 
-/// Whether a fault is of `f`, and which it is.
-fn answer_of(error: &EbpfRelocationError) -> (bool, Refused) {
-    let refused = match error.error() {
-        RelocationError::InvalidRelocationOffset {
-            offset,
-            relocation_number,
-        } => Refused::Offset(*offset, *relocation_number),
-        RelocationError::UnknownSymbol { index } => Refused::Symbol(*index),
-        RelocationError::SectionNotFound {
-            section_index,
-            symbol_index,
-            symbol_name,
-        } => Refused::Section(
-            *section_index,
-            *symbol_index,
-            symbol_name.as_deref() == Some("text"),
-        ),
-        _ => Refused::Other,
-    };
-    (error.function() == "f", refused)
+fn push_map(maps: &mut Vec<Map>, map: Option<Map>) -> Option<()> {
+    maps.push(map?).ok()
 }
 
-/// What becomes of the functions of a case, and why one is refused.
-fn relocated(
-    alloc: Global,
-    case: &Case,
-) -> Option<((Option<Written>, Option<Written>), Option<(bool, Refused)>)> {
-    let (f, g, slots, relocations) = *case;
-    let object = with_bytes(
-        &OBJECT,
-        &[
-            (RELOCATIONS_AT[0], &relocations[0].0.to_le_bytes()),
-            (RELOCATIONS_AT[0] + SYMBOL, &[relocations[0].1]),
-            (RELOCATIONS_AT[1], &relocations[1].0.to_le_bytes()),
-            (RELOCATIONS_AT[1] + SYMBOL, &[relocations[1].1]),
-        ],
-    );
-    let file = ObjectFile::parse(alloc, &object).ok()?;
-    let mut functions = Functions::new(alloc);
-    functions.insert(function(alloc, "f", f, slots)?).ok()?;
-    functions.insert(function(alloc, "g", g, slots)?).ok()?;
+fn all_maps(alloc: Global) -> Option<Vec<Map>> {
     let mut maps = Vec::new(alloc);
-    for (_, section_index, symbol_index, len) in MAPS.iter() {
-        maps.push(map(alloc, *section_index, *symbol_index, *len)?)
-            .ok()?;
+    for (_, section_index, symbol_index, len) in MAPS {
+        push_map(&mut maps, map(alloc, section_index, symbol_index, len))?;
     }
+    Some(maps)
+}
+
+/// The maps with their numbers.
+fn numbered_maps<'m>(alloc: Global, maps: &'m [Map]) -> Option<Vec<NumberedMap<'m>>> {
     let mut numbered = Vec::new(alloc);
     for (map, given) in maps.iter().zip(MAPS.iter()) {
         let number = given.0;
@@ -385,42 +307,75 @@ fn relocated(
             })
             .ok()?;
     }
-    let mut text_sections = BTreeSet::new(alloc);
-    text_sections.insert(2).ok()?;
-    text_sections.insert(4).ok()?;
-    let refused = match relocate_maps(alloc, &file, &mut functions, &numbered, &text_sections) {
-        Ok(()) => None,
-        Err(error) => Some(answer_of(&error)),
-    };
-    Some(((written(&functions, f), written(&functions, g)), refused))
+    Some(numbered)
 }
 
-/// The slots of a function that has a list of its own.
-fn written(functions: &Functions<'_>, section_offset: usize) -> Option<Written> {
-    let slots = &functions.get((2, section_offset as u64))?.instructions;
-    if slots.is_borrowed() {
-        return None;
+fn sections_of_text(alloc: Global) -> Option<BTreeSet<usize>> {
+    let mut sections = BTreeSet::new(alloc);
+    sections.insert(2).ok()?;
+    sections.insert(4).ok()?;
+    Some(sections)
+}
+
+/// What becomes of the functions of a case in a file.
+fn relocated_in(
+    alloc: Global,
+    file: &ObjectFile<'_>,
+    maps: &[NumberedMap<'_>],
+    text_sections: &BTreeSet<usize>,
+    case: &Case,
+) -> Option<Relocated> {
+    let (f, g, slots, _) = *case;
+    let mut functions = functions(alloc, f, g, slots)?;
+    let answer = relocate_maps(alloc, file, &mut functions, maps, text_sections);
+    Some(relocated(&functions, f, g, &answer))
+}
+
+/// What becomes of the functions of a case.
+fn answer_of(
+    alloc: Global,
+    maps: &[NumberedMap<'_>],
+    text_sections: &BTreeSet<usize>,
+    case: &Case,
+) -> Option<Relocated> {
+    let object = with_relocations(&OBJECT, case.3);
+    match ObjectFile::parse(alloc, &object) {
+        Ok(file) => relocated_in(alloc, &file, maps, text_sections, case),
+        Err(_) => None,
     }
-    Some([
-        slots.get(0)?.to_bytes(),
-        slots.get(1)?.to_bytes(),
-        slots.get(2)?.to_bytes(),
-    ])
+}
+
+fn check(
+    rt: &impl Abort,
+    alloc: Global,
+    maps: &[NumberedMap<'_>],
+    text_sections: &BTreeSet<usize>,
+    case: &Case,
+    expected: Relocated,
+) {
+    assert!(rt; answer_of(alloc, maps, text_sections, case) == Some(expected));
 }
 
 #[test]
 fn writes_numbers(rt: HostRuntime) {
-    for (case, slots) in WRITES.iter() {
-        assert_eq!(rt; relocated(rt.alloc(), case), Some((*slots, None)));
+    let alloc = rt.alloc();
+    let maps = all_maps(alloc).expect(&rt, "maps");
+    let numbered = numbered_maps(alloc, &maps).expect(&rt, "numbers");
+    let text_sections = sections_of_text(alloc).expect(&rt, "sections");
+    for (case, written) in &WRITES {
+        let expected = (*written, None);
+        check(&rt, alloc, &numbered, &text_sections, case, expected);
     }
 }
 
 #[test]
 fn refuses_faults(rt: HostRuntime) {
-    for (case, refused) in REFUSALS.iter() {
-        assert_eq!(rt;
-            relocated(rt.alloc(), case),
-            Some(((None, None), Some(*refused)))
-        );
+    let alloc = rt.alloc();
+    let maps = all_maps(alloc).expect(&rt, "maps");
+    let numbered = numbered_maps(alloc, &maps).expect(&rt, "numbers");
+    let text_sections = sections_of_text(alloc).expect(&rt, "sections");
+    for (case, refused) in &REFUSALS {
+        let expected = ((None, None), Some(*refused));
+        check(&rt, alloc, &numbered, &text_sections, case, expected);
     }
 }

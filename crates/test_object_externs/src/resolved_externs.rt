@@ -2,14 +2,14 @@
 
 mod object;
 
-use crate::externs::sections::{INT, PROTO, VAR, section_of};
+use crate::sections::{INT, PROTO, VAR, section};
 use btf_records::{BtfError, Endianness};
 use btf_tables::Btf;
 use ebpf_object::Object;
 use extern_resolution::KsymsError;
 use object::{BINDINGS, ENTRIES, OBJECT, PARAMETER, TYPES_NAME, WEAK};
 use sample_objects::{SlowText, with_bytes};
-use std::alloc::Global;
+use std::alloc::{AllocError, Global};
 use std::io::BufRead;
 use std::process::Abort;
 use watched::Watched;
@@ -45,7 +45,7 @@ const UNKNOWN: Option<Known> = Some((false, None, None));
 const MISSING: Option<Known> = Some((false, None, Some(0)));
 
 /// Why externs can't be resolved, with the place of the name in [`NAMES`].
-#[derive(Clone, Copy, Debug, PartialEq, Eq)]
+#[derive(Clone, Copy, PartialEq)]
 enum Refusal {
     NoKernelTypes,
     NoVariable(usize),
@@ -61,16 +61,35 @@ enum Refusal {
 }
 
 /// What is known of the three externs, and why that is all.
-#[derive(Clone, Copy, Debug, PartialEq, Eq)]
+#[derive(Clone, Copy, PartialEq)]
 struct Answer {
     known: [Option<Known>; 3],
     refusal: Option<Refusal>,
 }
 
+/// Other bytes at some offsets of the object.
+type Changes = &'static [(usize, &'static [u8])];
+
+/// The object with the function alone.
+const FUNCTION_ALONE: Changes = &[(ENTRIES[0], &[3]), (ENTRIES[1], &[3]), (ENTRIES[2], &[3])];
+
+/// The object with the variable that has a type alone.
+const VARIABLE_ALONE: Changes = &[(ENTRIES[0], &[4]), (ENTRIES[1], &[4]), (ENTRIES[2], &[4])];
+
+/// The object with the extern without a type alone.
+const TYPELESS: Changes = &[(ENTRIES[0], &[5]), (ENTRIES[1], &[5]), (ENTRIES[2], &[5])];
+
+/// The object whose externs are all weak.
+const ALL_WEAK: Changes = &[
+    (BINDINGS[0], WEAK),
+    (BINDINGS[1], WEAK),
+    (BINDINGS[2], WEAK),
+];
+
 /// Changes of the object, the words of the kernel's tables, its symbols, and what is then known.
 struct Case {
     title: &'static str,
-    changes: &'static [(usize, &'static [u8])],
+    changes: Changes,
     kernel: &'static [&'static [u32]],
     symbols: &'static [u8],
     known: [Option<Known>; 3],
@@ -79,7 +98,12 @@ struct Case {
 
 /// The place of a name.
 fn number_of_name(name: &str) -> usize {
-    NAMES.iter().position(|n| *n == name).unwrap_or(NAMES.len())
+    for (number, known) in NAMES.iter().enumerate() {
+        if *known == name {
+            return number;
+        }
+    }
+    NAMES.len()
 }
 
 fn refusal_of(error: &KsymsError) -> Refusal {
@@ -87,8 +111,12 @@ fn refusal_of(error: &KsymsError) -> Refusal {
         KsymsError::TypedKsymRequiresKernelBtf => Refusal::NoKernelTypes,
         KsymsError::VariableNotFound { name } => Refusal::NoVariable(number_of_name(name)),
         KsymsError::FunctionNotFound { name } => Refusal::NoFunction(number_of_name(name)),
-        KsymsError::IncompatibleFunctionSignature { name } => Refusal::Signature(number_of_name(name)),
-        KsymsError::IncompatibleVariableType { name } => Refusal::VariableType(number_of_name(name)),
+        KsymsError::IncompatibleFunctionSignature { name } => Refusal::Signature(number_of_name(
+            name,
+        )),
+        KsymsError::IncompatibleVariableType { name } => Refusal::VariableType(number_of_name(
+            name,
+        )),
         KsymsError::BtfError(BtfError::MaximumTypeDepthReached { type_id }) => {
             Refusal::TooDeep(*type_id)
         }
@@ -110,49 +138,64 @@ fn known(object: &Object<'_>, name: &str) -> Option<Known> {
     Some((desc.is_resolved, desc.kernel_btf_id, desc.ksym_addr))
 }
 
-/// What is known of the externs of an object after their resolution.
+/// What is known of an object's externs after their resolution.
 fn answer_of<R: BufRead>(
+    object: &mut Object<'_>,
+    kernel: &[Btf<'_>],
+    symbols: &mut Watched<R>,
+) -> Answer {
+    let refusal = match object.resolve_externs(kernel, symbols) {
+        Ok(()) => None,
+        Err(error) => Some(refusal_of(&error)),
+    };
+    Answer {
+        known: [
+            known(object, NAMES[F_X]),
+            known(object, NAMES[V_X]),
+            known(object, NAMES[INIT_TASK]),
+        ],
+        refusal,
+    }
+}
+
+/// The same of an object's bytes, if they are one.
+fn resolved<R: BufRead>(
     alloc: Global,
     bytes: &[u8],
     kernel: &[Btf<'_>],
     symbols: &mut Watched<R>,
 ) -> Option<Answer> {
-    let Ok(mut object) = Object::parse(alloc, bytes) else {
-        return None;
-    };
-    let refusal = match object.resolve_externs(kernel, symbols) {
-        Ok(()) => None,
-        Err(error) => Some(refusal_of(&error)),
-    };
-    Some(Answer {
-        known: [
-            known(&object, NAMES[F_X]),
-            known(&object, NAMES[V_X]),
-            known(&object, NAMES[INIT_TASK]),
-        ],
-        refusal,
-    })
+    match Object::parse(alloc, bytes) {
+        Ok(mut object) => Some(answer_of(&mut object, kernel, symbols)),
+        Err(_) => None,
+    }
 }
 
 /// The sections of the kernel's tables.
-fn sections(rt: &impl Abort, alloc: Global, kernel: &[&[u32]]) -> Vec<Vec<u8>> {
+fn sections(alloc: Global, kernel: &[&[u32]]) -> Result<Vec<Vec<u8>>, AllocError> {
     let mut sections = Vec::new(alloc);
     for words in kernel {
-        let section = section_of(rt, alloc, Endianness::Little, words, KERNEL_STRINGS);
-        sections.push(section).ok().expect(rt, "a section");
+        sections.push(section(alloc, Endianness::Little, words, KERNEL_STRINGS)?)?;
     }
-    sections
+    Ok(sections)
 }
 
-/// The kernel's tables over their sections.
-fn tables<'a>(rt: &impl Abort, alloc: Global, sections: &'a [Vec<u8>]) -> Vec<Btf<'a>> {
-    let mut tables = Vec::new(alloc);
-    for section in sections {
-        let table = Btf::parse(alloc, section.as_slice(), Endianness::Little);
-        let table = table.ok().expect(rt, "a table");
-        tables.push(table).ok().expect(rt, "tables");
+/// Whether a table is added to the others.
+fn push_table<'a>(alloc: Global, tables: &mut Vec<Btf<'a>>, section: &'a [u8]) -> bool {
+    match Btf::parse(alloc, section, Endianness::Little) {
+        Ok(table) => tables.push(table).is_ok(),
+        Err(_) => false,
     }
-    tables
+}
+
+/// Whether the tables over these sections are added to the others.
+fn push_tables<'a>(alloc: Global, tables: &mut Vec<Btf<'a>>, sections: &'a [Vec<u8>]) -> bool {
+    for section in sections {
+        if !push_table(alloc, tables, section.as_slice()) {
+            return false;
+        }
+    }
+    true
 }
 
 /// A kernel with `f` (types 4 and 6) and `v___x` (types 5 and 7), and with a variable `v`.
@@ -199,11 +242,7 @@ static CASES: [Case; 32] = [
     },
     Case {
         title: "weak ones are found too",
-        changes: &[
-            (BINDINGS[0], WEAK),
-            (BINDINGS[1], WEAK),
-            (BINDINGS[2], WEAK),
-        ],
+        changes: ALL_WEAK,
         kernel: &[KERNEL],
         symbols: b"1000 D init_task\n",
         known: [
@@ -215,11 +254,7 @@ static CASES: [Case; 32] = [
     },
     Case {
         title: "weak ones, nothing given",
-        changes: &[
-            (BINDINGS[0], WEAK),
-            (BINDINGS[1], WEAK),
-            (BINDINGS[2], WEAK),
-        ],
+        changes: ALL_WEAK,
         kernel: &[],
         symbols: b"",
         known: [MISSING; 3],
@@ -227,11 +262,7 @@ static CASES: [Case; 32] = [
     },
     Case {
         title: "weak ones, nothing found",
-        changes: &[
-            (BINDINGS[0], WEAK),
-            (BINDINGS[1], WEAK),
-            (BINDINGS[2], WEAK),
-        ],
+        changes: ALL_WEAK,
         kernel: &[OTHER_KERNEL],
         symbols: b"1000 D init\n",
         known: [MISSING; 3],
@@ -239,11 +270,7 @@ static CASES: [Case; 32] = [
     },
     Case {
         title: "weak ones, of another type",
-        changes: &[
-            (BINDINGS[0], WEAK),
-            (BINDINGS[1], WEAK),
-            (BINDINGS[2], WEAK),
-        ],
+        changes: ALL_WEAK,
         kernel: &[CHANGED_KERNEL],
         symbols: b"0 D init_task\n",
         known: [MISSING; 3],
@@ -251,7 +278,7 @@ static CASES: [Case; 32] = [
     },
     Case {
         title: "a function, no kernel types",
-        changes: &[(ENTRIES[0], &[3]), (ENTRIES[1], &[3]), (ENTRIES[2], &[3])],
+        changes: FUNCTION_ALONE,
         kernel: &[],
         symbols: b"",
         known: [UNKNOWN, None, None],
@@ -259,7 +286,7 @@ static CASES: [Case; 32] = [
     },
     Case {
         title: "a variable, no kernel types",
-        changes: &[(ENTRIES[0], &[4]), (ENTRIES[1], &[4]), (ENTRIES[2], &[4])],
+        changes: VARIABLE_ALONE,
         kernel: &[],
         symbols: b"",
         known: [None, UNKNOWN, None],
@@ -267,7 +294,7 @@ static CASES: [Case; 32] = [
     },
     Case {
         title: "no function, whose name has no flavour there",
-        changes: &[(ENTRIES[0], &[3]), (ENTRIES[1], &[3]), (ENTRIES[2], &[3])],
+        changes: FUNCTION_ALONE,
         kernel: &[OTHER_KERNEL],
         symbols: b"",
         known: [UNKNOWN, None, None],
@@ -275,7 +302,7 @@ static CASES: [Case; 32] = [
     },
     Case {
         title: "no variable of the whole name",
-        changes: &[(ENTRIES[0], &[4]), (ENTRIES[1], &[4]), (ENTRIES[2], &[4])],
+        changes: VARIABLE_ALONE,
         kernel: &[OTHER_KERNEL],
         symbols: b"",
         known: [None, UNKNOWN, None],
@@ -283,7 +310,7 @@ static CASES: [Case; 32] = [
     },
     Case {
         title: "a function of another signature",
-        changes: &[(ENTRIES[0], &[3]), (ENTRIES[1], &[3]), (ENTRIES[2], &[3])],
+        changes: FUNCTION_ALONE,
         kernel: &[CHANGED_KERNEL],
         symbols: b"",
         known: [UNKNOWN, None, None],
@@ -291,7 +318,7 @@ static CASES: [Case; 32] = [
     },
     Case {
         title: "a variable of another type",
-        changes: &[(ENTRIES[0], &[4]), (ENTRIES[1], &[4]), (ENTRIES[2], &[4])],
+        changes: VARIABLE_ALONE,
         kernel: &[CHANGED_KERNEL],
         symbols: b"",
         known: [None, UNKNOWN, None],
@@ -346,7 +373,7 @@ static CASES: [Case; 32] = [
     },
     Case {
         title: "a name before it that can't be read",
-        changes: &[(ENTRIES[0], &[3]), (ENTRIES[1], &[3]), (ENTRIES[2], &[3])],
+        changes: FUNCTION_ALONE,
         kernel: &[HIDING_KERNEL],
         symbols: b"",
         known: [UNKNOWN, None, None],
@@ -367,7 +394,7 @@ static CASES: [Case; 32] = [
     },
     Case {
         title: "a name of another kind that can't be read",
-        changes: &[(ENTRIES[0], &[4]), (ENTRIES[1], &[4]), (ENTRIES[2], &[4])],
+        changes: VARIABLE_ALONE,
         kernel: &[HIDING_KERNEL],
         symbols: b"",
         known: [None, Some((true, Some(3), None)), None],
@@ -375,15 +402,15 @@ static CASES: [Case; 32] = [
     },
     Case {
         title: "a variable's name before it that can't be read",
-        changes: &[(ENTRIES[0], &[4]), (ENTRIES[1], &[4]), (ENTRIES[2], &[4])],
+        changes: VARIABLE_ALONE,
         kernel: &[LATE_KERNEL],
         symbols: b"",
         known: [None, UNKNOWN, None],
         refusal: Some(Refusal::NoVariable(V_X)),
     },
     Case {
-        title: "a name behind it that can't be read",
-        changes: &[(ENTRIES[0], &[3]), (ENTRIES[1], &[3]), (ENTRIES[2], &[3])],
+        title: "a name after it that can't be read",
+        changes: FUNCTION_ALONE,
         kernel: &[LATE_KERNEL],
         symbols: b"",
         known: [Some((true, Some(3), None)), None, None],
@@ -391,7 +418,7 @@ static CASES: [Case; 32] = [
     },
     Case {
         title: "two addresses",
-        changes: &[(ENTRIES[0], &[5]), (ENTRIES[1], &[5]), (ENTRIES[2], &[5])],
+        changes: TYPELESS,
         kernel: &[],
         symbols: b"1000 D init_task\n3000 D other\n2000 D init_task\n",
         known: [None, None, UNKNOWN],
@@ -399,7 +426,7 @@ static CASES: [Case; 32] = [
     },
     Case {
         title: "no number",
-        changes: &[(ENTRIES[0], &[5]), (ENTRIES[1], &[5]), (ENTRIES[2], &[5])],
+        changes: TYPELESS,
         kernel: &[],
         symbols: b"not_hex D init_task\n",
         known: [None, None, UNKNOWN],
@@ -407,7 +434,7 @@ static CASES: [Case; 32] = [
     },
     Case {
         title: "address 0",
-        changes: &[(ENTRIES[0], &[5]), (ENTRIES[1], &[5]), (ENTRIES[2], &[5])],
+        changes: TYPELESS,
         kernel: &[],
         symbols: b"0000000000000000 D init_task\n",
         known: [None, None, UNKNOWN],
@@ -415,7 +442,7 @@ static CASES: [Case; 32] = [
     },
     Case {
         title: "two lines of one address",
-        changes: &[(ENTRIES[0], &[5]), (ENTRIES[1], &[5]), (ENTRIES[2], &[5])],
+        changes: TYPELESS,
         kernel: &[],
         symbols: b"1000 D init_task\n1000 t init_task\n",
         known: [None, None, Some((true, None, Some(0x1000)))],
@@ -423,7 +450,7 @@ static CASES: [Case; 32] = [
     },
     Case {
         title: "a line that doesn't end",
-        changes: &[(ENTRIES[0], &[5]), (ENTRIES[1], &[5]), (ENTRIES[2], &[5])],
+        changes: TYPELESS,
         kernel: &[],
         symbols: b"1000 D init_task",
         known: [None, None, Some((true, None, Some(0x1000)))],
@@ -431,7 +458,7 @@ static CASES: [Case; 32] = [
     },
     Case {
         title: "the text ends in a name",
-        changes: &[(ENTRIES[0], &[5]), (ENTRIES[1], &[5]), (ENTRIES[2], &[5])],
+        changes: TYPELESS,
         kernel: &[],
         symbols: b"1000 D init_tas",
         known: [None, None, UNKNOWN],
@@ -452,7 +479,7 @@ static CASES: [Case; 32] = [
     },
     Case {
         title: "no symbol is looked for",
-        changes: &[(ENTRIES[0], &[3]), (ENTRIES[1], &[3]), (ENTRIES[2], &[3])],
+        changes: FUNCTION_ALONE,
         kernel: &[KERNEL],
         symbols: b"\xff",
         known: [Some((true, Some(4), None)), None, None],
@@ -492,75 +519,89 @@ static CASES: [Case; 32] = [
     },
 ];
 
-#[test]
-fn externs_of_objects_are_resolved(rt: HostRuntime) {
-    let alloc = rt.alloc();
-    for case in &CASES {
-        let sections = sections(&rt, alloc, case.kernel);
-        let tables = tables(&rt, alloc, sections.as_slice());
-        let bytes = with_bytes(&OBJECT, case.changes);
-        let expected = Some(Answer {
-            known: case.known,
-            refusal: case.refusal,
-        });
-        let answer = answer_of(
-            alloc,
-            &bytes,
-            tables.as_slice(),
-            &mut Watched::new(case.symbols),
-        );
-        assert_eq!(rt; answer, expected, "{}", case.title);
-        let mut slowly = Watched::new(SlowText::new(case.symbols, usize::MAX));
-        let answer = answer_of(alloc, &bytes, tables.as_slice(), &mut slowly);
-        assert_eq!(rt; answer, expected, "{}", case.title);
+/// Whether what is then known is what a case says, with symbols that are given whole and a byte a
+/// call.
+fn is_answered(alloc: Global, case: &Case, kernel: &[Btf<'_>]) -> bool {
+    let bytes = with_bytes(&OBJECT, case.changes);
+    let expected = Some(Answer {
+        known: case.known,
+        refusal: case.refusal,
+    });
+    let mut whole = Watched::new(case.symbols);
+    let mut slowly = Watched::new(SlowText::new(case.symbols, usize::MAX));
+    resolved(alloc, &bytes, kernel, &mut whole) == expected
+        && resolved(alloc, &bytes, kernel, &mut slowly) == expected
+}
+
+/// The same, of the kernel's sections.
+fn is_answered_by(alloc: Global, case: &Case, sections: &[Vec<u8>]) -> bool {
+    let mut tables = Vec::new(alloc);
+    push_tables(alloc, &mut tables, sections) && is_answered(alloc, case, tables.as_slice())
+}
+
+/// The same, of the case alone.
+fn is_resolved(alloc: Global, case: &Case) -> bool {
+    match sections(alloc, case.kernel) {
+        Ok(sections) => is_answered_by(alloc, case, sections.as_slice()),
+        Err(_) => false,
     }
 }
 
-/// The object with the extern without a type alone.
-const TYPELESS: &[(usize, &[u8])] = &[(ENTRIES[0], &[5]), (ENTRIES[1], &[5]), (ENTRIES[2], &[5])];
+fn check(rt: &impl Abort, alloc: Global, case: &Case) {
+    assert!(rt; is_resolved(alloc, case), "{}", case.title);
+}
+
+#[test]
+fn externs_of_objects_are_resolved(rt: HostRuntime) {
+    for case in &CASES {
+        check(&rt, rt.alloc(), case);
+    }
+}
+
+/// What is known of the extern without a type where its symbols fail at a call.
+fn failing_answer(alloc: Global, fails_at: usize) -> Option<Answer> {
+    let bytes = with_bytes(&OBJECT, TYPELESS);
+    let mut symbols = Watched::new(SlowText::new(b"1000 D init_task\n", fails_at));
+    resolved(alloc, &bytes, &[], &mut symbols)
+}
+
+const FAILED: Option<Answer> = Some(Answer {
+    known: [None, None, UNKNOWN],
+    refusal: Some(Refusal::Access),
+});
+
+const FOUND: Option<Answer> = Some(Answer {
+    known: [None, None, Some((true, None, Some(0x1000)))],
+    refusal: None,
+});
 
 #[test]
 fn failures_of_the_symbols_are_kept(rt: HostRuntime) {
-    let alloc = rt.alloc();
-    let bytes = with_bytes(&OBJECT, TYPELESS);
-    for fails_at in 0..19 {
-        let mut symbols = Watched::new(SlowText::new(b"1000 D init_task\n", fails_at));
-        let answer = answer_of(alloc, &bytes, &[], &mut symbols);
-        let expected = if fails_at < 18 {
-            Answer {
-                known: [None, None, UNKNOWN],
-                refusal: Some(Refusal::Access),
-            }
-        } else {
-            Answer {
-                known: [None, None, Some((true, None, Some(0x1000)))],
-                refusal: None,
-            }
-        };
-        assert_eq!(rt; answer, Some(expected));
+    for fails_at in 0..18 {
+        assert!(rt; failing_answer(rt.alloc(), fails_at) == FAILED);
     }
+    assert!(rt; failing_answer(rt.alloc(), 18) == FOUND);
 }
 
+/// Changes of the object, whether an extern has a type, and one that isn't weak.
+static TYPED: [(Changes, (bool, bool)); 4] = [
+    (&[], (true, true)),
+    (&[(BINDINGS[0], WEAK), (BINDINGS[1], WEAK)], (true, false)),
+    (&[(BINDINGS[0], WEAK)], (true, true)),
+    (TYPELESS, (false, false)),
+];
+
 /// Whether an extern has a type, and one that isn't weak.
-fn typed(alloc: Global, bytes: &[u8]) -> Option<(bool, bool)> {
-    let Ok(object) = Object::parse(alloc, bytes) else {
-        return None;
-    };
-    Some((object.has_typed_ksyms(), object.has_strong_typed_ksyms()))
+fn typed(alloc: Global, changes: Changes) -> Option<(bool, bool)> {
+    match Object::parse(alloc, &with_bytes(&OBJECT, changes)) {
+        Ok(object) => Some((object.has_typed_ksyms(), object.has_strong_typed_ksyms())),
+        Err(_) => None,
+    }
 }
 
 #[test]
 fn objects_tell_of_types(rt: HostRuntime) {
-    let alloc = rt.alloc();
-    let weak: &[(usize, &[u8])] = &[(BINDINGS[0], WEAK), (BINDINGS[1], WEAK)];
-    let questions = [
-        (&[][..], (true, true)),
-        (weak, (true, false)),
-        (&weak[..1], (true, true)),
-        (TYPELESS, (false, false)),
-    ];
-    for (changes, expected) in questions {
-        let bytes = with_bytes(&OBJECT, changes);
-        assert_eq!(rt; typed(alloc, &bytes), Some(expected));
+    for (changes, expected) in &TYPED {
+        assert!(rt; typed(rt.alloc(), changes) == Some(*expected));
     }
 }

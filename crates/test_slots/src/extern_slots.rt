@@ -1,15 +1,14 @@
 //! Relocations by externs, over one object and some of its functions.
 
-use btf_extension::{FuncSecInfo, LineSecInfo};
-use ebpf_items::Slots;
+use crate::functions::{
+    Both, EXIT, FAR, Refused, Relocated, Relocation, ZERO, functions, relocated, with_relocations,
+};
 use extern_relocation::relocate_externs;
 use object_externs::{ExternDesc, Externs};
 use object_file::ObjectFile;
-use object_parts::{Function, Functions, MatchedTables};
-use relocation_errors::{EbpfRelocationError, RelocationError};
-use sample_objects::with_bytes;
 use std::alloc::Global;
 use std::collections::BTreeMap;
+use std::process::Abort;
 
 /// An object with a section `kprobe` (index 2) and two relocations of it (at 96 and 112: eight
 /// bytes of offset, four of type, four of symbol). Symbol 1 is its function `f`. Symbols 2 to 6 and
@@ -54,11 +53,6 @@ static OBJECT: [u8; 952] = [
     0, 0, 0,
 ];
 
-const RELOCATIONS_AT: [usize; 2] = [96, 112];
-
-/// From a relocation's beginning to its symbol.
-const SYMBOL: usize = 12;
-
 /// The externs: name, whether weak, and the id and the address in the kernel.
 const EXTERNS: [(&str, bool, Option<u32>, Option<u64>); 5] = [
     ("id", false, Some(0x0102_0304), None),
@@ -68,49 +62,38 @@ const EXTERNS: [(&str, bool, Option<u32>, Option<u64>); 5] = [
     ("found", true, Some(7), None),
 ];
 
-/// An offset after the functions.
-const FAR: usize = 1000;
-
 /// Where functions `f` and `g` begin, the slots of each, the offsets and symbols of the
 /// relocations, and whether the object has externs.
-type Case = (usize, usize, &'static [u8; 24], [(u64, u8); 2], bool);
-
-/// The slots of a function that was written.
-type Written = [[u8; 8]; 3];
+type Case = (usize, usize, &'static [u8; 24], [Relocation; 2], bool);
 
 // A load of 64 bits and an exit.
-static LOAD: [u8; 24] = [
+const LOAD: [u8; 24] = [
     0x18, 0x01, 0, 0, 0, 0, 0, 0, 0, 0, 0, 0, 0, 0, 0, 0, 0x95, 0, 0, 0, 0, 0, 0, 0,
 ];
 
 // The same with a number in each field.
-static FULL_LOAD: [u8; 24] = [
+const FULL_LOAD: [u8; 24] = [
     0x18, 0x53, 1, 2, 9, 9, 9, 9, 1, 2, 3, 4, 8, 8, 8, 8, 0x95, 0, 0, 0, 0, 0, 0, 0,
 ];
 
 // A call of a function, and a load in the last slot.
-static CALL: [u8; 24] = [
+const CALL: [u8; 24] = [
     0x85, 0x10, 0, 0, 0xff, 0xff, 0xff, 0xff, 0x95, 0, 0, 0, 0, 0, 0, 0, 0x18, 0x01, 0, 0, 0, 0, 0,
     0,
 ];
 
 // A call with a number in each field.
-static FULL_CALL: [u8; 24] = [
+const FULL_CALL: [u8; 24] = [
     0x85, 0x13, 1, 2, 9, 9, 9, 9, 0x85, 0x10, 0, 0, 0, 0, 0, 0, 0x95, 0, 0, 0, 0, 0, 0, 0,
 ];
 
-const NONE: (u64, u8) = (FAR as u64 + 64, 2);
-
-const ZERO: [u8; 8] = [0; 8];
-
-const EXIT: [u8; 8] = [0x95, 0, 0, 0, 0, 0, 0, 0];
+const NONE: Relocation = (FAR as u64 + 64, 2);
 
 const ID_LOADED: [u8; 8] = [0x18, 0x31, 0, 0, 4, 3, 2, 1];
 
 const LOAD_AT_END: [u8; 8] = [0x18, 0x01, 0, 0, 0, 0, 0, 0];
 
-// What becomes of `f` and `g`: none stays in the file.
-const WRITES: [(Case, (Option<Written>, Option<Written>)); 14] = [
+static WRITES: [(Case, Both); 14] = [
     // Loads: an id, of a weak extern too, an address, and one that is missing.
     (
         (0, FAR, &LOAD, [(0, 2), NONE], true),
@@ -218,20 +201,8 @@ const WRITES: [(Case, (Option<Written>, Option<Written>)); 14] = [
     ((0, FAR, &LOAD, [NONE, NONE], true), (None, None)),
 ];
 
-/// Why relocations are refused, of which function.
-#[derive(Clone, Copy, Debug, PartialEq, Eq)]
-enum Refused {
-    Offset(u64, usize),
-    Symbol(usize),
-    /// The place of the name in [`NAMES`].
-    NoExtern(usize),
-    Unresolvable(usize),
-    Other,
-}
-
-const NAMES: [&str; 7] = ["id", "address", "weak", "strong", "nothing", "", "found"];
-
-const REFUSALS: [(Case, (bool, Refused)); 17] = [
+/// Why relocations are refused, and whether of `f`.
+static REFUSALS: [(Case, (bool, Refused)); 17] = [
     // At no whole slot, and after one that is sound.
     (
         (0, FAR, &LOAD, [(4, 2), NONE], true),
@@ -266,33 +237,33 @@ const REFUSALS: [(Case, (bool, Refused)); 17] = [
     // The kernel hasn't got it: a load, a call, and a load without a second slot.
     (
         (0, FAR, &LOAD, [(0, 5), NONE], true),
-        (true, Refused::Unresolvable(3)),
+        (true, Refused::Unresolvable("strong")),
     ),
     (
         (0, FAR, &CALL, [(0, 5), NONE], true),
-        (true, Refused::Unresolvable(3)),
+        (true, Refused::Unresolvable("strong")),
     ),
     (
         (0, FAR, &CALL, [(16, 5), NONE], true),
-        (true, Refused::Unresolvable(3)),
+        (true, Refused::Unresolvable("strong")),
     ),
     // An address can't be called.
     (
         (0, FAR, &CALL, [(0, 3), NONE], true),
-        (true, Refused::Unresolvable(1)),
+        (true, Refused::Unresolvable("address")),
     ),
     // No extern has the name, or there is no name, or no extern at all.
     (
         (0, FAR, &LOAD, [(0, 6), NONE], true),
-        (true, Refused::NoExtern(4)),
+        (true, Refused::NoExtern("nothing")),
     ),
     (
         (0, FAR, &LOAD, [(0, 9), NONE], true),
-        (true, Refused::NoExtern(5)),
+        (true, Refused::NoExtern("")),
     ),
     (
         (0, FAR, &LOAD, [(0, 4), NONE], false),
-        (true, Refused::NoExtern(2)),
+        (true, Refused::NoExtern("weak")),
     ),
     // A symbol that the object hasn't.
     (
@@ -302,41 +273,25 @@ const REFUSALS: [(Case, (bool, Refused)); 17] = [
     // Of two faults that of the lesser offset, whichever stands first.
     (
         (0, FAR, &LOAD, [(16, 5), (0, 6)], true),
-        (true, Refused::NoExtern(4)),
+        (true, Refused::NoExtern("nothing")),
     ),
     (
         (0, FAR, &CALL, [(0, 3), (16, 2)], true),
-        (true, Refused::Unresolvable(1)),
+        (true, Refused::Unresolvable("address")),
     ),
 ];
-
-/// A function of section 2 with these slots.
-fn function<'a>(
-    alloc: Global,
-    name: &'a str,
-    section_offset: usize,
-    slots: &'a [u8],
-) -> Option<Function<'a>> {
-    Some(Function {
-        address: section_offset as u64,
-        name,
-        section_index: 2,
-        section_offset,
-        instructions: Slots::borrowed(alloc, slots)?,
-        func_info: FuncSecInfo::from_records(Vec::new(alloc)),
-        line_info: LineSecInfo::from_records(Vec::new(alloc)),
-        func_info_rec_size: 0,
-        line_info_rec_size: 0,
-        matched_tables: MatchedTables::new(alloc),
-    })
-}
 
 /// The externs, as they are resolved.
 fn externs(alloc: Global, has_externs: bool) -> Option<Externs<'static>> {
     let mut externs = Externs::none(alloc);
-    if !has_externs {
-        return Some(externs);
+    if has_externs {
+        let by_name = externs_by_name(alloc)?;
+        externs.set_by_name(by_name);
     }
+    Some(externs)
+}
+
+fn externs_by_name(alloc: Global) -> Option<BTreeMap<&'static str, ExternDesc<'static>>> {
     let mut by_name = BTreeMap::new(alloc);
     for (name, is_weak, kernel_btf_id, ksym_addr) in EXTERNS {
         let desc = ExternDesc {
@@ -351,83 +306,46 @@ fn externs(alloc: Global, has_externs: bool) -> Option<Externs<'static>> {
         };
         by_name.insert(name, desc).ok()?;
     }
-    externs.set_by_name(by_name);
-    Some(externs)
+    Some(by_name)
 }
 
-/// The place of a name.
-fn number_of_name(name: &str) -> usize {
-    NAMES.iter().position(|n| *n == name).unwrap_or(NAMES.len())
-}
-
-/// Whether a fault is of `f`, and which it is.
-fn answer_of(error: &EbpfRelocationError) -> (bool, Refused) {
-    let refused = match error.error() {
-        RelocationError::InvalidRelocationOffset {
-            offset,
-            relocation_number,
-        } => Refused::Offset(*offset, *relocation_number),
-        RelocationError::UnknownSymbol { index } => Refused::Symbol(*index),
-        RelocationError::ExternNotFound { name } => Refused::NoExtern(number_of_name(name)),
-        RelocationError::UnresolvableSymbol { name } => Refused::Unresolvable(number_of_name(name)),
-        _ => Refused::Other,
-    };
-    (error.function() == "f", refused)
-}
-
-/// What becomes of the functions of a case, and why one is refused.
-fn relocated(
+/// What becomes of the functions of a case by these externs.
+fn relocated_by(
     alloc: Global,
+    file: &ObjectFile<'_>,
+    externs: &Externs<'_>,
     case: &Case,
-) -> Option<((Option<Written>, Option<Written>), Option<(bool, Refused)>)> {
-    let (f, g, slots, relocations, has_externs) = *case;
-    let object = with_bytes(
-        &OBJECT,
-        &[
-            (RELOCATIONS_AT[0], &relocations[0].0.to_le_bytes()),
-            (RELOCATIONS_AT[0] + SYMBOL, &[relocations[0].1]),
-            (RELOCATIONS_AT[1], &relocations[1].0.to_le_bytes()),
-            (RELOCATIONS_AT[1] + SYMBOL, &[relocations[1].1]),
-        ],
-    );
-    let file = ObjectFile::parse(alloc, &object).ok()?;
-    let mut functions = Functions::new(alloc);
-    functions.insert(function(alloc, "f", f, slots)?).ok()?;
-    functions.insert(function(alloc, "g", g, slots)?).ok()?;
-    let externs = externs(alloc, has_externs)?;
-    let refused = match relocate_externs(alloc, &file, &mut functions, &externs) {
-        Ok(()) => None,
-        Err(error) => Some(answer_of(&error)),
-    };
-    Some(((written(&functions, f), written(&functions, g)), refused))
+) -> Option<Relocated> {
+    let (f, g, slots, _, _) = *case;
+    let mut functions = functions(alloc, f, g, slots)?;
+    let answer = relocate_externs(alloc, file, &mut functions, externs);
+    Some(relocated(&functions, f, g, &answer))
 }
 
-/// The slots of a function that has a list of its own.
-fn written(functions: &Functions<'_>, section_offset: usize) -> Option<Written> {
-    let slots = &functions.get((2, section_offset as u64))?.instructions;
-    if slots.is_borrowed() {
-        return None;
+/// What becomes of the functions of a case.
+fn answer_of(alloc: Global, case: &Case) -> Option<Relocated> {
+    let object = with_relocations(&OBJECT, case.3);
+    let externs = externs(alloc, case.4)?;
+    match ObjectFile::parse(alloc, &object) {
+        Ok(file) => relocated_by(alloc, &file, &externs, case),
+        Err(_) => None,
     }
-    Some([
-        slots.get(0)?.to_bytes(),
-        slots.get(1)?.to_bytes(),
-        slots.get(2)?.to_bytes(),
-    ])
+}
+
+fn check(rt: &impl Abort, alloc: Global, case: &Case, expected: Relocated) {
+    assert!(rt; answer_of(alloc, case) == Some(expected));
 }
 
 #[test]
 fn writes_what_is_known_of_externs(rt: HostRuntime) {
-    for (case, slots) in WRITES.iter() {
-        assert_eq!(rt; relocated(rt.alloc(), case), Some((*slots, None)));
+    for (case, written) in &WRITES {
+        check(&rt, rt.alloc(), case, (*written, None));
     }
 }
 
 #[test]
 fn refuses_faults_of_externs(rt: HostRuntime) {
-    for (case, refused) in REFUSALS.iter() {
-        assert_eq!(rt;
-            relocated(rt.alloc(), case),
-            Some(((None, None), Some(*refused)))
-        );
+    for (case, refused) in &REFUSALS {
+        check(&rt, rt.alloc(), case, ((None, None), Some(*refused)));
     }
 }
