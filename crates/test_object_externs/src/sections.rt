@@ -29,32 +29,6 @@ pub(crate) const SIGNED_INT: u32 = 0x0100_0020;
 /// `f___x`, `v`, `.ksyms` and `g` at 1, 7, 9 and 16.
 pub(crate) const STRINGS: [u8; 18] = *b"\0f___x\0v\0.ksyms\0g\0";
 
-fn bytes_of(order: Endianness, word: u32) -> [u8; 4] {
-    match order {
-        Endianness::Little => word.to_le_bytes(),
-        Endianness::Big => word.to_be_bytes(),
-    }
-}
-
-fn push_word(out: &mut Vec<u8>, order: Endianness, word: u32) -> Result<(), AllocError> {
-    out.extend_from_slice(&bytes_of(order, word))
-}
-
-fn push_words(out: &mut Vec<u8>, order: Endianness, words: &[u32]) -> Result<(), AllocError> {
-    for word in words {
-        push_word(out, order, *word)?;
-    }
-    Ok(())
-}
-
-/// The magic number and the version, and no flags.
-fn head(order: Endianness) -> [u8; 4] {
-    match order {
-        Endianness::Little => [0x9f, 0xeb, 1, 0],
-        Endianness::Big => [0xeb, 0x9f, 1, 0],
-    }
-}
-
 /// The section of records with these words, and of [`STRINGS`] and those after them.
 pub(crate) fn section(
     alloc: Global,
@@ -62,13 +36,5 @@ pub(crate) fn section(
     words: &[u32],
     added: &[u8],
 ) -> Result<Vec<u8>, AllocError> {
-    let types_len = 4 * (words.len() % 0x1_0000) as u32;
-    let strings_len = ((STRINGS.len() + added.len()) % 0x1_0000) as u32;
-    let mut out = Vec::new(alloc);
-    out.extend_from_slice(&head(order))?;
-    push_words(&mut out, order, &[24, 0, types_len, types_len, strings_len])?;
-    push_words(&mut out, order, words)?;
-    out.extend_from_slice(&STRINGS)?;
-    out.extend_from_slice(added)?;
-    Ok(out)
+    sample_tables::section(alloc, order, words, &STRINGS, added)
 }

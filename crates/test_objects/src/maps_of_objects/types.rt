@@ -1,5 +1,6 @@
 //! Type tables by hand.
 
+use btf_records::Endianness;
 use std::alloc::{AllocError, Global};
 
 /// Texts at 1 `.maps`, 7 `m`, 9 `type`, 14 `key`, 18 `value`, 24 `max_entries`, 36 `pinning`,
@@ -70,29 +71,11 @@ pub(crate) const NESTED_INNER: &[u32] = &[
 /// Further: 17 a section whose name can't be read.
 pub(crate) const UNNAMED: &[u32] = &[99, DATASEC, 0];
 
-fn push_word(out: &mut Vec<u8>, word: u32) -> Result<(), AllocError> {
-    out.extend_from_slice(&word.to_le_bytes())
-}
-
-fn push_words(out: &mut Vec<u8>, words: &[u32]) -> Result<(), AllocError> {
-    for word in words {
-        push_word(out, *word)?;
-    }
-    Ok(())
-}
-
 /// The section of the records with these words.
 pub(crate) fn section(alloc: Global, records: &[&[u32]]) -> Result<Vec<u8>, AllocError> {
-    let mut types = Vec::new(alloc);
+    let mut all = Vec::new(alloc);
     for words in records {
-        push_words(&mut types, words)?;
+        all.extend_from_slice(words)?;
     }
-    let types_len = (types.len() % 0x1_0000) as u32;
-    let strings_len = (STRINGS.len() % 0x1_0000) as u32;
-    let mut out = Vec::new(alloc);
-    out.extend_from_slice(&[0x9f, 0xeb, 1, 0])?;
-    push_words(&mut out, &[24, 0, types_len, types_len, strings_len])?;
-    out.extend_from_slice(&types)?;
-    out.extend_from_slice(STRINGS)?;
-    Ok(out)
+    sample_tables::section(alloc, Endianness::Little, &all, STRINGS, &[])
 }
