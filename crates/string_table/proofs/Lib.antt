@@ -1,3 +1,4 @@
 pub mod Ends
+pub mod NameHashes
 pub mod Texts
 pub mod Unreadable

@@ -1,11 +1,12 @@
--- A hash of names.
-use Rattle.std.specs.Prelude.{ℕ, ◌+◌, ◌-◌, ◌*◌, ◌%◌, ◌^◌, List, drop, fold, length, take}
+-- A hash of names, SipHash-1-3 with both keys 0.
+use Rattle.std.specs.Prelude.{ℕ, ◌-◌, List, drop, length, take}
+use Rattle.std.specs.Hash.DefaultHasher as sip
+use Rattle.std.specs.Int.{w64, to_le_bytes}
 
-abbrev pub next_hash : ℕ → ℕ → ℕ
-next_hash hash byte = (hash * 1099511628211 % 2 ^ 64 + byte) % 2 ^ 64
-
--- the hash of a name, by its length, its first 1,024 bytes and the last 1,024 of those after them
+-- the hash of a name, of its length, its first 1,024 bytes and the last 1,024 of those after them
 unfoldable pub name_hash : List ℕ → ℕ
 name_hash name =
-    fold next_hash (fold next_hash (length name) (take 1024 name))
-    (drop (length name - 2048) (drop 1024 name))
+    let counted = sip.write sip.initial (to_le_bytes w64 (length name)) in
+    let begun = sip.write counted (take 1024 name) in
+    let further = drop 1024 name in
+    sip.finish (sip.write begun (drop (length further - 1024) further))

@@ -1,47 +1,53 @@
 //! Hashes of names.
 
-ghost use Rattle.std.specs.Prelude.{◌≡◌, ◌-◌, drop, fold, length, take};
-ghost use Rattle.string_table.specs.NameHashes.{name_hash, next_hash};
+ghost use Rattle.std.specs.Prelude.{◌≡◌, ◌-◌, drop, length, take};
+ghost use Rattle.string_table.specs.NameHashes.{name_hash};
+
+use std::hash::{DefaultHasher, Hasher};
 
 /// As many bytes of a name are hashed at its beginning, and at its end: many names may be one long
 /// text, or ends of one.
 const HASHED: usize = 1024;
 
-/// The hash with one more byte.
-fn next_hash(hash: u64, byte: u8) -> u64
-    ensures { result ≡ next_hash hash byte }
+/// The first bytes.
+#[tactic(auto, using(crate::proofs::NameHashes::few_taken))]
+fn first_bytes(bytes: &[u8]) -> &[u8]
+    ensures { result.now ≡ take 1024 bytes.now }
 {
-    hash.wrapping_mul(0x100_0000_01b3)
-        .wrapping_add(u64::from(byte))
+    match bytes.get(..HASHED) {
+        Some(first) => first,
+        None => bytes,
+    }
 }
 
-/// The hash with the first bytes.
-fn hash_beginning(hash: u64, bytes: &[u8]) -> u64
-    ensures { result ≡ fold next_hash hash (take 1024 bytes.now) }
+/// The bytes after the first.
+#[tactic(auto, using(crate::proofs::NameHashes::none_further, crate::proofs::NameHashes::all_further))]
+fn further_bytes(bytes: &[u8]) -> &[u8]
+    ensures { result.now ≡ drop 1024 bytes.now }
 {
-    bytes
-        .iter()
-        .take(HASHED)
-        .fold(hash, |hash, byte| next_hash(hash, *byte))
+    if bytes.len() < HASHED {
+        return &[];
+    }
+    &bytes[HASHED..]
 }
 
-/// The hash with the last bytes of those after the first.
-fn hash_end(hash: u64, bytes: &[u8]) -> u64
-    ensures { result ≡ fold next_hash hash
-        (drop (length bytes.now - 2048) (drop 1024 bytes.now)) }
+/// The last bytes.
+fn last_bytes(bytes: &[u8]) -> &[u8]
+    ensures { result.now ≡ drop (length bytes.now - 1024) bytes.now }
 {
-    bytes
-        .iter()
-        .skip(HASHED)
-        .skip(bytes.len().saturating_sub(2 * HASHED))
-        .fold(hash, |hash, byte| next_hash(hash, *byte))
+    &bytes[bytes.len().saturating_sub(HASHED)..]
 }
 
-/// A hash of a name, by its length, its first 1,024 bytes and the last 1,024 after these.
+/// A hash of a name, by its length, its first 1,024 bytes and the last 1,024 after these. Names of
+/// one hash can't be made on purpose unless they are longer than 2,048 bytes.
 #[tactic(auto, unfolding(crate::specs::NameHashes::name_hash))]
 pub fn name_hash(name: &str) -> u64
     ensures { result ≡ name_hash name.now }
 {
     let bytes = name.as_bytes();
-    hash_end(hash_beginning(bytes.len() as u64, bytes), bytes)
+    let mut hasher = DefaultHasher::new();
+    hasher.write(&(bytes.len() as u64).to_le_bytes());
+    hasher.write(first_bytes(bytes));
+    hasher.write(last_bytes(further_bytes(bytes)));
+    hasher.finish()
 }
