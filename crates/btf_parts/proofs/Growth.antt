@@ -8,9 +8,9 @@ use Rattle.std.proofs.lemmas.List.{drop-append-le, map_push}
 use Rattle.std.proofs.lemmas.List.Elements.{All-append, All-cons, All-head, All-nil, All-tail}
 use Rattle.std.proofs.Math.Seq.{drop-append_seam}
 use Rattle.btf_parts.specs.Growth.{TooMany}
-use Rattle.btf_parts.specs.Layout.{Entered, IsLaidOut, fallback_at, kind_at_place, type_at, types_at}
+use Rattle.btf_parts.specs.Layout.{Entered, IsLaidOut, fallback_at, type_at, types_at}
 use Rattle.btf_parts.proofs.Places.{has_record, length_types_at, within_bytes}
-use Rattle.btf_records.specs.Fields.{fallback_of, kind_of_type}
+use Rattle.btf_records.specs.Fields.{fallback_of, kind_of_type, name_offset_of}
 use Rattle.btf_encoding.specs.Records.{ReadsBack, ReadsSame, Spells, record_bytes, type_in, with_fallback, without_fallback}
 use Rattle.btf_records.specs.declared.compound.Union.{Union}
 use Rattle.btf_records.specs.declared.compound.Enum64Fallback.{Enum64Fallback}
@@ -96,8 +96,8 @@ new_type order bytes fallbacks id t reads entered =
     in
     rw (entered, read) (back t)
 
-pub grown : (order : Endianness) (bytes places : List ℕ) (kinds : List BtfKind) (old new : List (ℕ × Enum64Fallback)) (t : BtfType) → IsLaidOut order bytes old places kinds → ReadsBack order t → Entered old new (length places + 1) (fallback_of t) → types_at order (bytes ++ record_bytes order t) new 1 (places ++ length bytes ∷ []) ≡ types_at order bytes old 1 places ++ t ∷ []
-grown order bytes places kinds old new t laid reads entered =
+pub grown : (order : Endianness) (bytes places : List ℕ) (kinds : List BtfKind) (names : List ℕ) (old new : List (ℕ × Enum64Fallback)) (t : BtfType) → IsLaidOut order bytes old places kinds names → ReadsBack order t → Entered old new (length places + 1) (fallback_of t) → types_at order (bytes ++ record_bytes order t) new 1 (places ++ length bytes ∷ []) ≡ types_at order bytes old 1 places ++ t ∷ []
+grown order bytes places kinds names old new t laid reads entered =
     let x = record_bytes order t in
     let id : length places + 1 ≡ 1 + length places = omega arith in
     let last : type_at order (bytes ++ x) new (1 + length places) (length bytes) ≡ t = new_type order bytes new (1 + length places) t reads (rw id at entered.here) in
@@ -139,35 +139,59 @@ kind_without (types.DeclTag t) = refl
 kind_without (types.TypeTag t) = refl
 kind_without (types.Enum64 t) = refl
 
-kinds_stay : (order : Endianness) (bytes x places : List ℕ) → All (λ p. ReadsSame order (drop p bytes)) places → map (kind_at_place order (bytes ++ x)) places ≡ map (kind_at_place order bytes) places
-kinds_stay order bytes x [] all = refl
-kinds_stay order bytes x (place ∷ places) all =
+-- nor is its name another
+name_without : (t : BtfType) → name_offset_of (without_fallback t) ≡ name_offset_of t
+name_without types.Unknown = refl
+name_without (types.Fwd t) = refl
+name_without (types.Const t) = refl
+name_without (types.Volatile t) = refl
+name_without (types.Restrict t) = refl
+name_without (types.Ptr t) = refl
+name_without (types.Typedef t) = refl
+name_without (types.Func t) = refl
+name_without (types.Int t) = refl
+name_without (types.Float t) = refl
+name_without (types.Enum t) = refl
+name_without (types.Array t) = refl
+name_without (types.Struct t) = refl
+name_without (types.Union t) = refl
+name_without (types.FuncProto t) = refl
+name_without (types.Var t) = refl
+name_without (types.DataSec t) = refl
+name_without (types.DeclTag t) = refl
+name_without (types.TypeTag t) = refl
+name_without (types.Enum64 t) = refl
+
+-- what is read of records stays where more is written after them
+read_stays : {X : Type 0} (read : BtfType → X) (order : Endianness) (bytes x places : List ℕ) → All (λ p. ReadsSame order (drop p bytes)) places → map (λ p. read (type_in order (drop p (bytes ++ x)))) places ≡ map (λ p. read (type_in order (drop p bytes))) places
+read_stays read order bytes x [] all = refl
+read_stays read order bytes x (place ∷ places) all =
     let same = All-head (λ p. ReadsSame order (drop p bytes)) place places all in
-    let read : type_in order (drop place (bytes ++ x)) ≡ type_in order (drop place bytes) = ap (type_in order) (drop_more order bytes x place same) ∙ same.same x in
-    let here : kind_at_place order (bytes ++ x) place ≡ kind_at_place order bytes place = ap kind_of_type read in
-    rw (here, kinds_stay order bytes x places (All-tail (λ p. ReadsSame order (drop p bytes)) place places all)) refl
+    let here : type_in order (drop place (bytes ++ x)) ≡ type_in order (drop place bytes) = ap (type_in order) (drop_more order bytes x place same) ∙ same.same x in
+    rw (here, read_stays read order bytes x places (All-tail (λ p. ReadsSame order (drop p bytes)) place places all)) refl
 
-kinds_grown : (order : Endianness) (bytes places : List ℕ) (kinds : List BtfKind) (t : BtfType) → All (λ p. ReadsSame order (drop p bytes)) places → ReadsBack order t → kinds ≡ map (kind_at_place order bytes) places → kinds ++ kind_of_type t ∷ [] ≡ map (kind_at_place order (bytes ++ record_bytes order t)) (places ++ length bytes ∷ [])
-kinds_grown order bytes places kinds t stand reads are =
+read_grown : {X : Type 0} (read : BtfType → X) (order : Endianness) (bytes places : List ℕ) (values : List X) (t : BtfType) → All (λ p. ReadsSame order (drop p bytes)) places → ReadsBack order t → read (without_fallback t) ≡ read t → values ≡ map (λ p. read (type_in order (drop p bytes))) places → values ++ read t ∷ [] ≡ map (λ p. read (type_in order (drop p (bytes ++ record_bytes order t)))) (places ++ length bytes ∷ [])
+read_grown read order bytes places values t stand reads without are =
     let x = record_bytes order t in
-    let read : type_in order (drop (length bytes) (bytes ++ x)) ≡ without_fallback t = ap (type_in order) (drop-append_seam bytes x ∙ sym (append-nil x)) ∙ reads.same [] in
-    let last : kind_at_place order (bytes ++ x) (length bytes) ≡ kind_of_type t = ap kind_of_type read ∙ kind_without t in
-    sym (map_push (kind_at_place order (bytes ++ x)) places (length bytes) ∙ rw (kinds_stay order bytes x places stand, last, sym are) refl)
+    let back : type_in order (drop (length bytes) (bytes ++ x)) ≡ without_fallback t = ap (type_in order) (drop-append_seam bytes x ∙ sym (append-nil x)) ∙ reads.same [] in
+    let last : read (type_in order (drop (length bytes) (bytes ++ x))) ≡ read t = ap read back ∙ without in
+    sym (map_push (λ p. read (type_in order (drop p (bytes ++ x)))) places (length bytes) ∙ rw (read_stays read order bytes x places stand, last, sym are) refl)
 
-pub grown_tight : (order : Endianness) (bytes places : List ℕ) (kinds : List BtfKind) (old new : List (ℕ × Enum64Fallback)) (t : BtfType) → IsLaidOut order bytes old places kinds → ReadsBack order t → Entered old new (length places + 1) (fallback_of t) → length (bytes ++ record_bytes order t) < 2 ^ 32 → length (places ++ length bytes ∷ []) < 2 ^ 32 → IsLaidOut order (bytes ++ record_bytes order t) new (places ++ length bytes ∷ []) (kinds ++ kind_of_type t ∷ [])
-grown_tight order bytes places kinds old new t laid reads entered few_bytes few_types =
+pub grown_tight : (order : Endianness) (bytes places : List ℕ) (kinds : List BtfKind) (names : List ℕ) (old new : List (ℕ × Enum64Fallback)) (t : BtfType) → IsLaidOut order bytes old places kinds names → ReadsBack order t → Entered old new (length places + 1) (fallback_of t) → length (bytes ++ record_bytes order t) < 2 ^ 32 → length (places ++ length bytes ∷ []) < 2 ^ 32 → IsLaidOut order (bytes ++ record_bytes order t) new (places ++ length bytes ∷ []) (kinds ++ kind_of_type t ∷ []) (names ++ name_offset_of t ∷ [])
+grown_tight order bytes places kinds names old new t laid reads entered few_bytes few_types =
     let x = record_bytes order t in
     let last : ReadsSame order (drop (length bytes) (bytes ++ x)) = rw (drop-append_seam bytes x) reads.alone in
     let bytes_of : flat_map (record_bytes order) (types_at order bytes old 1 places ++ t ∷ []) ≡ flat_map (record_bytes order) (types_at order bytes old 1 places) ++ x =
     flat_map-append (record_bytes order) (types_at order bytes old 1 places) (t ∷ []) ∙ ap (λ (b : List ℕ). flat_map (record_bytes order) (types_at order bytes old 1 places) ++ b) (append-nil x)
     in
     record {
-      of_kinds = kinds_grown order bytes places kinds t laid.stand reads laid.of_kinds;
+      of_kinds = read_grown kind_of_type order bytes places kinds t laid.stand reads (kind_without t) laid.of_kinds;
+      of_names = read_grown name_offset_of order bytes places names t laid.stand reads (name_without t) laid.of_names;
       spelled = spelled_more order bytes places t laid.stand reads laid.spelled;
       stand = All-append (λ p. ReadsSame order (drop p (bytes ++ x))) places (length bytes ∷ []) (all_stay order bytes x places laid.stand) (All-cons (λ p. ReadsSame order (drop p (bytes ++ x))) (length bytes) [] last (All-nil (λ p. ReadsSame order (drop p (bytes ++ x)))));
       in_use = λ id past.
           entered.others id (λ e. omega (arith, past, length-append places (length bytes ∷ []))) ∙ laid.in_use id (omega (arith, past, length-append places (length bytes ∷ [])));
-      tight = length-append bytes x ∙ (ap (λ (n : ℕ). n + length x) laid.tight ∙ sym (ap length (ap (flat_map (record_bytes order)) (grown order bytes places kinds old new t laid reads entered) ∙ bytes_of) ∙ length-append (flat_map (record_bytes order) (types_at order bytes old 1 places)) x));
+      tight = length-append bytes x ∙ (ap (λ (n : ℕ). n + length x) laid.tight ∙ sym (ap length (ap (flat_map (record_bytes order)) (grown order bytes places kinds names old new t laid reads entered) ∙ bytes_of) ∙ length-append (flat_map (record_bytes order) (types_at order bytes old 1 places)) x));
       few_bytes = few_bytes;
       few_types = few_types;
     }
@@ -177,6 +201,6 @@ len_behind order types t =
     ap length (flat_map-append (record_bytes order) types (t ∷ []) ∙ ap (λ (b : List ℕ). flat_map (record_bytes order) types ++ b) (append-nil (record_bytes order t))) ∙ length-append (flat_map (record_bytes order) types) (record_bytes order t)
 
 -- where the bytes or the places would be too many, the records' bytes or the records would be
-pub too_many : (order : Endianness) (bytes places : List ℕ) (kinds : List BtfKind) (fallbacks : List (ℕ × Enum64Fallback)) (t : BtfType) → IsLaidOut order bytes fallbacks places kinds → TooMany (length bytes + length (record_bytes order t)) ⊎ TooMany (length places + 1) → TooMany (length (flat_map (record_bytes order) (types_at order bytes fallbacks 1 places ++ t ∷ []))) ⊎ TooMany (length (types_at order bytes fallbacks 1 places) + 1)
-too_many order bytes places kinds fallbacks t laid (inl b) = inl (omega (arith, b, len_behind order (types_at order bytes fallbacks 1 places) t, laid.tight))
-too_many order bytes places kinds fallbacks t laid (inr n) = inr (omega (arith, n, length_types_at order bytes fallbacks 1 places))
+pub too_many : (order : Endianness) (bytes places : List ℕ) (kinds : List BtfKind) (names : List ℕ) (fallbacks : List (ℕ × Enum64Fallback)) (t : BtfType) → IsLaidOut order bytes fallbacks places kinds names → TooMany (length bytes + length (record_bytes order t)) ⊎ TooMany (length places + 1) → TooMany (length (flat_map (record_bytes order) (types_at order bytes fallbacks 1 places ++ t ∷ []))) ⊎ TooMany (length (types_at order bytes fallbacks 1 places) + 1)
+too_many order bytes places kinds names fallbacks t laid (inl b) = inl (omega (arith, b, len_behind order (types_at order bytes fallbacks 1 places) t, laid.tight))
+too_many order bytes places kinds names fallbacks t laid (inr n) = inr (omega (arith, n, length_types_at order bytes fallbacks 1 places))

@@ -7,7 +7,7 @@ use Rattle.std.specs.BTreeMap.{is_at}
 use Rattle.std.specs.Option.{option_map_or}
 use Rattle.std.specs.Ordering.{nat_cmp}
 use Rattle.btf_encoding.specs.Records.{ReadsSame, Spells, record_bytes, type_in, with_fallback}
-use Rattle.btf_records.specs.Fields.{kind_of_type}
+use Rattle.btf_records.specs.Fields.{kind_of_type, name_offset_of}
 use Rattle.btf_records.specs.declared.compound.Enum64Fallback.{Enum64Fallback}
 use Rattle.btf_records.specs.declared.kind.BtfKind.{BtfKind}
 use Rattle.btf_records.specs.declared.types.BtfType.{BtfType}
@@ -43,11 +43,16 @@ types_at order bytes fallbacks id (place ∷ places) =
 abbrev pub kind_at_place : Endianness → List ℕ → ℕ → BtfKind
 kind_at_place order bytes place = kind_of_type (type_in order (drop place bytes))
 
--- a record stands at each place and has this kind, no id past the last stands for an enum, and the
+-- the offset of the name of the record at a place
+abbrev pub name_at_place : Endianness → List ℕ → ℕ → ℕ
+name_at_place order bytes place = name_offset_of (type_in order (drop place bytes))
+
+-- a record stands at each place and has this kind and this name, no id past the last stands for an enum, and the
 -- bytes are those records, one after the other, and as many as they are written with
-pub record IsLaidOut (order : Endianness) (bytes : List ℕ) (fallbacks : List (ℕ × Enum64Fallback)) (places : List ℕ) (kinds : List BtfKind) : Type 0 where
+pub record IsLaidOut (order : Endianness) (bytes : List ℕ) (fallbacks : List (ℕ × Enum64Fallback)) (places : List ℕ) (kinds : List BtfKind) (names : List ℕ) : Type 0 where
   pub stand : All (λ place. ReadsSame order (drop place bytes)) places
   pub of_kinds : kinds ≡ map (kind_at_place order bytes) places
+  pub of_names : names ≡ map (name_at_place order bytes) places
   pub in_use : (id : ℕ) → length places < id → fallback_at fallbacks id ≡ None
   pub spelled : Spells order (types_at order bytes [] 1 places) bytes
   pub tight : length bytes

@@ -3,7 +3,7 @@
 ghost use Rattle.std.specs.Prelude.{◌≡◌, ◌++◌, IfOk, OnErr, OnOk};
 ghost use Rattle.btf_encoding.specs.Records.{ReadsBack, record_bytes};
 ghost use Rattle.btf_parts.specs.NewRecords.{record_of};
-ghost use Rattle.btf_records.specs.Fields.{fallback_of, kind_of_type};
+ghost use Rattle.btf_records.specs.Fields.{fallback_of, kind_of_type, name_offset_of};
 
 use btf_encoding::{TypeRef, push_type};
 use btf_records::{BtfKind, BtfType, Endianness, Enum64Fallback, Union};
@@ -45,6 +45,16 @@ impl<'t> NewRecord<'t> {
         match self {
             NewRecord::Own(t) => t.kind(),
             NewRecord::Copied(t) => t.kind(),
+        }
+    }
+
+    /// The offset of its name.
+    pub fn name_offset(&self) -> u32
+        ensures { result ≡ name_offset_of (record_of self.now) }
+    {
+        match self {
+            NewRecord::Own(t) => t.name_offset(),
+            NewRecord::Copied(t) => t.name_offset(),
         }
     }
 

@@ -3,12 +3,12 @@
 ghost use Rattle.std.specs.Prelude.{◌≡◌, ◌≢◌, ◌<◌, ◌≤◌, ◌+◌, ◌^◌, ◌∷◌, ◌++◌, ◌⊎◌, [], All, IfErr, IfOk, IfSome, OnOk, OnErr, None, Some, drop, slice_get, length, map, take};
 ghost use Rattle.std.specs.List.{flat_map};
 ghost use Rattle.std.specs.Option.{option_copied, option_map_or};
-ghost use Rattle.btf_records.specs.Fields.{fallback_of, kind_of_type};
+ghost use Rattle.btf_records.specs.Fields.{fallback_of, kind_of_type, name_offset_of};
 ghost use Rattle.btf_encoding.specs.Records.{HasRecord, ReadsBack, ReadsSame, Spells, TypesFault, record_bytes, type_in, with_fallback, without_fallback};
 ghost use Rattle.btf_records.specs.declared.error.BtfError.TheVariants.{InvalidTypeInfo, OutOfMemory};
 ghost use Rattle.btf_parts.specs.Growth.{TooMany};
 ghost use Rattle.btf_parts.specs.NewRecords.{record_of};
-ghost use Rattle.btf_parts.specs.Layout.{Entered, fallback_at, kind_at_place, types_at};
+ghost use Rattle.btf_parts.specs.Layout.{Entered, fallback_at, kind_at_place, name_at_place, types_at};
 
 use crate::byte_list::ByteList;
 use crate::new_record::NewRecord;
@@ -27,6 +27,8 @@ pub struct TypeRecords<'a> {
     places: Vec<u32>,
     /// The kind of each.
     kinds: Vec<BtfKind>,
+    /// The offset of the name of each.
+    name_offsets: Vec<u32>,
     /// The enums that unions stand for, by id.
     fallbacks: BTreeMap<u32, Enum64Fallback>,
 }
@@ -42,7 +44,8 @@ impl<'a> Model for TypeRecords<'a> {
           types = types_at t.order t.bytes t.fallbacks.entries 1 t.places.items;
         } };
 
-    ghost invariant = { λ t. IsLaidOut t.order t.bytes t.fallbacks.entries t.places.items t.kinds.items };
+    ghost invariant = { λ t. IsLaidOut t.order t.bytes t.fallbacks.entries t.places.items t.kinds.items
+        t.name_offsets.items };
 }
 
 /// The enum that the union of an id stands for.
@@ -78,6 +81,7 @@ fn append(
     bytes: &mut ByteList<'_>,
     places: &mut Vec<u32>,
     kinds: &mut Vec<BtfKind>,
+    name_offsets: &mut Vec<u32>,
     fallbacks: &mut BTreeMap<u32, Enum64Fallback>,
     order: Endianness,
     t: NewRecord<'_>,
@@ -88,6 +92,9 @@ fn append(
     ensures places { OnOk result (places.new.items ≡ places.old.items ++ length bytes.old ∷ []) }
     ensures kinds { OnOk result
         (kinds.new.items ≡ kinds.old.items ++ kind_of_type (record_of t.entry) ∷ []) }
+    ensures names { OnOk result
+        (name_offsets.new.items
+        ≡ name_offsets.old.items ++ name_offset_of (record_of t.entry) ∷ []) }
     ensures fallbacks { OnOk result
         (Entered fallbacks.old.entries fallbacks.new.entries (length places.old.items + 1)
         (fallback_of (record_of t.entry))) }
@@ -104,6 +111,8 @@ fn append(
         (take (length places.old.items) places.new.items ≡ places.old.items) }
     ensures old_kinds { OnErr result
         (take (length kinds.old.items) kinds.new.items ≡ kinds.old.items) }
+    ensures old_names { OnErr result
+        (take (length name_offsets.old.items) name_offsets.new.items ≡ name_offsets.old.items) }
     ensures old_fallbacks { OnErr result (fallbacks.new.entries ≡ fallbacks.old.entries) }
 {
     if places.len() >= MOST {
@@ -116,6 +125,7 @@ fn append(
     }
     places.push(place)?;
     kinds.push(t.kind())?;
+    name_offsets.push(t.name_offset())?;
     enter_fallback(fallbacks, places.len() as u32, t)?;
     Ok(())
 }
@@ -157,17 +167,26 @@ fn kind_in(order: Endianness, bytes: &[u8]) -> BtfKind
     TypeRef::new(order, bytes).kind()
 }
 
+/// The offset of the name of the record that the bytes begin with.
+fn name_offset_in(order: Endianness, bytes: &[u8]) -> u32
+    requires { HasRecord order bytes.now }
+    ensures { result ≡ name_offset_of (type_in order bytes.now) }
+{
+    TypeRef::new(order, bytes).name_offset()
+}
+
 /// The least bytes of a record.
 const LEAST_LEN: usize = 12;
 
-/// Where records begin, and their kinds.
+/// Where records begin, their kinds and their names.
 #[derive(Debug, Drop)]
 struct RecordIndex {
     places: Vec<u32>,
     kinds: Vec<BtfKind>,
+    name_offsets: Vec<u32>,
 }
 
-/// Where the records begin that the bytes are, and their kinds.
+/// Where the records begin that the bytes are, their kinds and their names.
 #[tactic(auto, using(crate::proofs::Reading::no_places, crate::proofs::Reading::one_more_place, crate::proofs::Reading::fault_behind, crate::proofs::Reading::all_places))]
 fn index_of(alloc: Global, order: Endianness, bytes: &[u8]) -> Result<RecordIndex, BtfError>
     requires { length bytes.now < 2 ^ 32 }
@@ -177,19 +196,27 @@ fn index_of(alloc: Global, order: Endianness, bytes: &[u8]) -> Result<RecordInde
         All (λ place. ReadsSame order (drop place bytes.now)) index.places.items) }
     ensures kinds { IfOk result (λ index.
         index.kinds.items ≡ map (kind_at_place order bytes.now) index.places.items) }
+    ensures names { IfOk result (λ index.
+        index.name_offsets.items ≡ map (name_at_place order bytes.now) index.places.items) }
     ensures refused { IfErr result (λ e. e ≢ OutOfMemory → TypesFault order bytes.now e) }
 {
     let most = bytes.len() / LEAST_LEN;
     let mut places = Vec::with_capacity(alloc, most)?;
     let mut kinds = Vec::with_capacity(alloc, most)?;
+    let mut name_offsets = Vec::with_capacity(alloc, most)?;
     let mut rest = bytes;
     while !rest.is_empty() {
         let len = record_len(order, rest)?;
         places.push((bytes.len() - rest.len()) as u32)?;
         kinds.push(kind_in(order, rest))?;
+        name_offsets.push(name_offset_in(order, rest))?;
         rest = behind(rest, len);
     }
-    Ok(RecordIndex { places, kinds })
+    Ok(RecordIndex {
+        places,
+        kinds,
+        name_offsets,
+    })
 }
 
 impl<'a> TypeRecords<'a> {
@@ -208,12 +235,17 @@ impl<'a> TypeRecords<'a> {
         ensures spelled { IfOk result (λ r. Spells order r.types bytes.now) }
         ensures refused { IfErr result (λ e. e ≢ OutOfMemory → TypesFault order bytes.now e) }
     {
-        let RecordIndex { places, kinds } = index_of(alloc, order, bytes)?;
+        let RecordIndex {
+            places,
+            kinds,
+            name_offsets,
+        } = index_of(alloc, order, bytes)?;
         Ok(TypeRecords {
             order,
             bytes: ByteList::borrowed(bytes),
             places,
             kinds,
+            name_offsets,
             fallbacks: BTreeMap::new(alloc),
         })
     }
@@ -228,12 +260,13 @@ impl<'a> TypeRecords<'a> {
             bytes: ByteList::owned(Vec::new(alloc)),
             places: Vec::new(alloc),
             kinds: Vec::new(alloc),
+            name_offsets: Vec::new(alloc),
             fallbacks: BTreeMap::new(alloc),
         }
     }
 
     /// How many records there are.
-    #[tactic(auto, using(crate::proofs::Places::length_types_at, crate::proofs::Reading::has_room))]
+    #[tactic(auto, using(crate::proofs::Places::length_types_at))]
     pub fn len(&self) -> usize
         ensures value { result ≡ length self.now.types }
         ensures bounded { result < 2 ^ 32 }
@@ -255,11 +288,17 @@ impl<'a> TypeRecords<'a> {
     }
 
     /// The kinds of the records, by index.
-    #[tactic(auto, using(crate::proofs::RecordKinds::are_kinds))]
     pub fn kinds(&self) -> &[BtfKind]
         ensures { result.now ≡ map kind_of_type self.now.types }
     {
         self.kinds.as_slice()
+    }
+
+    /// The offsets of the names of the records, by index.
+    pub fn name_offsets(&self) -> &[u32]
+        ensures { result.now ≡ map name_offset_of self.now.types }
+    {
+        self.name_offsets.as_slice()
     }
 
     /// The record at an index, which is one less than its id.
@@ -316,10 +355,12 @@ impl<'a> TypeRecords<'a> {
         let len = self.bytes.len();
         let count = self.places.len();
         let kind_count = self.kinds.len();
+        let name_count = self.name_offsets.len();
         match append(
             &mut self.bytes,
             &mut self.places,
             &mut self.kinds,
+            &mut self.name_offsets,
             &mut self.fallbacks,
             self.order,
             t,
@@ -329,6 +370,7 @@ impl<'a> TypeRecords<'a> {
                 self.bytes.truncate(len);
                 self.places.truncate(count);
                 self.kinds.truncate(kind_count);
+                self.name_offsets.truncate(name_count);
                 Err(error)
             }
         }
@@ -375,7 +417,6 @@ impl<'a> TypeRecords<'a> {
     }
 
     /// Writes the bytes of the records after what is there.
-    #[tactic(auto, using(crate::proofs::Writing::are_records, crate::proofs::Writing::all_written, crate::proofs::Writing::all_spelled))]
     pub fn write(&self, out: &mut Vec<u8>) -> Result<(), AllocError>
         ensures written { OnOk result
             (out.new.items
@@ -396,6 +437,7 @@ impl<'a> TypeRecords<'a> {
             bytes: self.bytes.try_clone()?,
             places: self.places.clone()?,
             kinds: self.kinds.clone()?,
+            name_offsets: self.name_offsets.clone()?,
             fallbacks: self.fallbacks.clone()?,
         })
     }

@@ -1,11 +1,13 @@
 //! The strings of a table.
 
-ghost use Rattle.std.specs.Prelude.{◌≡◌, ◌≤◌, ◌∷◌, ◌++◌, [], IfOk, OnErr, OnOk, length, take};
+ghost use Rattle.std.specs.Prelude.{◌≡◌, ◌≤◌, ◌∷◌, ◌++◌, [], IfOk, OnErr, OnOk, length, take, true};
 ghost use Rattle.std.specs.Option.{option_copied};
+ghost use Rattle.first_bytes.specs.FirstBytes.{AreTexts};
 ghost use Rattle.string_table.specs.LongTexts.{AreLongTextsOf};
 ghost use Rattle.string_table.specs.Texts.{text_at};
 
 use crate::byte_list::ByteList;
+use first_bytes::are_texts;
 use std::alloc::{AllocError, Global};
 use std::marker::Model;
 use string_table::LongTexts;
@@ -16,17 +18,21 @@ use string_table::LongTexts;
 pub struct Strings<'a> {
     bytes: ByteList<'a>,
     long_texts: LongTexts,
+    /// Whether each byte is known to begin a text.
+    are_texts: bool,
 }
 
 impl<'a> Model for Strings<'a> {
-    ghost use Rattle.std.specs.Prelude.{ℕ, List};
+    ghost use Rattle.std.specs.Prelude.{◌≡◌, ℕ, List, true};
+    ghost use Rattle.first_bytes.specs.FirstBytes.{AreTexts};
     ghost use Rattle.string_table.specs.LongTexts.{AreLongTextsOf};
 
     ghost Value = { List ℕ };
 
     ghost view = { λ s. s.bytes };
 
-    ghost invariant = { λ s. AreLongTextsOf s.bytes s.long_texts };
+    ghost invariant = { λ s. AreLongTextsOf s.bytes s.long_texts
+        × (s.are_texts ≡ true → AreTexts s.bytes) };
 }
 
 /// Enters the long texts after the first `len` bytes. A text that isn't entered is looked at
@@ -44,7 +50,12 @@ impl<'a> Strings<'a> {
         ensures { IfOk result (λ strings. strings ≡ bytes.entry) }
     {
         let long_texts = LongTexts::new(alloc, bytes.as_slice())?;
-        Ok(Strings { bytes, long_texts })
+        let are_texts = are_texts(bytes.as_slice());
+        Ok(Strings {
+            bytes,
+            long_texts,
+            are_texts,
+        })
     }
 
     pub fn borrowed(alloc: Global, bytes: &'a [u8]) -> Result<Strings<'a>, AllocError>
@@ -71,6 +82,14 @@ impl<'a> Strings<'a> {
         self.bytes.len()
     }
 
+    /// Whether each byte is known to begin a text; of strings to which texts were added that isn't
+    /// known.
+    pub fn are_texts(&self) -> bool
+        ensures { result ≡ true → AreTexts self.now }
+    {
+        self.are_texts
+    }
+
     /// The text at an offset; none where that lies past the end, no NUL ends the text, or it isn't
     /// UTF-8.
     pub fn text_at(&self, offset: u32) -> Option<&str>
@@ -85,6 +104,7 @@ impl<'a> Strings<'a> {
         ensures err { OnErr result (self.new ≡ self.old) }
     {
         let len = self.bytes.len();
+        self.are_texts = false;
         self.bytes.push_text(alloc, text)?;
         enter_long_texts(&mut self.long_texts, &self.bytes, len);
         Ok(())
@@ -104,7 +124,11 @@ impl<'a> Strings<'a> {
         let bytes = ByteList::owned(bytes);
         let mut long_texts = self.long_texts.try_clone()?;
         enter_long_texts(&mut long_texts, &bytes, len);
-        Ok(Strings { bytes, long_texts })
+        Ok(Strings {
+            bytes,
+            long_texts,
+            are_texts: false,
+        })
     }
 
     /// The same strings; bytes that are borrowed stay so.
@@ -114,6 +138,7 @@ impl<'a> Strings<'a> {
         Ok(Strings {
             bytes: self.bytes.try_clone()?,
             long_texts: self.long_texts.try_clone()?,
+            are_texts: self.are_texts,
         })
     }
 }

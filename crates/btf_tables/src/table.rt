@@ -129,6 +129,13 @@ impl<'a> Btf<'a> {
         self.records.kinds()
     }
 
+    /// The offsets of the names of the types from id 1 on, in order of id.
+    pub fn name_offsets(&self) -> &[u32]
+        ensures { result.now ≡ map name_offset_of self.now.types }
+    {
+        self.records.name_offsets()
+    }
+
     /// The record of an id; that of id 0 is void.
     ///
     /// `UnknownBtfType` where the table has no such id.
