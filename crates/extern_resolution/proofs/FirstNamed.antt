@@ -16,10 +16,11 @@ use Rattle.btf_records.specs.declared.kind.BtfKind.{BtfKind}
 use Rattle.btf_records.specs.declared.types.BtfType.{BtfType}
 use Rattle.btf_tables.specs.Tables.{Table, type_by_id}
 use Rattle.btf_tables.specs.TypesByName.{IsFirstNamed, IsNotNamed}
-use Rattle.first_bytes.specs.FirstBytes.{first_byte, is_marked}
+use Rattle.first_bytes.specs.FirstBytes.{is_marked}
 use Rattle.extern_resolution.specs.Wanted.{AreNotNamed, AreSaid, IsBegun, IsLookedUp, IsNoted, Says, entered, ids_under, under}
 use Rattle.extern_resolution.specs.declared.named_records.NamedRecords.{NamedRecords}
 use Rattle.string_table.specs.Texts.{text_at}
+use Rattle.type_headers.specs.Beginnings.{beginning}
 
 -- ---- one more record
 
@@ -43,7 +44,7 @@ pub said_begun : (kernel : Table) (r : NamedRecords) → IsBegun r → AreSaid k
 said_begun kernel r begun = record {
   each = λ name. rw begun.readable (said_at kernel r.kind name (under r name) (begun.fresh name));
   looked_up = rw begun.none (All-nil (IsLookedUp kernel.strings r.ids.entries));
-  first = begun.first;
+  beginnings = begun.beginnings;
 }
 
 says_more : (kernel : Table) (kind : BtfKind) (below : ℕ) (hidden : Bool) (name : List ℕ) (found : Option ℕ) → Says kernel kind below hidden name found → (found ≡ None → hidden ≡ false → IsNotNamed kernel name kind below) → Says kernel kind (below + 1) hidden name found
@@ -60,7 +61,7 @@ said_more : (kernel : Table) (r : NamedRecords) (below : ℕ) → AreSaid kernel
 said_more kernel r below said here = record {
   each = λ name. said_more_at kernel r.kind below r.is_hidden name (under r name) (said.each name) (here name);
   looked_up = said.looked_up;
-  first = said.first;
+  beginnings = said.beginnings;
 }
 
 pub none_there : (kernel : Table) (r : NamedRecords) (below : ℕ) → AreSaid kernel r below → type_by_id kernel below ≡ None → AreSaid kernel r (below + 1)
@@ -142,7 +143,7 @@ says_other : (kernel : Table) (kind : BtfKind) (below : ℕ) (text other : List 
 says_other kernel kind below text other t o here name differs says = said_more_at kernel kind below false other o says (λ vacant shown. rw here (λ is. rw name differs))
 
 -- a record whose name is entered where it is wanted
-pub entered_there : (kernel : Table) (old new : NamedRecords) (below : ℕ) (t : BtfType) (text : List ℕ) → AreSaid kernel old below → old.is_hidden ≡ false → type_by_id kernel below ≡ Some t → kind_of_type t ≡ old.kind → text_at kernel.strings (name_offset_of t) ≡ Some text → new.kind ≡ old.kind → new.is_hidden ≡ old.is_hidden → new.first_bytes ≡ old.first_bytes → IsNoted old.looked_up.keys new.looked_up.keys (name_offset_of t) → ((other : List ℕ) → under new other ≡ cond (bytes_eq text other) (entered below (under old text)) (under old other)) → AreSaid kernel new (below + 1)
+pub entered_there : (kernel : Table) (old new : NamedRecords) (below : ℕ) (t : BtfType) (text : List ℕ) → AreSaid kernel old below → old.is_hidden ≡ false → type_by_id kernel below ≡ Some t → kind_of_type t ≡ old.kind → text_at kernel.strings (name_offset_of t) ≡ Some text → new.kind ≡ old.kind → new.is_hidden ≡ old.is_hidden → new.beginnings ≡ old.beginnings → IsNoted old.looked_up.keys new.looked_up.keys (name_offset_of t) → ((other : List ℕ) → under new other ≡ cond (bytes_eq text other) (entered below (under old text)) (under old other)) → AreSaid kernel new (below + 1)
 entered_there kernel old new below t text said shown here is name same_kind same_hidden same_first noted put = rw (same_kind, same_hidden ∙ shown, same_first) (record {
   each = λ other. under_name text below old.ids.entries new.ids.entries put (λ o. IfSome o (Says kernel old.kind (below + 1) false other)) other
       (λ same. subst (λ (n : List ℕ). IfSome (entered below (under old text)) (Says kernel old.kind (below + 1) false n)) same (says_entered kernel old.kind below text t (under old text) here is name (vacant text)))
@@ -150,10 +151,10 @@ entered_there kernel old new below t text said shown here is name same_kind same
   looked_up = all_noted (IsLookedUp kernel.strings new.ids.entries) old.looked_up.keys new.looked_up.keys (name_offset_of t) noted
       (All-weaker (IsLookedUp kernel.strings old.ids.entries) (IsLookedUp kernel.strings new.ids.entries) (λ offset h. still_looked_up text below old.ids.entries new.ids.entries kernel.strings offset put h) old.looked_up.keys said.looked_up)
       (rw name (closed_here text below old.ids.entries new.ids.entries put));
-  first = record {
-    each = λ other. under_name text below old.ids.entries new.ids.entries put (λ o. IfSome o (λ _. is_marked old.first_bytes (first_byte other) ≡ true)) other
-        (λ same. subst (λ (n : List ℕ). IfSome (entered below (under old text)) (λ _. is_marked old.first_bytes (first_byte n) ≡ true)) same (entered_first below (under old text) (is_marked old.first_bytes (first_byte text)) (said.first.each text)))
-        (λ differs. said.first.each other);
+  beginnings = record {
+    each = λ other. under_name text below old.ids.entries new.ids.entries put (λ o. IfSome o (λ _. is_marked old.beginnings (beginning other) ≡ true)) other
+        (λ same. subst (λ (n : List ℕ). IfSome (entered below (under old text)) (λ _. is_marked old.beginnings (beginning n) ≡ true)) same (entered_first below (under old text) (is_marked old.beginnings (beginning text)) (said.beginnings.each text)))
+        (λ differs. said.beginnings.each other);
   };
 })
   where
@@ -201,7 +202,7 @@ pub hidden_there : (kernel : Table) (r : NamedRecords) (below : ℕ) (t : BtfTyp
 hidden_there kernel r below t said shown here is none = record {
   each = λ name. hidden_under kernel r.kind below name t here is none (under r name) (subst (λ (b : Bool). IfSome (under r name) (Says kernel r.kind below b name)) shown (said.each name));
   looked_up = said.looked_up;
-  first = said.first;
+  beginnings = said.beginnings;
 }
 
 -- ---- what a write leaves

@@ -1,9 +1,9 @@
 pub mod Composed
 pub mod Each
 pub mod Entries
-pub mod FirstBytes
 pub mod FirstNamed
 pub mod Found
 pub mod Growing
+pub mod NamesBegin
 pub mod PassedTypes
 pub mod Seeking

@@ -1,49 +1,114 @@
--- Types that are no functions or variables.
-use Rattle.std.proofs.Common.{◌≡◌, ◌≢◌, ℕ, ◌+◌, ◌-◌, ◌==◌, Bool, true, false, cond, List, Option, None, Some, map, refl, sym, ap, ◌∙◌, subst}
-use Rattle.std.specs.Prelude.{slice_get}
-use Rattle.std.specs.Option.{option_map, option_map_or}
-use Rattle.std.proofs.lemmas.Option.{slice_get-map}
-use Rattle.btf_records.specs.Fields.{kind_of_type}
+-- Types that aren't wanted, as their kinds and the beginnings of their names tell.
+use Rattle.std.proofs.Common.{◌≡◌, ◌≢◌, ℕ, ◌+◌, Bool, true, false, List, Option, None, Some, Bor, refl, sym, ap, ◌∙◌, subst}
+use Rattle.std.specs.Prelude.{IfSome}
+use Rattle.std.specs.Option.{IsSomeAnd, option_map}
+use Rattle.btf_records.specs.Fields.{kind_of_type, name_offset_of}
 use Rattle.btf_records.specs.declared.kind.BtfKind.{BtfKind}
 use Rattle.btf_records.specs.declared.kind.BtfKind.TheVariants as kinds
 use Rattle.btf_records.specs.declared.types.BtfType.{BtfType}
-use Rattle.btf_records.specs.declared.types.BtfType.TheVariants as types
 use Rattle.btf_tables.specs.Tables.{Table, type_by_id}
-use Rattle.extern_resolution.specs.Gathering.{AreAllSaid, declares, declares_at}
-use Rattle.extern_resolution.specs.Wanted.{AreSaid}
+use Rattle.first_bytes.specs.FirstBytes.{is_marked}
+use Rattle.string_table.specs.Texts.{text_at}
+use Rattle.type_headers.specs.Beginnings.{beginning}
+use Rattle.type_headers.specs.Headers.{BeginsOtherwise}
+use Rattle.extern_resolution.specs.Gathering.{AreAllSaid, records_of}
+use Rattle.extern_resolution.specs.Wanted.{AreBeginnings, AreSaid, IsLookedUp, ids_under}
 use Rattle.extern_resolution.specs.declared.kernel_records.KernelRecords.{KernelRecords}
 use Rattle.extern_resolution.specs.declared.named_records.NamedRecords.{NamedRecords}
-use Rattle.extern_resolution.proofs.FirstNamed.{none_there, other_kind}
+use Rattle.extern_resolution.proofs.FirstNamed.{none_there, other_kind, passed_there}
 
-abbrev declares_type : BtfType → Bool
-declares_type t = declares (kind_of_type t)
+no_type : (t : Option BtfType) → option_map kind_of_type t ≡ None → t ≡ None
+no_type None e = refl
+no_type (Some t) e = absurd cc
 
-of_kind : (t : Option BtfType) → option_map_or declares (option_map kind_of_type t) false ≡ option_map_or declares_type t false
-of_kind None = refl
-of_kind (Some t) = refl
-
-by_kinds : (of_types : List BtfType) (index : ℕ) (is_void : Bool) → cond is_void false (option_map_or declares (slice_get (map kind_of_type of_types) index) false) ≡ option_map_or declares_type (cond is_void (Some types.Unknown) (slice_get of_types index)) false
-by_kinds of_types index true = refl
-by_kinds of_types index false = ap (λ (k : Option BtfKind). option_map_or declares k false) (slice_get-map kind_of_type of_types index) ∙ of_kind (slice_get of_types index)
-
-none_said : (kernel : Table) (r : NamedRecords) (id : ℕ) (t : Option BtfType) → type_by_id kernel id ≡ t → ((t : BtfType) → declares_type t ≡ false → kind_of_type t ≢ r.kind) → option_map_or declares_type t false ≡ false → AreSaid kernel r id → AreSaid kernel r (id + 1)
-none_said kernel r id None here other e said = none_there kernel r id said here
-none_said kernel r id (Some t) here other e said = other_kind kernel r id t said here (other t e)
-
-no_function : (t : BtfType) → declares_type t ≡ false → kind_of_type t ≢ kinds.Func
-no_function t e is = let both : true ≡ false = sym (ap declares is) ∙ e in cc
-
-no_variable : (t : BtfType) → declares_type t ≡ false → kind_of_type t ≢ kinds.Var
-no_variable t e is = let both : true ≡ false = sym (ap declares is) ∙ e in cc
-
--- such a type is passed over
-pub passed_by : (kernel : Table) (r : KernelRecords) (of_types : List BtfKind) (id : ℕ) → of_types ≡ map kind_of_type kernel.types → declares_at of_types id ≡ false → AreAllSaid kernel r id → AreAllSaid kernel r (id + 1)
-passed_by kernel r of_types id are e said =
-    let here : declares_at (map kind_of_type kernel.types) id ≡ false = subst (λ (ks : List BtfKind). declares_at ks id ≡ false) are e in
-    let none : option_map_or declares_type (type_by_id kernel id) false ≡ false = sym (by_kinds kernel.types (id - 1) (id == 0)) ∙ here in
+-- there is no type of this id
+pub is_none : (kernel : Table) (r : KernelRecords) (id : ℕ) (kind : Option BtfKind) → AreAllSaid kernel r id → kind ≡ option_map kind_of_type (type_by_id kernel id) → kind ≡ None → AreAllSaid kernel r (id + 1)
+is_none kernel r id kind said is none =
+    let here : type_by_id kernel id ≡ None = no_type (type_by_id kernel id) (sym is ∙ none) in
     record {
-      functions = none_said kernel r.functions id (type_by_id kernel id) refl (λ t isnt. rw said.function_kind (no_function t isnt)) none said.functions;
-      variables = none_said kernel r.variables id (type_by_id kernel id) refl (λ t isnt. rw said.variable_kind (no_variable t isnt)) none said.variables;
+      functions = none_there kernel r.functions id said.functions here;
+      variables = none_there kernel r.variables id said.variables here;
       function_kind = said.function_kind;
       variable_kind = said.variable_kind;
     }
+
+no_function : (r : KernelRecords) (kind : BtfKind) → None ≡ records_of r kind → kind ≢ kinds.Func
+no_function r kind none is = let some : None ≡ Some r.functions = none ∙ ap (records_of r) is in absurd cc
+
+no_variable : (r : KernelRecords) (kind : BtfKind) → None ≡ records_of r kind → kind ≢ kinds.Var
+no_variable r kind none is = let some : None ≡ Some r.variables = none ∙ ap (records_of r) is in absurd cc
+
+kind_other : (kernel : Table) (r : KernelRecords) (id : ℕ) (kind : BtfKind) (t : Option BtfType) → AreAllSaid kernel r id → type_by_id kernel id ≡ t → Some kind ≡ option_map kind_of_type t → None ≡ records_of r kind → AreAllSaid kernel r (id + 1)
+kind_other kernel r id kind None said here is none = absurd cc
+kind_other kernel r id kind (Some t) said here is none =
+    let same : kind_of_type t ≡ kind = cc in
+    record {
+      functions = other_kind kernel r.functions id t said.functions here (λ e. no_function r kind none (sym same ∙ (e ∙ said.function_kind)));
+      variables = other_kind kernel r.variables id t said.variables here (λ e. no_variable r kind none (sym same ∙ (e ∙ said.variable_kind)));
+      function_kind = said.function_kind;
+      variable_kind = said.variable_kind;
+    }
+
+-- no records of its kind are gathered
+pub of_other_kind : (kernel : Table) (r : KernelRecords) (id : ℕ) (kind : BtfKind) → AreAllSaid kernel r id → Some kind ≡ option_map kind_of_type (type_by_id kernel id) → None ≡ records_of r kind → AreAllSaid kernel r (id + 1)
+of_other_kind kernel r id kind said is none = kind_other kernel r id kind (type_by_id kernel id) said refl is none
+
+unwanted_by : (found : Option (Option ℕ)) (marked : Bool) → IfSome found (λ _. marked ≡ true) → marked ≡ false → found ≢ Some None
+unwanted_by None marked has isnt = λ is. cc
+unwanted_by (Some f) marked has isnt = let both : true ≡ false = sym has ∙ isnt in absurd cc
+
+looked_up : (entries : List (Bor (List ℕ) × Option ℕ)) (marks : List Bool) (text : Option (List ℕ)) → AreBeginnings entries marks → IsSomeAnd text (λ t. is_marked marks (beginning t) ≡ false) → IsSomeAnd text (λ name. ids_under entries name ≢ Some None)
+looked_up entries marks None are begins = absurd begins
+looked_up entries marks (Some name) are begins = unwanted_by (ids_under entries name) (is_marked marks (beginning name)) (are.each name) begins
+
+said_on : (kernel : Table) (r : NamedRecords) (id : ℕ) (t : BtfType) → AreSaid kernel r id → type_by_id kernel id ≡ Some t → IsSomeAnd (text_at kernel.strings (name_offset_of t)) (λ text. is_marked r.beginnings (beginning text) ≡ false) → AreSaid kernel r (id + 1)
+said_on kernel r id t said here begins = passed_there kernel r id t said here (looked_up r.ids.entries r.beginnings (text_at kernel.strings (name_offset_of t)) said.beginnings begins)
+
+abbrev Otherwise : Table → NamedRecords → BtfType → Type 0
+Otherwise kernel records t = IsSomeAnd (text_at kernel.strings (name_offset_of t)) (λ text. is_marked records.beginnings (beginning text) ≡ false)
+
+of_function : (kernel : Table) (r : KernelRecords) (id : ℕ) (t : BtfType) → AreAllSaid kernel r id → type_by_id kernel id ≡ Some t → kind_of_type t ≡ kinds.Func → Otherwise kernel r.functions t → AreAllSaid kernel r (id + 1)
+of_function kernel r id t said here is begins = record {
+  functions = said_on kernel r.functions id t said.functions here begins;
+  variables = other_kind kernel r.variables id t said.variables here (λ e. let both : kinds.Func ≡ kinds.Var = sym is ∙ (e ∙ said.variable_kind) in absurd cc);
+  function_kind = said.function_kind;
+  variable_kind = said.variable_kind;
+}
+
+of_variable : (kernel : Table) (r : KernelRecords) (id : ℕ) (t : BtfType) → AreAllSaid kernel r id → type_by_id kernel id ≡ Some t → kind_of_type t ≡ kinds.Var → Otherwise kernel r.variables t → AreAllSaid kernel r (id + 1)
+of_variable kernel r id t said here is begins = record {
+  functions = other_kind kernel r.functions id t said.functions here (λ e. let both : kinds.Var ≡ kinds.Func = sym is ∙ (e ∙ said.function_kind) in absurd cc);
+  variables = said_on kernel r.variables id t said.variables here begins;
+  function_kind = said.function_kind;
+  variable_kind = said.variable_kind;
+}
+
+by_kind : (kernel : Table) (r : KernelRecords) (id : ℕ) (t : BtfType) (records : NamedRecords) (kind : BtfKind) → AreAllSaid kernel r id → type_by_id kernel id ≡ Some t → kind_of_type t ≡ kind → Some records ≡ records_of r kind → Otherwise kernel records t → AreAllSaid kernel r (id + 1)
+by_kind kernel r id t records kinds.Func said here is are begins = let same : records ≡ r.functions = cc in of_function kernel r id t said here is (subst (λ (n : NamedRecords). Otherwise kernel n t) same begins)
+by_kind kernel r id t records kinds.Var said here is are begins = let same : records ≡ r.variables = cc in of_variable kernel r id t said here is (subst (λ (n : NamedRecords). Otherwise kernel n t) same begins)
+by_kind kernel r id t records kinds.Unknown said here is are begins = absurd cc
+by_kind kernel r id t records kinds.Int said here is are begins = absurd cc
+by_kind kernel r id t records kinds.Ptr said here is are begins = absurd cc
+by_kind kernel r id t records kinds.Array said here is are begins = absurd cc
+by_kind kernel r id t records kinds.Struct said here is are begins = absurd cc
+by_kind kernel r id t records kinds.Union said here is are begins = absurd cc
+by_kind kernel r id t records kinds.Enum said here is are begins = absurd cc
+by_kind kernel r id t records kinds.Fwd said here is are begins = absurd cc
+by_kind kernel r id t records kinds.Typedef said here is are begins = absurd cc
+by_kind kernel r id t records kinds.Volatile said here is are begins = absurd cc
+by_kind kernel r id t records kinds.Const said here is are begins = absurd cc
+by_kind kernel r id t records kinds.Restrict said here is are begins = absurd cc
+by_kind kernel r id t records kinds.FuncProto said here is are begins = absurd cc
+by_kind kernel r id t records kinds.DataSec said here is are begins = absurd cc
+by_kind kernel r id t records kinds.Float said here is are begins = absurd cc
+by_kind kernel r id t records kinds.DeclTag said here is are begins = absurd cc
+by_kind kernel r id t records kinds.TypeTag said here is are begins = absurd cc
+by_kind kernel r id t records kinds.Enum64 said here is are begins = absurd cc
+
+type_otherwise : (kernel : Table) (r : KernelRecords) (id : ℕ) (kind : BtfKind) (records : NamedRecords) (t : Option BtfType) → AreAllSaid kernel r id → type_by_id kernel id ≡ t → Some kind ≡ option_map kind_of_type t → Some records ≡ records_of r kind → IsSomeAnd t (Otherwise kernel records) → AreAllSaid kernel r (id + 1)
+type_otherwise kernel r id kind records None said here is are begins = absurd begins
+type_otherwise kernel r id kind records (Some t) said here is are begins = by_kind kernel r id t records kind said here cc are begins
+
+-- its name begins otherwise than those that are wanted of its kind
+pub begins_otherwise : (kernel : Table) (r : KernelRecords) (id : ℕ) (kind : BtfKind) (records : NamedRecords) → AreAllSaid kernel r id → Some kind ≡ option_map kind_of_type (type_by_id kernel id) → Some records ≡ records_of r kind → BeginsOtherwise kernel records.beginnings id → AreAllSaid kernel r (id + 1)
+begins_otherwise kernel r id kind records said is are begins = type_otherwise kernel r id kind records (type_by_id kernel id) said refl is are begins

@@ -1,12 +1,12 @@
 -- What was gathered of the kernel's table, of functions and variables.
-use Rattle.std.specs.Prelude.{◌≡◌, ℕ, ◌-◌, ◌==◌, Bool, true, false, List, ◌++◌, slice_get, if◌then◌else◌}
+use Rattle.std.specs.Prelude.{◌≡◌, ℕ, List, ◌++◌, Option, None, Some}
 use Rattle.std.specs.List.{AllByRecursion}
-use Rattle.std.specs.Option.{option_map_or}
 use Rattle.btf_records.specs.declared.kind.BtfKind.{BtfKind}
 use Rattle.btf_records.specs.declared.kind.BtfKind.TheVariants as kinds
 use Rattle.btf_tables.specs.Tables.{Table}
 use Rattle.extern_resolution.specs.Wanted.{AreSaid, IsBegun, IsEntryWanted, SameNames}
 use Rattle.extern_resolution.specs.declared.kernel_records.KernelRecords.{KernelRecords}
+use Rattle.extern_resolution.specs.declared.named_records.NamedRecords.{NamedRecords}
 use Rattle.object_externs.specs.Externs.{ExternContent}
 
 -- nothing was gone through
@@ -46,12 +46,8 @@ pub record WantsEntry (table : Table) (old new : KernelRecords) (entry : List �
       → IsEntryWanted table old other
       → IsEntryWanted table new other
 
--- types of this kind are functions or variables
-abbrev pub declares : BtfKind → Bool
-declares kinds.Func = true
-declares kinds.Var = true
-declares _ = false
-
--- the type of an id is one, by the kinds of those from id 1 on
-abbrev pub declares_at : List BtfKind → ℕ → Bool
-declares_at types id = if id == 0 then false else option_map_or declares (slice_get types (id - 1)) false
+-- where the records of a kind are gathered
+abbrev pub records_of : KernelRecords → BtfKind → Option NamedRecords
+records_of r kinds.Func = Some r.functions
+records_of r kinds.Var = Some r.variables
+records_of r _ = None

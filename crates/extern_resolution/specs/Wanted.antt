@@ -14,12 +14,13 @@ use Rattle.btf_records.specs.declared.kind.BtfKind.{BtfKind}
 use Rattle.btf_records.specs.declared.kind.BtfKind.TheVariants as kinds
 use Rattle.btf_tables.specs.Tables.{Table, type_by_id}
 use Rattle.btf_tables.specs.TypesByName.{IsFirstNamed, IsNotNamed}
-use Rattle.first_bytes.specs.FirstBytes.{first_byte, is_marked}
+use Rattle.first_bytes.specs.FirstBytes.{is_marked}
 use Rattle.extern_resolution.specs.Outcomes.{IsMissing, kernel_name}
 use Rattle.extern_resolution.specs.declared.kernel_records.KernelRecords.{KernelRecords}
 use Rattle.extern_resolution.specs.declared.named_records.NamedRecords.{NamedRecords}
 use Rattle.object_externs.specs.Externs.{ExternContent}
 use Rattle.string_table.specs.Texts.{text_at}
+use Rattle.type_headers.specs.Beginnings.{beginning}
 
 -- what stands under a name: nothing where it isn't wanted
 abbrev pub ids_under : List (Bor (List ℕ) × Option ℕ) → List ℕ → Option (Option ℕ)
@@ -56,20 +57,20 @@ IsLookedUp strings entries offset =
 abbrev pub IsNoted : List ℕ → List ℕ → ℕ → Type 0
 IsNoted old new offset = (new ≡ old) ⊎ (new ≡ insert_key nat_cmp old offset)
 
--- each wanted name begins with one of these bytes
-pub record AreFirstBytes (entries : List (Bor (List ℕ) × Option ℕ)) (marked : List Bool) : Type 0 where
+-- each wanted name has one of these beginnings
+pub record AreBeginnings (entries : List (Bor (List ℕ) × Option ℕ)) (marked : List Bool) : Type 0 where
   pub each : (name : List ℕ)
-      → IfSome (ids_under entries name) (λ _. is_marked marked (first_byte name) ≡ true)
+      → IfSome (ids_under entries name) (λ _. is_marked marked (beginning name) ≡ true)
 
 -- under each wanted name stands what the records below an id say
 pub record AreSaid (kernel : Table) (r : NamedRecords) (below : ℕ) : Type 0 where
-  pub first : AreFirstBytes r.ids.entries r.first_bytes
+  pub beginnings : AreBeginnings r.ids.entries r.beginnings
   pub each : (name : List ℕ) → IfSome (under r name) (Says kernel r.kind below r.is_hidden name)
   pub looked_up : All (IsLookedUp kernel.strings r.ids.entries) r.looked_up.keys
 
 -- nothing was gone through
 pub record IsBegun (r : NamedRecords) : Type 0 where
-  pub first : AreFirstBytes r.ids.entries r.first_bytes
+  pub beginnings : AreBeginnings r.ids.entries r.beginnings
   pub fresh : (name : List ℕ) → IfSome (under r name) (λ found. found ≡ None)
   pub none : r.looked_up.keys ≡ []
   pub readable : r.is_hidden ≡ false

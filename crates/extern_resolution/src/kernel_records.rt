@@ -1,53 +1,24 @@
 //! What the kernel's table has of the functions and variables that externs are declared as.
 
-ghost use Rattle.std.specs.Prelude.{◌≡◌, ◌+◌, length, slice_get, true, IfOk, OnOk};
+ghost use Rattle.std.specs.Prelude.{◌≡◌, ◌+◌, length, true, IfOk, OnOk};
 ghost use Rattle.std.specs.Option.{option_copied};
-ghost use Rattle.first_bytes.specs.FirstBytes.{AreTexts};
-ghost use Rattle.extern_resolution.specs.Gathering.{AreAllSaid, AreBegun, AreEntriesWanted, SameWanted, WantsEntry, declares, declares_at};
+ghost use Rattle.btf_tables.specs.Tables.{Table};
+ghost use Rattle.type_headers.specs.Headers.{AreHeadersOf};
+ghost use Rattle.extern_resolution.specs.Gathering.{AreAllSaid, AreBegun, AreEntriesWanted, SameWanted, WantsEntry, records_of};
 ghost use Rattle.extern_resolution.specs.Wanted.{AreKnown, id_of};
 
 use crate::named_records::NamedRecords;
 use btf_records::BtfKind;
 use btf_tables::{Btf, essential_name};
-use first_bytes::are_texts;
 use object_externs::{ExternDesc, Externs};
 use std::alloc::{AllocError, Global};
+use type_headers::TypeHeaders;
 
 /// The kernel's functions and variables that have the names of externs.
 #[derive(Debug, Drop)]
 pub(crate) struct KernelRecords<'n> {
     pub(crate) functions: NamedRecords<'n>,
     pub(crate) variables: NamedRecords<'n>,
-}
-
-/// The kind at an index.
-fn kind_at(types: &[BtfKind], index: usize) -> Option<BtfKind>
-    ensures { result ≡ slice_get types.now index }
-{
-    types.get(index).copied()
-}
-
-/// Whether types of a kind are functions or variables.
-fn declares(kind: BtfKind) -> bool
-    ensures { result ≡ declares kind }
-{
-    match kind {
-        BtfKind::Func | BtfKind::Var => true,
-        _ => false,
-    }
-}
-
-/// Whether the type of an id is a function or a variable, by the kinds of those from id 1 on.
-fn declares_at(types: &[BtfKind], id: usize) -> bool
-    ensures { result ≡ declares_at types.now id }
-{
-    if id == 0 {
-        return false;
-    }
-    match kind_at(types, id - 1) {
-        Some(kind) => declares(kind),
-        None => false,
-    }
 }
 
 impl<'n> KernelRecords<'n> {
@@ -95,36 +66,63 @@ impl<'n> KernelRecords<'n> {
         }
     }
 
+    /// Where the records of a kind are gathered.
+    fn records_of(&self, kind: BtfKind) -> Option<&NamedRecords<'n>>
+        ensures { option_copied result ≡ records_of self.now kind }
+    {
+        match kind {
+            BtfKind::Func => Some(&self.functions),
+            BtfKind::Var => Some(&self.variables),
+            _ => None,
+        }
+    }
+
+    /// Whether the kind and the beginning of the name of the type of an id tell that it isn't
+    /// wanted.
+    #[tactic(auto, using(crate::proofs::PassedTypes::is_none, crate::proofs::PassedTypes::of_other_kind, crate::proofs::PassedTypes::begins_otherwise))]
+    fn is_passed_over(&self, headers: &TypeHeaders<'_>, id: usize) -> bool
+        ensures { (kernel : Table)
+            → AreHeadersOf kernel headers.now
+            → AreAllSaid kernel self.now id
+            → result ≡ true
+            → AreAllSaid kernel self.now (id + 1) }
+    {
+        let Some(kind) = headers.kind(id) else {
+            return true;
+        };
+        match self.records_of(kind) {
+            Some(records) => headers.begins_otherwise(id, &records.beginnings),
+            None => true,
+        }
+    }
+
     /// Takes the record of an id, after those of lesser ids.
-    fn take(&mut self, kernel: &Btf<'_>, are_texts: bool, id: u32) -> Result<(), AllocError>
-        requires texts { are_texts ≡ true → AreTexts kernel.now.strings }
-        requires said { AreAllSaid kernel.now self.old id }
+    fn take(&mut self, kernel: &Btf<'_>, id: u32) -> Result<(), AllocError>
+        requires { AreAllSaid kernel.now self.old id }
         ensures said { OnOk result (AreAllSaid kernel.now self.new (id + 1)) }
         ensures wanted { OnOk result (SameWanted self.old self.new) }
     {
         let Ok(t) = kernel.type_by_id(id) else {
             return Ok(());
         };
-        self.functions.take(kernel, are_texts, id, &t)?;
-        self.variables.take(kernel, are_texts, id, &t)?;
+        self.functions.take(kernel, id, &t)?;
+        self.variables.take(kernel, id, &t)?;
         Ok(())
     }
 
-    /// Goes through a table. Of types that are no functions or variables the kind alone is read, and
-    /// of most others the first byte of the name.
+    /// Goes through a table. Of nearly all types that aren't wanted the record isn't read.
     fn go_through(&mut self, kernel: &Btf<'_>) -> Result<(), AllocError>
         requires { AreBegun self.old }
         ensures said { OnOk result (AreAllSaid kernel.now self.new (length kernel.now.types + 1)) }
         ensures wanted { OnOk result (SameWanted self.old self.new) }
     {
-        let are_texts = are_texts(kernel.strings().as_slice());
-        let types = kernel.kinds();
+        let headers = TypeHeaders::new(kernel);
         let count = kernel.len() + 1;
         for id in 0..count {
-            if !declares_at(types, id) {
+            if self.is_passed_over(&headers, id) {
                 continue;
             }
-            self.take(kernel, are_texts, id as u32)?;
+            self.take(kernel, id as u32)?;
         }
         Ok(())
     }

@@ -3,15 +3,15 @@
 ghost use Rattle.std.specs.Prelude.{◌≡◌, ◌+◌, ◌||◌, ℕ, List, None, Some, false, true, if◌then◌else◌, is_some, IfOk, OnOk};
 ghost use Rattle.std.specs.Str.{bytes_eq};
 ghost use Rattle.btf_tables.specs.Tables.{type_by_id};
-ghost use Rattle.first_bytes.specs.FirstBytes.{AreTexts};
-ghost use Rattle.extern_resolution.specs.Wanted.{AreFirstBytes, AreSaid, IsBegun, IsLookedUp, IsNoted, SameNames, Wants, entered, id_under, ids_under};
+ghost use Rattle.extern_resolution.specs.Wanted.{AreSaid, IsBegun, IsNoted, SameNames, Wants, entered, id_under, ids_under};
 
 use btf_encoding::TypeRef;
 use btf_records::BtfKind;
 use btf_tables::Btf;
-use first_bytes::{MarkedBytes, first_byte, first_byte_at};
+use first_bytes::MarkedBytes;
 use std::alloc::{AllocError, Global};
 use std::collections::{BTreeMap, BTreeSet};
+use type_headers::beginning;
 
 /// Names of at least this many bytes are looked up once.
 const LONG: usize = 256;
@@ -22,8 +22,8 @@ pub(crate) struct NamedRecords<'n> {
     pub(crate) kind: BtfKind,
     /// The id under each wanted name, where a record was met that has it.
     pub(crate) ids: BTreeMap<&'n str, Option<u32>>,
-    /// The first bytes of the wanted names.
-    pub(crate) first_bytes: MarkedBytes,
+    /// The beginnings of the wanted names.
+    pub(crate) beginnings: MarkedBytes,
     /// The offsets of long names that were looked up.
     pub(crate) looked_up: BTreeSet<u32>,
     /// Whether a record was met whose name can't be read, which hides those after it.
@@ -73,7 +73,7 @@ impl<'n> NamedRecords<'n> {
         NamedRecords {
             kind,
             ids: BTreeMap::new(alloc),
-            first_bytes: MarkedBytes::new(),
+            beginnings: MarkedBytes::new(),
             looked_up: BTreeSet::new(alloc),
             is_hidden: false,
         }
@@ -83,32 +83,17 @@ impl<'n> NamedRecords<'n> {
     pub(crate) fn want(&mut self, name: &'n str) -> Result<(), AllocError>
         ensures { OnOk result (Wants self.old self.new name.now) }
     {
-        self.first_bytes.mark(first_byte(name));
+        self.beginnings.mark(beginning(name));
         want(&mut self.ids, name)
     }
 
-    /// Whether a name that isn't wanted is at an offset, as its first byte tells.
-    fn is_passed_over(&self, strings: &[u8], are_texts: bool, offset: u32) -> bool
-        requires texts { are_texts ≡ true → AreTexts strings.now }
-        requires first { AreFirstBytes self.now.ids.entries self.now.first_bytes }
-        ensures { result ≡ true → IsLookedUp strings.now self.now.ids.entries offset }
-    {
-        match first_byte_at(strings, offset) {
-            Some(byte) => are_texts && !self.first_bytes.contains(byte),
-            None => false,
-        }
-    }
-
-    /// Takes the record of an id, after those of lesser ids. It is told whether each byte of the
-    /// kernel's strings begins a text.
+    /// Takes the record of an id, after those of lesser ids.
     pub(crate) fn take(
         &mut self,
         kernel: &Btf<'_>,
-        are_texts: bool,
         id: u32,
         t: &TypeRef<'_>,
     ) -> Result<(), AllocError>
-        requires texts { are_texts ≡ true → AreTexts kernel.now.strings }
         requires here { type_by_id kernel.now id ≡ Some t.now }
         requires said { AreSaid kernel.now self.old id }
         ensures said { OnOk result (AreSaid kernel.now self.new (id + 1)) }
@@ -121,9 +106,6 @@ impl<'n> NamedRecords<'n> {
             return Ok(());
         }
         let offset = t.name_offset();
-        if self.is_passed_over(kernel.strings().as_slice(), are_texts, offset) {
-            return Ok(());
-        }
         if self.looked_up.contains(&offset) {
             return Ok(());
         }

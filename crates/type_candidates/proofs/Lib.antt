@@ -1,11 +1,10 @@
 pub mod ByBytes
-pub mod FirstBytes
 pub mod FirstTable
 pub mod FoundCandidates
 pub mod Held
-pub mod KindsOfTypes
 pub mod Lengths
+pub mod NamesBegin
 pub mod Numbers
+pub mod OtherTypes
 pub mod PickedTypes
 pub mod SeenTypes
-pub mod Texts

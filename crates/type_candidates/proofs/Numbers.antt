@@ -70,8 +70,5 @@ entered_next old new name number count next was same before absent had is put =
     sym (by_bytes-lookup other new) ∙ put other ∙ ap (λ (n : ℕ). cond (bytes_eq name other) (Some n) (under old other)) same ∙ ap (λ (o : Option ℕ). cond (bytes_eq name other) (Some count) o) (by_bytes-lookup other old)))
 
 -- a name more was looked up
-pub looked_up : {K : Type 0} (cmp : K → K → Ordering) (entries : List (K × LongName)) (key : K) (name : LongName) (numbers : List (List ℕ × ℕ)) (strings text : List ℕ) (are_texts : Bool) → AreNumbersOf numbers strings (record { names = values_of entries; are_texts = are_texts }) → text_at strings name.offset ≡ Some text → name.number ≡ number_of_name numbers (essential_name text) → AreNumbersOf numbers strings (record { names = values_of (insert_entry cmp entries key name); are_texts = are_texts })
-looked_up cmp entries key name numbers strings text are_texts are is here = record {
-  each = All-values-insert_entry cmp key name (IsNumberAt numbers strings) entries are.each (rw is (sym here));
-  texts = are.texts;
-}
+pub looked_up : {K : Type 0} (cmp : K → K → Ordering) (entries : List (K × LongName)) (key : K) (name : LongName) (numbers : List (List ℕ × ℕ)) (strings text : List ℕ) → AreNumbersOf numbers strings (values_of entries) → text_at strings name.offset ≡ Some text → name.number ≡ number_of_name numbers (essential_name text) → AreNumbersOf numbers strings (values_of (insert_entry cmp entries key name))
+looked_up cmp entries key name numbers strings text are is here = All-values-insert_entry cmp key name (IsNumberAt numbers strings) entries are (rw is (sym here))

@@ -1,3 +1,3 @@
 pub mod Candidates
-pub mod FirstBytes
+pub mod NameBeginnings
 pub mod NamedTypes

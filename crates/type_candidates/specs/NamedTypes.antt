@@ -1,5 +1,5 @@
 -- The types of a kernel that have wanted names, found in one walk over each table.
-use Rattle.std.specs.Prelude.{◌≡◌, ℕ, ◌-◌, ◌<◌, ◌==◌, ◌&&◌, ◌||◌, nat_eq, codes, drop, length, not, All, Bool, true, false, List, [], ◌∷◌, ◌++◌, filter, find, map, slice_get, slice_index_or, IfSome, Option, None, Some, if◌then◌else◌}
+use Rattle.std.specs.Prelude.{◌≡◌, ℕ, ◌<◌, ◌==◌, ◌&&◌, ◌||◌, nat_eq, codes, drop, length, not, All, Bool, true, false, List, [], ◌∷◌, ◌++◌, filter, find, map, slice_get, slice_index_or, IfSome, Option, None, Some, if◌then◌else◌}
 use Rattle.std.specs.BTreeMap.{is_at}
 use Rattle.std.specs.Borrow.{Bor}
 use Rattle.std.specs.Cmp.Lexicographic.{slice_cmp}
@@ -9,12 +9,10 @@ use Rattle.std.specs.Option.{IsSomeAnd, option_map_or}
 use Rattle.std.specs.Ordering.{nat_cmp}
 use Rattle.btf_records.specs.Fields.{kind_of_type, name_offset_of}
 use Rattle.btf_records.specs.Kinds.{number_of}
-use Rattle.btf_records.specs.declared.kind.BtfKind.{BtfKind}
-use Rattle.btf_records.specs.declared.kind.BtfKind.TheVariants.{Enum64, Unknown}
+use Rattle.btf_records.specs.declared.kind.BtfKind.TheVariants.{Enum64}
 use Rattle.btf_records.specs.declared.types.BtfType.{BtfType}
 use Rattle.btf_tables.specs.EssentialNames.{essential_name}
 use Rattle.btf_tables.specs.Tables.{Table, type_by_id}
-use Rattle.first_bytes.specs.FirstBytes.{AreTexts}
 use Rattle.string_table.specs.Texts.{text_at}
 use Rattle.type_candidates.specs.Candidates.{Wanted, all_types, asked_of, first_types, is_candidate, is_of_kind, is_unreadable_at, types_at}
 use Rattle.type_candidates.specs.declared.kernel_type.KernelType.{KernelType}
@@ -57,23 +55,17 @@ IsNumberAt numbers strings found =
     IsSomeAnd (text_at strings found.offset) (λ text.
     number_of_name numbers (essential_name text) ≡ found.number)
 
--- what is known of the names of a table: those that were looked up, and whether each byte of its
--- strings begins a text
-pub record KnownNames : Type 0 where
-  pub names : List LongName
-  pub are_texts : Bool
-
-pub record AreNumbersOf (numbers : List (List ℕ × ℕ)) (strings : List ℕ) (known : KnownNames) : Type 0 where
-  pub each : All (IsNumberAt numbers strings) known.names
-  pub texts : known.are_texts ≡ true → AreTexts strings
+-- of all names of a table that were looked up
+abbrev pub AreNumbersOf : List (List ℕ × ℕ) → List ℕ → List LongName → Type 0
+AreNumbersOf numbers strings names = All (IsNumberAt numbers strings) names
 
 -- among the strings of a table
-abbrev pub AreNumbersAt : List (List ℕ × ℕ) → List Table → ℕ → KnownNames → Type 0
-AreNumbersAt numbers targets table known =
-    IfSome (slice_get targets table) (λ target. AreNumbersOf numbers target.strings known)
+abbrev pub AreNumbersAt : List (List ℕ × ℕ) → List Table → ℕ → List LongName → Type 0
+AreNumbersAt numbers targets table names =
+    IfSome (slice_get targets table) (λ target. AreNumbersOf numbers target.strings names)
 
-abbrev pub IsFoundAt : KnownNames → ℕ → LongName → Type 0
-IsFoundAt known offset name = IsAmong known.names name × (name.offset ≡ offset)
+abbrev pub IsFoundAt : List LongName → ℕ → LongName → Type 0
+IsFoundAt names offset name = IsAmong names name × (name.offset ≡ offset)
 
 -- what a type is, of these kinds and these names
 abbrev pub of_number : Option ℕ → Sighting
@@ -84,34 +76,21 @@ abbrev pub of_name : List (List ℕ × ℕ) → ℕ → Option (List ℕ) → Si
 of_name numbers kind None = Unreadable kind
 of_name numbers kind (Some text) = of_number (number_of_name numbers (essential_name text))
 
--- a text that can be read and has no number
-abbrev pub HasNoNumber : List (List ℕ × ℕ) → Option (List ℕ) → Type 0
-HasNoNumber numbers text = IsSomeAnd text (λ t. number_of_name numbers (essential_name t) ≡ None)
-
 abbrev pub of_type : List Bool → List (List ℕ × ℕ) → List ℕ → BtfType → Sighting
 of_type kinds numbers strings t =
     if slice_index_or kinds (number_of (kind_of_type t)) false
     then of_name numbers (number_of (kind_of_type t)) (text_at strings (name_offset_of t))
     else Other
 
+-- the type of an id in a table
+abbrev pub of_type_by_id : List Bool → List (List ℕ × ℕ) → Table → ℕ → Sighting
+of_type_by_id kinds numbers table id =
+    option_map_or (of_type kinds numbers table.strings) (type_by_id table id) Other
+
 abbrev pub sighted : List Bool → List (List ℕ × ℕ) → List Table → KernelType → Sighting
 sighted kinds numbers targets place =
-    option_map_or (λ table.
-    option_map_or (of_type kinds numbers table.strings) (type_by_id table place.type_id) Other)
+    option_map_or (λ table. of_type_by_id kinds numbers table place.type_id)
     (slice_get targets place.table) Other
-
--- the kinds of a table's types, from id 1 on
-abbrev pub AreKindsAt : List Table → ℕ → List BtfKind → Type 0
-AreKindsAt targets table types =
-    IfSome (slice_get targets table) (λ target. types ≡ map kind_of_type target.types)
-
--- the kind of the type of an id, by the kinds of those from 1 on; and whether it is a wanted one
-abbrev pub kind_by_id : List BtfKind → ℕ → Option BtfKind
-kind_by_id types id = if id == 0 then Some Unknown else slice_get types (id - 1)
-
-abbrev pub is_wanted_at : List Bool → List BtfKind → ℕ → Bool
-is_wanted_at kinds types id =
-    option_map_or (λ kind. slice_index_or kinds (number_of kind) false) (kind_by_id types id) false
 
 abbrev pub is_under : ℕ → Sighting → Bool
 is_under number (Named other) = other == number

@@ -1,13 +1,12 @@
 //! The names of a table, looked up among the wanted ones.
 
-ghost use Rattle.std.specs.Prelude.{◌≡◌, ℕ, List, IfOk, IfSome, true};
+ghost use Rattle.std.specs.Prelude.{◌≡◌, [], IfOk, IfSome};
 ghost use Rattle.string_table.specs.Texts.{text_at};
-ghost use Rattle.type_candidates.specs.NamedTypes.{AreNumbersOf, HasNoNumber, IsFoundAt, of_name, of_number};
+ghost use Rattle.type_candidates.specs.NamedTypes.{AreNumbersOf, IsFoundAt, of_name, of_number};
 
 use crate::sighting::Sighting;
 use crate::wanted_names::WantedNames;
 use btf_tables::Btf;
-use first_bytes::{are_texts, first_byte_at};
 use std::alloc::{AllocError, Global};
 use std::collections::BTreeMap;
 use std::marker::Model;
@@ -28,17 +27,16 @@ pub(crate) struct LongName {
 pub(crate) struct LongNames {
     /// By offset.
     names: BTreeMap<u32, LongName>,
-    /// Whether each byte of the table's strings is known to begin a text.
-    are_texts: bool,
 }
 
 impl Model for LongNames {
+    ghost use Rattle.std.specs.Prelude.{List};
     ghost use Rattle.std.specs.Map.{values_of};
-    ghost use Rattle.type_candidates.specs.NamedTypes.{KnownNames};
+    ghost use Rattle.type_candidates.specs.declared.long_names.LongName.{LongName};
 
-    ghost Value = { KnownNames };
+    ghost Value = { List LongName };
 
-    ghost view = { λ n. record { names = values_of n.names.entries; are_texts = n.are_texts } };
+    ghost view = { λ n. values_of n.names.entries };
 }
 
 /// What a type is whose name has this number.
@@ -52,24 +50,12 @@ fn of_number(number: Option<usize>) -> Sighting
 }
 
 impl LongNames {
-    /// No name of a table with these strings was looked up.
-    pub(crate) fn new(alloc: Global, strings: &[u8]) -> LongNames
-        ensures { (numbers : List (List ℕ × ℕ)) → AreNumbersOf numbers strings.now result }
+    /// No name was looked up.
+    pub(crate) fn new(alloc: Global) -> LongNames
+        ensures { result ≡ [] }
     {
         LongNames {
             names: BTreeMap::new(alloc),
-            are_texts: are_texts(strings),
-        }
-    }
-
-    /// Whether the text at an offset can be read and has no wanted name, as its first byte tells.
-    fn is_passed_over(&self, names: &WantedNames<'_>, strings: &[u8], offset: u32) -> bool
-        requires { AreNumbersOf names.now strings.now self.now }
-        ensures { result ≡ true → HasNoNumber names.now (text_at strings.now offset) }
-    {
-        match first_byte_at(strings, offset) {
-            Some(byte) => self.are_texts && !names.may_begin(byte),
-            None => false,
         }
     }
 
@@ -98,9 +84,6 @@ impl LongNames {
             sighting ≡ of_name names.now kind (text_at target.now.strings offset)) }
         ensures numbers { AreNumbersOf names.now target.now.strings self.new }
     {
-        if self.is_passed_over(names, target.strings().as_slice(), offset) {
-            return Ok(Sighting::Other);
-        }
         let Ok(name) = target.string_at(offset) else {
             return Ok(Sighting::Unreadable(kind));
         };

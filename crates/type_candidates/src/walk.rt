@@ -1,9 +1,13 @@
 //! One walk over each table of a kernel, for all types that are wanted.
 
-ghost use Rattle.std.specs.Prelude.{◌≡◌, ◌≤◌, ◌+◌, false, length, slice_get, slice_index_or, take, IfOk, IfSome, OnOk, []};
+ghost use Rattle.std.specs.Prelude.{◌≡◌, ◌≤◌, ◌+◌, false, length, slice_get, slice_index_or, take, true, IfOk, OnOk, []};
 ghost use Rattle.std.specs.List.{flat_map, range_with_len};
+ghost use Rattle.std.specs.Option.{option_copied};
 ghost use Rattle.type_candidates.specs.Candidates.{all_types, types_at};
-ghost use Rattle.type_candidates.specs.NamedTypes.{AreKindsAt, AreNumbersAt, AreNumbersOf, AreReadable, AreSeen, IsNamedNext, IsUnreadableNext, is_wanted_at, kind_by_id, of_type, sighted, types_before};
+ghost use Rattle.type_candidates.specs.NamedTypes.{AreNumbersAt, AreNumbersOf, AreReadable, AreSeen, IsNamedNext, IsUnreadableNext, of_type, of_type_by_id, sighted, types_before};
+ghost use Rattle.type_candidates.specs.declared.sighting.Sighting.TheVariants.{Other};
+ghost use Rattle.type_headers.specs.Headers.{AreHeadersOf};
+ghost use Rattle.btf_tables.specs.Tables.{Table};
 
 use crate::kernel_type::KernelType;
 use crate::long_names::LongNames;
@@ -12,9 +16,9 @@ use crate::search::type_count;
 use crate::sighting::Sighting;
 use crate::wanted_names::WantedNames;
 use btf_encoding::TypeRef;
-use btf_records::BtfKind;
 use btf_tables::Btf;
 use std::alloc::{AllocError, Global};
+use type_headers::TypeHeaders;
 
 /// Whether a kind, by its number, is wanted.
 fn is_wanted(kinds: &[bool], kind: usize) -> bool
@@ -117,55 +121,32 @@ fn note(
     note_named(sighting, place, named)
 }
 
-/// The strings of a table.
-fn strings_at<'t>(targets: &'t [Btf<'_>], table: usize) -> &'t [u8]
-    ensures { IfSome (slice_get targets.now table) (λ target. result.now ≡ target.strings) }
+/// Whether the kind and the beginning of the name of the type of an id tell that it hasn't a wanted
+/// name.
+#[tactic(auto, using(crate::proofs::OtherTypes::is_none, crate::proofs::OtherTypes::of_other_kind, crate::proofs::OtherTypes::begins_otherwise))]
+fn is_other(kinds: &[bool], names: &WantedNames<'_>, headers: &TypeHeaders<'_>, id: usize) -> bool
+    ensures { (target : Table)
+        → AreHeadersOf target headers.now
+        → result ≡ true
+        → of_type_by_id kinds.now names.now target id ≡ Other }
 {
-    match targets.get(table) {
-        Some(target) => target.strings().as_slice(),
-        None => &[],
+    match headers.kind(id) {
+        Some(kind) => {
+            !is_wanted(kinds, kind as usize) || headers.begins_otherwise(id, names.beginnings())
+        }
+        None => true,
     }
 }
 
-/// No name of a table was looked up.
-fn no_names(alloc: Global, names: &WantedNames<'_>, targets: &[Btf<'_>], table: usize) -> LongNames
-    ensures { AreNumbersAt names.now targets.now table result }
+/// A table.
+fn table_at<'t, 'a>(targets: &'t [Btf<'a>], table: usize) -> Option<&'t Btf<'a>>
+    ensures { option_copied result ≡ slice_get targets.now table }
 {
-    LongNames::new(alloc, strings_at(targets, table))
+    targets.get(table)
 }
 
-/// The kinds of the types of a table, from id 1 on.
-fn kinds_at<'t>(targets: &'t [Btf<'_>], table: usize) -> &'t [BtfKind]
-    ensures { AreKindsAt targets.now table result.now }
-{
-    match targets.get(table) {
-        Some(target) => target.kinds(),
-        None => &[],
-    }
-}
-
-/// The kind of the type of an id, by the kinds of those from id 1 on.
-fn kind_by_id(types: &[BtfKind], id: usize) -> Option<BtfKind>
-    ensures { result ≡ kind_by_id types.now id }
-{
-    if id == 0 {
-        return Some(BtfKind::Unknown);
-    }
-    types.get(id - 1).copied()
-}
-
-/// Whether the type of an id is of a wanted kind, by the kinds of those from id 1 on.
-fn is_wanted_at(kinds: &[bool], types: &[BtfKind], id: usize) -> bool
-    ensures { result ≡ is_wanted_at kinds.now types.now id }
-{
-    match kind_by_id(types, id) {
-        Some(kind) => is_wanted(kinds, kind as usize),
-        None => false,
-    }
-}
-
-/// Enters the types of a table, after those of the tables before it. Of those whose kinds aren't
-/// wanted nothing else is read.
+/// Enters the types of a table, after those of the tables before it. Of nearly all that haven't a
+/// wanted name the record isn't read.
 fn note_table(
     alloc: Global,
     kinds: &[bool],
@@ -181,11 +162,14 @@ fn note_table(
         (AreSeen (sighted kinds.now names.now targets.now)
         (flat_map (types_at targets.now) (range_with_len 0 (table + 1))) named.new unreadable.new) }
 {
-    let mut long_names = no_names(alloc, names, targets, table);
-    let types = kinds_at(targets, table);
+    let Some(target) = table_at(targets, table) else {
+        return Ok(());
+    };
+    let headers = TypeHeaders::new(target);
+    let mut long_names = LongNames::new(alloc);
     let count = type_count(targets, table);
     for id in 0..count {
-        if !is_wanted_at(kinds, types, id) {
+        if is_other(kinds, names, &headers, id) {
             continue;
         }
         let type_id = id as u32;

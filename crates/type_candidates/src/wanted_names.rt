@@ -1,10 +1,10 @@
 //! The names of the types that are wanted.
 
-ghost use Rattle.std.specs.Prelude.{◌≡◌, [], IfNone, IfSome, None, drop, false, length};
+ghost use Rattle.std.specs.Prelude.{◌≡◌, [], IfNone, IfSome, None, drop, length};
 ghost use Rattle.std.specs.BTreeMap.{btree_map_len};
 ghost use Rattle.std.specs.List.{list_any};
 ghost use Rattle.btf_tables.specs.EssentialNames.{essential_name};
-ghost use Rattle.type_candidates.specs.FirstBytes.{AreFirstBytes, BeginsNone, MarksFirst};
+ghost use Rattle.type_candidates.specs.NameBeginnings.{AreBeginnings, MarksBeginnings};
 ghost use Rattle.type_candidates.specs.NamedTypes.{AreApart, AreLengths, AreNumbered, by_bytes, may_end, number_of_name};
 
 use btf_tables::essential_name;
@@ -12,6 +12,7 @@ use first_bytes::MarkedBytes;
 use std::alloc::{AllocError, Global};
 use std::collections::{BTreeMap, BTreeSet};
 use std::marker::Model;
+use type_headers::beginning_of;
 
 /// Names without flavours, each with a number of its own.
 #[derive(Debug, Drop)]
@@ -19,13 +20,13 @@ pub(crate) struct WantedNames<'l> {
     numbers: BTreeMap<&'l str, usize>,
     /// How many bytes the names have.
     lengths: BTreeSet<usize>,
-    /// Which bytes a text of such a name, with its NUL, can begin with.
-    first_bytes: MarkedBytes,
+    /// How a text of such a name can begin.
+    beginnings: MarkedBytes,
 }
 
 impl<'l> Model for WantedNames<'l> {
     ghost use Rattle.std.specs.Prelude.{ℕ, List};
-    ghost use Rattle.type_candidates.specs.FirstBytes.{AreFirstBytes};
+    ghost use Rattle.type_candidates.specs.NameBeginnings.{AreBeginnings};
     ghost use Rattle.type_candidates.specs.NamedTypes.{AreLengths, AreNumbered, by_bytes};
     ghost use Rattle.std.specs.BTreeMap.{btree_map_len};
 
@@ -35,20 +36,24 @@ impl<'l> Model for WantedNames<'l> {
 
     ghost invariant = { λ n. AreNumbered (by_bytes n.numbers.entries) (btree_map_len n.numbers)
         × AreLengths (by_bytes n.numbers.entries) n.lengths.keys
-        × AreFirstBytes (by_bytes n.numbers.entries) n.first_bytes };
+        × AreBeginnings (by_bytes n.numbers.entries) n.beginnings };
 }
 
-/// Marks the bytes that a text of a name can begin with: the name's first, and of the empty name
-/// that of a flavour, or the NUL.
-#[tactic(auto, using(crate::proofs::FirstBytes::one_marked, crate::proofs::FirstBytes::two_marked))]
-fn mark_first(first_bytes: &mut MarkedBytes, name: &str)
-    ensures { MarksFirst name.now first_bytes.old first_bytes.new }
+/// Marks how a text of a name can begin: as the name does, a flavour or the NUL following where it
+/// has fewer than two bytes.
+#[tactic(auto, using(crate::proofs::NamesBegin::two_bytes, crate::proofs::NamesBegin::one_byte, crate::proofs::NamesBegin::no_byte))]
+fn mark_beginnings(beginnings: &mut MarkedBytes, name: &str)
+    ensures { MarksBeginnings name.now beginnings.old beginnings.new }
 {
     match name.as_bytes() {
-        [first, ..] => first_bytes.mark(*first),
+        [first, second, ..] => beginnings.mark(beginning_of(*first, *second)),
+        [first] => {
+            beginnings.mark(beginning_of(*first, 0));
+            beginnings.mark(beginning_of(*first, b'_'));
+        }
         [] => {
-            first_bytes.mark(0);
-            first_bytes.mark(b'_');
+            beginnings.mark(beginning_of(0, 0));
+            beginnings.mark(beginning_of(b'_', b'_'));
         }
     }
 }
@@ -57,19 +62,19 @@ fn mark_first(first_bytes: &mut MarkedBytes, name: &str)
 fn enter<'l>(
     numbers: &mut BTreeMap<&'l str, usize>,
     lengths: &mut BTreeSet<usize>,
-    first_bytes: &mut MarkedBytes,
+    beginnings: &mut MarkedBytes,
     name: &'l str,
 ) -> Result<(), AllocError>
     requires numbered { AreNumbered (by_bytes numbers.old.entries) (btree_map_len numbers.old) }
     requires lengths { AreLengths (by_bytes numbers.old.entries) lengths.old.keys }
-    requires first { AreFirstBytes (by_bytes numbers.old.entries) first_bytes.old }
+    requires beginnings { AreBeginnings (by_bytes numbers.old.entries) beginnings.old }
     requires absent { number_of_name (by_bytes numbers.old.entries) name.now ≡ None }
     ensures numbered { AreNumbered (by_bytes numbers.new.entries) (btree_map_len numbers.new) }
     ensures lengths { AreLengths (by_bytes numbers.new.entries) lengths.new.keys }
-    ensures first { AreFirstBytes (by_bytes numbers.new.entries) first_bytes.new }
+    ensures beginnings { AreBeginnings (by_bytes numbers.new.entries) beginnings.new }
 {
     let number = numbers.len();
-    mark_first(first_bytes, name);
+    mark_beginnings(beginnings, name);
     lengths.insert(name.len())?;
     numbers.insert(name, number)?;
     Ok(())
@@ -111,7 +116,7 @@ impl<'l> WantedNames<'l> {
         WantedNames {
             numbers: BTreeMap::new(alloc),
             lengths: BTreeSet::new(alloc),
-            first_bytes: MarkedBytes::new(),
+            beginnings: MarkedBytes::new(),
         }
     }
 
@@ -136,17 +141,17 @@ impl<'l> WantedNames<'l> {
         enter(
             &mut self.numbers,
             &mut self.lengths,
-            &mut self.first_bytes,
+            &mut self.beginnings,
             name,
         )
     }
 
-    /// Whether a text, with its NUL, that begins with this byte may have one of the names.
-    #[tactic(auto, using(crate::proofs::FirstBytes::begins_none))]
-    pub(crate) fn may_begin(&self, byte: u8) -> bool
-        ensures { result ≡ false → BeginsNone self.now byte }
+    /// The beginnings of all texts that have one of the names.
+    #[tactic(auto, using(crate::proofs::NamesBegin::are_beginnings))]
+    pub(crate) fn beginnings(&self) -> &MarkedBytes
+        ensures { AreBeginnings self.now result.now }
     {
-        self.first_bytes.contains(byte)
+        &self.beginnings
     }
 
     /// The number of a name without its flavour.

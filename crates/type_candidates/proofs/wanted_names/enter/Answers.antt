@@ -4,7 +4,7 @@ use Rattle.std.specs.List.{list_any}
 use Rattle.std.specs.Ordering.{nat_cmp}
 use Rattle.std.proofs.lemmas.Map.Text.{btree_map_updates_str}
 use Rattle.type_candidates.specs.NamedTypes.{by_bytes}
-use Rattle.type_candidates.proofs.FirstBytes.{more_first}
+use Rattle.type_candidates.proofs.NamesBegin.{more_beginnings}
 use Rattle.type_candidates.proofs.Lengths.{more_lengths, more_names}
 use Rattle.type_candidates.proofs.Numbers.{entered_next}
 use Rattle.type_candidates.proofs.wanted_names.enter.Goals as goal
@@ -17,5 +17,5 @@ returns-clause-lengths c =
     let here : list_any (is_at (nat_cmp (length c.args.name.now))) c.insert.new.self.keys ≡ true = subst (λ (n : ℕ). list_any (is_at (nat_cmp n)) c.insert.new.self.keys ≡ true) (search rules) c.in_ok-insert.ensures.updates.1 in
     more_names c.args.numbers.now.entries c.insert-2.new.self.entries c.args.name.now _ c.insert.new.self.keys (more_lengths (by_bytes c.args.numbers.now.entries) c.args.lengths.now.keys c.insert.new.self.keys _ c.requires.lengths c.in_ok-insert.ensures.updates.0) here (λ other. btree_map_updates_str c.args.name.now c.args.numbers.now c.insert-2.new.self _ c.in_ok-insert-2.ensures.updates other)
 
-pub returns-clause-first : goal.returns-clause-first
-returns-clause-first c = more_first c.args.numbers.now.entries c.insert-2.new.self.entries c.args.name.now _ c.args.first_bytes.now _ c.requires.first c.mark_first.ensures (λ other. btree_map_updates_str c.args.name.now c.args.numbers.now c.insert-2.new.self _ c.in_ok-insert-2.ensures.updates other)
+pub returns-clause-beginnings : goal.returns-clause-beginnings
+returns-clause-beginnings c = more_beginnings c.args.numbers.now.entries c.insert-2.new.self.entries c.args.name.now _ c.args.beginnings.now _ c.requires.beginnings c.mark_beginnings.ensures (λ other. btree_map_updates_str c.args.name.now c.args.numbers.now c.insert-2.new.self _ c.in_ok-insert-2.ensures.updates other)

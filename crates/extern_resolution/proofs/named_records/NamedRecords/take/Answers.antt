@@ -4,7 +4,7 @@ use Rattle.std.specs.List.{list_any}
 use Rattle.std.specs.Ordering.{nat_cmp}
 use Rattle.btf_records.specs.Fields.{kind_of_type, name_offset_of}
 use Rattle.extern_resolution.specs.Wanted.{IsLookedUp, IsNoted}
-use Rattle.extern_resolution.proofs.FirstNamed.{entered_there, hidden_there, looked_up_there, other_kind, passed_there}
+use Rattle.extern_resolution.proofs.FirstNamed.{entered_there, hidden_there, looked_up_there, other_kind}
 use Rattle.extern_resolution.proofs.named_records.NamedRecords.take.Goals as goal
 use Rattle.string_table.specs.Texts.{text_at}
 
@@ -12,13 +12,6 @@ pub returns-then-ne-clause-said : goal.returns-then-ne-clause-said
 returns-then-ne-clause-said c =
     let differs : kind_of_type c.args.t.now ≢ c.args.self.now.kind = search rules in
     other_kind c.args.kernel.now c.args.self.now c.args.id c.args.t.now c.requires.said c.requires.here differs
-
-pub returns-then-is_passed_over-clause-said : goal.returns-then-is_passed_over-clause-said
-returns-then-is_passed_over-clause-said c =
-    let strings : c.as_slice.result.now ≡ c.args.kernel.now.strings = search rules in
-    let told : IsLookedUp c.args.kernel.now.strings c.args.self.now.ids.entries c.name_offset-offset.result = subst (λ (s : List ℕ). IsLookedUp s c.args.self.now.ids.entries c.name_offset-offset.result) strings (c.is_passed_over.ensures c.if-is_passed_over.true) in
-    let looked : IsLookedUp c.args.kernel.now.strings c.args.self.now.ids.entries (name_offset_of c.args.t.now) = subst (IsLookedUp c.args.kernel.now.strings c.args.self.now.ids.entries) c.name_offset-offset.ensures told in
-    passed_there c.args.kernel.now c.args.self.now c.args.id c.args.t.now c.requires.said c.requires.here looked
 
 pub returns-in_default-clause-said : goal.returns-in_default-clause-said
 returns-in_default-clause-said c =

@@ -1,0 +1,53 @@
+-- What headers tell of a table.
+use Rattle.std.proofs.Common.{◌≡◌, ◌≢◌, ℕ, ◌-◌, ◌<◌, ◌==◌, Bool, true, false, not, List, Option, None, Some, length, refl, ap, sym, ◌∙◌, subst, arith}
+use Rattle.std.specs.Prelude.{is_some, slice_get}
+use Rattle.std.proofs.lemmas.Bool.Decides.{nat_tests}
+use Rattle.std.proofs.lemmas.Option.{slice_get-map}
+use Rattle.std.specs.Option.{IsSomeAnd, option_map}
+use Rattle.btf_records.specs.Fields.{kind_of_type, name_offset_of}
+use Rattle.btf_records.specs.declared.kind.BtfKind.{BtfKind}
+use Rattle.btf_records.specs.declared.kind.BtfKind.TheVariants as kinds
+use Rattle.btf_records.specs.declared.types.BtfType.{BtfType}
+use Rattle.btf_tables.specs.Tables.{Table, type_by_id}
+use Rattle.first_bytes.specs.FirstBytes.{AreTexts, is_marked}
+use Rattle.string_table.specs.Texts.{text_at}
+use Rattle.type_headers.specs.Beginnings.{beginning}
+use Rattle.type_headers.specs.Headers.{AreHeadersOf, BeginsOtherwise, Headers, IsBeginning}
+
+by_id : (table : Table) (id : ℕ) → id ≢ 0 → type_by_id table id ≡ slice_get table.types (id - 1)
+by_id table id isnt =
+    let test : (id == 0) ≡ false = grind (arith, nat_tests, isnt) in
+    rw test refl
+
+pub void_kind : (table : Table) (id : ℕ) → id ≡ 0 → Some kinds.Unknown ≡ option_map kind_of_type (type_by_id table id)
+void_kind table id is = rw is refl
+
+pub kind_is : (table : Table) (headers : Headers) (id : ℕ) → id ≢ 0 → AreHeadersOf table headers → slice_get headers.kinds (id - 1) ≡ option_map kind_of_type (type_by_id table id)
+kind_is table headers id isnt are =
+    ap (λ (ks : List BtfKind). slice_get ks (id - 1)) are.kinds ∙ (slice_get-map kind_of_type table.types (id - 1) ∙ ap (option_map kind_of_type) (sym (by_id table id isnt)))
+
+text_otherwise : (strings : List ℕ) (beginnings : List Bool) (offset number : ℕ) (text : Option (List ℕ)) → text_at strings offset ≡ text → is_some text ≡ true → ((other : List ℕ) → text_at strings offset ≡ Some other → beginning other ≡ number) → is_marked beginnings number ≡ false → IsSomeAnd text (λ t. is_marked beginnings (beginning t) ≡ false)
+text_otherwise strings beginnings offset number None is some begins isnt = absurd cc
+text_otherwise strings beginnings offset number (Some text) is some begins isnt = ap (is_marked beginnings) (begins text is) ∙ isnt
+
+type_otherwise : (strings : List ℕ) (beginnings : List Bool) (offset number : ℕ) (t : Option BtfType) → AreTexts strings → offset < length strings → ((text : List ℕ) → text_at strings offset ≡ Some text → beginning text ≡ number) → is_marked beginnings number ≡ false → option_map name_offset_of t ≡ Some offset
+    → IsSomeAnd t (λ t. IsSomeAnd (text_at strings (name_offset_of t)) (λ text. is_marked beginnings (beginning text) ≡ false))
+type_otherwise strings beginnings offset number None texts within begins isnt named = absurd cc
+type_otherwise strings beginnings offset number (Some t) texts within begins isnt named =
+    let same : offset ≡ name_offset_of t = cc in
+    subst (λ (at : ℕ). IsSomeAnd (text_at strings at) (λ text. is_marked beginnings (beginning text) ≡ false)) same (text_otherwise strings beginnings offset number (text_at strings offset) refl (texts.each offset within) begins isnt)
+
+pub is_otherwise : (table : Table) (headers : Headers) (beginnings : List Bool) (id number : ℕ) → AreHeadersOf table headers → IsBeginning headers id number → headers.are_texts ≡ true → is_marked beginnings number ≡ false → BeginsOtherwise table beginnings id
+is_otherwise table headers beginnings id number are begins sure isnt =
+    let named : option_map name_offset_of (type_by_id table id) ≡ Some begins.offset =
+    ap (option_map name_offset_of) (by_id table id (λ e. omega (arith, begins.isnt_void, e))) ∙ (sym (slice_get-map name_offset_of table.types (id - 1)) ∙ (ap (λ (os : List ℕ). slice_get os (id - 1)) (sym are.names) ∙ begins.named))
+    in
+    subst (λ (strings : List ℕ). IsSomeAnd (type_by_id table id) (λ t. IsSomeAnd (text_at strings (name_offset_of t)) (λ text. is_marked beginnings (beginning text) ≡ false))) are.strings
+    (type_otherwise headers.strings beginnings begins.offset number (type_by_id table id) (are.texts sure) begins.within begins.begins isnt named)
+
+not_false : (b : Bool) → not b ≡ true → b ≡ false
+not_false true e = absurd cc
+not_false false e = refl
+
+pub isnt_among : (table : Table) (headers : Headers) (beginnings : List Bool) (id number : ℕ) → AreHeadersOf table headers → IsBeginning headers id number → headers.are_texts ≡ true → not (is_marked beginnings number) ≡ true → BeginsOtherwise table beginnings id
+isnt_among table headers beginnings id number are begins sure isnt = is_otherwise table headers beginnings id number are begins sure (not_false (is_marked beginnings number) isnt)

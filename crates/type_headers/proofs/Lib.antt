@@ -1,0 +1,2 @@
+pub mod FirstTwo
+pub mod HeadersOf

@@ -1,0 +1,39 @@
+-- Kinds and names of a table's types.
+use Rattle.std.specs.Prelude.{◌≡◌, ℕ, ◌-◌, ◌<◌, Bool, true, false, List, length, map, slice_get, Some}
+use Rattle.std.specs.Option.{IsSomeAnd}
+use Rattle.btf_records.specs.Fields.{kind_of_type, name_offset_of}
+use Rattle.btf_records.specs.declared.kind.BtfKind.{BtfKind}
+use Rattle.btf_tables.specs.Tables.{Table, type_by_id}
+use Rattle.first_bytes.specs.FirstBytes.{AreTexts, is_marked}
+use Rattle.string_table.specs.Texts.{text_at}
+use Rattle.type_headers.specs.Beginnings.{beginning}
+
+pub record Headers : Type 0 where
+  pub kinds : List BtfKind
+  pub name_offsets : List ℕ
+  pub strings : List ℕ
+  pub are_texts : Bool
+
+-- those of the types from id 1 on
+pub record AreHeadersOf (table : Table) (headers : Headers) : Type 0 where
+  pub kinds : headers.kinds ≡ map kind_of_type table.types
+  pub names : headers.name_offsets ≡ map name_offset_of table.types
+  pub strings : headers.strings ≡ table.strings
+  pub texts : headers.are_texts ≡ true → AreTexts headers.strings
+
+-- the name of the type of an id can be read, and its beginning isn't among these
+abbrev pub BeginsOtherwise : Table → List Bool → ℕ → Type 0
+BeginsOtherwise table beginnings id =
+    IsSomeAnd (type_by_id table id) (λ t.
+    IsSomeAnd (text_at table.strings (name_offset_of t)) (λ text.
+    is_marked beginnings (beginning text) ≡ false))
+
+-- the text at the offset of this name has this number
+pub record IsBeginning (headers : Headers) (id number : ℕ) : Type 0 where
+  pub offset : ℕ
+  pub named : slice_get headers.name_offsets (id - 1) ≡ Some offset
+  pub isnt_void : 0 < id
+  pub within : offset < length headers.strings
+  pub begins : (text : List ℕ)
+      → text_at headers.strings offset ≡ Some text
+      → beginning text ≡ number
