@@ -22,9 +22,9 @@ all-front : {A : Type 0} (P : A → Type 0) (xs ys : List A) → All P (xs ++ ys
 all-front P [] ys h = All-nil P
 all-front P (x ∷ xs) ys h = All-cons P x xs (All-head P x (xs ++ ys) h) (all-front P xs ys (All-tail P x (xs ++ ys) h))
 
-all-behind : {A : Type 0} (P : A → Type 0) (xs ys : List A) → All P (xs ++ ys) → All P ys
-all-behind P [] ys h = h
-all-behind P (x ∷ xs) ys h = all-behind P xs ys (All-tail P x (xs ++ ys) h)
+all-after : {A : Type 0} (P : A → Type 0) (xs ys : List A) → All P (xs ++ ys) → All P ys
+all-after P [] ys h = h
+all-after P (x ∷ xs) ys h = all-after P xs ys (All-tail P x (xs ++ ys) h)
 
 -- of one of the list
 mapped : {A : Type 0} (f : A → ℕ) (P : ℕ → Type 0) (xs : List A) (i : ℕ) (x : A) → All P (map f xs) → slice_get xs i ≡ Some x → P (f x)
@@ -109,7 +109,7 @@ fallback-name P (Some f) index offset h e = named (λ (v : BtfEnum64). v.name_of
 variant-name-of : (P : ℕ → Type 0) (t : BtfType) (index offset : ℕ) → All P (item_names t) → variant_name t index ≡ Some offset → P offset
 variant-name-of P (types.Enum t) index offset h e = named (λ (v : BtfEnum). v.name_offset) P t.variants index offset h e
 variant-name-of P (types.Enum64 t) index offset h e = named (λ (v : BtfEnum64). v.name_offset) P t.variants index offset h e
-variant-name-of P (types.Union t) index offset h e = fallback-name P t.fallback index offset (all-behind P (map (λ (x : BtfMember). x.name_offset) t.members) _ h) e
+variant-name-of P (types.Union t) index offset h e = fallback-name P t.fallback index offset (all-after P (map (λ (x : BtfMember). x.name_offset) t.members) _ h) e
 variant-name-of P _ index offset h e = absurd cc
 
 pub variant-name : (P : ℕ → Type 0) (t : BtfType) (index offset : ℕ) → All P (held_names t) → variant_name t index ≡ Some offset → P offset

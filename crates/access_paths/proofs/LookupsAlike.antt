@@ -11,7 +11,7 @@ use Rattle.btf_records.specs.declared.types.BtfType.{BtfType}
 use Rattle.btf_tables.specs.Holdings.{held_ids, held_names}
 use Rattle.btf_tables.specs.ResolvedTypes.{chain_end, end_from, max_depth, modified_type}
 use Rattle.btf_tables.specs.Tables.{Table, type_by_id}
-use Rattle.btf_tables.specs.TypeSizes.{in_32_bits, own_size, size_at_end, size_behind, size_from, sized_by}
+use Rattle.btf_tables.specs.TypeSizes.{in_32_bits, own_size, size_at_end, size_after, size_from, sized_by}
 use Rattle.string_table.specs.Texts.{text_at}
 use Rattle.access_paths.proofs.Held.{AreReached, member-name, member-reached, modified-reached, own-name, sized-reached, variant-name}
 
@@ -94,9 +94,9 @@ chain-reached reached one other alike (suc n) asked id end here e =
 
 -- ---- sizes
 
-behind-same : (go go' : ℕ → ℕ → Result ℕ BtfError) (count id : ℕ) (o : Option (ℕ × ℕ)) → ((c : ℕ) (next : ℕ) → o ≡ Some (c, next) → go' (count * c) next ≡ go (count * c) next) → size_behind go' count id o ≡ size_behind go count id o
-behind-same go go' count id None h = refl
-behind-same go go' count id (Some by) h = ap (λ (r : Result ℕ BtfError). if nat_lt (count * by.0) (2 ^ 32) then r else Err InvalidTypeInfo) (h by.0 by.1 refl)
+after-same : (go go' : ℕ → ℕ → Result ℕ BtfError) (count id : ℕ) (o : Option (ℕ × ℕ)) → ((c : ℕ) (next : ℕ) → o ≡ Some (c, next) → go' (count * c) next ≡ go (count * c) next) → size_after go' count id o ≡ size_after go count id o
+after-same go go' count id None h = refl
+after-same go go' count id (Some by) h = ap (λ (r : Result ℕ BtfError). if nat_lt (count * by.0) (2 ^ 32) then r else Err InvalidTypeInfo) (h by.0 by.1 refl)
 
 own-same : (count : ℕ) (o : Option ℕ) (r r' : Result ℕ BtfError) → r' ≡ r → option_map_or (λ size. Ok (count * size)) o r' ≡ option_map_or (λ size. Ok (count * size)) o r
 own-same count None r r' e = e
@@ -104,7 +104,7 @@ own-same count (Some size) r r' e = refl
 
 from-same : (go go' : ℕ → ℕ → Result ℕ BtfError) (count id : ℕ) (o : Option BtfType) → ((t : BtfType) (c : ℕ) (next : ℕ) → o ≡ Some t → sized_by t ≡ Some (c, next) → go' (count * c) next ≡ go (count * c) next) → size_from go' count id o ≡ size_from go count id o
 from-same go go' count id None h = refl
-from-same go go' count id (Some t) h = own-same count (own_size t) _ _ (behind-same go go' count id (sized_by t) (λ c next is. h t c next refl is))
+from-same go go' count id (Some t) h = own-same count (own_size t) _ _ (after-same go go' count id (sized_by t) (λ c next is. h t c next refl is))
 
 size-same : (reached : ℕ → Bool) (one other : Table) → AreAlike reached one other → (n asked count id : ℕ) → reached id ≡ true → size_at_end n other asked count id ≡ size_at_end n one asked count id
 unfolding size_at_end

@@ -22,20 +22,26 @@ pub record AreAlike (reached : ℕ → Bool) (one other : Table) : Type 0 where
 
 -- what is looked up at reached types is the same in both, and leads to reached ones
 pub record LookupsRest : Type 0 where
-  pub resolved : (reached : ℕ → Bool) (one other : Table) → AreAlike reached one other → (id : ℕ) → reached id ≡ true
+  pub resolved : (reached : ℕ → Bool) (one other : Table) → AreAlike reached one other → (id : ℕ)
+      → reached id ≡ true
       → resolved_type other id ≡ resolved_type one id
-  pub ends : (reached : ℕ → Bool) (one other : Table) → AreAlike reached one other → (id end : ℕ) → reached id ≡ true
+  pub ends : (reached : ℕ → Bool) (one other : Table) → AreAlike reached one other → (id end : ℕ)
+      → reached id ≡ true
       → resolved_type one id ≡ Ok end → reached end ≡ true
-  pub sizes : (reached : ℕ → Bool) (one other : Table) → AreAlike reached one other → (id : ℕ) → reached id ≡ true
+  pub sizes : (reached : ℕ → Bool) (one other : Table) → AreAlike reached one other → (id : ℕ)
+      → reached id ≡ true
       → type_size_in_32_bits other id ≡ type_size_in_32_bits one id
-  pub names : (reached : ℕ → Bool) (one other : Table) → AreAlike reached one other → (id : ℕ) (t : BtfType) → reached id ≡ true
+  pub names : (reached : ℕ → Bool) (one other : Table) → AreAlike reached one other → (id : ℕ)
+      (t : BtfType) → reached id ≡ true
       → type_by_id one id ≡ Some t
       → text_at other.strings (name_offset_of t) ≡ text_at one.strings (name_offset_of t)
-  pub members : (reached : ℕ → Bool) (one other : Table) → AreAlike reached one other → (id index : ℕ) (t : BtfType) (m : BtfMember) → reached id ≡ true
+  pub members : (reached : ℕ → Bool) (one other : Table) → AreAlike reached one other
+      → (id index : ℕ) (t : BtfType) (m : BtfMember) → reached id ≡ true
       → type_by_id one id ≡ Some t → slice_get (members_of t) index ≡ Some m
       → (reached m.btf_type ≡ true)
       × (text_at other.strings m.name_offset ≡ text_at one.strings m.name_offset)
-  pub variants : (reached : ℕ → Bool) (one other : Table) → AreAlike reached one other → (id index : ℕ) (t : BtfType) (offset : ℕ) → reached id ≡ true
+  pub variants : (reached : ℕ → Bool) (one other : Table) → AreAlike reached one other
+      → (id index : ℕ) (t : BtfType) (offset : ℕ) → reached id ≡ true
       → type_by_id one id ≡ Some t
       → variant_name t index ≡ Some offset
       → text_at other.strings offset ≡ text_at one.strings offset
@@ -49,8 +55,10 @@ pub record IsReachedPath (reached : ℕ → Bool) (path : AccessPath) : Type 0 w
 -- type, and whose texts there, and the access string, can be read alike; and it stays among what is
 -- reached
 pub record PathsRest : Type 0 where
-  pub same : (reached : ℕ → Bool) (one other : Table) → AreAlike reached one other → (kind : RelocationKind) (id access : ℕ) → reached id ≡ true
+  pub same : (reached : ℕ → Bool) (one other : Table) → AreAlike reached one other
+      → (kind : RelocationKind) (id access : ℕ) → reached id ≡ true
       → text_at other.strings access ≡ text_at one.strings access
       → local_path other kind id access ≡ local_path one kind id access
-  pub within : (reached : ℕ → Bool) (one other : Table) → AreAlike reached one other → (kind : RelocationKind) (id access : ℕ) → reached id ≡ true
+  pub within : (reached : ℕ → Bool) (one other : Table) → AreAlike reached one other
+      → (kind : RelocationKind) (id access : ℕ) → reached id ≡ true
       → IfOk (local_path one kind id access) (IsReachedPath reached)

@@ -5,7 +5,7 @@ use Rattle.std.specs.Prelude.{All, IfSome, if◌then◌else◌}
 use Rattle.std.specs.List.{zip}
 use Rattle.std.specs.Option.{option_map_or, option_to_list, unwrap_or}
 use Rattle.btf_tables.specs.Agreement.{AgreeOn, RestsOnBoth, chain_ids}
-use Rattle.btf_compatibility.specs.TypeCompatibility.{all_yes, and_also, behind_modifiers, compared, compared_ids, ends_compatible, first_verdict, is_open, pair_bound, parts_of, record_at, types_compatible, verdict}
+use Rattle.btf_compatibility.specs.TypeCompatibility.{all_yes, and_also, after_modifiers, compared, compared_ids, ends_compatible, first_verdict, is_open, pair_bound, parts_of, record_at, types_compatible, verdict}
 use Rattle.btf_tables.specs.ResolvedTypes.{chain_end, end_from, max_depth, modified_type}
 use Rattle.btf_compatibility.proofs.FreePairs.{IsKnown, chain_end-known, for_ends-same, free-below, same_fuel}
 use Rattle.btf_compatibility.proofs.Chains.{chain_same}
@@ -20,9 +20,9 @@ pub all-front : {A : Type 0} (P : A → Type 0) (xs ys : List A) → All P (xs +
 all-front P [] ys h = All-nil P
 all-front P (x ∷ xs) ys h = All-cons P x xs (All-head P x (xs ++ ys) h) (all-front P xs ys (All-tail P x (xs ++ ys) h))
 
-pub all-behind : {A : Type 0} (P : A → Type 0) (xs ys : List A) → All P (xs ++ ys) → All P ys
-all-behind P [] ys h = h
-all-behind P (x ∷ xs) ys h = all-behind P xs ys (All-tail P x (xs ++ ys) h)
+pub all-after : {A : Type 0} (P : A → Type 0) (xs ys : List A) → All P (xs ++ ys) → All P ys
+all-after P [] ys h = h
+all-after P (x ∷ xs) ys h = all-after P xs ys (All-tail P x (xs ++ ys) h)
 
 -- ids that both tables' comparisons reach
 abbrev pub AreReached : (ℕ → Bool) → (ℕ → Bool) → (ℕ × ℕ) → Type 0
@@ -49,13 +49,13 @@ chain_closed reached (Some t) h = all-front (λ next. reached next ≡ true) (op
 chains_agree : (reached : ℕ → Bool) (one other : Table) → AgreeOn compared_ids reached one other → AgreeOn chain_ids reached one other
 chains_agree reached one other agree = record { same = agree.same; closed = λ id here. chain_closed reached (type_by_id one id) (agree.closed id here) }
 
-behind-reached : (reached : ℕ → Bool) (go : ℕ → Result ℕ BtfError) (modified : Option ℕ) (id end : ℕ) → reached id ≡ true → ((next : ℕ) → reached next ≡ true → go next ≡ Ok end → reached end ≡ true) → All (λ next. reached next ≡ true) (option_to_list modified) → option_map_or go modified (Ok id) ≡ Ok end → reached end ≡ true
-behind-reached reached go None id end here h all e = subst (λ (x : ℕ). reached x ≡ true) (let same : id ≡ end = cc in same) here
-behind-reached reached go (Some next) id end here h all e = h next (All-head (λ x. reached x ≡ true) next [] all) e
+after-reached : (reached : ℕ → Bool) (go : ℕ → Result ℕ BtfError) (modified : Option ℕ) (id end : ℕ) → reached id ≡ true → ((next : ℕ) → reached next ≡ true → go next ≡ Ok end → reached end ≡ true) → All (λ next. reached next ≡ true) (option_to_list modified) → option_map_or go modified (Ok id) ≡ Ok end → reached end ≡ true
+after-reached reached go None id end here h all e = subst (λ (x : ℕ). reached x ≡ true) (let same : id ≡ end = cc in same) here
+after-reached reached go (Some next) id end here h all e = h next (All-head (λ x. reached x ≡ true) next [] all) e
 
 from-reached : (reached : ℕ → Bool) (go : ℕ → Result ℕ BtfError) (t : Option BtfType) (id end : ℕ) → reached id ≡ true → ((next : ℕ) → reached next ≡ true → go next ≡ Ok end → reached end ≡ true) → IfSome t (λ u. All (λ next. reached next ≡ true) (chain_ids u)) → end_from go id t ≡ Ok end → reached end ≡ true
 from-reached reached go None id end here h all e = absurd cc
-from-reached reached go (Some t) id end here h all e = behind-reached reached go (modified_type t) id end here h all e
+from-reached reached go (Some t) id end here h all e = after-reached reached go (modified_type t) id end here h all e
 
 pub chain-reached : (reached : ℕ → Bool) (one other : Table) → AgreeOn chain_ids reached one other → (n asked id end : ℕ) → reached id ≡ true → chain_end n one asked id ≡ Ok end → reached end ≡ true
 unfolding chain_end
@@ -67,7 +67,7 @@ chain-reached reached one other agree (suc n) asked id end here e =
 
 parts_reached : (reached : ℕ → Bool) (t : Option BtfType) → IfSome t (λ u. All (λ next. reached next ≡ true) (compared_ids u)) → All (λ next. reached next ≡ true) (parts_of (unwrap_or t types.Unknown))
 parts_reached reached None h = All-nil (λ next. reached next ≡ true)
-parts_reached reached (Some t) h = all-behind (λ next. reached next ≡ true) (option_to_list (modified_type t)) (parts_of t) h
+parts_reached reached (Some t) h = all-after (λ next. reached next ≡ true) (option_to_list (modified_type t)) (parts_of t) h
 
 -- tables with the same records on both sides
 pub record AgreeOnBoth (left right : ℕ → Bool) (local one target other : Table) : Type 0 where
@@ -75,11 +75,11 @@ pub record AgreeOnBoth (left right : ℕ → Bool) (local one target other : Tab
   pub targets : AgreeOn compared_ids right target other
 
 ends_alike : (left right : ℕ → Bool) (local one target other : Table) → AgreeOnBoth left right local one target other → (asked : ℕ) (go go' : ℕ → ℕ → Result Bool BtfError) (p : ℕ × ℕ) → AreReached left right p
-    → ((l r : ℕ) → chain_end max_depth local asked p.0 ≡ Ok l → chain_end max_depth target asked p.1 ≡ Ok r → left l ≡ true → right r ≡ true → go' l r ≡ go l r) → behind_modifiers one other asked go' p ≡ behind_modifiers local target asked go p
+    → ((l r : ℕ) → chain_end max_depth local asked p.0 ≡ Ok l → chain_end max_depth target asked p.1 ≡ Ok r → left l ≡ true → right r ≡ true → go' l r ≡ go l r) → after_modifiers one other asked go' p ≡ after_modifiers local target asked go p
 ends_alike left right local one target other agree asked go go' p here h =
     let locals = chains_agree left local one agree.locals in
     let targets = chains_agree right target other agree.targets in
-    let same : behind_modifiers one other asked go' p ≡ behind_modifiers local target asked go' p = rw (chain_same left local one locals max_depth asked p.0 here.0, chain_same right target other targets max_depth asked p.1 here.1) refl in
+    let same : after_modifiers one other asked go' p ≡ after_modifiers local target asked go' p = rw (chain_same left local one locals max_depth asked p.0 here.0, chain_same right target other targets max_depth asked p.1 here.1) refl in
     same
     ∙ for_ends-same go' go (chain_end max_depth local asked p.0) (chain_end max_depth target asked p.1)
     (λ l r e f. h l r e f (chain-reached left local one locals max_depth asked p.0 l here.0 e) (chain-reached right target other targets max_depth asked p.1 r here.1 f))
@@ -99,8 +99,8 @@ unfolding compared
 compared_alike left right local one target other agree zero asked open_pairs l r here there = refl
 compared_alike left right local one target other agree (suc n) asked open_pairs l r here there =
     let inner = open_pairs ++ (l, r) ∷ [] in
-    let ask = behind_modifiers local target asked (compared n local target asked inner) in
-    let ask' = behind_modifiers one other asked (compared n one other asked inner) in
+    let ask = after_modifiers local target asked (compared n local target asked inner) in
+    let ask' = after_modifiers one other asked (compared n one other asked inner) in
     let parts = all-zip left right (parts_of (record_at local l)) (parts_of (record_at target r)) (parts_reached left (type_by_id local l) (agree.locals.closed l here)) (parts_reached right (type_by_id target r) (agree.targets.closed r there)) in
     let same_left : record_at one l ≡ record_at local l = ap (λ (t : Option BtfType). unwrap_or t types.Unknown) (agree.locals.same l here) in
     let same_right : record_at other r ≡ record_at target r = ap (λ (t : Option BtfType). unwrap_or t types.Unknown) (agree.targets.same r there) in

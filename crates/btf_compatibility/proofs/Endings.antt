@@ -1,6 +1,6 @@
 -- An answer in rounds: none yet, or the one that all larger numbers of rounds give.
 use Rattle.std.proofs.Common.{◌≡◌, ℕ, zero, suc, ◌+◌, ◌≤◌, Bool, true, false, [], Ok, Err, Result, refl, sym, ap, ◌∙◌, inl, inr, arith}
-use Rattle.btf_compatibility.specs.TypeCompatibility.{all_yes, and_also, behind_modifiers, compared, is_open, pair_bound, pair_parts, pair_verdict}
+use Rattle.btf_compatibility.specs.TypeCompatibility.{all_yes, and_also, after_modifiers, compared, is_open, pair_bound, pair_parts, pair_verdict}
 use Rattle.btf_compatibility.proofs.FreePairs.{IsKnown, free-below, same_fuel}
 use Rattle.btf_compatibility.proofs.OpenPairs.{AreDeep, in_rounds-compared}
 use Rattle.btf_compatibility.proofs.Rounds.{IsDeepOr, compared-in_rounds, deep, in_rounds}
@@ -98,8 +98,8 @@ Ends-verdict local target asked l r answer final says =
     Ends-shift local target asked l r answer
     record {
       from = 0;
-      each = λ n. inr (ap (λ (y : Result Bool BtfError). and_also y (all_yes (behind_modifiers local target asked (in_rounds n local target asked)) (pair_parts local target l r))) says ∙ final.ends _);
-      stays = λ n le. ap (λ (y : Result Bool BtfError). and_also y (all_yes (behind_modifiers local target asked (in_rounds n local target asked)) (pair_parts local target l r))) says ∙ final.ends _;
+      each = λ n. inr (ap (λ (y : Result Bool BtfError). and_also y (all_yes (after_modifiers local target asked (in_rounds n local target asked)) (pair_parts local target l r))) says ∙ final.ends _);
+      stays = λ n le. ap (λ (y : Result Bool BtfError). and_also y (all_yes (after_modifiers local target asked (in_rounds n local target asked)) (pair_parts local target l r))) says ∙ final.ends _;
     }
 
 -- a pair that never has an answer

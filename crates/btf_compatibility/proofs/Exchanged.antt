@@ -4,7 +4,7 @@ use Rattle.std.proofs.lemmas.Grind.{common_steps}
 use Rattle.std.proofs.lemmas.Bool.Decides.{nat_tests}
 use Rattle.std.specs.Prelude.{◌&&◌, ◌||◌, ◌==◌, IfOk, if◌then◌else◌}
 use Rattle.std.specs.List.{zip}
-use Rattle.btf_compatibility.specs.TypeCompatibility.{all_yes, and_also, behind_modifiers, both_ends, compared, first_verdict, has_no_bit_offset, is_open, is_pair, pair_bound, pair_parts, pair_verdict, parts_of, record_at, same_kind, types_compatible, verdict, verdict_of}
+use Rattle.btf_compatibility.specs.TypeCompatibility.{all_yes, and_also, after_modifiers, both_ends, compared, first_verdict, has_no_bit_offset, is_open, is_pair, pair_bound, pair_parts, pair_verdict, parts_of, record_at, same_kind, types_compatible, verdict, verdict_of}
 use Rattle.btf_tables.specs.ResolvedTypes.{chain_end, end_from, max_depth, modified_type}
 use Rattle.std.specs.Option.{option_map_or}
 use Rattle.btf_records.specs.Fields.{kind_of_type, params_of}
@@ -119,13 +119,13 @@ zip-exchanged (x ∷ xs) [] = refl
 zip-exchanged (x ∷ xs) (y ∷ ys) = ap (λ (ps : List (ℕ × ℕ)). (y, x) ∷ ps) (zip-exchanged xs ys)
 
 -- the end of a chain is the same, whatever was asked
-behind-asked : (go go' : ℕ → Result ℕ BtfError) (id : ℕ) (modified : Option ℕ) (end : ℕ) → ((next : ℕ) → go next ≡ Ok end → go' next ≡ Ok end) → option_map_or go modified (Ok id) ≡ Ok end → option_map_or go' modified (Ok id) ≡ Ok end
-behind-asked go go' id None end h e = e
-behind-asked go go' id (Some next) end h e = h next e
+after-asked : (go go' : ℕ → Result ℕ BtfError) (id : ℕ) (modified : Option ℕ) (end : ℕ) → ((next : ℕ) → go next ≡ Ok end → go' next ≡ Ok end) → option_map_or go modified (Ok id) ≡ Ok end → option_map_or go' modified (Ok id) ≡ Ok end
+after-asked go go' id None end h e = e
+after-asked go go' id (Some next) end h e = h next e
 
 from-asked : (go go' : ℕ → Result ℕ BtfError) (id : ℕ) (t : Option BtfType) (end : ℕ) → ((next : ℕ) → go next ≡ Ok end → go' next ≡ Ok end) → end_from go id t ≡ Ok end → end_from go' id t ≡ Ok end
 from-asked go go' id None end h e = absurd cc
-from-asked go go' id (Some t) end h e = behind-asked go go' id (modified_type t) end h e
+from-asked go go' id (Some t) end h e = after-asked go go' id (modified_type t) end h e
 
 chain_end-asked : (n : ℕ) (table : Table) (asked asked' id end : ℕ) → chain_end n table asked id ≡ Ok end → chain_end n table asked' id ≡ Ok end
 unfolding chain_end
@@ -137,7 +137,7 @@ ends-given go go' (Err e) y x' y' h left right = record { same = λ answer k. ab
 ends-given go go' (Ok l) (Err e) x' y' h left right = record { same = λ answer k. absurd cc }
 ends-given go go' (Ok l) (Ok r) x' y' h left right = record { same = λ answer k. rw (left l refl, right r refl) ((h l r).same answer k) }
 
-pub Gives-ends : (local target : Table) (asked asked' : ℕ) (go go' : ℕ → ℕ → Result Bool BtfError) (p : ℕ × ℕ) → ((l r : ℕ) → Gives (go l r) (go' r l)) → Gives (behind_modifiers local target asked go p) (behind_modifiers target local asked' go' (exchanged p))
+pub Gives-ends : (local target : Table) (asked asked' : ℕ) (go go' : ℕ → ℕ → Result Bool BtfError) (p : ℕ × ℕ) → ((l r : ℕ) → Gives (go l r) (go' r l)) → Gives (after_modifiers local target asked go p) (after_modifiers target local asked' go' (exchanged p))
 Gives-ends local target asked asked' go go' p h =
     ends-given go go' (chain_end max_depth local asked p.0) (chain_end max_depth target asked p.1) (chain_end max_depth local asked' p.0) (chain_end max_depth target asked' p.1) h
     (λ e. chain_end-asked max_depth local asked asked' p.0 e) (λ e. chain_end-asked max_depth target asked asked' p.1 e)

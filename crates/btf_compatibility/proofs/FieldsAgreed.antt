@@ -4,10 +4,10 @@ use Rattle.std.proofs.lemmas.List.Elements.{All-head}
 use Rattle.std.specs.Prelude.{All, IfSome, ◌&&◌, if◌then◌else◌}
 use Rattle.std.specs.Option.{option_map, option_to_list, unwrap_or}
 use Rattle.btf_tables.specs.Agreement.{AgreeOn, AgreeOnNames, RestsOnNames, chain_ids}
-use Rattle.btf_compatibility.specs.TypeCompatibility.{behind_modifiers, record_at, same_kind}
+use Rattle.btf_compatibility.specs.TypeCompatibility.{after_modifiers, record_at, same_kind}
 use Rattle.btf_compatibility.specs.FieldCompatibility.{field_ids, field_verdict, fields_compared, fields_compatible, is_composite, field_answer, same_names}
 use Rattle.btf_tables.specs.ResolvedTypes.{chain_end, max_depth, modified_type}
-use Rattle.btf_compatibility.proofs.Agreed.{AreReached, all-behind, all-front, chain-reached}
+use Rattle.btf_compatibility.proofs.Agreed.{AreReached, all-after, all-front, chain-reached}
 use Rattle.btf_compatibility.proofs.FieldRounds.{arrays-verdict, elements_of, others-verdict}
 use Rattle.btf_compatibility.proofs.FreePairs.{IsKnown, chain_end-known, for_ends-same}
 use Rattle.btf_compatibility.proofs.Chains.{chain_same}
@@ -32,7 +32,7 @@ chains_agree reached one other agree = record { same = agree.same; closed = λ i
 -- an array's element
 element_reached : (reached : ℕ → Bool) (t : Option BtfType) → IfSome t (λ u. All (λ next. reached next ≡ true) (field_ids u)) → All (λ next. reached next ≡ true) (option_to_list (option_map (λ array. array.element_type) (array_of (unwrap_or t types.Unknown))))
 element_reached reached None h = λ k d lt. absurd (omega arith)
-element_reached reached (Some t) h = all-behind (λ next. reached next ≡ true) (option_to_list (modified_type t)) (option_to_list (option_map (λ array. array.element_type) (array_of t))) h
+element_reached reached (Some t) h = all-after (λ next. reached next ≡ true) (option_to_list (modified_type t)) (option_to_list (option_map (λ array. array.element_type) (array_of t))) h
 
 both_reached : (left right : ℕ → Bool) (a b : BtfType) (x y : ℕ) → All (λ next. left next ≡ true) (option_to_list (option_map (λ array. array.element_type) (array_of a))) → All (λ next. right next ≡ true) (option_to_list (option_map (λ array. array.element_type) (array_of b))) → elements_of a b ≡ Some (x, y)
     → AreReached left right (x, y)
@@ -113,11 +113,11 @@ records_alike left right local one target other agree go go' l r here there know
     h))
 
 ends_alike : (left right : ℕ → Bool) (local one target other : Table) → AgreeOnMembers left right local one target other → (asked : ℕ) (go go' : ℕ → ℕ → Result Bool BtfError) (p : ℕ × ℕ) → AreReached left right p
-    → ((l r : ℕ) → IsKnown local l → IsKnown target r → left l ≡ true → right r ≡ true → go' l r ≡ go l r) → behind_modifiers one other asked go' p ≡ behind_modifiers local target asked go p
+    → ((l r : ℕ) → IsKnown local l → IsKnown target r → left l ≡ true → right r ≡ true → go' l r ≡ go l r) → after_modifiers one other asked go' p ≡ after_modifiers local target asked go p
 ends_alike left right local one target other agree asked go go' p here h =
     let locals = chains_agree left local one agree.locals in
     let targets = chains_agree right target other agree.targets in
-    let same : behind_modifiers one other asked go' p ≡ behind_modifiers local target asked go' p = rw (chain_same left local one locals max_depth asked p.0 here.0, chain_same right target other targets max_depth asked p.1 here.1) refl in
+    let same : after_modifiers one other asked go' p ≡ after_modifiers local target asked go' p = rw (chain_same left local one locals max_depth asked p.0 here.0, chain_same right target other targets max_depth asked p.1 here.1) refl in
     same
     ∙ for_ends-same go' go (chain_end max_depth local asked p.0) (chain_end max_depth target asked p.1)
     (λ l r e f. h l r (chain_end-known max_depth local asked p.0 l e) (chain_end-known max_depth target asked p.1 r f) (chain-reached left local one locals max_depth asked p.0 l here.0 e) (chain-reached right target other targets max_depth asked p.1 r here.1 f))

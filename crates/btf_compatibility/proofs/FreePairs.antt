@@ -126,13 +126,13 @@ pub IsKnown-within : (table : Table) (id : ℕ) → IsKnown table id → id < su
 IsKnown-within table id h = known-within table.types (id == 0) id h.found types.Unknown (λ e. grind (arith, common_steps)) h.is
 
 -- an id at the end of a chain is known
-behind-known : (go : ℕ → Result ℕ BtfError) (table : Table) (id end : ℕ) (modified : Option ℕ) → IsKnown table id → ((next : ℕ) → go next ≡ Ok end → IsKnown table end) → option_map_or go modified (Ok id) ≡ Ok end → IsKnown table end
-behind-known go table id end None known h e = subst (IsKnown table) (let same : id ≡ end = cc in same) known
-behind-known go table id end (Some next) known h e = h next e
+after-known : (go : ℕ → Result ℕ BtfError) (table : Table) (id end : ℕ) (modified : Option ℕ) → IsKnown table id → ((next : ℕ) → go next ≡ Ok end → IsKnown table end) → option_map_or go modified (Ok id) ≡ Ok end → IsKnown table end
+after-known go table id end None known h e = subst (IsKnown table) (let same : id ≡ end = cc in same) known
+after-known go table id end (Some next) known h e = h next e
 
 from-known : (go : ℕ → Result ℕ BtfError) (table : Table) (id end : ℕ) (t : Option BtfType) → type_by_id table id ≡ t → ((next : ℕ) → go next ≡ Ok end → IsKnown table end) → end_from go id t ≡ Ok end → IsKnown table end
 from-known go table id end None is h e = absurd cc
-from-known go table id end (Some t) is h e = behind-known go table id end (modified_type t) (record { found = t; is = is }) h e
+from-known go table id end (Some t) is h e = after-known go table id end (modified_type t) (record { found = t; is = is }) h e
 
 pub chain_end-known : (n : ℕ) (table : Table) (asked id end : ℕ) → chain_end n table asked id ≡ Ok end → IsKnown table end
 unfolding chain_end

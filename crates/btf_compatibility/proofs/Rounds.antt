@@ -4,7 +4,7 @@
 use Rattle.std.proofs.Common.{◌≡◌, ℕ, zero, suc, Bool, true, false, List, [], ◌∷◌, ◌++◌, Ok, Err, Result, refl, ap, ◌∙◌}
 use Rattle.std.specs.Prelude.{◌⊎◌, if◌then◌else◌}
 use Rattle.std.proofs.Common.{inl, inr}
-use Rattle.btf_compatibility.specs.TypeCompatibility.{all_yes, and_also, behind_modifiers, both_ends, compared, is_open, pair_parts, pair_verdict}
+use Rattle.btf_compatibility.specs.TypeCompatibility.{all_yes, and_also, after_modifiers, both_ends, compared, is_open, pair_parts, pair_verdict}
 use Rattle.btf_tables.specs.ResolvedTypes.{chain_end, max_depth}
 use Rattle.btf_tables.specs.Tables.{Table}
 use Rattle.btf_records.specs.declared.error.BtfError.{BtfError}
@@ -15,7 +15,7 @@ deep asked = Err (MaximumTypeDepthReached asked)
 
 unfoldable pub in_rounds : ℕ → Table → Table → ℕ → ℕ → ℕ → Result Bool BtfError
 in_rounds zero local target asked l r = deep asked
-in_rounds (suc n) local target asked l r = and_also (pair_verdict local target l r) (all_yes (behind_modifiers local target asked (in_rounds n local target asked)) (pair_parts local target l r))
+in_rounds (suc n) local target asked l r = and_also (pair_verdict local target l r) (all_yes (after_modifiers local target asked (in_rounds n local target asked)) (pair_parts local target l r))
 
 -- the first answer is too deep, or both are one
 abbrev pub IsDeepOr : ℕ → Result Bool BtfError → Result Bool BtfError → Type 0
@@ -45,7 +45,7 @@ IsDeepOr-ends asked go go' (Ok l) (Ok r) h = h l r
 
 -- the same for the answers of all parts
 pub IsDeepOr-parts : (local target : Table) (asked : ℕ) (go go' : ℕ → ℕ → Result Bool BtfError) (ps : List (ℕ × ℕ)) → ((l r : ℕ) → IsDeepOr asked (go l r) (go' l r))
-    → IsDeepOr asked (all_yes (behind_modifiers local target asked go) ps) (all_yes (behind_modifiers local target asked go') ps)
+    → IsDeepOr asked (all_yes (after_modifiers local target asked go) ps) (all_yes (after_modifiers local target asked go') ps)
 IsDeepOr-parts local target asked go go' ps h = IsDeepOr-all asked _ _ ps (λ p. IsDeepOr-ends asked go go' (chain_end max_depth local asked p.0) (chain_end max_depth target asked p.1) h)
 
 pub IsDeepOr-if : (asked : ℕ) (b : Bool) (x y : Result Bool BtfError) → IsDeepOr asked x y → IsDeepOr asked (if b then deep asked else x) y

@@ -3,7 +3,7 @@ use Rattle.std.proofs.Common.{◌≡◌, ℕ, zero, suc, Bool, true, false, List
 use Rattle.std.proofs.lemmas.Grind.{common_steps}
 use Rattle.std.specs.Prelude.{◌⊎◌, ◌&&◌, ◌||◌, ◌==◌}
 use Rattle.std.specs.List.{list_any}
-use Rattle.btf_compatibility.specs.TypeCompatibility.{all_yes, and_also, behind_modifiers, pair_parts, pair_verdict}
+use Rattle.btf_compatibility.specs.TypeCompatibility.{all_yes, and_also, after_modifiers, pair_parts, pair_verdict}
 use Rattle.btf_tables.specs.ResolvedTypes.{chain_end, max_depth}
 use Rattle.btf_compatibility.specs.declared.pairs.OpenPair.{OpenPair}
 use Rattle.btf_compatibility.proofs.Endings.{Ends, Ends-shift, EndsAs, EndsAs-part, EndsAs-rest, IsFinal}
@@ -14,7 +14,7 @@ use Rattle.btf_records.specs.declared.error.BtfError.{BtfError}
 
 -- the answer for a part in that many rounds
 abbrev pub part_answer : Table → Table → ℕ → ℕ → (ℕ × ℕ) → Result Bool BtfError
-part_answer local target asked n = behind_modifiers local target asked (in_rounds n local target asked)
+part_answer local target asked n = after_modifiers local target asked (in_rounds n local target asked)
 
 -- what is left of a pair's parts
 abbrev pub parts_left : Table → Table → OpenPair → List (ℕ × ℕ)
@@ -71,11 +71,11 @@ part_ends local target asked part l r answer at h =
 pub advanced : (local target : Table) (asked : ℕ) (p q : OpenPair) (part : ℕ × ℕ) (others : List (ℕ × ℕ)) (l r : ℕ) → q.left ≡ p.left → q.right ≡ p.right → parts_left local target p ≡ part ∷ others → parts_left local target q ≡ others
     → EndsAt local target asked part l r → Ends local target asked l r (Ok true) → IsUnderWay local target asked p → IsUnderWay local target asked q
 advanced local target asked p q part others l r same-l same-r is left at ends h =
-    let behind = EndsAs-rest asked _ _ _ (next_answer local target asked p part others is h) (part_ends local target asked part l r (Ok true) at ends) in
+    let after = EndsAs-rest asked _ _ _ (next_answer local target asked p part others is h) (part_ends local target asked part l r (Ok true) at ends) in
     record {
       rest = subst (λ (parts : List (ℕ × ℕ)). EndsAs asked (λ n. in_rounds (suc n) local target asked q.left q.right) (λ n. all_yes (part_answer local target asked n) parts)) (sym left)
           (subst (λ (x : ℕ). EndsAs asked (λ n. in_rounds (suc n) local target asked x q.right) (λ n. all_yes (part_answer local target asked n) others)) (sym same-l)
-          (subst (λ (x : ℕ). EndsAs asked (λ n. in_rounds (suc n) local target asked p.left x) (λ n. all_yes (part_answer local target asked n) others)) (sym same-r) behind));
+          (subst (λ (x : ℕ). EndsAs asked (λ n. in_rounds (suc n) local target asked p.left x) (λ n. all_yes (part_answer local target asked n) others)) (sym same-r) after));
     }
 
 all-of_none : (local target : Table) (asked n : ℕ) → all_yes (part_answer local target asked n) [] ≡ Ok true

@@ -60,11 +60,11 @@ steps_open-last local target items ps p e = ap (sum_by (steps_in local target)) 
 pub fewer-settled : (local target : Table) (before after : List ((ℕ × ℕ) × PairState)) (items rest : List OpenPair) (p : OpenPair) (new : PairState) → items ≡ rest ++ p ∷ [] → SetsState before after p.left p.right new → steps_left local target after rest < steps_left local target before items
 fewer-settled local target before after items rest p new e sets = omega (arith, steps_open-last local target items rest p e, unmet-le local target before after p.left p.right new sets)
 
-pub fewer-advanced : (local target : Table) (states : List ((ℕ × ℕ) × PairState)) (items others rest : List OpenPair) (p q : OpenPair) (part : ℕ × ℕ) (behind : List (ℕ × ℕ)) → items ≡ rest ++ p ∷ [] → others ≡ rest ++ q ∷ [] → parts_left local target p ≡ part ∷ behind → parts_left local target q ≡ behind
+pub fewer-advanced : (local target : Table) (states : List ((ℕ × ℕ) × PairState)) (items others rest : List OpenPair) (p q : OpenPair) (part : ℕ × ℕ) (after : List (ℕ × ℕ)) → items ≡ rest ++ p ∷ [] → others ≡ rest ++ q ∷ [] → parts_left local target p ≡ part ∷ after → parts_left local target q ≡ after
     → steps_left local target states others < steps_left local target states items
-fewer-advanced local target states items others rest p q part behind e f is left =
-    let more : length (parts_left local target p) ≡ suc (length behind) = ap (length {A = ℕ × ℕ}) is in
-    let less : length (parts_left local target q) ≡ length behind = ap (length {A = ℕ × ℕ}) left in
+fewer-advanced local target states items others rest p q part after e f is left =
+    let more : length (parts_left local target p) ≡ suc (length after) = ap (length {A = ℕ × ℕ}) is in
+    let less : length (parts_left local target q) ≡ length after = ap (length {A = ℕ × ℕ}) left in
     omega (arith, steps_open-last local target items rest p e, steps_open-last local target others rest q f)
 
 pub fewer-opened : (local target : Table) (before after : List ((ℕ × ℕ) × PairState)) (items others : List OpenPair) (p : OpenPair) (new : PairState) → others ≡ items ++ p ∷ [] → p.next ≡ 0 → SetsState before after p.left p.right new → state_of before p.left p.right ≡ None → IsKnown local p.left → IsKnown target p.right

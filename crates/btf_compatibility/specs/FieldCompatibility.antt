@@ -4,7 +4,7 @@
 use Rattle.std.specs.Prelude.{ℕ, zero, suc, Bool, true, false, ◌&&◌, ◌||◌, ◌==◌, nat_eq, List, ◌++◌, Result, Ok, Err, if◌then◌else◌}
 use Rattle.std.specs.Cmp.Lexicographic.{pointwise}
 use Rattle.std.specs.Option.{option_map, option_map_or, option_to_list}
-use Rattle.btf_compatibility.specs.TypeCompatibility.{behind_modifiers, has_no_bit_offset, record_at, same_kind}
+use Rattle.btf_compatibility.specs.TypeCompatibility.{after_modifiers, has_no_bit_offset, record_at, same_kind}
 use Rattle.btf_tables.specs.ResolvedTypes.{max_depth, modified_type}
 use Rattle.btf_records.specs.Fields.{array_of, kind_of_type, name_offset_of}
 use Rattle.btf_records.specs.Kinds.{number_of}
@@ -70,7 +70,7 @@ field_answer go local target l a b =
 unfoldable pub fields_compared : ℕ → Table → Table → ℕ → (ℕ × ℕ) → Result Bool BtfError
 fields_compared zero local target asked p = Err (MaximumTypeDepthReached asked)
 fields_compared (suc n) local target asked p =
-    behind_modifiers local target asked (λ l r.
+    after_modifiers local target asked (λ l r.
     field_answer (fields_compared n local target asked) local target l (record_at local l)
     (record_at target r)) p
 

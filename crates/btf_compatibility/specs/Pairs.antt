@@ -14,6 +14,7 @@ unfoldable pub state_of : List ((ℕ × ℕ) × PairState) → ℕ → ℕ → O
 state_of states l r = lookup (is_at (pair_cmp (l, r))) states
 
 -- one pair has a new state, the others have theirs
-pub record SetsState (before after : List ((ℕ × ℕ) × PairState)) (l r : ℕ) (state : PairState) : Type 0 where
+pub record SetsState (before after : List ((ℕ × ℕ) × PairState)) (l r : ℕ) (state : PairState)
+    : Type 0 where
   pub each : (i k : ℕ)
       → state_of after i k ≡ (if is_pair l r (i, k) then Some state else state_of before i k)

@@ -85,13 +85,13 @@ both_ends go (Err e) r = Err e
 both_ends go (Ok l) (Err e) = Err e
 both_ends go (Ok l) (Ok r) = go l r
 
-abbrev pub behind_modifiers : Table
+abbrev pub after_modifiers : Table
     → Table
     → ℕ
     → (ℕ → ℕ → Result Bool BtfError)
     → (ℕ × ℕ)
     → Result Bool BtfError
-behind_modifiers local target asked go p =
+after_modifiers local target asked go p =
     both_ends go (chain_end max_depth local asked p.0) (chain_end max_depth target asked p.1)
 
 -- the answer for two ids without modifiers: what the records say, and then their parts in order,
@@ -104,7 +104,7 @@ compared (suc n) local target asked open_pairs l r =
     then Err (MaximumTypeDepthReached asked)
     else and_also (pair_verdict local target l r)
     (all_yes
-    (behind_modifiers local target asked
+    (after_modifiers local target asked
     (compared n local target asked (open_pairs ++ (l, r) ∷ []))) (pair_parts local target l r))
 
 -- a number above which no more pairs can be open: all pairs of ids are fewer
@@ -114,7 +114,7 @@ pair_bound local target = suc (suc (length local.types) * suc (length target.typ
 -- the answer for two ids with modifiers, with that many pairs at most opened one inside the other
 abbrev pub ends_within : ℕ → Table → Table → ℕ → (ℕ × ℕ) → Result Bool BtfError
 ends_within n local target asked p =
-    behind_modifiers local target asked (compared n local target asked []) p
+    after_modifiers local target asked (compared n local target asked []) p
 
 abbrev pub ends_compatible : Table → Table → ℕ → (ℕ × ℕ) → Result Bool BtfError
 ends_compatible local target asked p = ends_within (pair_bound local target) local target asked p

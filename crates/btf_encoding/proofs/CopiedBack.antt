@@ -45,9 +45,9 @@ copied_from order bytes r has same none written =
     let again : ReadsSame order r = reads_same order r has in
     let plain : without_fallback (type_in order bytes) ≡ type_in order bytes = read_without (kind_at order bytes) order bytes in
     record {
-      begins = λ behind. rw written (again.begins behind);
-      same = λ behind. rw written (again.same behind ∙ (same ∙ sym plain));
-      len = λ behind. rw written (again.len behind ∙ all);
+      begins = λ after. rw written (again.begins after);
+      same = λ after. rw written (again.same after ∙ (same ∙ sym plain));
+      len = λ after. rw written (again.len after ∙ all);
       alone = rw written again;
       follows = rw (written, plain) (follows order (type_in order bytes) r has same all);
     }
@@ -111,9 +111,9 @@ back_with order f t back =
     let same = bytes_with order f t in
     let plain = without_with f t in
     record {
-      begins = λ behind. rw same (back.begins behind);
-      same = λ behind. rw (same, plain) (back.same behind);
-      len = λ behind. rw same (back.len behind);
+      begins = λ after. rw same (back.begins after);
+      same = λ after. rw (same, plain) (back.same after);
+      len = λ after. rw same (back.len after);
       alone = rw same back.alone;
       follows = rw (same, plain) back.follows;
     }

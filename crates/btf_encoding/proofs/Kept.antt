@@ -13,7 +13,7 @@ use Rattle.btf_records.specs.Info.{bit, bits_in, count_in, info_of, kind_number_
 use Rattle.btf_records.specs.Kinds.{kind_of, number_of}
 use Rattle.btf_records.specs.Words.{word_at, word_bytes, words_bytes}
 use Rattle.btf_encoding.specs.Items.{array_in, array_words, entry_in, entry_words, enum64_in, enum64_words, items_in, member_in, member_words, param_in, param_words, variant_in, variant_words}
-use Rattle.btf_encoding.specs.Records.{HasRecord, bits_at, count_at, kind_at, kind_number_at, len_behind, name_at, record_bytes, record_len, third_at, type_as, type_in, words_of}
+use Rattle.btf_encoding.specs.Records.{HasRecord, bits_at, count_at, kind_at, kind_number_at, len_after, name_at, record_bytes, record_len, third_at, type_as, type_in, words_of}
 use Rattle.btf_encoding.specs.Rewriting.{is_kept}
 use Rattle.btf_encoding.proofs.InBytes.{length-items_in}
 use Rattle.btf_encoding.proofs.RoundTrip.{fourth}
@@ -85,18 +85,18 @@ take_three m bytes =
     ap (λ (k : ℕ). take k bytes) eight ∙ take-add 4 (8 + m) bytes
     ∙ ap (λ (b : List ℕ). take 4 bytes ++ b) (ap (λ (k : ℕ). take k (drop 4 bytes)) four ∙ (take-add 4 (4 + m) (drop 4 bytes) ∙ ap (λ (b : List ℕ). take 4 (drop 4 bytes) ++ b) (rw (drop-drop 4 4 bytes) (take-add 4 m (drop 8 bytes)) ∙ ap (λ (b : List ℕ). take 4 (drop 8 bytes) ++ take m b) (drop-drop 4 8 bytes))))
 
-behind_three : (order : Endianness) (bytes ws : List ℕ) (m : ℕ) → 12 + m ≤ length bytes → IsBytes bytes → words_bytes order ws ≡ take m (drop 12 bytes) → words_bytes order (word_at order bytes 0 ∷ word_at order bytes 4 ∷ word_at order bytes 8 ∷ ws) ≡ take (12 + m) bytes
-behind_three order bytes ws m h fits behind =
+after_three : (order : Endianness) (bytes ws : List ℕ) (m : ℕ) → 12 + m ≤ length bytes → IsBytes bytes → words_bytes order ws ≡ take m (drop 12 bytes) → words_bytes order (word_at order bytes 0 ∷ word_at order bytes 4 ∷ word_at order bytes 8 ∷ ws) ≡ take (12 + m) bytes
+after_three order bytes ws m h fits after =
     let one = word_back order bytes 0 (omega arith) fits in
     let two = word_back order bytes 4 (omega arith) fits in
     let three = word_back order bytes 8 (omega arith) fits in
     let parts : take (12 + m) bytes ≡ take 4 bytes ++ (take 4 (drop 4 bytes) ++ (take 4 (drop 8 bytes) ++ take m (drop 12 bytes))) =
     take_three m bytes
     in
-    rw (one, two, three, behind) (sym parts)
+    rw (one, two, three, after) (sym parts)
 
 three_back : (order : Endianness) (bytes : List ℕ) → 12 ≤ length bytes → IsBytes bytes → words_bytes order (word_at order bytes 0 ∷ word_at order bytes 4 ∷ word_at order bytes 8 ∷ []) ≡ take 12 bytes
-three_back order bytes h fits = behind_three order bytes [] 0 (omega arith) fits refl
+three_back order bytes h fits = after_three order bytes [] 0 (omega arith) fits refl
 
 -- items, one after the other
 items_back : {X : Type 0} (order : Endianness) (item : List ℕ → X) (words : X → List ℕ) (size n : ℕ) (bytes : List ℕ) → ((b : List ℕ) → size ≤ length b → IsBytes b → words_bytes order (words (item b)) ≡ take size b) → size * n ≤ length bytes → IsBytes bytes → words_bytes order (flat_map words (items_in item size n bytes)) ≡ take (size * n) bytes
@@ -109,13 +109,13 @@ items_back order item words size (suc n) bytes each h fits =
 
 -- the first three words of a record, and what is after them
 head_back : (order : Endianness) (bytes : List ℕ) (kind : ℕ) (ws : List ℕ) (m : ℕ) → kind ≡ kind_number_at order bytes → 12 + m ≤ length bytes → IsBytes bytes → words_bytes order ws ≡ take m (drop 12 bytes) → words_bytes order (name_at order bytes ∷ info_of kind (count_at order bytes) (bits_at order bytes) ∷ third_at order bytes ∷ ws) ≡ take (12 + m) bytes
-head_back order bytes kind ws m number h fits behind =
+head_back order bytes kind ws m number h fits after =
     let info : info_of kind (count_at order bytes) (bits_at order bytes) ≡ word_at order bytes 4 = rw number (info_back (word_at order bytes 4) (word_small order bytes 4 fits)) in
-    rw info (behind_three order bytes ws m h fits behind)
+    rw info (after_three order bytes ws m h fits after)
 
 -- one more word
-word_behind : (order : Endianness) (bytes : List ℕ) → 16 ≤ length bytes → IsBytes bytes → words_bytes order (word_at order bytes 12 ∷ []) ≡ take 4 (drop 12 bytes)
-word_behind order bytes h fits = rw (fourth order bytes) (one_back order (drop 12 bytes) (omega (arith, length-drop 12 bytes)) (IsBytes-drop 12 bytes fits))
+word_after : (order : Endianness) (bytes : List ℕ) → 16 ≤ length bytes → IsBytes bytes → words_bytes order (word_at order bytes 12 ∷ []) ≡ take 4 (drop 12 bytes)
+word_after order bytes h fits = rw (fourth order bytes) (one_back order (drop 12 bytes) (omega (arith, length-drop 12 bytes)) (IsBytes-drop 12 bytes fits))
 
 linkage_back : (n : ℕ) → nat_lt n 4 ≡ true → number_of_var_linkage (var_linkage_of n) ≡ n
 linkage_back zero lt = refl
@@ -138,14 +138,14 @@ zeros order bytes one two three same = ap (λ (w : ℕ). words_bytes order (w �
 third_zero : (order : Endianness) (front ws : List ℕ) (third : ℕ) (bytes : List ℕ) → third ≡ 0 → words_bytes order (front ++ third ∷ ws) ≡ bytes → words_bytes order (front ++ 0 ∷ ws) ≡ bytes
 third_zero order front ws third bytes none same = ap (λ (w : ℕ). words_bytes order (front ++ w ∷ ws)) (sym none) ∙ same
 
-kept_back : (kind : BtfKind) (order : Endianness) (bytes : List ℕ) → number_of kind ≡ kind_number_at order bytes → 12 + len_behind kind (count_at order bytes) ≤ length bytes → IsBytes bytes → is_kept kind order bytes ≡ true → words_bytes order (words_of (type_as kind order bytes)) ≡ take (12 + len_behind kind (count_at order bytes)) bytes
+kept_back : (kind : BtfKind) (order : Endianness) (bytes : List ℕ) → number_of kind ≡ kind_number_at order bytes → 12 + len_after kind (count_at order bytes) ≤ length bytes → IsBytes bytes → is_kept kind order bytes ≡ true → words_bytes order (words_of (type_as kind order bytes)) ≡ take (12 + len_after kind (count_at order bytes)) bytes
 kept_back kinds.Unknown order bytes number whole fits kept =
     let rest : ((word_at order bytes 4 == 0) && (third_at order bytes == 0)) ≡ true = second_true (name_at order bytes == 0) ((word_at order bytes 4 == 0) && (third_at order bytes == 0)) kept in
     let one : name_at order bytes ≡ 0 = eqb-true (name_at order bytes) 0 (first_true (name_at order bytes == 0) ((word_at order bytes 4 == 0) && (third_at order bytes == 0)) kept) in
     let two : word_at order bytes 4 ≡ 0 = eqb-true (word_at order bytes 4) 0 (first_true (word_at order bytes 4 == 0) (third_at order bytes == 0) rest) in
     let three : third_at order bytes ≡ 0 = eqb-true (third_at order bytes) 0 (second_true (word_at order bytes 4 == 0) (third_at order bytes == 0) rest) in
     zeros order bytes one two three (three_back order bytes (omega arith) fits)
-kept_back kinds.Int order bytes number whole fits kept = head_back order bytes 1 (word_at order bytes 12 ∷ []) 4 number whole fits (word_behind order bytes whole fits)
+kept_back kinds.Int order bytes number whole fits kept = head_back order bytes 1 (word_at order bytes 12 ∷ []) 4 number whole fits (word_after order bytes whole fits)
 kept_back kinds.Ptr order bytes number whole fits kept = head_back order bytes 2 [] 0 number whole fits refl
 kept_back kinds.Array order bytes number whole fits kept =
     third_zero order (name_at order bytes ∷ info_of 3 (count_at order bytes) (bits_at order bytes) ∷ []) (array_words (array_in order (drop 12 bytes))) (third_at order bytes) (take (12 + 12) bytes) (eqb-true (third_at order bytes) 0 kept) (head_back order bytes 3 (array_words (array_in order (drop 12 bytes))) 12 number whole fits (three_back order (drop 12 bytes) (omega (arith, length-drop 12 bytes)) (IsBytes-drop 12 bytes fits)))
@@ -174,13 +174,13 @@ kept_back kinds.FuncProto order bytes number whole fits kept =
     (items_back order (param_in order) param_words 8 (count_at order bytes) (drop 12 bytes) (two_back order) (omega (arith, length-drop 12 bytes)) (IsBytes-drop 12 bytes fits)))
 kept_back kinds.Var order bytes number whole fits kept =
     let linkage : number_of_var_linkage (var_linkage_of (word_at order bytes 12)) ≡ word_at order bytes 12 = linkage_back (word_at order bytes 12) kept in
-    rw linkage (head_back order bytes 14 (word_at order bytes 12 ∷ []) 4 number whole fits (word_behind order bytes whole fits))
+    rw linkage (head_back order bytes 14 (word_at order bytes 12 ∷ []) 4 number whole fits (word_after order bytes whole fits))
 kept_back kinds.DataSec order bytes number whole fits kept =
     rw (length-items_in (entry_in order) 12 (count_at order bytes) (drop 12 bytes))
     (head_back order bytes 15 (flat_map entry_words (items_in (entry_in order) 12 (count_at order bytes) (drop 12 bytes))) (12 * count_at order bytes) number whole fits
     (items_back order (entry_in order) entry_words 12 (count_at order bytes) (drop 12 bytes) (three_back order) (omega (arith, length-drop 12 bytes)) (IsBytes-drop 12 bytes fits)))
 kept_back kinds.Float order bytes number whole fits kept = head_back order bytes 16 [] 0 number whole fits refl
-kept_back kinds.DeclTag order bytes number whole fits kept = head_back order bytes 17 (word_at order bytes 12 ∷ []) 4 number whole fits (word_behind order bytes whole fits)
+kept_back kinds.DeclTag order bytes number whole fits kept = head_back order bytes 17 (word_at order bytes 12 ∷ []) 4 number whole fits (word_after order bytes whole fits)
 kept_back kinds.TypeTag order bytes number whole fits kept = head_back order bytes 18 [] 0 number whole fits refl
 kept_back kinds.Enum64 order bytes number whole fits kept =
     rw (length-items_in (enum64_in order) 12 (count_at order bytes) (drop 12 bytes))
@@ -216,5 +216,5 @@ pub is_kept_back : (order : Endianness) (bytes : List ℕ) → HasRecord order b
 unfolding record_bytes
 is_kept_back order bytes has fits kept = kept_back (kind_at order bytes) order bytes (number_of-kind_of (kind_number_at order bytes) has.known) has.whole fits kept
 
-pub is_kept_behind : (order : Endianness) (bytes rest : List ℕ) (done : ℕ) → rest ≡ drop done bytes → HasRecord order rest → IsBytes bytes → is_kept (kind_at order rest) order rest ≡ true → record_bytes order (type_in order rest) ≡ take (record_len order rest) rest
-is_kept_behind order bytes rest done left has fits kept = is_kept_back order rest has (subst (λ (bs : List ℕ). IsBytes bs) (sym left) (IsBytes-drop done bytes fits)) kept
+pub is_kept_after : (order : Endianness) (bytes rest : List ℕ) (done : ℕ) → rest ≡ drop done bytes → HasRecord order rest → IsBytes bytes → is_kept (kind_at order rest) order rest ≡ true → record_bytes order (type_in order rest) ≡ take (record_len order rest) rest
+is_kept_after order bytes rest done left has fits kept = is_kept_back order rest has (subst (λ (bs : List ℕ). IsBytes bs) (sym left) (IsBytes-drop done bytes fits)) kept

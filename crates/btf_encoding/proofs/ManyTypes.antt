@@ -16,15 +16,15 @@ begins_append order [] more mid rest bytes b m = subst (λ (bs : List ℕ). Begi
 begins_append order (t ∷ ts) more mid rest bytes b m = (b.0, b.1, begins_append order ts more mid rest (drop (record_len order bytes) bytes) b.2 m)
 
 -- whatever follows the rest
-begins_behind : (order : Endianness) (front : List BtfType) (rest x bytes : List ℕ) → Begins order front rest bytes → Begins order front (rest ++ x) (bytes ++ x)
-begins_behind order [] rest x bytes b = ap (λ (bs : List ℕ). bs ++ x) b
-begins_behind order (t ∷ ts) rest x bytes b =
+begins_after : (order : Endianness) (front : List BtfType) (rest x bytes : List ℕ) → Begins order front rest bytes → Begins order front (rest ++ x) (bytes ++ x)
+begins_after order [] rest x bytes b = ap (λ (bs : List ℕ). bs ++ x) b
+begins_after order (t ∷ ts) rest x bytes b =
     let stable = reads_same order bytes b.0 in
     let left : drop (record_len order (bytes ++ x)) (bytes ++ x) ≡ drop (record_len order bytes) bytes ++ x = rw (stable.len x) (drop-append-le (record_len order bytes) bytes x b.0.whole) in
-    (stable.begins x, stable.same x ∙ b.1, subst (λ (bs : List ℕ). Begins order ts (rest ++ x) bs) (sym left) (begins_behind order ts rest x (drop (record_len order bytes) bytes) b.2))
+    (stable.begins x, stable.same x ∙ b.1, subst (λ (bs : List ℕ). Begins order ts (rest ++ x) bs) (sym left) (begins_after order ts rest x (drop (record_len order bytes) bytes) b.2))
 
 pub spells_append : (order : Endianness) (front more : List BtfType) (bytes new : List ℕ) → Spells order front bytes → Spells order more new → Spells order (front ++ more) (bytes ++ new)
-spells_append order front more bytes new s m = begins_append order front more new [] (bytes ++ new) (begins_behind order front [] new bytes s) m
+spells_append order front more bytes new s m = begins_append order front more new [] (bytes ++ new) (begins_after order front [] new bytes s) m
 
 -- a record written after others is one more
 pub follows : (order : Endianness) (t : BtfType) (new : List ℕ) → HasRecord order new → type_in order new ≡ t → record_len order new ≡ length new → (front : List BtfType) (bytes : List ℕ) → Spells order front bytes → Spells order (front ++ t ∷ []) (bytes ++ new)

@@ -9,7 +9,7 @@ use Rattle.btf_records.specs.Encodings.{number_of_var_linkage, var_linkage_of}
 use Rattle.btf_records.specs.Fields.{kind_of_type, name_offset_of}
 use Rattle.btf_encoding.specs.Items.{array_in, array_words, entry_in, entry_words, enum64_in, enum64_words, items_in, member_in, member_words, param_in, param_words, variant_in, variant_words}
 use Rattle.btf_records.specs.Kinds.{kind_of, number_of}
-use Rattle.btf_encoding.specs.Records.{HasRecord, IsInRange, ReadsBack, Spells, bits_of, count_at, count_of, kind_at, kind_number_at, len_behind, record_bytes, record_len, type_as, type_in, without_fallback, words_of}
+use Rattle.btf_encoding.specs.Records.{HasRecord, IsInRange, ReadsBack, Spells, bits_of, count_at, count_of, kind_at, kind_number_at, len_after, record_bytes, record_len, type_as, type_in, without_fallback, words_of}
 use Rattle.btf_records.specs.Words.{word_at, word_bytes, words_bytes}
 use Rattle.btf_encoding.proofs.ManyTypes.{follows}
 use Rattle.btf_encoding.proofs.WhateverFollows.{reads_same}
@@ -180,29 +180,29 @@ third_of (types.DeclTag t) = t.btf_type
 third_of (types.TypeTag t) = t.btf_type
 third_of (types.Enum64 t) = t.size
 
-abbrev words_behind : BtfType → List ℕ
-words_behind types.Unknown = []
-words_behind (types.Int t) = t.int_word ∷ []
-words_behind (types.Ptr t) = []
-words_behind (types.Array t) = array_words t.array
-words_behind (types.Struct t) = flat_map member_words t.members
-words_behind (types.Union t) = flat_map member_words t.members
-words_behind (types.Enum t) = flat_map variant_words t.variants
-words_behind (types.Fwd t) = []
-words_behind (types.Typedef t) = []
-words_behind (types.Volatile t) = []
-words_behind (types.Const t) = []
-words_behind (types.Restrict t) = []
-words_behind (types.Func t) = []
-words_behind (types.FuncProto t) = flat_map param_words t.params
-words_behind (types.Var t) = number_of_var_linkage t.linkage ∷ []
-words_behind (types.DataSec t) = flat_map entry_words t.entries
-words_behind (types.Float t) = []
-words_behind (types.DeclTag t) = t.index_word ∷ []
-words_behind (types.TypeTag t) = []
-words_behind (types.Enum64 t) = flat_map enum64_words t.variants
+abbrev words_after : BtfType → List ℕ
+words_after types.Unknown = []
+words_after (types.Int t) = t.int_word ∷ []
+words_after (types.Ptr t) = []
+words_after (types.Array t) = array_words t.array
+words_after (types.Struct t) = flat_map member_words t.members
+words_after (types.Union t) = flat_map member_words t.members
+words_after (types.Enum t) = flat_map variant_words t.variants
+words_after (types.Fwd t) = []
+words_after (types.Typedef t) = []
+words_after (types.Volatile t) = []
+words_after (types.Const t) = []
+words_after (types.Restrict t) = []
+words_after (types.Func t) = []
+words_after (types.FuncProto t) = flat_map param_words t.params
+words_after (types.Var t) = number_of_var_linkage t.linkage ∷ []
+words_after (types.DataSec t) = flat_map entry_words t.entries
+words_after (types.Float t) = []
+words_after (types.DeclTag t) = t.index_word ∷ []
+words_after (types.TypeTag t) = []
+words_after (types.Enum64 t) = flat_map enum64_words t.variants
 
-words_parts : (t : BtfType) → words_of t ≡ name_offset_of t ∷ info_of (number_of (kind_of_type t)) (count_of t) (bits_of t) ∷ third_of t ∷ words_behind t
+words_parts : (t : BtfType) → words_of t ≡ name_offset_of t ∷ info_of (number_of (kind_of_type t)) (count_of t) (bits_of t) ∷ third_of t ∷ words_after t
 unfolding info_of
 words_parts types.Unknown = refl
 words_parts (types.Int t) = refl
@@ -257,16 +257,16 @@ fit-All : (ws : List ℕ) → All (λ w. w < 2 ^ 32) ws → Fit ws
 fit-All [] h = tt
 fit-All (w ∷ ws) h = (All-head (λ (n : ℕ). n < 2 ^ 32) w ws h, fit-All ws (All-tail (λ (n : ℕ). n < 2 ^ 32) w ws h))
 
-fit_parts : (t : BtfType) → IsInRange t → Fit (name_offset_of t ∷ info_of (number_of (kind_of_type t)) (count_of t) (bits_of t) ∷ third_of t ∷ words_behind t)
+fit_parts : (t : BtfType) → IsInRange t → Fit (name_offset_of t ∷ info_of (number_of (kind_of_type t)) (count_of t) (bits_of t) ∷ third_of t ∷ words_after t)
 fit_parts t r = subst (λ (ws : List ℕ). Fit ws) (words_parts t) (fit-All (words_of t) r.words)
 
-head_written : (order : Endianness) (t : BtfType) (behind : List ℕ) → IsInRange t → HeadIs order (words_bytes order (words_of t) ++ behind) t (words_bytes order (words_behind t) ++ behind)
-head_written order t behind r =
+head_written : (order : Endianness) (t : BtfType) (after : List ℕ) → IsInRange t → HeadIs order (words_bytes order (words_of t) ++ after) t (words_bytes order (words_after t) ++ after)
+head_written order t after r =
     let info : ℕ = info_of (number_of (kind_of_type t)) (count_of t) (bits_of t) in
-    let fits : Fit (name_offset_of t ∷ info ∷ third_of t ∷ words_behind t) = fit_parts t r in
+    let fits : Fit (name_offset_of t ∷ info ∷ third_of t ∷ words_after t) = fit_parts t r in
     let small : number_of (kind_of_type t) < 20 = number_of-small (kind_of_type t) in
-    head_from order t (name_offset_of t) info (third_of t) (words_bytes order (words_behind t) ++ behind) (words_bytes order (words_of t) ++ behind)
-    (ap (λ (ws : List ℕ). words_bytes order ws ++ behind) (words_parts t) ∙ three_first order (name_offset_of t) info (third_of t) (words_behind t) behind)
+    head_from order t (name_offset_of t) info (third_of t) (words_bytes order (words_after t) ++ after) (words_bytes order (words_of t) ++ after)
+    (ap (λ (ws : List ℕ). words_bytes order ws ++ after) (words_parts t) ∙ three_first order (name_offset_of t) info (third_of t) (words_after t) after)
     fits.0 fits.1.0 fits.1.1.0
     refl refl
     (info_parts (number_of (kind_of_type t)) (count_of t) (bits_of t) (omega arith) r.count r.bits)
@@ -374,66 +374,66 @@ var_linkage-number variables.Extern = refl
 var_linkage-number variables.Unknown = refl
 
 -- the word after the first three
-word_behind : (order : Endianness) (bytes behind : List ℕ) (w : ℕ) → drop 12 bytes ≡ words_bytes order (w ∷ []) ++ behind → w < 2 ^ 32 → word_at order bytes 12 ≡ w
-word_behind order bytes behind w rest lt =
-    fourth order bytes ∙ ap (λ (b : List ℕ). word_at order b 0) (rest ∙ append_assoc (word_bytes order w) [] behind) ∙ first order w behind lt
+word_after : (order : Endianness) (bytes after : List ℕ) (w : ℕ) → drop 12 bytes ≡ words_bytes order (w ∷ []) ++ after → w < 2 ^ 32 → word_at order bytes 12 ≡ w
+word_after order bytes after w rest lt =
+    fourth order bytes ∙ ap (λ (b : List ℕ). word_at order b 0) (rest ∙ append_assoc (word_bytes order w) [] after) ∙ first order w after lt
 
-same : (order : Endianness) (t : BtfType) (bytes behind : List ℕ) → HeadIs order bytes t (words_bytes order (words_behind t) ++ behind) → Fit (words_behind t) → type_in order bytes ≡ without_fallback t
-same order types.Unknown bytes behind h fits = ap (λ (k : BtfKind). type_as k order bytes) h.kind_is
-same order (types.Int t) bytes behind h fits =
-    let word = word_behind order bytes behind t.int_word h.rest_is fits.0 in
+same : (order : Endianness) (t : BtfType) (bytes after : List ℕ) → HeadIs order bytes t (words_bytes order (words_after t) ++ after) → Fit (words_after t) → type_in order bytes ≡ without_fallback t
+same order types.Unknown bytes after h fits = ap (λ (k : BtfKind). type_as k order bytes) h.kind_is
+same order (types.Int t) bytes after h fits =
+    let word = word_after order bytes after t.int_word h.rest_is fits.0 in
     ap (λ (k : BtfKind). type_as k order bytes) h.kind_is ∙ rw (word, h.name_is, h.bits_are, h.count_is, h.third_is) refl
-same order (types.Ptr t) bytes behind h fits =
+same order (types.Ptr t) bytes after h fits =
     ap (λ (k : BtfKind). type_as k order bytes) h.kind_is ∙ rw (h.name_is, h.bits_are, h.count_is, h.third_is) refl
-same order (types.Array t) bytes behind h fits =
-    let array : array_in order (drop 12 bytes) ≡ t.array = ap (array_in order) (h.rest_is ∙ three_first order t.array.element_type t.array.index_type t.array.len [] behind) ∙ array_back order t.array behind fits in
+same order (types.Array t) bytes after h fits =
+    let array : array_in order (drop 12 bytes) ≡ t.array = ap (array_in order) (h.rest_is ∙ three_first order t.array.element_type t.array.index_type t.array.len [] after) ∙ array_back order t.array after fits in
     ap (λ (k : BtfKind). type_as k order bytes) h.kind_is ∙ rw (array, h.name_is, h.bits_are, h.count_is) refl
-same order (types.Struct t) bytes behind h fits =
-    let list : items_in (member_in order) 12 (count_at order bytes) (drop 12 bytes) ≡ t.members = rw (h.count_is, h.rest_is) (members_back order t.members behind fits) in
+same order (types.Struct t) bytes after h fits =
+    let list : items_in (member_in order) 12 (count_at order bytes) (drop 12 bytes) ≡ t.members = rw (h.count_is, h.rest_is) (members_back order t.members after fits) in
     ap (λ (k : BtfKind). type_as k order bytes) h.kind_is ∙ rw (list, h.name_is, h.bits_are, h.third_is) refl
-same order (types.Union t) bytes behind h fits =
-    let list : items_in (member_in order) 12 (count_at order bytes) (drop 12 bytes) ≡ t.members = rw (h.count_is, h.rest_is) (members_back order t.members behind fits) in
+same order (types.Union t) bytes after h fits =
+    let list : items_in (member_in order) 12 (count_at order bytes) (drop 12 bytes) ≡ t.members = rw (h.count_is, h.rest_is) (members_back order t.members after fits) in
     ap (λ (k : BtfKind). type_as k order bytes) h.kind_is ∙ rw (list, h.name_is, h.bits_are, h.third_is) refl
-same order (types.Enum t) bytes behind h fits =
-    let list : items_in (variant_in order) 8 (count_at order bytes) (drop 12 bytes) ≡ t.variants = rw (h.count_is, h.rest_is) (variants_back order t.variants behind fits) in
+same order (types.Enum t) bytes after h fits =
+    let list : items_in (variant_in order) 8 (count_at order bytes) (drop 12 bytes) ≡ t.variants = rw (h.count_is, h.rest_is) (variants_back order t.variants after fits) in
     ap (λ (k : BtfKind). type_as k order bytes) h.kind_is ∙ rw (list, h.name_is, h.bits_are, h.third_is) refl
-same order (types.Fwd t) bytes behind h fits =
+same order (types.Fwd t) bytes after h fits =
     ap (λ (k : BtfKind). type_as k order bytes) h.kind_is ∙ rw (h.name_is, h.bits_are, h.count_is) refl
-same order (types.Typedef t) bytes behind h fits =
+same order (types.Typedef t) bytes after h fits =
     ap (λ (k : BtfKind). type_as k order bytes) h.kind_is ∙ rw (h.name_is, h.bits_are, h.count_is, h.third_is) refl
-same order (types.Volatile t) bytes behind h fits =
+same order (types.Volatile t) bytes after h fits =
     ap (λ (k : BtfKind). type_as k order bytes) h.kind_is ∙ rw (h.name_is, h.bits_are, h.count_is, h.third_is) refl
-same order (types.Const t) bytes behind h fits =
+same order (types.Const t) bytes after h fits =
     ap (λ (k : BtfKind). type_as k order bytes) h.kind_is ∙ rw (h.name_is, h.bits_are, h.count_is, h.third_is) refl
-same order (types.Restrict t) bytes behind h fits =
+same order (types.Restrict t) bytes after h fits =
     ap (λ (k : BtfKind). type_as k order bytes) h.kind_is ∙ rw (h.name_is, h.bits_are, h.count_is, h.third_is) refl
-same order (types.Func t) bytes behind h fits =
+same order (types.Func t) bytes after h fits =
     ap (λ (k : BtfKind). type_as k order bytes) h.kind_is ∙ rw (h.name_is, h.bits_are, h.count_is, h.third_is) refl
-same order (types.FuncProto t) bytes behind h fits =
-    let list : items_in (param_in order) 8 (count_at order bytes) (drop 12 bytes) ≡ t.params = rw (h.count_is, h.rest_is) (params_back order t.params behind fits) in
+same order (types.FuncProto t) bytes after h fits =
+    let list : items_in (param_in order) 8 (count_at order bytes) (drop 12 bytes) ≡ t.params = rw (h.count_is, h.rest_is) (params_back order t.params after fits) in
     ap (λ (k : BtfKind). type_as k order bytes) h.kind_is ∙ rw (list, h.name_is, h.bits_are, h.third_is) refl
-same order (types.Var t) bytes behind h fits =
-    let linkage : var_linkage_of (word_at order bytes 12) ≡ t.linkage = ap var_linkage_of (word_behind order bytes behind (number_of_var_linkage t.linkage) h.rest_is fits.0) ∙ var_linkage-number t.linkage in
+same order (types.Var t) bytes after h fits =
+    let linkage : var_linkage_of (word_at order bytes 12) ≡ t.linkage = ap var_linkage_of (word_after order bytes after (number_of_var_linkage t.linkage) h.rest_is fits.0) ∙ var_linkage-number t.linkage in
     ap (λ (k : BtfKind). type_as k order bytes) h.kind_is ∙ rw (linkage, h.name_is, h.bits_are, h.count_is, h.third_is) refl
-same order (types.DataSec t) bytes behind h fits =
-    let list : items_in (entry_in order) 12 (count_at order bytes) (drop 12 bytes) ≡ t.entries = rw (h.count_is, h.rest_is) (entrys_back order t.entries behind fits) in
+same order (types.DataSec t) bytes after h fits =
+    let list : items_in (entry_in order) 12 (count_at order bytes) (drop 12 bytes) ≡ t.entries = rw (h.count_is, h.rest_is) (entrys_back order t.entries after fits) in
     ap (λ (k : BtfKind). type_as k order bytes) h.kind_is ∙ rw (list, h.name_is, h.bits_are, h.third_is) refl
-same order (types.Float t) bytes behind h fits =
+same order (types.Float t) bytes after h fits =
     ap (λ (k : BtfKind). type_as k order bytes) h.kind_is ∙ rw (h.name_is, h.bits_are, h.count_is, h.third_is) refl
-same order (types.DeclTag t) bytes behind h fits =
-    let word = word_behind order bytes behind t.index_word h.rest_is fits.0 in
+same order (types.DeclTag t) bytes after h fits =
+    let word = word_after order bytes after t.index_word h.rest_is fits.0 in
     ap (λ (k : BtfKind). type_as k order bytes) h.kind_is ∙ rw (word, h.name_is, h.bits_are, h.count_is, h.third_is) refl
-same order (types.TypeTag t) bytes behind h fits =
+same order (types.TypeTag t) bytes after h fits =
     ap (λ (k : BtfKind). type_as k order bytes) h.kind_is ∙ rw (h.name_is, h.bits_are, h.count_is, h.third_is) refl
-same order (types.Enum64 t) bytes behind h fits =
-    let list : items_in (enum64_in order) 12 (count_at order bytes) (drop 12 bytes) ≡ t.variants = rw (h.count_is, h.rest_is) (enum64s_back order t.variants behind fits) in
+same order (types.Enum64 t) bytes after h fits =
+    let list : items_in (enum64_in order) 12 (count_at order bytes) (drop 12 bytes) ≡ t.variants = rw (h.count_is, h.rest_is) (enum64s_back order t.variants after fits) in
     ap (λ (k : BtfKind). type_as k order bytes) h.kind_is ∙ rw (list, h.name_is, h.bits_are, h.third_is) refl
 
 length-flat : {X : Type 0} (words : X → List ℕ) (n : ℕ) (xs : List X) → ((x : X) → length (words x) ≡ n) → length (flat_map words xs) ≡ n * length xs
 length-flat words n [] h = omega arith
 length-flat words n (x ∷ xs) h = length-append (words x) (flat_map words xs) ∙ omega (arith, h x, length-flat words n xs h)
 
-len_same : (t : BtfType) → 12 + len_behind (kind_of_type t) (count_of t) ≡ 4 * length (words_of t)
+len_same : (t : BtfType) → 12 + len_after (kind_of_type t) (count_of t) ≡ 4 * length (words_of t)
 len_same types.Unknown = refl
 len_same (types.Int t) = refl
 len_same (types.Ptr t) = refl
@@ -458,11 +458,11 @@ len_same (types.Enum64 t) = omega (arith, length-flat enum64_words 3 t.variants 
 len : (order : Endianness) (t : BtfType) (bytes rest : List ℕ) → HeadIs order bytes t rest → record_len order bytes ≡ length (words_bytes order (words_of t))
 len order t bytes rest h = rw (h.kind_is, h.count_is) (len_same t ∙ sym (length-words order (words_of t)))
 
-begins : (order : Endianness) (t : BtfType) (behind : List ℕ) → IsInRange t → HasRecord order (words_bytes order (words_of t) ++ behind)
-begins order t behind r =
-    let h : HeadIs order (words_bytes order (words_of t) ++ behind) t (words_bytes order (words_behind t) ++ behind) = head_written order t behind r in
-    let whole : record_len order (words_bytes order (words_of t) ++ behind) ≡ length (words_bytes order (words_of t)) = len order t _ _ h in
-    let long : length (words_bytes order (words_of t) ++ behind) ≡ length (words_bytes order (words_of t)) + length behind = length-append (words_bytes order (words_of t)) behind in
+begins : (order : Endianness) (t : BtfType) (after : List ℕ) → IsInRange t → HasRecord order (words_bytes order (words_of t) ++ after)
+begins order t after r =
+    let h : HeadIs order (words_bytes order (words_of t) ++ after) t (words_bytes order (words_after t) ++ after) = head_written order t after r in
+    let whole : record_len order (words_bytes order (words_of t) ++ after) ≡ length (words_bytes order (words_of t)) = len order t _ _ h in
+    let long : length (words_bytes order (words_of t) ++ after) ≡ length (words_bytes order (words_of t)) + length after = length-append (words_bytes order (words_of t)) after in
     let small : number_of (kind_of_type t) < 20 = number_of-small (kind_of_type t) in
     record {
       head = omega (arith, whole, long);
@@ -472,7 +472,7 @@ begins order t behind r =
 
 follows_written : (order : Endianness) (t : BtfType) → IsInRange t → (front : List BtfType) (bytes : List ℕ) → Spells order front bytes → Spells order (front ++ without_fallback t ∷ []) (bytes ++ words_bytes order (words_of t))
 follows_written order t r =
-    let head : HeadIs order (words_bytes order (words_of t) ++ []) t (words_bytes order (words_behind t) ++ []) = head_written order t [] r in
+    let head : HeadIs order (words_bytes order (words_of t) ++ []) t (words_bytes order (words_after t) ++ []) = head_written order t [] r in
     let alone : words_bytes order (words_of t) ++ [] ≡ words_bytes order (words_of t) = append-nil (words_bytes order (words_of t)) in
     follows order (without_fallback t) (words_bytes order (words_of t))
     (subst (λ (bs : List ℕ). HasRecord order bs) alone (begins order t [] r))
@@ -482,9 +482,9 @@ follows_written order t r =
 pub read_back : (order : Endianness) (t : BtfType) → IsInRange t → ReadsBack order t
 unfolding record_bytes
 read_back order t r = record {
-  begins = λ behind. begins order t behind r;
-  same = λ behind. same order t _ behind (head_written order t behind r) (fit_parts t r).1.1.1;
-  len = λ behind. len order t _ _ (head_written order t behind r);
+  begins = λ after. begins order t after r;
+  same = λ after. same order t _ after (head_written order t after r) (fit_parts t r).1.1.1;
+  len = λ after. len order t _ _ (head_written order t after r);
   alone = reads_same order (words_bytes order (words_of t)) (subst (λ (bs : List ℕ). HasRecord order bs) (append-nil (words_bytes order (words_of t))) (begins order t [] r));
   follows = follows_written order t r;
 }

@@ -37,25 +37,26 @@ bits_at order bytes = bits_in (word_at order bytes 4)
 abbrev pub third_at : Endianness → List ℕ → ℕ
 third_at order bytes = word_at order bytes 8
 
-abbrev pub behind_in : List ℕ → List ℕ
-behind_in bytes = drop 12 bytes
+-- the bytes after a record's first three words
+abbrev pub after_words : List ℕ → List ℕ
+after_words bytes = drop 12 bytes
 
 -- the bytes of a record of a kind after its first three words
-abbrev pub len_behind : BtfKind → ℕ → ℕ
-len_behind kinds.Int count = 4
-len_behind kinds.Array count = 12
-len_behind kinds.Struct count = 12 * count
-len_behind kinds.Union count = 12 * count
-len_behind kinds.Enum count = 8 * count
-len_behind kinds.FuncProto count = 8 * count
-len_behind kinds.Var count = 4
-len_behind kinds.DataSec count = 12 * count
-len_behind kinds.DeclTag count = 4
-len_behind kinds.Enum64 count = 12 * count
-len_behind _ count = 0
+abbrev pub len_after : BtfKind → ℕ → ℕ
+len_after kinds.Int count = 4
+len_after kinds.Array count = 12
+len_after kinds.Struct count = 12 * count
+len_after kinds.Union count = 12 * count
+len_after kinds.Enum count = 8 * count
+len_after kinds.FuncProto count = 8 * count
+len_after kinds.Var count = 4
+len_after kinds.DataSec count = 12 * count
+len_after kinds.DeclTag count = 4
+len_after kinds.Enum64 count = 12 * count
+len_after _ count = 0
 
 abbrev pub record_len : Endianness → List ℕ → ℕ
-record_len order bytes = 12 + len_behind (kind_at order bytes) (count_at order bytes)
+record_len order bytes = 12 + len_after (kind_at order bytes) (count_at order bytes)
 
 -- the bytes begin with a record
 pub record HasRecord (order : Endianness) (bytes : List ℕ) : Type 0 where
@@ -99,7 +100,7 @@ type_as kinds.Array order bytes =
       name_offset = name_at order bytes;
       vlen = count_at order bytes;
       info = bits_at order bytes;
-      array = array_in order (behind_in bytes);
+      array = array_in order (after_words bytes);
     })
 type_as kinds.Struct order bytes =
     types.Struct
@@ -107,7 +108,7 @@ type_as kinds.Struct order bytes =
       name_offset = name_at order bytes;
       info = bits_at order bytes;
       size = third_at order bytes;
-      members = items_in (member_in order) 12 (count_at order bytes) (behind_in bytes);
+      members = items_in (member_in order) 12 (count_at order bytes) (after_words bytes);
     })
 type_as kinds.Union order bytes =
     types.Union
@@ -115,7 +116,7 @@ type_as kinds.Union order bytes =
       name_offset = name_at order bytes;
       info = bits_at order bytes;
       size = third_at order bytes;
-      members = items_in (member_in order) 12 (count_at order bytes) (behind_in bytes);
+      members = items_in (member_in order) 12 (count_at order bytes) (after_words bytes);
       fallback = None;
     })
 type_as kinds.Enum order bytes =
@@ -124,7 +125,7 @@ type_as kinds.Enum order bytes =
       name_offset = name_at order bytes;
       info = bits_at order bytes;
       size = third_at order bytes;
-      variants = items_in (variant_in order) 8 (count_at order bytes) (behind_in bytes);
+      variants = items_in (variant_in order) 8 (count_at order bytes) (after_words bytes);
     })
 type_as kinds.Fwd order bytes =
     types.Fwd
@@ -176,7 +177,7 @@ type_as kinds.FuncProto order bytes =
       name_offset = name_at order bytes;
       info = bits_at order bytes;
       return_type = third_at order bytes;
-      params = items_in (param_in order) 8 (count_at order bytes) (behind_in bytes);
+      params = items_in (param_in order) 8 (count_at order bytes) (after_words bytes);
     })
 type_as kinds.Var order bytes =
     types.Var
@@ -193,7 +194,7 @@ type_as kinds.DataSec order bytes =
       name_offset = name_at order bytes;
       info = bits_at order bytes;
       size = third_at order bytes;
-      entries = items_in (entry_in order) 12 (count_at order bytes) (behind_in bytes);
+      entries = items_in (entry_in order) 12 (count_at order bytes) (after_words bytes);
     })
 type_as kinds.Float order bytes =
     types.Float
@@ -226,7 +227,7 @@ type_as kinds.Enum64 order bytes =
       name_offset = name_at order bytes;
       info = bits_at order bytes;
       size = third_at order bytes;
-      variants = items_in (enum64_in order) 12 (count_at order bytes) (behind_in bytes);
+      variants = items_in (enum64_in order) 12 (count_at order bytes) (after_words bytes);
     })
 
 -- the record that the bytes begin with
@@ -334,9 +335,9 @@ pub record IsInRange (t : BtfType) : Type 0 where
 
 -- the record that the bytes begin with is read the same, and as long, whatever follows them
 pub record ReadsSame (order : Endianness) (bytes : List ℕ) : Type 0 where
-  pub begins : (behind : List ℕ) → HasRecord order (bytes ++ behind)
-  pub same : (behind : List ℕ) → type_in order (bytes ++ behind) ≡ type_in order bytes
-  pub len : (behind : List ℕ) → record_len order (bytes ++ behind) ≡ record_len order bytes
+  pub begins : (after : List ℕ) → HasRecord order (bytes ++ after)
+  pub same : (after : List ℕ) → type_in order (bytes ++ after) ≡ type_in order bytes
+  pub len : (after : List ℕ) → record_len order (bytes ++ after) ≡ record_len order bytes
 
 -- the bytes begin with these records, one after the other, and then the rest comes
 abbrev pub Begins : Endianness → List BtfType → List ℕ → List ℕ → Type 0
@@ -353,10 +354,10 @@ Spells order ts bytes = Begins order ts [] bytes
 -- wherever the bytes of a record stand, they are read as it, and as no more bytes; written after
 -- records, they are one more
 pub record ReadsBack (order : Endianness) (t : BtfType) : Type 0 where
-  pub begins : (behind : List ℕ) → HasRecord order (record_bytes order t ++ behind)
-  pub same : (behind : List ℕ) → type_in order (record_bytes order t ++ behind) ≡ without_fallback t
-  pub len : (behind : List ℕ)
-      → record_len order (record_bytes order t ++ behind) ≡ length (record_bytes order t)
+  pub begins : (after : List ℕ) → HasRecord order (record_bytes order t ++ after)
+  pub same : (after : List ℕ) → type_in order (record_bytes order t ++ after) ≡ without_fallback t
+  pub len : (after : List ℕ)
+      → record_len order (record_bytes order t ++ after) ≡ length (record_bytes order t)
   pub alone : ReadsSame order (record_bytes order t)
   pub follows : (front : List BtfType) (bytes : List ℕ)
       → Spells order front bytes

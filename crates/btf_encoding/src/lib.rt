@@ -8,7 +8,7 @@ mod rewriting;
 mod view;
 mod writing;
 
-pub use reading::{behind, record_len};
+pub use reading::{after, record_len};
 pub use rewriting::push_types;
 pub use view::TypeRef;
 pub use writing::push_type;

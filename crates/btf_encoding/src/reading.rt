@@ -2,7 +2,7 @@
 
 ghost use Rattle.std.specs.Prelude.{◌≡◌, ◌+◌, ◌*◌, ◌<◌, ◌≤◌, ◌^◌, IfOk, IfErr, OnOk, IfSome, Option, Some, None, drop, length, slice_get};
 ghost use Rattle.btf_encoding.specs.Items.{items_in};
-ghost use Rattle.btf_encoding.specs.Records.{HasRecord, ReadsSame, RecordFault, count_at, kind_at, len_behind, record_len, type_in};
+ghost use Rattle.btf_encoding.specs.Records.{HasRecord, ReadsSame, RecordFault, count_at, kind_at, len_after, record_len, type_in};
 
 use crate::item::Item;
 use btf_records::{
@@ -13,7 +13,7 @@ use btf_records::{
 use std::alloc::{AllocError, Global};
 
 /// The bytes after the first `len`.
-pub fn behind(bytes: &[u8], len: usize) -> &[u8]
+pub fn after(bytes: &[u8], len: usize) -> &[u8]
     requires { len ≤ length bytes.now }
     ensures value { result.now ≡ drop len bytes.now }
     ensures length { length result.now + len ≡ length bytes.now }
@@ -31,9 +31,9 @@ const ITEM_LEN: [usize; 20] = [
 ];
 
 /// The bytes of a record of a kind after its first three words.
-pub(crate) fn bytes_behind(kind: BtfKind, count: usize) -> usize
+pub(crate) fn len_after(kind: BtfKind, count: usize) -> usize
     requires { count < 65536 }
-    ensures value { result ≡ len_behind kind count }
+    ensures value { result ≡ len_after kind count }
     ensures few { result < 2 ^ 20 }
 {
     FIXED_LEN[kind as usize] + ITEM_LEN[kind as usize] * count
@@ -54,7 +54,7 @@ pub fn record_len(order: Endianness, bytes: &[u8]) -> Result<usize, BtfError>
     }
     let info = word(order, bytes, 4);
     let kind = BtfKind::try_from(info / 0x100_0000 % 32)?;
-    let len = 12 + bytes_behind(kind, (info % 0x1_0000) as usize);
+    let len = 12 + len_after(kind, (info % 0x1_0000) as usize);
     if bytes.len() < len {
         return Err(BtfError::InvalidTypeInfo);
     }
@@ -71,8 +71,8 @@ pub(crate) fn item<T: Item>(order: Endianness, bytes: &[u8], index: usize) -> Op
 {
     let count = (word(order, bytes, 4) % 0x1_0000) as usize;
     if index < count {
-        let list = behind(bytes, 12);
-        Some(T::read(order, behind(list, T::SIZE * index)))
+        let list = after(bytes, 12);
+        Some(T::read(order, after(list, T::SIZE * index)))
     } else {
         None
     }
@@ -87,10 +87,10 @@ fn items<T: Item>(alloc: Global, order: Endianness, bytes: &[u8]) -> Result<Item
 {
     let count = (word(order, bytes, 4) % 0x1_0000) as usize;
     let mut items = Items::new(alloc);
-    let mut rest = behind(bytes, 12);
+    let mut rest = after(bytes, 12);
     for _ in 0..count {
         items.push(T::read(order, rest))?;
-        rest = behind(rest, T::SIZE);
+        rest = after(rest, T::SIZE);
     }
     Ok(items)
 }
@@ -137,7 +137,7 @@ pub(crate) fn read_type(
             name_offset,
             vlen,
             info,
-            array: BtfArray::read(order, behind(bytes, 12)),
+            array: BtfArray::read(order, after(bytes, 12)),
         })),
         BtfKind::Struct => Ok(BtfType::Struct(Struct {
             name_offset,

@@ -4,7 +4,7 @@ ghost use Rattle.std.specs.Prelude.{◌≡◌, ◌<◌, ◌≤◌, ◌⊎◌, �
 ghost use Rattle.btf_encoding.specs.Records.{HasRecord, ReadsBack, kind_at, record_bytes, record_len, type_in};
 ghost use Rattle.btf_encoding.specs.Rewriting.{AreRecords, AreWrittenUpTo, IsWrittenAgain, is_kept};
 
-use crate::reading::{behind, bytes_behind, kind_of, read_type};
+use crate::reading::{after, kind_of, len_after, read_type};
 use crate::view::TypeRef;
 use crate::writing::push_type;
 use btf_records::{BtfKind, Endianness, word};
@@ -16,7 +16,7 @@ fn len_of(order: Endianness, bytes: &[u8]) -> usize
     ensures { result ≡ record_len order bytes.now }
 {
     let count = word(order, bytes, 4) % 0x1_0000;
-    12 + bytes_behind(kind_of(order, bytes), count as usize)
+    12 + len_after(kind_of(order, bytes), count as usize)
 }
 
 /// Whether the first three words are zeros.
@@ -52,7 +52,7 @@ fn split_kept(order: Endianness, bytes: &[u8]) -> (&[u8], &[u8])
         if !is_kept(order, rest) {
             break;
         }
-        rest = behind(rest, len_of(order, rest));
+        rest = after(rest, len_of(order, rest));
     }
     bytes.split_at(bytes.len() - rest.len())
 }
@@ -76,7 +76,7 @@ fn push_first<'a>(
     }
     let t = read_type(*out.allocator(), order, bytes)?;
     push_type(out, order, &t)?;
-    Ok(behind(bytes, len_of(order, bytes)))
+    Ok(after(bytes, len_of(order, bytes)))
 }
 
 /// Writes records after what is there, as far as memory reaches.

@@ -6,7 +6,7 @@ ghost use Rattle.btf_records.specs.Fields.{array_of, decl_tag_of, entries_of, fa
 ghost use Rattle.btf_encoding.specs.Records.{HasRecord, RecordFault, bits_of, count_of, type_in, with_fallback};
 
 use crate::item::Item;
-use crate::reading::{behind, item, kind_of, read_type, record_len};
+use crate::reading::{after, item, kind_of, read_type, record_len};
 use btf_records::{
     BtfArray, BtfEnum, BtfEnum64, BtfError, BtfKind, BtfMember, BtfParam, BtfType, DataSecEntry,
     DeclTag, Endianness, Enum64Fallback, Func, InfoBits, Int, Union, Var, VarLinkage, word,
@@ -225,7 +225,7 @@ impl<'a> TypeRef<'a> {
         ensures { result ≡ array_of self.now }
     {
         match self.kind() {
-            BtfKind::Array => Some(BtfArray::read(self.order, behind(self.bytes, 12))),
+            BtfKind::Array => Some(BtfArray::read(self.order, after(self.bytes, 12))),
             _ => None,
         }
     }

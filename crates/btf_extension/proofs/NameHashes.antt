@@ -94,10 +94,10 @@ all_reversed P xs all = λ k d lt.
     subst P (sym (get_or-reverse xs k d within)) (all (length xs - 1 - k) d (omega arith))
 
 found_by : (P : ℕ → Type 0) (passes : Bool) (x y : ℕ) (rest : Option ℕ) → P x → (rest ≡ Some y → P y) → cond passes (Some x) rest ≡ Some y → P y
-found_by P true x y rest here behind e =
+found_by P true x y rest here after e =
     let same : x ≡ y = cc in
     subst P same here
-found_by P false x y rest here behind e = behind e
+found_by P false x y rest here after e = after e
 
 found_holds : (P : ℕ → Type 0) (q : ℕ → Bool) (xs : List ℕ) (y : ℕ) → All P xs → find q xs ≡ Some y → P y
 found_holds P q [] y all e = absurd cc

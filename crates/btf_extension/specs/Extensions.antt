@@ -37,7 +37,8 @@ Holds kind order read bytes groups =
     (groups_bytes (region_in kind order bytes)) groups
 
 -- the section says this; neither its magic nor its version is checked
-pub record IsExtension (order : Endianness) (strings bytes : List ℕ) (extension : Extension) : Type 0 where
+pub record IsExtension (order : Endianness) (strings bytes : List ℕ) (extension : Extension)
+    : Type 0 where
   pub header : HasHeader order bytes
   pub same_order : extension.order ≡ order
   pub same_strings : extension.strings ≡ strings
@@ -48,7 +49,8 @@ pub record IsExtension (order : Endianness) (strings bytes : List ℕ) (extensio
   pub relocations : Holds Relocations order relocation_in bytes extension.relocations
 
 -- the section says this and nothing else, and no fault stands
-pub record HoldsExtension (order : Endianness) (strings bytes : List ℕ) (extension : Extension) : Type 0 where
+pub record HoldsExtension (order : Endianness) (strings bytes : List ℕ) (extension : Extension)
+    : Type 0 where
   pub holds : IsExtension order strings bytes extension
   pub faultless : (e : BtfError) → ExtensionFault order strings bytes e → ⊥
   pub alone : (other : Extension) → IsExtension order strings bytes other → other ≡ extension

@@ -5,7 +5,7 @@ use Rattle.btf_records.specs.declared.error.BtfError.{BtfError}
 use Rattle.btf_records.specs.declared.error.BtfError.TheVariants.{InvalidHeader, InvalidInfo, InvalidLineInfo, InvalidRelocationInfo, InvalidRelocationKind, InvalidStringOffset}
 use Rattle.btf_records.specs.declared.words.Endianness.{Endianness}
 use Rattle.string_table.specs.Texts.{text_at}
-use Rattle.btf_extension.specs.Groups.{IsGroup, StandsBehind, count_in, group_len}
+use Rattle.btf_extension.specs.Groups.{IsGroup, StandsAfter, count_in, group_len}
 use Rattle.btf_extension.specs.Records.{relocation_in}
 use Rattle.btf_extension.specs.Regions.{HasHeader, HasNoSize, IsHeaderCut, IsPastEnd, IsWithin, groups_bytes, least_size, region_place, region_in, size_in}
 use Rattle.btf_extension.specs.declared.region.Place.{Place}
@@ -71,7 +71,7 @@ abbrev pub RecordsFault : RegionKind → Endianness → List ℕ → Place → L
 RecordsFault kind order strings place region e =
     ((e ≡ bad_records kind place) × HasBadSize kind order region)
     ⊎ (HasSize kind order region
-    × StandsBehind order (size_in order region) (groups_bytes region)
+    × StandsAfter order (size_in order region) (groups_bytes region)
     (FaultHere kind order (size_in order region) strings place e))
 
 -- the section has no room for a region, or the region none for the size of its records

@@ -50,7 +50,8 @@ Reach order size bytes from (place ∷ places) to =
     × Reach order size bytes (place + group_len order size (drop place bytes)) places to
 
 -- something stands after some whole groups
-pub record StandsBehind (order : Endianness) (size : ℕ) (bytes : List ℕ) (Stands : List ℕ → Type 0) : Type 0 where
+pub record StandsAfter (order : Endianness) (size : ℕ) (bytes : List ℕ) (Stands : List ℕ → Type 0)
+    : Type 0 where
   pub places : List ℕ
   pub at : ℕ
   pub reached : Reach order size bytes 0 places at

@@ -67,18 +67,21 @@ pub record AreAllKindsKnown (g : GroupList) : Type 0 where
   pub each : All (λ place. AreKindsKnown g.order g.size (drop place g.bytes.now)) g.places.items
 
 -- no fault stands in a group
-pub record IsFaultless (kind : RegionKind) (order : Endianness) (size : ℕ) (strings bytes : List ℕ) : Type 0 where
+pub record IsFaultless (kind : RegionKind) (order : Endianness) (size : ℕ) (strings bytes : List ℕ)
+    : Type 0 where
   pub none : (e : BtfError) → GroupFault kind order size strings bytes e → ⊥
 
 -- these are the places of the groups that the bytes are, and no fault stands in one
-pub record ArePlaces (kind : RegionKind) (order : Endianness) (size : ℕ) (strings bytes places : List ℕ) : Type 0 where
+pub record ArePlaces (kind : RegionKind) (order : Endianness) (size : ℕ)
+    (strings bytes places : List ℕ) : Type 0 where
   pub end : ℕ
   pub reached : Reach order size bytes 0 places end
   pub ended : length (drop end bytes) ≤ 8
   pub faultless : All (λ place. IsFaultless kind order size strings (drop place bytes)) places
 
 -- the groups of a region were read
-pub record IsRead (kind : RegionKind) (order : Endianness) (strings region : List ℕ) (g : GroupList) : Type 0 where
+pub record IsRead (kind : RegionKind) (order : Endianness) (strings region : List ℕ) (g : GroupList)
+    : Type 0 where
   pub same_order : g.order ≡ order
   pub size : g.size ≡ size_in order region
   pub bytes : g.bytes.now ≡ groups_bytes region

@@ -27,7 +27,8 @@ pub record IsKept (old new : List (ℕ × ℕ)) (hash place : ℕ) : Type 0 wher
   pub others : (other : ℕ) → other ≢ hash → place_by new other ≡ place_by old other
 
 -- the places kept are the last of each hash among the first `count` groups
-pub record AreLastOf (strings : List ℕ) (g : GroupList) (count : ℕ) (entries : List (ℕ × ℕ)) : Type 0 where
+pub record AreLastOf (strings : List ℕ) (g : GroupList) (count : ℕ) (entries : List (ℕ × ℕ))
+    : Type 0 where
   pub last : (hash : ℕ)
       → place_by entries hash ≡ find (has_hash strings g hash) (reverse (take count g.places.items))
 

@@ -5,14 +5,14 @@ ghost use Rattle.btf_records.specs.Words.{word_at};
 ghost use Rattle.btf_records.specs.declared.error.BtfError.TheVariants.{OutOfMemory};
 ghost use Rattle.string_table.specs.Texts.{text_at};
 ghost use Rattle.btf_extension.specs.Faults.{FaultHere, GroupFault, KindFault, NameFault, RecordsFault};
-ghost use Rattle.btf_extension.specs.Groups.{IsGroup, StandsBehind, count_in, group_len};
+ghost use Rattle.btf_extension.specs.Groups.{IsGroup, StandsAfter, count_in, group_len};
 ghost use Rattle.btf_extension.specs.Layout.{AreKindsKnown, AreLaidOut, AreRecordsOf, AreSameGroups, AreWhole, is_named, ArePlaces, IsFaultless, IsRead};
 ghost use Rattle.btf_extension.specs.Regions.{least_size};
 
 use crate::header::Region;
 use crate::region::RegionKind;
 use crate::sec_info::GroupRecords;
-use btf_encoding::behind;
+use btf_encoding::after;
 use btf_records::{BtfError, Endianness, word};
 use btf_tables::{Btf, Strings};
 use std::alloc::{AllocError, Global};
@@ -54,7 +54,7 @@ fn kind_at(order: Endianness, size: usize, group: &[u8], index: usize) -> u32
     requires within { index < count_in order group.now }
     ensures { result ≡ word_at order (drop (size * index) (drop 8 group.now)) 12 }
 {
-    word(order, behind(behind(group, 8), size * index), 12)
+    word(order, after(after(group, 8), size * index), 12)
 }
 
 /// Looks for a relocation of an unknown kind.
@@ -149,13 +149,13 @@ fn places(
         All (λ place. IsGroup order size (drop place bytes.now)) places.items) }
     ensures refused { IfErr result (λ e.
         e ≢ OutOfMemory
-        → StandsBehind order size bytes.now
+        → StandsAfter order size bytes.now
         (FaultHere region.entry.kind order size table.now.strings region.entry.place e)) }
 {
     let mut places = Vec::new(alloc);
     let mut at = 0;
     while bytes.len() - at > REST_LEN {
-        let len = checked_len(region, order, size, table, behind(bytes, at))?;
+        let len = checked_len(region, order, size, table, after(bytes, at))?;
         places.push(at as u32)?;
         at += len;
     }
@@ -180,7 +180,7 @@ impl<'a> GroupList<'a> {
         requires { IsGroup self.now.order self.now.size (drop place self.now.bytes.now) }
         ensures { result ≡ word_at self.now.order (drop place self.now.bytes.now) 0 }
     {
-        word(self.order, behind(self.bytes, place as usize), 0)
+        word(self.order, after(self.bytes, place as usize), 0)
     }
 
     /// Whether the group at a place has this name.
@@ -201,12 +201,12 @@ impl<'a> GroupList<'a> {
         ensures value { AreRecordsOf self.now place result }
         ensures whole { result.size * result.count ≤ length result.bytes.now }
     {
-        let group = behind(self.bytes, place as usize);
+        let group = after(self.bytes, place as usize);
         GroupRecords {
             order: self.order,
             size: self.size,
             count: word(self.order, group, 4),
-            bytes: behind(group, 8),
+            bytes: after(group, 8),
         }
     }
 
@@ -275,7 +275,7 @@ impl<'a> GroupList<'a> {
         if size < region.kind.least_size() {
             return Err(region.place.bad_records(region.kind));
         }
-        let bytes = behind(region.bytes, 4);
+        let bytes = after(region.bytes, 4);
         let places = places(alloc, region, order, size, table, bytes)?;
         Ok(GroupList {
             order,

@@ -5,7 +5,7 @@ ghost use Rattle.btf_encoding.specs.Items.{items_in};
 ghost use Rattle.btf_extension.specs.Records.{func_bytes, func_in, line_bytes, line_in};
 
 use crate::record::{Record, bpf_func_info, bpf_line_info};
-use btf_encoding::behind;
+use btf_encoding::after;
 use btf_records::Endianness;
 use std::alloc::{AllocError, Global};
 use std::marker::Model;
@@ -33,7 +33,7 @@ pub(crate) fn record_at<R: Record>(group: &GroupRecords<'_>, index: usize) -> Op
     ensures few { group.now.count < 2 ^ 32 }
 {
     if index < group.count as usize {
-        Some(R::read(group.order, behind(group.bytes, group.size * index)))
+        Some(R::read(group.order, after(group.bytes, group.size * index)))
     } else {
         None
     }

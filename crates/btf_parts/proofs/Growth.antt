@@ -22,9 +22,9 @@ use Rattle.btf_records.specs.declared.words.Endianness.{Endianness}
 -- a record that is read the same whatever follows it, with something after it
 pub reads_same_more : (order : Endianness) (bytes x : List ℕ) → ReadsSame order bytes → ReadsSame order (bytes ++ x)
 reads_same_more order bytes x same = record {
-  begins = λ behind. rw append_assoc (same.begins (x ++ behind));
-  same = λ behind. rw append_assoc (same.same (x ++ behind) ∙ sym (same.same x));
-  len = λ behind. rw append_assoc (same.len (x ++ behind) ∙ sym (same.len x));
+  begins = λ after. rw append_assoc (same.begins (x ++ after));
+  same = λ after. rw append_assoc (same.same (x ++ after) ∙ sym (same.same x));
+  len = λ after. rw append_assoc (same.len (x ++ after) ∙ sym (same.len x));
 }
 
 drop_more : (order : Endianness) (bytes x : List ℕ) (place : ℕ) → ReadsSame order (drop place bytes) → drop place (bytes ++ x) ≡ drop place bytes ++ x
@@ -53,14 +53,14 @@ types_stay order bytes x old new id (place ∷ places) all same =
     let there = types_stay order bytes x old new (suc id) places (All-tail (λ p. ReadsSame order (drop p bytes)) place places all) (record { same = λ other lt. same.same other (omega arith) }) in
     rw (here, there) refl
 
-pub types_behind : (order : Endianness) (bytes : List ℕ) (fallbacks : List (ℕ × Enum64Fallback)) (id : ℕ) (places : List ℕ) (place : ℕ) → types_at order bytes fallbacks id (places ++ place ∷ []) ≡ types_at order bytes fallbacks id places ++ type_at order bytes fallbacks (id + length places) place ∷ []
+pub types_after : (order : Endianness) (bytes : List ℕ) (fallbacks : List (ℕ × Enum64Fallback)) (id : ℕ) (places : List ℕ) (place : ℕ) → types_at order bytes fallbacks id (places ++ place ∷ []) ≡ types_at order bytes fallbacks id places ++ type_at order bytes fallbacks (id + length places) place ∷ []
 unfolding types_at
-types_behind order bytes fallbacks id [] place =
+types_after order bytes fallbacks id [] place =
     let same : id + 0 ≡ id = omega arith in
     rw same refl
-types_behind order bytes fallbacks id (p ∷ places) place =
+types_after order bytes fallbacks id (p ∷ places) place =
     let same : id + suc (length places) ≡ suc id + length places = omega arith in
-    rw same (ap (λ (ts : List BtfType). type_at order bytes fallbacks id p ∷ ts) (types_behind order bytes fallbacks (suc id) places place))
+    rw same (ap (λ (ts : List BtfType). type_at order bytes fallbacks id p ∷ ts) (types_after order bytes fallbacks (suc id) places place))
 
 back_union : (t : Union) (fallback : Option Enum64Fallback) → t.fallback ≡ fallback → option_map_or (λ f. with_fallback (Some f) (without_fallback (types.Union t))) fallback (without_fallback (types.Union t)) ≡ types.Union t
 back_union t None none = ap (λ (f : Option Enum64Fallback). types.Union (record t { fallback = f })) (sym none)
@@ -104,7 +104,7 @@ grown order bytes places kinds names old new t laid reads entered =
     let others : types_at order (bytes ++ x) new 1 places ≡ types_at order bytes old 1 places =
     types_stay order bytes x old new 1 places laid.stand (record { same = λ other lt. entered.others other (λ e. omega arith) })
     in
-    types_behind order (bytes ++ x) new 1 places (length bytes) ∙ rw (others, last) refl
+    types_after order (bytes ++ x) new 1 places (length bytes) ∙ rw (others, last) refl
 
 spelled_more : (order : Endianness) (bytes places : List ℕ) (t : BtfType) → All (λ p. ReadsSame order (drop p bytes)) places → ReadsBack order t → Spells order (types_at order bytes [] 1 places) bytes → Spells order (types_at order (bytes ++ record_bytes order t) [] 1 (places ++ length bytes ∷ [])) (bytes ++ record_bytes order t)
 spelled_more order bytes places t stand reads spelled =
@@ -112,7 +112,7 @@ spelled_more order bytes places t stand reads spelled =
     let last : type_in order (drop (length bytes) (bytes ++ x)) ≡ without_fallback t = ap (type_in order) (drop-append_seam bytes x ∙ sym (append-nil x)) ∙ reads.same [] in
     let others : types_at order (bytes ++ x) [] 1 places ≡ types_at order bytes [] 1 places = types_stay order bytes x [] [] 1 places stand (record { same = λ other lt. refl }) in
     let all : types_at order (bytes ++ x) [] 1 (places ++ length bytes ∷ []) ≡ types_at order bytes [] 1 places ++ without_fallback t ∷ [] =
-    types_behind order (bytes ++ x) [] 1 places (length bytes) ∙ rw (others, last) refl
+    types_after order (bytes ++ x) [] 1 places (length bytes) ∙ rw (others, last) refl
     in
     rw all (reads.follows (types_at order bytes [] 1 places) bytes spelled)
 
@@ -196,11 +196,11 @@ grown_tight order bytes places kinds names old new t laid reads entered few_byte
       few_types = few_types;
     }
 
-len_behind : (order : Endianness) (types : List BtfType) (t : BtfType) → length (flat_map (record_bytes order) (types ++ t ∷ [])) ≡ length (flat_map (record_bytes order) types) + length (record_bytes order t)
-len_behind order types t =
+len_after : (order : Endianness) (types : List BtfType) (t : BtfType) → length (flat_map (record_bytes order) (types ++ t ∷ [])) ≡ length (flat_map (record_bytes order) types) + length (record_bytes order t)
+len_after order types t =
     ap length (flat_map-append (record_bytes order) types (t ∷ []) ∙ ap (λ (b : List ℕ). flat_map (record_bytes order) types ++ b) (append-nil (record_bytes order t))) ∙ length-append (flat_map (record_bytes order) types) (record_bytes order t)
 
 -- where the bytes or the places would be too many, the records' bytes or the records would be
 pub too_many : (order : Endianness) (bytes places : List ℕ) (kinds : List BtfKind) (names : List ℕ) (fallbacks : List (ℕ × Enum64Fallback)) (t : BtfType) → IsLaidOut order bytes fallbacks places kinds names → TooMany (length bytes + length (record_bytes order t)) ⊎ TooMany (length places + 1) → TooMany (length (flat_map (record_bytes order) (types_at order bytes fallbacks 1 places ++ t ∷ []))) ⊎ TooMany (length (types_at order bytes fallbacks 1 places) + 1)
-too_many order bytes places kinds names fallbacks t laid (inl b) = inl (omega (arith, b, len_behind order (types_at order bytes fallbacks 1 places) t, laid.tight))
+too_many order bytes places kinds names fallbacks t laid (inl b) = inl (omega (arith, b, len_after order (types_at order bytes fallbacks 1 places) t, laid.tight))
 too_many order bytes places kinds names fallbacks t laid (inr n) = inr (omega (arith, n, length_types_at order bytes fallbacks 1 places))

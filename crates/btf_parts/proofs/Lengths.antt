@@ -2,7 +2,7 @@
 use Rattle.std.proofs.Common.{◌≡◌, ℕ, zero, suc, ◌+◌, ◌*◌, ◌≤◌, List, [], ◌∷◌, ◌++◌, length, drop, refl, sym, ap, subst, ◌∙◌, arith, length-append, length-drop}
 use Rattle.std.specs.List.{flat_map}
 use Rattle.btf_encoding.specs.Items.{entry_in, entry_words, enum64_in, enum64_words, items_in, member_in, member_words, param_in, param_words, variant_in, variant_words}
-use Rattle.btf_encoding.specs.Records.{Begins, HasRecord, Spells, count_at, kind_at, len_behind, record_bytes, record_len, type_as, type_in, words_of}
+use Rattle.btf_encoding.specs.Records.{Begins, HasRecord, Spells, count_at, kind_at, len_after, record_bytes, record_len, type_as, type_in, words_of}
 use Rattle.btf_records.specs.Words.{word_bytes, words_bytes}
 use Rattle.btf_records.specs.declared.kind.BtfKind.{BtfKind}
 use Rattle.btf_records.specs.declared.kind.BtfKind.TheVariants as kinds
@@ -30,7 +30,7 @@ length_items item words size each (suc n) bytes same =
     let more : each * suc n ≡ each + each * n = omega arith in
     all ∙ omega (arith, this, others, more)
 
-length_of_words : (kind : BtfKind) (order : Endianness) (bytes : List ℕ) → 4 * length (words_of (type_as kind order bytes)) ≡ 12 + len_behind kind (count_at order bytes)
+length_of_words : (kind : BtfKind) (order : Endianness) (bytes : List ℕ) → 4 * length (words_of (type_as kind order bytes)) ≡ 12 + len_after kind (count_at order bytes)
 length_of_words kinds.Unknown order bytes = refl
 length_of_words kinds.Int order bytes = refl
 length_of_words kinds.Ptr order bytes = refl

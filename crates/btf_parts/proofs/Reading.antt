@@ -4,7 +4,7 @@ use Rattle.std.specs.Prelude.{All}
 use Rattle.std.proofs.lemmas.List.{drop-drop, map_push}
 use Rattle.std.proofs.lemmas.List.Elements.{All-append, All-cons, All-nil}
 use Rattle.btf_parts.specs.Layout.{IsLaidOut, kind_at_place, name_at_place, types_at}
-use Rattle.btf_parts.proofs.Growth.{types_behind}
+use Rattle.btf_parts.proofs.Growth.{types_after}
 use Rattle.btf_parts.proofs.Lengths.{begins_more, least_of_all, spelled_few, spelled_tight}
 use Rattle.btf_parts.proofs.Places.{length_types_at}
 use Rattle.btf_encoding.specs.Records.{Begins, HasRecord, ReadsSame, RecordFault, Spells, TypesFault, record_len, type_in}
@@ -49,7 +49,7 @@ one_more_place order bytes places kinds names rest are has alone =
     let whole = has.whole in
     let left_len : length (drop len rest) + len ≡ length rest = omega (arith, length-drop len rest) in
     let types : types_at order bytes [] 1 (places ++ place ∷ []) ≡ types_at order bytes [] 1 places ++ type_in order rest ∷ [] =
-    types_behind order bytes [] 1 places place ∙ ap (λ (r : List ℕ). types_at order bytes [] 1 places ++ type_in order r ∷ []) (sym are.left)
+    types_after order bytes [] 1 places place ∙ ap (λ (r : List ℕ). types_at order bytes [] 1 places ++ type_in order r ∷ []) (sym are.left)
     in
     let further : place + len ≡ length bytes - length (drop len rest) = omega (arith, are.within) in
     record {
@@ -61,8 +61,8 @@ one_more_place order bytes places kinds names rest are has alone =
       within = omega (arith, are.within);
     }
 
-pub fault_behind : (order : Endianness) (bytes places : List ℕ) (kinds : List BtfKind) (names : List ℕ) (rest : List ℕ) (e : BtfError) → ArePlaces order bytes places kinds names rest → 0 < length rest → RecordFault order rest e → TypesFault order bytes e
-fault_behind order bytes places kinds names rest e are more wrong = record { front = types_at order bytes [] 1 places; rest = rest; begins = are.begun; more = more; wrong = wrong }
+pub fault_after : (order : Endianness) (bytes places : List ℕ) (kinds : List BtfKind) (names : List ℕ) (rest : List ℕ) (e : BtfError) → ArePlaces order bytes places kinds names rest → 0 < length rest → RecordFault order rest e → TypesFault order bytes e
+fault_after order bytes places kinds names rest e are more wrong = record { front = types_at order bytes [] 1 places; rest = rest; begins = are.begun; more = more; wrong = wrong }
 
 nothing : (xs : List ℕ) → length xs ≡ 0 → xs ≡ []
 nothing [] e = refl

@@ -47,9 +47,11 @@ kind_at_place order bytes place = kind_of_type (type_in order (drop place bytes)
 abbrev pub name_at_place : Endianness → List ℕ → ℕ → ℕ
 name_at_place order bytes place = name_offset_of (type_in order (drop place bytes))
 
--- a record stands at each place and has this kind and this name, no id past the last stands for an enum, and the
--- bytes are those records, one after the other, and as many as they are written with
-pub record IsLaidOut (order : Endianness) (bytes : List ℕ) (fallbacks : List (ℕ × Enum64Fallback)) (places : List ℕ) (kinds : List BtfKind) (names : List ℕ) : Type 0 where
+-- a record stands at each place and has this kind and this offset of a name, no id past the last
+-- stands for an enum, and the bytes are those records, one after the other, and as many as they are
+-- written with
+pub record IsLaidOut (order : Endianness) (bytes : List ℕ) (fallbacks : List (ℕ × Enum64Fallback))
+    (places : List ℕ) (kinds : List BtfKind) (names : List ℕ) : Type 0 where
   pub stand : All (λ place. ReadsSame order (drop place bytes)) places
   pub of_kinds : kinds ≡ map (kind_at_place order bytes) places
   pub of_names : names ≡ map (name_at_place order bytes) places
@@ -61,6 +63,7 @@ pub record IsLaidOut (order : Endianness) (bytes : List ℕ) (fallbacks : List (
   pub few_types : length places < 2 ^ 32
 
 -- an id that stood for no enum stands for this one, where there is one; others are as they were
-pub record Entered (old new : List (ℕ × Enum64Fallback)) (id : ℕ) (fallback : Option Enum64Fallback) : Type 0 where
+pub record Entered (old new : List (ℕ × Enum64Fallback)) (id : ℕ) (fallback : Option Enum64Fallback)
+    : Type 0 where
   pub here : fallback_at new id ≡ fallback
   pub others : (other : ℕ) → other ≢ id → fallback_at new other ≡ fallback_at old other

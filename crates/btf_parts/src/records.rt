@@ -12,7 +12,7 @@ ghost use Rattle.btf_parts.specs.Layout.{Entered, fallback_at, kind_at_place, na
 
 use crate::byte_list::ByteList;
 use crate::new_record::NewRecord;
-use btf_encoding::{TypeRef, behind, push_types, record_len};
+use btf_encoding::{TypeRef, after, push_types, record_len};
 use btf_records::{BtfError, BtfKind, BtfType, Endianness, Enum64Fallback};
 use std::alloc::{AllocError, Global};
 use std::collections::BTreeMap;
@@ -144,7 +144,7 @@ fn record_at(order: Endianness, bytes: &[u8], place: u32) -> TypeRef<'_>
     requires { HasRecord order (drop place bytes.now) }
     ensures { result ≡ type_in order (drop place bytes.now) }
 {
-    TypeRef::new(order, behind(bytes, place as usize))
+    TypeRef::new(order, after(bytes, place as usize))
 }
 
 /// The union that stands for this enum, where there is one.
@@ -178,7 +178,7 @@ fn name_offset_in(order: Endianness, bytes: &[u8]) -> u32
 /// The least bytes of a record.
 const LEAST_LEN: usize = 12;
 
-/// Where records begin, their kinds and their names.
+/// Where records begin, their kinds and the offsets of their names.
 #[derive(Debug, Drop)]
 struct RecordIndex {
     places: Vec<u32>,
@@ -186,8 +186,8 @@ struct RecordIndex {
     name_offsets: Vec<u32>,
 }
 
-/// Where the records begin that the bytes are, their kinds and their names.
-#[tactic(auto, using(crate::proofs::Reading::no_places, crate::proofs::Reading::one_more_place, crate::proofs::Reading::fault_behind, crate::proofs::Reading::all_places))]
+/// Where the records begin that the bytes are, their kinds and the offsets of their names.
+#[tactic(auto, using(crate::proofs::Reading::no_places, crate::proofs::Reading::one_more_place, crate::proofs::Reading::fault_after, crate::proofs::Reading::all_places))]
 fn index_of(alloc: Global, order: Endianness, bytes: &[u8]) -> Result<RecordIndex, BtfError>
     requires { length bytes.now < 2 ^ 32 }
     ensures spelled { IfOk result (λ index.
@@ -210,7 +210,7 @@ fn index_of(alloc: Global, order: Endianness, bytes: &[u8]) -> Result<RecordInde
         places.push((bytes.len() - rest.len()) as u32)?;
         kinds.push(kind_in(order, rest))?;
         name_offsets.push(name_offset_in(order, rest))?;
-        rest = behind(rest, len);
+        rest = after(rest, len);
     }
     Ok(RecordIndex {
         places,

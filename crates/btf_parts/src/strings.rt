@@ -104,8 +104,8 @@ impl<'a> Strings<'a> {
         ensures err { OnErr result (self.new ≡ self.old) }
     {
         let len = self.bytes.len();
-        self.are_texts = false;
         self.bytes.push_text(alloc, text)?;
+        self.are_texts = false;
         enter_long_texts(&mut self.long_texts, &self.bytes, len);
         Ok(())
     }

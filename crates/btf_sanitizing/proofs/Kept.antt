@@ -175,15 +175,15 @@ length_all known a [] = refl
 length_all known a (t ∷ ts) = ap suc (length_all known (after known a t) ts)
 
 record BecomesAt (known : Facts) (done : List BtfType) (i : ℕ) (t : BtfType) : Type 0 where
-  behind : Added
-  here : slice_get done i ≡ Some (rewritten known behind t)
+  added_before : Added
+  here : slice_get done i ≡ Some (rewritten known added_before t)
 
 becomes_at : (known : Facts) (a : Added) (ts rest : List BtfType) (i : ℕ) (t : BtfType) → slice_get ts i ≡ Some t → BecomesAt known (all_rewritten known a ts ++ rest) i t
 becomes_at known a [] rest i t h = absurd cc
-becomes_at known a (x ∷ ts) rest zero t h = let same : x ≡ t = cc in record { behind = a; here = rw same refl }
+becomes_at known a (x ∷ ts) rest zero t h = let same : x ≡ t = cc in record { added_before = a; here = rw same refl }
 becomes_at known a (x ∷ ts) rest (suc i) t h =
     let there = becomes_at known (after known a x) ts rest i t h in
-    record { behind = there.behind; here = there.here }
+    record { added_before = there.added_before; here = there.here }
 
 at_suc : (ts : List BtfType) (i : ℕ) → record_of_id ts (suc i) ≡ slice_get ts i
 at_suc ts i =
@@ -192,18 +192,18 @@ at_suc ts i =
     rw (other, same) refl
 
 becomes : (known : Facts) (id : ℕ) (t : BtfType) → record_of_id known.types id ≡ Some t → Becomes known (sanitized_types known) id t
-becomes known zero t h = let same : types.Unknown ≡ t = cc in record { behind = at_first known; here = rw (sym same) refl; granted = rw (sym same) tt }
+becomes known zero t h = let same : types.Unknown ≡ t = cc in record { added_before = at_first known; here = rw (sym same) refl; granted = rw (sym same) tt }
 becomes known (suc i) t h =
     let at : slice_get known.types i ≡ Some t = sym (at_suc known.types i) ∙ h in
     let there = becomes_at known (at_first known) known.types (all_added known).types i t at in
-    record { behind = there.behind; here = at_suc (sanitized_types known) i ∙ there.here; granted = granted_left known there.behind t }
+    record { added_before = there.added_before; here = at_suc (sanitized_types known) i ∙ there.here; granted = granted_left known there.added_before t }
 
 pub kept : (known : Facts) → Keeps known (sanitized_types known)
 kept known =
     let dropped : drop (length known.types) (sanitized_types known) ≡ (all_added known).types = ap (λ n. drop n (sanitized_types known)) (sym (length_all known (at_first known) known.types)) ∙ drop-append_seam (all_rewritten known (at_first known) known.types) (all_added known).types in
     record {
       each = becomes known;
-      left = λ id t here same. (becomes known id t here).here ∙ ap Some ((stays_alone known t same).same (becomes known id t here).behind);
+      left = λ id t here same. (becomes known id t here).here ∙ ap Some ((stays_alone known t same).same (becomes known id t here).added_before);
       added = subst (EachGranted known.grants) (sym dropped) (all_granted_left known (at_first known) known.types tt);
     }
 

@@ -32,22 +32,22 @@ use Rattle.btf_parts.specs.Faultless.{IsFaultless}
 pub record IsAtLeast (a b : Added) : Type 0 where
   pub texts : next_offset a ≤ next_offset b
   pub types : a.type_count + length a.types ≤ b.type_count + length b.types
-  pub behind_strings : b.string_len ≡ a.string_len
-  pub behind_types : b.type_count ≡ a.type_count
+  pub after_strings : b.string_len ≡ a.string_len
+  pub after_types : b.type_count ≡ a.type_count
 
 least_itself : (a : Added) → IsAtLeast a a
-least_itself a = record { texts = omega arith; types = omega arith; behind_strings = refl; behind_types = refl }
+least_itself a = record { texts = omega arith; types = omega arith; after_strings = refl; after_types = refl }
 
 least_then : (a b c : Added) → IsAtLeast a b → IsAtLeast b c → IsAtLeast a c
 least_then a b c h k = record {
   texts = omega (arith, h.texts, k.texts);
   types = omega (arith, h.types, k.types);
-  behind_strings = k.behind_strings ∙ h.behind_strings;
-  behind_types = k.behind_types ∙ h.behind_types;
+  after_strings = k.after_strings ∙ h.after_strings;
+  after_types = k.after_types ∙ h.after_types;
 }
 
 least_texts : (texts : List ℕ) (a : Added) → IsAtLeast a (with_texts texts a)
-least_texts texts a = record { texts = omega (arith, length-append a.texts texts); types = omega arith; behind_strings = refl; behind_types = refl }
+least_texts texts a = record { texts = omega (arith, length-append a.texts texts); types = omega arith; after_strings = refl; after_types = refl }
 
 least_renamed : (from to : ℕ) (name : List ℕ) (a : Added) → IsAtLeast a (with_renamed from to name a)
 least_renamed from to name a = elim (has_byte from name) as (λ b. IsAtLeast a (cond b (with_text (replaced from to name) a) a)) [
@@ -59,8 +59,8 @@ least_new_placeholder : (a : Added) → IsAtLeast a (with_new_placeholder a)
 least_new_placeholder a = record {
   texts = omega (arith, length-append a.texts (placeholder_name ++ 0 ∷ []));
   types = omega (arith, length-append a.types (small_int (next_offset a) ∷ []));
-  behind_strings = refl;
-  behind_types = refl;
+  after_strings = refl;
+  after_types = refl;
 }
 
 least_placeholder : (a : Added) → IsAtLeast a (with_placeholder a)
@@ -73,16 +73,16 @@ least_filler_int : (a : Added) → IsAtLeast a (with_filler_int a)
 least_filler_int a = record {
   texts = omega (arith, length-append a.texts (filler_int_name ++ 0 ∷ []));
   types = omega (arith, length-append a.types (small_int (next_offset a) ∷ []));
-  behind_strings = refl;
-  behind_types = refl;
+  after_strings = refl;
+  after_types = refl;
 }
 
 least_filler_var : (int : ℕ) (a : Added) → IsAtLeast a (with_filler_var int a)
 least_filler_var int a = record {
   texts = omega (arith, length-append a.texts (filler_name ++ 0 ∷ []));
   types = omega (arith, length-append a.types (static_var (next_offset a) int ∷ []));
-  behind_strings = refl;
-  behind_types = refl;
+  after_strings = refl;
+  after_types = refl;
 }
 
 least_filler : (a : Added) → IsAtLeast a (with_filler a)
@@ -163,11 +163,11 @@ none_passed known order start done empty = rw empty (record {
 })
 
 pub one_more_passed : (known : Facts) (order : Endianness) (start a : Added) (i : ℕ) (done : List BtfType) (t r : BtfType) (b : Added) → HavePassed known order start i a done → slice_get known.types i ≡ Some t → r ≡ rewritten known a t → b ≡ after known a t → IsFaultless (KindFault known t) → AreFew order (done ++ r ∷ []) → HavePassed known order start (i + 1) b (done ++ r ∷ [])
-one_more_passed known order start a i done t r b before here is behind faultless few =
+one_more_passed known order start a i done t r b before here is added_before faultless few =
     let left = next_left known.types i t here in
     record {
-      made = append_assoc done (r ∷ []) _ ∙ (rw (is, behind) (ap (λ l. done ++ all_rewritten known a l) (sym left) ∙ before.made));
-      added = rw behind (ap (after_all known a) (sym left) ∙ before.added);
+      made = append_assoc done (r ∷ []) _ ∙ (rw (is, added_before) (ap (λ l. done ++ all_rewritten known a l) (sym left) ∙ before.made));
+      added = rw added_before (ap (after_all known a) (sym left) ∙ before.added);
       each = All-more (λ x. IsFaultless (KindFault known x)) known.types i t (slice_get_within known.types i t here) before.each (rw (get_or_from_slice_get known.types i t t here) faultless);
       few = few;
     }
@@ -226,10 +226,10 @@ length_rewritten known a (t ∷ ts) = ap suc (length_rewritten known (after know
 overfull : (order : Endianness) (known : Facts) (e : BtfError) → IsTooMuch (all_added known) e → IsOverfull order known e
 overfull order known InvalidTypeInfo (inl texts) =
     let least = least_all known (at_first known) known.types in
-    inl (omega (arith, texts, least.behind_strings, length-append known.strings (all_added known).texts))
+    inl (omega (arith, texts, least.after_strings, length-append known.strings (all_added known).texts))
 overfull order known InvalidTypeInfo (inr count) =
     let least = least_all known (at_first known) known.types in
-    inr (inr (omega (arith, count, least.behind_types, length-append (all_rewritten known (at_first known) known.types) (all_added known).types, length_rewritten known (at_first known) known.types)))
+    inr (inr (omega (arith, count, least.after_types, length-append (all_rewritten known (at_first known) known.types) (all_added known).types, length_rewritten known (at_first known) known.types)))
 overfull order known _ none = none
 
 pub refused_all : (order : Endianness) (known : Facts) (e : BtfError) → AnyFault known order (at_first known) e → SanitizingFault order known e
@@ -249,4 +249,4 @@ not_overfull order known few short _ none = none
 pub faultless_all : (order : Endianness) (known : Facts) → IsFaultless (λ e. Any (λ t. KindFault known t e) known.types) → AreFew order (sanitized_types known) → (all_added known).string_len + length (all_added known).texts < 2 ^ 32 → IsFaultless (SanitizingFault order known)
 faultless_all order known kinds few short =
     let least = least_all known (at_first known) known.types in
-    none_of_either (λ e. Any (λ t. KindFault known t e) known.types) (IsOverfull order known) kinds (record { none = not_overfull order known few (omega (arith, short, least.behind_strings, length-append known.strings (all_added known).texts)) })
+    none_of_either (λ e. Any (λ t. KindFault known t e) known.types) (IsOverfull order known) kinds (record { none = not_overfull order known few (omega (arith, short, least.after_strings, length-append known.strings (all_added known).texts)) })

@@ -53,7 +53,8 @@ pub record AreDistinct (fs : List BtfFeature) : Type 0 where
 
 -- after the old answers stand those that calls of the predicate gave, in order, from one of its
 -- states to another
-pub record AreGiven {F : Type 0} (predicate : Mut F (BtfFeature × Unit {0}) Bool) (before : F) (old new : Answers) (after : F) : Type 0 where
+pub record AreGiven {F : Type 0} (predicate : Mut F (BtfFeature × Unit {0}) Bool) (before : F)
+    (old new : Answers) (after : F) : Type 0 where
   pub more : Answers
   pub appended : new ≡ old ++ more
   pub called : FoldsTo (λ s a t. Called predicate s (a.0, tt) a.1 t) before more after

@@ -42,9 +42,9 @@ EachGranted grants (r ∷ rs) = AllGranted grants (needed_after r r) × EachGran
 
 -- the record of an id becomes what its kind's rule says, and needs granted features alone
 pub record Becomes (known : Facts) (types : List BtfType) (id : ℕ) (t : BtfType) : Type 0 where
-  pub behind : Added
-  pub here : record_of_id types id ≡ Some (rewritten known behind t)
-  pub granted : AllGranted known.grants (needed_after t (rewritten known behind t))
+  pub added_before : Added
+  pub here : record_of_id types id ≡ Some (rewritten known added_before t)
+  pub granted : AllGranted known.grants (needed_after t (rewritten known added_before t))
 
 -- so does each id's, and it is the same where it stays; after these records stand types that need
 -- granted features alone

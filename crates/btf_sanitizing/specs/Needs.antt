@@ -50,14 +50,16 @@ pub record AreQuestions (strings : List ℕ) (ts : List BtfType) (answers : Answ
   pub asked : features answers ≡ noted_all [] (flat_map (needs_of (granted answers) strings) ts)
 
 -- the same as far as these records go, whatever is asked later
-pub record AreQuestionsSoFar (strings : List ℕ) (ts : List BtfType) (answers : Answers) : Type 0 where
+pub record AreQuestionsSoFar (strings : List ℕ) (ts : List BtfType) (answers : Answers)
+    : Type 0 where
   pub asked : (later : Answers)
       → features answers
       ≡ noted_all [] (flat_map (needs_of (granted (answers ++ later)) strings) ts)
 
 -- this feature is asked, and where it is granted and more is needed, another, after the old
 -- questions
-pub record AsksBoth (first : BtfFeature) (more : Bool) (second : BtfFeature) (old new : Answers) : Type 0 where
+pub record AsksBoth (first : BtfFeature) (more : Bool) (second : BtfFeature) (old new : Answers)
+    : Type 0 where
   pub asked : (later : Answers)
       → features new
       ≡ noted_all (features old)

@@ -60,10 +60,10 @@ unfolding word_at half_bytes word_bytes
 strings_len_at Little h rest lt = from_le_bytes-to_le_bytes_4 h.strings_len lt
 strings_len_at Big h rest lt = from_be_bytes-to_be_bytes_4 h.strings_len lt
 
-behind_header : (order : Endianness) (h : Header) (rest : List ℕ) → drop 24 (headed order h rest) ≡ rest
+after_header : (order : Endianness) (h : Header) (rest : List ℕ) → drop 24 (headed order h rest) ≡ rest
 unfolding half_bytes word_bytes
-behind_header Little h rest = refl
-behind_header Big h rest = refl
+after_header Little h rest = refl
+after_header Big h rest = refl
 
 length_headed : (order : Endianness) (h : Header) (rest : List ℕ) → length (headed order h rest) ≡ 24 + length rest
 unfolding half_bytes word_bytes
@@ -89,7 +89,7 @@ types_of_section order h types strings table tells =
     let b = headed order h (types ++ strings) in
     let len = types_len_at order h (types ++ strings) tells.few_types ∙ tells.types_len in
     let start : types_start order b ≡ 24 = rw (header_len_at order h (types ++ strings), types_at_0 order h (types ++ strings)) refl in
-    let rest : drop (types_start order b) b ≡ types ++ strings = ap (λ (n : ℕ). drop n b) start ∙ behind_header order h (types ++ strings) in
+    let rest : drop (types_start order b) b ≡ types ++ strings = ap (λ (n : ℕ). drop n b) start ∙ after_header order h (types ++ strings) in
     rw (len, rest) (take-append_seam types strings)
 
 strings_of_section : (order : Endianness) (h : Header) (types strings : List ℕ) (table : Table) → Tells order h types strings table → string_bytes_in order (headed order h (types ++ strings)) ≡ strings
@@ -97,7 +97,7 @@ strings_of_section order h types strings table tells =
     let b = headed order h (types ++ strings) in
     let len = strings_len_at order h (types ++ strings) tells.few_strings ∙ tells.strings_len in
     let start : strings_start order b ≡ 24 + length types = rw (header_len_at order h (types ++ strings), strings_at order h (types ++ strings) tells.few_types, tells.types_len) refl in
-    let rest : drop (24 + length types) b ≡ strings = sym (drop-drop (length types) 24 b) ∙ (ap (drop (length types)) (behind_header order h (types ++ strings)) ∙ drop-append_seam types strings) in
+    let rest : drop (24 + length types) b ≡ strings = sym (drop-drop (length types) 24 b) ∙ (ap (drop (length types)) (after_header order h (types ++ strings)) ∙ drop-append_seam types strings) in
     rw (len, start, rest) (take-length strings)
 
 section_is_table : (order : Endianness) (h : Header) (types strings : List ℕ) (table : Table) → Tells order h types strings table → IsTable order (headed order h (types ++ strings)) table

@@ -34,16 +34,16 @@ by_place table (suc id) =
 pub known_here : (table : Table) (id : ℕ) (t : BtfType) (rest : List BtfType) → drop id (all_types table) ≡ t ∷ rest → type_by_id table id ≡ Some t
 known_here table id t rest e = by_place table id ∙ first_left (all_types table) rest id t e
 
-left_behind : {X : Type 0} (xs rest : List X) (i : ℕ) (x : X) → drop i xs ≡ x ∷ rest → drop (i + 1) xs ≡ rest
-left_behind [] rest zero x e = absurd cc
-left_behind [] rest (suc i) x e = absurd cc
-left_behind (y ∷ ys) rest zero x e = cc
-left_behind (y ∷ ys) rest (suc i) x e =
+left_after : {X : Type 0} (xs rest : List X) (i : ℕ) (x : X) → drop i xs ≡ x ∷ rest → drop (i + 1) xs ≡ rest
+left_after [] rest zero x e = absurd cc
+left_after [] rest (suc i) x e = absurd cc
+left_after (y ∷ ys) rest zero x e = cc
+left_after (y ∷ ys) rest (suc i) x e =
     let same : suc i + 1 ≡ suc (i + 1) = omega arith in
-    rw same (left_behind ys rest i x e)
+    rw same (left_after ys rest i x e)
 
 pub rest_here : (table : Table) (id : ℕ) (t : BtfType) (rest : List BtfType) → drop id (all_types table) ≡ t ∷ rest → drop (id + 1) (all_types table) ≡ rest
-rest_here table id t rest e = left_behind (all_types table) rest id t e
+rest_here table id t rest e = left_after (all_types table) rest id t e
 
 -- none of the records before an id is the wanted one
 pub record NoneBefore (table : Table) (name : List ℕ) (kind : BtfKind) (id : ℕ) : Type 0 where

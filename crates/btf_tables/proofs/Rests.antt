@@ -4,7 +4,7 @@ use Rattle.std.specs.Prelude.{All, IfOk, IfSome, if◌then◌else◌}
 use Rattle.std.specs.Option.{IsSomeAnd, option_map, option_map_or, option_to_list}
 use Rattle.btf_tables.specs.Agreement.{AgreeOn, IsReached, RestsOn, chain_ids, size_ids}
 use Rattle.btf_tables.specs.ResolvedTypes.{IsEnd, IsEndOver, chain_end, end_from, max_depth, modified_type, resolved_type}
-use Rattle.btf_tables.specs.TypeSizes.{in_32_bits, own_size, size_at_end, size_behind, size_from, sized_by, type_size, type_size_in_32_bits}
+use Rattle.btf_tables.specs.TypeSizes.{in_32_bits, own_size, size_at_end, size_after, size_from, sized_by, type_size, type_size_in_32_bits}
 use Rattle.btf_tables.specs.Tables.{Table, type_by_id}
 use Rattle.btf_records.specs.declared.error.BtfError.{BtfError}
 use Rattle.btf_records.specs.declared.error.BtfError.TheVariants.{InvalidTypeInfo}
@@ -38,9 +38,9 @@ resolved_rests table id = record { alike = λ reached other agree. chain_same re
 pub record AlikeCounting (reached : ℕ → Bool) (go other : ℕ → ℕ → Result ℕ BtfError) : Type 0 where
   pub alike : (count id : ℕ) → reached id ≡ true → other count id ≡ go count id
 
-behind_same : (reached : ℕ → Bool) (go other : ℕ → ℕ → Result ℕ BtfError) (count id : ℕ) (by : Option (ℕ × ℕ)) → AlikeCounting reached go other → All (λ next. reached next ≡ true) (option_to_list (option_map (λ b. b.1) by)) → size_behind other count id by ≡ size_behind go count id by
-behind_same reached go other count id None same all = refl
-behind_same reached go other count id (Some by) same all =
+after_same : (reached : ℕ → Bool) (go other : ℕ → ℕ → Result ℕ BtfError) (count id : ℕ) (by : Option (ℕ × ℕ)) → AlikeCounting reached go other → All (λ next. reached next ≡ true) (option_to_list (option_map (λ b. b.1) by)) → size_after other count id by ≡ size_after go count id by
+after_same reached go other count id None same all = refl
+after_same reached go other count id (Some by) same all =
     ap (λ (r : Result ℕ BtfError). if nat_lt (count * by.0) (2 ^ 32) then r else Err InvalidTypeInfo) (same.alike (count * by.0) by.1 (one_of (λ next. reached next ≡ true) by.1 all))
 
 own_same : (own : Option ℕ) (count : ℕ) (one other : Result ℕ BtfError) → other ≡ one → option_map_or (λ size. Ok (count * size)) own other ≡ option_map_or (λ size. Ok (count * size)) own one
@@ -48,7 +48,7 @@ own_same own count one other e = rw e refl
 
 size_same : (reached : ℕ → Bool) (go other : ℕ → ℕ → Result ℕ BtfError) (count id : ℕ) (t : Option BtfType) → AlikeCounting reached go other → IfSome t (λ t. All (λ next. reached next ≡ true) (size_ids t)) → size_from other count id t ≡ size_from go count id t
 size_same reached go other count id None same closed = refl
-size_same reached go other count id (Some t) same closed = own_same (own_size t) count _ _ (behind_same reached go other count id (sized_by t) same closed)
+size_same reached go other count id (Some t) same closed = own_same (own_size t) count _ _ (after_same reached go other count id (sized_by t) same closed)
 
 pub walk_same : (reached : ℕ → Bool) (one other : Table) → AgreeOn size_ids reached one other → (n asked count id : ℕ) → reached id ≡ true → size_at_end n other asked count id ≡ size_at_end n one asked count id
 unfolding size_at_end

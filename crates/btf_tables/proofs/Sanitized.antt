@@ -27,8 +27,8 @@ passed_on (Ok value) e P h p = tt
 passed_on (Err f) e P h p = subst P (sym h) p
 
 -- the texts of a table stay where more are written after them, and so they do once more
-pub texts_behind : (old new : Table) (more : List ℕ) → new.strings ≡ old.strings ++ more → TextsStay old new
-texts_behind old new more same = record { stay = λ offset text e. rw same (texts_stay old.strings more offset text e) }
+pub texts_after : (old new : Table) (more : List ℕ) → new.strings ≡ old.strings ++ more → TextsStay old new
+texts_after old new more same = record { stay = λ offset text e. rw same (texts_stay old.strings more offset text e) }
 
 pub texts_then : (a b c : Table) → TextsStay a b → TextsStay b c → TextsStay a c
 texts_then a b c h k = record { stay = λ offset text e. k.stay offset text (h.stay offset text e) }

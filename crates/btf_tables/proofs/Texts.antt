@@ -14,12 +14,12 @@ use Rattle.string_table.specs.Texts.{before_nul, text_at, text_of}
 abbrev nul_at : List ℕ → ℕ
 nul_at bytes = position_or_len (λ b. b == 0) bytes
 
-nul_behind : (text more : List ℕ) → All (λ b. b ≢ 0) text → nul_at (text ++ 0 ∷ more) ≡ length text
-nul_behind [] more all = refl
-nul_behind (b ∷ bs) more all =
+nul_after : (text more : List ℕ) → All (λ b. b ≢ 0) text → nul_at (text ++ 0 ∷ more) ≡ length text
+nul_after [] more all = refl
+nul_after (b ∷ bs) more all =
     let other : b ≢ 0 = All-head (λ c. c ≢ 0) b bs all in
     let test : nat_eq b 0 ≡ false = grind (arith, nat_tests) in
-    rw test (let rest = nul_behind bs more (All-tail (λ c. c ≢ 0) b bs all) in omega (arith, rest))
+    rw test (let rest = nul_after bs more (All-tail (λ c. c ≢ 0) b bs all) in omega (arith, rest))
 
 nul_stays_by : (here : Bool) (bs more : List ℕ) → (nul_at bs < length bs → nul_at (bs ++ more) ≡ nul_at bs) → cond (not here) (1 + nul_at bs) 0 < suc (length bs) → cond (not here) (1 + nul_at (bs ++ more)) 0 ≡ cond (not here) (1 + nul_at bs) 0
 nul_stays_by true bs more rest lt = refl
@@ -31,7 +31,7 @@ nul_stays (b ∷ bs) more lt = nul_stays_by (nat_eq b 0) bs more (nul_stays bs m
 
 text_before : (text more : List ℕ) → All (λ b. b ≢ 0) text → before_nul (text ++ 0 ∷ more) ≡ Some text
 text_before text more all =
-    let at = nul_behind text more all in
+    let at = nul_after text more all in
     let within : nat_lt (length text) (length (text ++ 0 ∷ more)) ≡ true = grind (arith, nat_tests, length-append text (0 ∷ more)) in
     rw (at, within) (ap (λ (t : List ℕ). Some t) (take-append_seam text (0 ∷ more)))
 

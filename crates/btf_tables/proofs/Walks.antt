@@ -5,7 +5,7 @@ use Rattle.std.proofs.lemmas.Bool.Decides.{nat_tests}
 use Rattle.std.specs.Option.{IsSomeAnd, option_map_or}
 use Rattle.std.specs.Prelude.{IfErr, IfOk, if◌then◌else◌}
 use Rattle.btf_tables.specs.ResolvedTypes.{IsEnd, IsEndOver, chain_end, end_from, max_depth, modified_type, resolved_type}
-use Rattle.btf_tables.specs.TypeSizes.{IsInLimit, IsSize, IsSizeOver, own_size, size_at_end, size_behind, size_from, sized_by, type_size}
+use Rattle.btf_tables.specs.TypeSizes.{IsInLimit, IsSize, IsSizeOver, own_size, size_at_end, size_after, size_from, sized_by, type_size}
 use Rattle.btf_tables.specs.Tables.{Table, type_by_id}
 use Rattle.btf_records.specs.declared.error.BtfError.{BtfError}
 use Rattle.btf_records.specs.declared.error.BtfError.TheVariants.{InvalidTypeInfo}
@@ -47,7 +47,7 @@ passed_test false r e size is = absurd cc
 less : (a b : ℕ) → nat_lt a b ≡ true → a < b
 less a b e = grind (arith, nat_tests)
 
-walk_by : (n : ℕ) (table : Table) (asked count id size : ℕ) (t : BtfType) (by : Option (ℕ × ℕ)) → Walked n table asked → type_by_id table id ≡ Some t → own_size t ≡ None → sized_by t ≡ by → size_behind (size_at_end n table asked) count id by ≡ Ok size → Goes (suc n) table count id size
+walk_by : (n : ℕ) (table : Table) (asked count id size : ℕ) (t : BtfType) (by : Option (ℕ × ℕ)) → Walked n table asked → type_by_id table id ≡ Some t → own_size t ≡ None → sized_by t ≡ by → size_after (size_at_end n table asked) count id by ≡ Ok size → Goes (suc n) table count id size
 walk_by n table asked count id size t None more some none is e = absurd cc
 walk_by n table asked count id size t (Some by) more some none is e =
     goes_on n table count id size t by some none is (less (count * by.0) (2 ^ 32) (passed_test (nat_lt (count * by.0) (2 ^ 32)) _ InvalidTypeInfo size e)) (more (count * by.0) by.1 size (passed (nat_lt (count * by.0) (2 ^ 32)) _ InvalidTypeInfo size e))
@@ -58,7 +58,7 @@ Gives r a = r ≡ Ok a
 same_ok : (a b : ℕ) → Gives (Ok a) b → b ≡ a
 same_ok a b e = cc
 
-walk_own : (n : ℕ) (table : Table) (asked count id size : ℕ) (t : BtfType) (own : Option ℕ) → Walked n table asked → type_by_id table id ≡ Some t → own_size t ≡ own → option_map_or (λ s. Ok (count * s)) own (size_behind (size_at_end n table asked) count id (sized_by t)) ≡ Ok size → Goes (suc n) table count id size
+walk_own : (n : ℕ) (table : Table) (asked count id size : ℕ) (t : BtfType) (own : Option ℕ) → Walked n table asked → type_by_id table id ≡ Some t → own_size t ≡ own → option_map_or (λ s. Ok (count * s)) own (size_after (size_at_end n table asked) count id (sized_by t)) ≡ Ok size → Goes (suc n) table count id size
 walk_own n table asked count id size t None more some is e = walk_by n table asked count id size t (sized_by t) more some is refl e
 walk_own n table asked count id size t (Some own) more some is e = ends n table count id size own t some is (same_ok _ _ e)
 
@@ -81,8 +81,8 @@ sized_walk table id (Ok size) is =
 test_passes : (a b : ℕ) → a < b → nat_lt a b ≡ true
 test_passes a b lt = grind (arith, nat_tests)
 
-behind_found : (go : ℕ → ℕ → Result ℕ BtfError) (count id c next : ℕ) (r : Result ℕ BtfError) → count * c < 2 ^ 32 → go (count * c) next ≡ r → size_behind go count id (Some (c, next)) ≡ r
-behind_found go count id c next r lt e = rw (test_passes (count * c) (2 ^ 32) lt) e
+after_found : (go : ℕ → ℕ → Result ℕ BtfError) (count id c next : ℕ) (r : Result ℕ BtfError) → count * c < 2 ^ 32 → go (count * c) next ≡ r → size_after go count id (Some (c, next)) ≡ r
+after_found go count id c next r lt e = rw (test_passes (count * c) (2 ^ 32) lt) e
 
 own_found : (go : ℕ → ℕ → Result ℕ BtfError) (count id size : ℕ) (t : Option BtfType) → IsSomeAnd t (λ t. own_size t ≡ Some size) → size_from go count id t ≡ Ok (count * size)
 own_found go count id size None is = absurd is
@@ -95,7 +95,7 @@ further_by : (go : ℕ → ℕ → Result ℕ BtfError) (table : Table) (count i
     → ((m k : ℕ) → IsSizeOver table next others k → IsInLimit table m next others → go m next ≡ Ok (m * k)) → size_from go count id (Some t) ≡ Ok (count * size)
 further_by go table count id next c rest size others t none is over same limit more =
     let below = rw is at limit in
-    rw (none, is) (behind_found go count id c next (Ok (count * size)) below.0 (more (count * c) rest over below.1 ∙ times_same count c rest size same))
+    rw (none, is) (after_found go count id c next (Ok (count * size)) below.0 (more (count * c) rest over below.1 ∙ times_same count c rest size same))
 
 further_found : (go : ℕ → ℕ → Result ℕ BtfError) (table : Table) (count id next size : ℕ) (others : List ℕ) (t : Option BtfType) → IsSomeAnd t (λ t. (own_size t ≡ None) × ((c : ℕ) × (sized_by t ≡ Some (c, next)) × ((rest : ℕ) × IsSizeOver table next others rest × (size ≡ c * rest)))) → IsSomeAnd t (λ t. IsSomeAnd (sized_by t) (λ by. (count * by.0 < 2 ^ 32) × IsInLimit table (count * by.0) next others))
     → ((m k : ℕ) → IsSizeOver table next others k → IsInLimit table m next others → go m next ≡ Ok (m * k)) → size_from go count id t ≡ Ok (count * size)

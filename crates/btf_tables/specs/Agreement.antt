@@ -16,7 +16,8 @@ name_of table id =
     option_and_then (λ t. text_at table.strings (name_offset_of t)) (type_by_id table id)
 
 -- the ids that are reached have the same records in both tables, and lead to reached ids alone
-pub record AgreeOn (leads_to : BtfType → List ℕ) (reached : ℕ → Bool) (one other : Table) : Type 0 where
+pub record AgreeOn (leads_to : BtfType → List ℕ) (reached : ℕ → Bool) (one other : Table)
+    : Type 0 where
   pub same : (id : ℕ) → reached id ≡ true → type_by_id other id ≡ type_by_id one id
   pub closed : (id : ℕ)
       → reached id ≡ true
@@ -30,7 +31,8 @@ pub record AgreeOnNames (reached : ℕ → Bool) (one other : Table) : Type 0 wh
       text_at other.strings (name_offset_of t) ≡ text_at one.strings (name_offset_of t))
 
 -- an answer on an id rests on the ids that are reached from it
-pub record RestsOn {A : Type 0} (leads_to : BtfType → List ℕ) (table : Table) (id : ℕ) (ask : Table → A) : Type 0 where
+pub record RestsOn {A : Type 0} (leads_to : BtfType → List ℕ) (table : Table) (id : ℕ)
+    (ask : Table → A) : Type 0 where
   pub alike : (reached : ℕ → Bool) (other : Table)
       → AgreeOn leads_to reached table other
       → reached id ≡ true
@@ -44,7 +46,8 @@ pub record IsReached (leads_to : BtfType → List ℕ) (table : Table) (id end :
       → reached end ≡ true
 
 -- the same of an answer on ids of two tables
-pub record RestsOnBoth {A : Type 0} (leads_to : BtfType → List ℕ) (local : Table) (l : ℕ) (target : Table) (r : ℕ) (ask : Table → Table → A) : Type 0 where
+pub record RestsOnBoth {A : Type 0} (leads_to : BtfType → List ℕ) (local : Table) (l : ℕ)
+    (target : Table) (r : ℕ) (ask : Table → Table → A) : Type 0 where
   pub alike : (reached_left reached_right : ℕ → Bool) (one other : Table)
       → AgreeOn leads_to reached_left local one
       → AgreeOn leads_to reached_right target other
@@ -53,7 +56,8 @@ pub record RestsOnBoth {A : Type 0} (leads_to : BtfType → List ℕ) (local : T
       → ask one other ≡ ask local target
 
 -- and where it rests on their names too
-pub record RestsOnNames {A : Type 0} (leads_to : BtfType → List ℕ) (local : Table) (l : ℕ) (target : Table) (r : ℕ) (ask : Table → Table → A) : Type 0 where
+pub record RestsOnNames {A : Type 0} (leads_to : BtfType → List ℕ) (local : Table) (l : ℕ)
+    (target : Table) (r : ℕ) (ask : Table → Table → A) : Type 0 where
   pub alike : (reached_left reached_right : ℕ → Bool) (one other : Table)
       → AgreeOn leads_to reached_left local one
       → AgreeOnNames reached_left local one

@@ -17,7 +17,8 @@ stays_in None table known id t = stays known t
 stays_in (Some ids) table known id t = leaves (ksyms_in table ids.0 ids.1) id t && stays known t
 
 -- the ids that are reached have records that are left as they are and lead to reached ids alone
-pub record AreLeft (is_left : ℕ → BtfType → Bool) (reached : ℕ → Bool) (table : Table) : Type 0 where
+pub record AreLeft (is_left : ℕ → BtfType → Bool) (reached : ℕ → Bool) (table : Table)
+    : Type 0 where
   pub left : (id : ℕ)
       → reached id ≡ true
       → IsSomeAnd (type_by_id table id) (λ t. is_left id t ≡ true)

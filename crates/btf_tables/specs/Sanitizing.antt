@@ -53,20 +53,23 @@ sanitized answers sizes offsets table =
 
 -- the answers are what the predicate gave, once for each feature that the table's records need, in
 -- the order of need
-pub record AreAnswersFor {F : Type 0} (predicate : Mut F (BtfFeature × Unit {0}) Bool) (before : F) (table : Table) (answers : Answers) : Type 0 where
+pub record AreAnswersFor {F : Type 0} (predicate : Mut F (BtfFeature × Unit {0}) Bool) (before : F)
+    (table : Table) (answers : Answers) : Type 0 where
   pub questions : AreQuestions table.strings table.types answers
   pub once : AreDistinct (features answers)
   pub after : F
   pub given : AreGiven predicate before [] answers after
 
 -- under such answers a record of the table can't be rewritten
-pub record IsRefused {F : Type 0} (predicate : Mut F (BtfFeature × Unit {0}) Bool) (before : F) (sizes offsets : List ℕ → Option ℕ) (table : Table) (e : BtfError) : Type 0 where
+pub record IsRefused {F : Type 0} (predicate : Mut F (BtfFeature × Unit {0}) Bool) (before : F)
+    (sizes offsets : List ℕ → Option ℕ) (table : Table) (e : BtfError) : Type 0 where
   pub answers : Answers
   pub asked : AreAnswersFor predicate before table answers
   pub fault : SanitizingFault table.order (facts_in answers sizes offsets table) e
 
 -- under these none stands
-pub record IsAccepted (answers : Answers) (sizes offsets : List ℕ → Option ℕ) (table : Table) : Type 0 where
+pub record IsAccepted (answers : Answers) (sizes offsets : List ℕ → Option ℕ) (table : Table)
+    : Type 0 where
   pub none : IsFaultless (SanitizingFault table.order (facts_in answers sizes offsets table))
 
 -- each record of the stepped table is what its rule says of the record that the id had

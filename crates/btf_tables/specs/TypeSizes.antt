@@ -23,15 +23,15 @@ sized_by t = option_map (λ id. (1, id)) (type_of t)
 
 -- a walk goes on after a record without a size of its own; `count` is the product of the lengths of
 -- arrays so far
-abbrev pub size_behind : (ℕ → ℕ → Result ℕ BtfError) → ℕ → ℕ → Option (ℕ × ℕ) → Result ℕ BtfError
-size_behind go count id None = Err (UnexpectedBtfType id)
-size_behind go count id (Some by) =
+abbrev pub size_after : (ℕ → ℕ → Result ℕ BtfError) → ℕ → ℕ → Option (ℕ × ℕ) → Result ℕ BtfError
+size_after go count id None = Err (UnexpectedBtfType id)
+size_after go count id (Some by) =
     if nat_lt (count * by.0) (2 ^ 32) then go (count * by.0) by.1 else Err InvalidTypeInfo
 
 abbrev pub size_from : (ℕ → ℕ → Result ℕ BtfError) → ℕ → ℕ → Option BtfType → Result ℕ BtfError
 size_from go count id None = Err (UnknownBtfType id)
 size_from go count id (Some t) =
-    option_map_or (λ size. Ok (count * size)) (own_size t) (size_behind go count id (sized_by t))
+    option_map_or (λ size. Ok (count * size)) (own_size t) (size_after go count id (sized_by t))
 
 -- `count` times the size at the end of a walk of at most that many records
 unfoldable pub size_at_end : ℕ → Table → ℕ → ℕ → ℕ → Result ℕ BtfError

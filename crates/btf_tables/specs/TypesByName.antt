@@ -25,7 +25,8 @@ pub record IsFirstNamed (table : Table) (name : List ℕ) (kind : BtfKind) (id :
 
 -- the name at this offset, of a record of the kind, can't be read, and the wanted one doesn't come
 -- before
-pub record UnreadableBefore (table : Table) (name : List ℕ) (kind : BtfKind) (offset : ℕ) : Type 0 where
+pub record UnreadableBefore (table : Table) (name : List ℕ) (kind : BtfKind) (offset : ℕ)
+    : Type 0 where
   pub id : ℕ
   pub unreadable : IsSomeAnd (type_by_id table id) (λ t.
       (kind_of_type t ≡ kind) × (name_offset_of t ≡ offset) × (text_at table.strings offset ≡ None))

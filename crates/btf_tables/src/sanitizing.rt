@@ -137,7 +137,7 @@ impl<'a> Btf<'a> {
 
     /// The same after the step on the section of these ids.
     #[tactic(auto, using(crate::proofs::Sanitized::texts_then))]
-    fn rewritten_behind<'m, 'n, F: FnMut(BtfFeature) -> bool>(
+    fn rewritten_after<'m, 'n, F: FnMut(BtfFeature) -> bool>(
         &self,
         ksyms: Option<KsymsIds>,
         sizes: &'m BTreeMap<&'n str, u64>,
@@ -223,7 +223,7 @@ impl<'a> Btf<'a> {
             (number_named offsets.now.entries) (stepped ksyms self.old))) self.old self.new) }
         ensures err { OnErr result (self.new ≡ self.old) }
     {
-        let rewritten = self.rewritten_behind(ksyms, sizes, offsets, predicate)?;
+        let rewritten = self.rewritten_after(ksyms, sizes, offsets, predicate)?;
         *self = rewritten.table;
         Ok(rewritten.answers)
     }

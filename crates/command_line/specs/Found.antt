@@ -29,6 +29,7 @@ pub record IsFlag (matches : ArgMatches) (id : List ℕ) (is_set : Bool) : Type 
   pub unset : one_text (found_of matches) id ≡ Some (codes "false") → is_set ≡ false
 
 -- what clap finds in the words, for a command
-pub record IsFoundBy (command : Command) (words : List (List ℕ)) (matches : ArgMatches) : Type 0 where
+pub record IsFoundBy (command : Command) (words : List (List ℕ)) (matches : ArgMatches)
+    : Type 0 where
   pub parsed : IsParsedFrom command matches
   pub found : HasMatchesOf (app_of command) words matches

@@ -43,7 +43,8 @@ abbrev pub numbered : Named → NumberedMap
 numbered m = record { name = m.0.now; number = m.1; map = map_view m.2.now }
 
 -- an iterator hands over maps, of which this holds
-pub record HandsOver {S : Type 0} (steps : S → Option Named → S → Type 0) (from : S) (P : List NumberedMap → Type 0) : Type 0 where
+pub record HandsOver {S : Type 0} (steps : S → Option Named → S → Type 0) (from : S)
+    (P : List NumberedMap → Type 0) : Type 0 where
   pub items : List Named
   pub handed : DrainsIf steps (Unit {0}) from items
   pub holds : P (map numbered items)

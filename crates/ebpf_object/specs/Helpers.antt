@@ -8,7 +8,8 @@ for_kernel true functions = functions
 for_kernel false functions = map (λ e. (e.0, with_older_helpers e.1)) functions
 
 -- the functions are for a kernel of which an answer that was given tells
-pub record IsAnswered (Says : Bool → Type 0) (old new : List ((ℕ × ℕ) × FunctionContent)) : Type 0 where
+pub record IsAnswered (Says : Bool → Type 0) (old new : List ((ℕ × ℕ) × FunctionContent))
+    : Type 0 where
   pub answer : Bool
   pub said : Says answer
   pub is : new ≡ for_kernel answer old

@@ -25,7 +25,8 @@ pub record AreNumbersOf (file : List ℕ) (sizes offsets : List ℕ → Option �
       → offsets name ≡ option_map (λ s. s.address) (last_symbol (symbols_of file) name)
 
 -- calls of the predicate gave these answers, in this order
-pub record AreAnswered {F : Type 0} (predicate : Mut F (BtfFeature × Unit {0}) Bool) (before : F) (answers : Answers) : Type 0 where
+pub record AreAnswered {F : Type 0} (predicate : Mut F (BtfFeature × Unit {0}) Bool) (before : F)
+    (answers : Answers) : Type 0 where
   pub after : F
   pub given : AreGiven predicate before [] answers after
 
@@ -46,7 +47,8 @@ IsRefusedUnder answers sizes offsets table e =
 
 -- what refuses to rewrite a table under answers: a fault of the step on `.ksyms`, or of a record
 -- after it
-pub record TableFault (answers : Answers) (file : List ℕ) (ksyms : Option (ℕ × Option ℕ)) (table : Table) (e : BtfError) : Type 0 where
+pub record TableFault (answers : Answers) (file : List ℕ) (ksyms : Option (ℕ × Option ℕ))
+    (table : Table) (e : BtfError) : Type 0 where
   pub sizes : List ℕ → Option ℕ
   pub offsets : List ℕ → Option ℕ
   pub numbers : AreNumbersOf file sizes offsets
@@ -55,7 +57,8 @@ pub record TableFault (answers : Answers) (file : List ℕ) (ksyms : Option (ℕ
       × IsRefusedUnder answers sizes offsets (stepped ksyms table) e)
 
 -- a table can't be rewritten under answers that a predicate gave
-pub record IsRefusedTable {F : Type 0} (predicate : Mut F (BtfFeature × Unit {0}) Bool) (before : F) (file : List ℕ) (ksyms : Option (ℕ × Option ℕ)) (table : Table) (e : BtfError) : Type 0 where
+pub record IsRefusedTable {F : Type 0} (predicate : Mut F (BtfFeature × Unit {0}) Bool) (before : F)
+    (file : List ℕ) (ksyms : Option (ℕ × Option ℕ)) (table : Table) (e : BtfError) : Type 0 where
   pub answers : Answers
   pub answered : AreAnswered predicate before answers
   pub fault : TableFault answers file ksyms table e
@@ -72,14 +75,17 @@ CannotRewrite answers file ksyms types e =
     ((length table.types == 0) ≡ false) × TableFault answers file ksyms table e)
 
 -- the types of an object can't be rewritten under answers that a predicate gave
-pub record IsRefused {F : Type 0} (predicate : Mut F (BtfFeature × Unit {0}) Bool) (before : F) (file : List ℕ) (ksyms : Option (ℕ × Option ℕ)) (types : Option Table) (e : BtfError) : Type 0 where
+pub record IsRefused {F : Type 0} (predicate : Mut F (BtfFeature × Unit {0}) Bool) (before : F)
+    (file : List ℕ) (ksyms : Option (ℕ × Option ℕ)) (types : Option Table) (e : BtfError)
+    : Type 0 where
   pub answers : Answers
   pub answered : AreAnswered predicate before answers
   pub fault : CannotRewrite answers file ksyms types e
 
 -- The table after the step and then, under answers, rewritten record by record; neither refuses.
 -- What isn't rewritten stays: its texts, and the answers that rest on it.
-pub record IsRewrittenTable (answers : Answers) (file : List ℕ) (ksyms : Option (ℕ × Option ℕ)) (table : Table) (new : Table) : Type 0 where
+pub record IsRewrittenTable (answers : Answers) (file : List ℕ) (ksyms : Option (ℕ × Option ℕ))
+    (table : Table) (new : Table) : Type 0 where
   pub sizes : List ℕ → Option ℕ
   pub offsets : List ℕ → Option ℕ
   pub numbers : AreNumbersOf file sizes offsets

@@ -20,5 +20,6 @@ abbrev pub has_section : List ℕ → ℕ → Bool
 has_section sections index = list_any (is_at (nat_cmp index)) sections
 
 -- these are the indexes of the sections that functions lie in
-pub record AreTextSections (functions : List ((ℕ × ℕ) × FunctionContent)) (text_sections : List ℕ) : Type 0 where
+pub record AreTextSections (functions : List ((ℕ × ℕ) × FunctionContent)) (text_sections : List ℕ)
+    : Type 0 where
   pub at : (index : ℕ) → has_section text_sections index ≡ list_any (λ e. e.0.0 == index) functions

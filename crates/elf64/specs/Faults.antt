@@ -39,14 +39,16 @@ IsBadSymbolTable bytes order table header =
 
 -- a relocation section of the symbol table of an index, with no target section, entries past the
 -- end, or cut off
-pub record IsBadRelocationTable (bytes : List ℕ) (order : ByteOrder) (table : List ℕ) (symbol_table : ℕ) (header : SectionHeader) : Type 0 where
+pub record IsBadRelocationTable (bytes : List ℕ) (order : ByteOrder) (table : List ℕ)
+    (symbol_table : ℕ) (header : SectionHeader) : Type 0 where
   pub belongs : is_relocation_table symbol_table header ≡ true
   pub bad : (section_at order table header.info ≡ None)
       ⊎ (bytes_at bytes header.offset header.size ≡ None)
       ⊎ (header.size % entry_size header ≢ 0)
 
 -- a bad relocation section of the symbol table of an index
-pub record HasBadRelocationTable (bytes : List ℕ) (order : ByteOrder) (table : List ℕ) (symbol_table : ℕ) : Type 0 where
+pub record HasBadRelocationTable (bytes : List ℕ) (order : ByteOrder) (table : List ℕ)
+    (symbol_table : ℕ) : Type 0 where
   pub index : ℕ
   pub given : 0 < index
   pub within : index < header_count table

@@ -7,5 +7,6 @@ abbrev pub name_in : Option (List ℕ) → ℕ → Option (List ℕ)
 name_in strings offset = option_and_then (λ s. text_at s offset) strings
 
 -- the name of each item is that at its offset
-pub record AreNamed {X : Type 0} (strings : Option (List ℕ)) (items : List X) (name_of : X → Option (List ℕ)) (offset_of : X → ℕ) : Type 0 where
+pub record AreNamed {X : Type 0} (strings : Option (List ℕ)) (items : List X)
+    (name_of : X → Option (List ℕ)) (offset_of : X → ℕ) : Type 0 where
   pub named : map name_of items ≡ map (λ x. name_in strings (offset_of x)) items

@@ -36,10 +36,10 @@ abbrev first_in : bpf_insn → Outcome Fault → bpf_insn
 first_in d (Written w) = w.first
 first_in d _ = d
 
--- what stood after an option, or a test
-behind : {A : Type 0} (o : Option A) (h : A → Outcome Fault) (d : Outcome Fault) (w : Write) → (d ≡ Written w → ⊥) → option_map_or h o d ≡ Written w → (a : A) × (o ≡ Some a) × (h a ≡ Written w)
-behind None h d w never e = absurd (never e)
-behind (Some a) h d w never e = (a, refl, e)
+-- what stood under an option, or a test
+under_option : {A : Type 0} (o : Option A) (h : A → Outcome Fault) (d : Outcome Fault) (w : Write) → (d ≡ Written w → ⊥) → option_map_or h o d ≡ Written w → (a : A) × (o ≡ Some a) × (h a ≡ Written w)
+under_option None h d w never e = absurd (never e)
+under_option (Some a) h d w never e = (a, refl, e)
 
 passed : (b : Bool) (a d : Outcome Fault) (w : Write) → (d ≡ Written w → ⊥) → cond b a d ≡ Written w → a ≡ Written w
 passed true a d w never e = e
@@ -70,7 +70,7 @@ called slot index Unresolved w code e = absurd (not_refused (Unresolvable index)
 -- a load
 load_first : (slot : bpf_insn) (next : Option bpf_insn) (source : ℕ) (low high : ℤ) (w : Write) → load_write slot next source low high ≡ Written w → w.first ≡ with_number slot source low
 load_first slot next source low high w e =
-    let n = behind next (λ n. Written (record { first = with_number slot source low; next = Some (record n { imm = high }) })) (Refused InvalidOffset) w (not_refused InvalidOffset w) e in
+    let n = under_option next (λ n. Written (record { first = with_number slot source low; next = Some (record n { imm = high }) })) (Refused InvalidOffset) w (not_refused InvalidOffset w) e in
     first_is slot (record { first = with_number slot source low; next = Some (record n.0 { imm = high }) }) w n.2
 
 loaded : (slot : bpf_insn) (next : Option bpf_insn) (index : ℕ) (r : Resolution) (w : Write) → slot.code ≡ 0x18 → load_outcome slot next index r ≡ Written w → (w.first.code ≡ 0x18) × LoadCarries w.first r
@@ -97,7 +97,7 @@ carries : (file : List ℕ) (externs : ByName) (r : Relocation) (slot : bpf_insn
 carries file externs r slot next s w known made =
     let index = symbol_index r in
     let kept = passed (is_extern_symbol s) _ Skipped w (not_skipped w) made in
-    let e = behind (extern_of externs s) (λ e. resolved_outcome slot next index (resolution e)) (Refused (NoExtern index)) w (not_refused (NoExtern index) w) kept in
+    let e = under_option (extern_of externs s) (λ e. resolved_outcome slot next index (resolution e)) (Refused (NoExtern index)) w (not_refused (NoExtern index) w) kept in
     record {
       resolution = resolution e.0;
       named = found_by file externs r s e.0 known e.1;

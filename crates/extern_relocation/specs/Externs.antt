@@ -75,7 +75,12 @@ call_outcome slot index Unresolved = Refused (Unresolvable index)
 -- the next one
 abbrev pub load_write : bpf_insn → Option bpf_insn → ℕ → ℤ → ℤ → Outcome Fault
 load_write slot next source low high =
-    option_map_or (λ n. Written (record { first = with_number slot source low; next = Some (record n { imm = high }) })) next (Refused InvalidOffset)
+    option_map_or
+    (λ n. Written (record {
+      first = with_number slot source low;
+      next = Some (record n { imm = high });
+    }))
+    next (Refused InvalidOffset)
 
 -- what a relocation at a load of 64 bits does: source register 3 (BPF_PSEUDO_BTF_ID) marks the id
 -- of a kernel's variable

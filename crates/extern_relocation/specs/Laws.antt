@@ -54,7 +54,8 @@ LoadCarries s Missing = (src_reg_of s ≡ 0) × (s.imm ≡ pos 0)
 LoadCarries s Unresolved = ⊥
 
 -- a slot carries what is known of the extern that a relocation names
-pub record CarriesExtern (file : List ℕ) (externs : ByName) (r : Relocation) (s : bpf_insn) : Type 0 where
+pub record CarriesExtern (file : List ℕ) (externs : ByName) (r : Relocation) (s : bpf_insn)
+    : Type 0 where
   pub resolution : Resolution
   pub named : resolution_of file externs r ≡ Some resolution
   pub carried : ((s.code ≡ 0x85) × CallCarries s (symbol_index r) resolution)

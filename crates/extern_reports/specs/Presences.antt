@@ -49,7 +49,8 @@ SaysOfExtern table kernel text has_symbols e Missing =
 SaysOfExtern table kernel text has_symbols e Unknown = is_untold has_symbols e.1 ≡ true
 
 -- each is told where the externs can be resolved, all of which may be missing
-pub record SaysEach (table : Table) (kernel : Option Table) (text : List ℕ) (has_symbols : Bool) (externs : ExternsContent) (said : List Presence) : Type 0 where
+pub record SaysEach (table : Table) (kernel : Option Table) (text : List ℕ) (has_symbols : Bool)
+    (externs : ExternsContent) (said : List Presence) : Type 0 where
   pub failed : Bool
   pub faultless : (f : KsymsError)
       → ResolutionFault table kernel failed text (all_weak externs).by_name f
@@ -57,7 +58,8 @@ pub record SaysEach (table : Table) (kernel : Option Table) (text : List ℕ) (h
   pub each : AllZip (SaysOfExtern table kernel text has_symbols) externs.by_name said
 
 -- nothing is said of any where they can't
-pub record SaysNothing (table : Table) (kernel : Option Table) (text : List ℕ) (externs : ExternsContent) (said : List Presence) : Type 0 where
+pub record SaysNothing (table : Table) (kernel : Option Table) (text : List ℕ)
+    (externs : ExternsContent) (said : List Presence) : Type 0 where
   pub failed : Bool
   pub fault : KsymsError
   pub stands : CannotResolve table kernel (Some text) failed (all_weak externs) fault

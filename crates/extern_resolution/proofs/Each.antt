@@ -28,9 +28,9 @@ to_any P (x ∷ xs) h = elim h [
   | inr r ↦ let later = to_any P xs r in (suc later.0, later.1, omega (arith, later.2), later.3, later.4)
 ]
 
-some_behind : {X : Type 0} (P : X → Type 0) (front more : List X) (x : X) → P x → Some-of P (front ++ x ∷ more)
-some_behind P [] more x p = inl p
-some_behind P (y ∷ front) more x p = inr (some_behind P front more x p)
+some_after : {X : Type 0} (P : X → Type 0) (front more : List X) (x : X) → P x → Some-of P (front ++ x ∷ more)
+some_after P [] more x p = inl p
+some_after P (y ∷ front) more x p = inr (some_after P front more x p)
 
 none_of : {X : Type 0} (fault : KsymsError → X → Type 0) (xs : List X) (f : KsymsError) → AllByRecursion (λ x. NoFault (λ f. fault f x)) xs → Some-of (fault f) xs → ⊥
 none_of fault [] f none h = h
@@ -58,7 +58,7 @@ module _ (fault : KsymsError → (List ℕ × ExternContent) → Type 0) where
 
   stands_here : (all rest more : List (List ℕ × ExternContent)) (x : List ℕ × ExternContent) (f : KsymsError) → rest ≡ x ∷ more → NoneBefore fault all rest → fault f x → Any (fault f) all
   stands_here all rest more x f next before h =
-      subst (Any (fault f)) (sym (before.split ∙ ap (λ (l : List (List ℕ × ExternContent)). before.front ++ l) next)) (to_any (fault f) (before.front ++ x ∷ more) (some_behind (fault f) before.front more x h))
+      subst (Any (fault f)) (sym (before.split ∙ ap (λ (l : List (List ℕ × ExternContent)). before.front ++ l) next)) (to_any (fault f) (before.front ++ x ∷ more) (some_after (fault f) before.front more x h))
 
   -- a refusal that is passed on
   pub passed_here : {T : Type 0} (r : Result T KsymsError) (all rest more : List (List ℕ × ExternContent)) (x : List ℕ × ExternContent) (f : KsymsError) → rest ≡ x ∷ more → NoneBefore fault all rest → IsErrAnd r (λ g. g ≡ f) → (f ≢ OutOfMemory → fault f x) → IfErr r (λ g. g ≢ OutOfMemory → Any (fault g) all)

@@ -12,7 +12,7 @@ use Rattle.string_table.specs.Texts.{text_at}
 use Rattle.type_headers.specs.Beginnings.{beginning}
 use Rattle.type_headers.specs.Headers.{BeginsOtherwise}
 use Rattle.extern_resolution.specs.Gathering.{AreAllSaid, records_of}
-use Rattle.extern_resolution.specs.Wanted.{AreBeginnings, AreSaid, IsLookedUp, ids_under}
+use Rattle.extern_resolution.specs.Wanted.{AreBeginnings, AreSaid, ids_under}
 use Rattle.extern_resolution.specs.declared.kernel_records.KernelRecords.{KernelRecords}
 use Rattle.extern_resolution.specs.declared.named_records.NamedRecords.{NamedRecords}
 use Rattle.extern_resolution.proofs.FirstNamed.{none_there, other_kind, passed_there}
@@ -107,7 +107,9 @@ by_kind kernel r id t records kinds.Enum64 said here is are begins = absurd cc
 
 type_otherwise : (kernel : Table) (r : KernelRecords) (id : ℕ) (kind : BtfKind) (records : NamedRecords) (t : Option BtfType) → AreAllSaid kernel r id → type_by_id kernel id ≡ t → Some kind ≡ option_map kind_of_type t → Some records ≡ records_of r kind → IsSomeAnd t (Otherwise kernel records) → AreAllSaid kernel r (id + 1)
 type_otherwise kernel r id kind records None said here is are begins = absurd begins
-type_otherwise kernel r id kind records (Some t) said here is are begins = by_kind kernel r id t records kind said here cc are begins
+type_otherwise kernel r id kind records (Some t) said here is are begins =
+    let same : kind_of_type t ≡ kind = cc in
+    by_kind kernel r id t records kind said here same are begins
 
 -- its name begins otherwise than those that are wanted of its kind
 pub begins_otherwise : (kernel : Table) (r : KernelRecords) (id : ℕ) (kind : BtfKind) (records : NamedRecords) → AreAllSaid kernel r id → Some kind ≡ option_map kind_of_type (type_by_id kernel id) → Some records ≡ records_of r kind → BeginsOtherwise kernel records.beginnings id → AreAllSaid kernel r (id + 1)

@@ -29,17 +29,20 @@ pub record SameWanted (old new : KernelRecords) : Type 0 where
   pub variables : SameNames old.variables new.variables
 
 -- the name of each extern with a type is wanted
-pub record AreEntriesWanted (table : Table) (r : KernelRecords) (externs : List (List ℕ × ExternContent)) : Type 0 where
+pub record AreEntriesWanted (table : Table) (r : KernelRecords)
+    (externs : List (List ℕ × ExternContent)) : Type 0 where
   pub each : AllByRecursion (IsEntryWanted table r) externs
 
 -- the names of those before the rest are wanted
-pub record AreWantedBefore (table : Table) (r : KernelRecords) (all rest : List (List ℕ × ExternContent)) : Type 0 where
+pub record AreWantedBefore (table : Table) (r : KernelRecords)
+    (all rest : List (List ℕ × ExternContent)) : Type 0 where
   pub front : List (List ℕ × ExternContent)
   pub split : all ≡ front ++ rest
   pub each : AllByRecursion (IsEntryWanted table r) front
 
 -- one more extern's name is wanted, and those that were are
-pub record WantsEntry (table : Table) (old new : KernelRecords) (entry : List ℕ × ExternContent) : Type 0 where
+pub record WantsEntry (table : Table) (old new : KernelRecords) (entry : List ℕ × ExternContent)
+    : Type 0 where
   pub begun : AreBegun old → AreBegun new
   pub wanted : IsEntryWanted table new entry
   pub kept : (other : List ℕ × ExternContent)

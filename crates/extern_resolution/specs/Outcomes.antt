@@ -26,7 +26,8 @@ type_held_at kernel id = option_map_or held_type (type_by_id kernel id) 0
 
 -- the kernel's record of a kind and a name, the least of them, and whether the local type is
 -- compatible with its type
-pub record IsKernelRecord (table kernel : Table) (type_id : ℕ) (kind : BtfKind) (name : List ℕ) (answer : Result Bool BtfError) (id : ℕ) : Type 0 where
+pub record IsKernelRecord (table kernel : Table) (type_id : ℕ) (kind : BtfKind) (name : List ℕ)
+    (answer : Result Bool BtfError) (id : ℕ) : Type 0 where
   pub found : IsFirstNamed kernel name kind id
   pub compared : types_compatible table type_id kernel (type_held_at kernel id) ≡ answer
 
@@ -35,7 +36,8 @@ pub record IsMissing (kernel : Table) (kind : BtfKind) (name : List ℕ) : Type 
   pub none : (id : ℕ) → IsFirstNamed kernel name kind id → ⊥
 
 -- the kernel has a record of a kind and a name that isn't compatible
-pub record IsIncompatible (table kernel : Table) (type_id : ℕ) (kind : BtfKind) (name : List ℕ) : Type 0 where
+pub record IsIncompatible (table kernel : Table) (type_id : ℕ) (kind : BtfKind) (name : List ℕ)
+    : Type 0 where
   pub id : ℕ
   pub record_of : IsKernelRecord table kernel type_id kind name (Ok false) id
 
@@ -51,7 +53,8 @@ abbrev pub IsDeclaredAs : Table → ExternContent → BtfKind → Type 0
 IsDeclaredAs table e kind = IsSomeAnd (type_by_id table e.btf_id) (λ t. kind_of_type t ≡ kind)
 
 -- what was found for an extern with a type; nothing is where no kernel types are given
-pub record IsFoundFor (table kernel : Table) (name : List ℕ) (e : ExternContent) (type_id : ℕ) (found : Option ℕ) : Type 0 where
+pub record IsFoundFor (table kernel : Table) (name : List ℕ) (e : ExternContent) (type_id : ℕ)
+    (found : Option ℕ) : Type 0 where
   pub kind : BtfKind
   pub declared_as : IsDeclaredAs table e kind
   pub is_found : IsFound table kernel type_id kind (kernel_name kind name) found

@@ -9,7 +9,8 @@ use Rattle.kernel_symbols.specs.Texts.{IsGiven}
 use Rattle.object_externs.specs.Externs.{ExternsContent}
 
 -- no fault stands, and each extern becomes what the tables and the reader's text say
-pub record AreResolved (table : Table) (kernel : Option Table) (known : Option (List ℕ)) (failed : Bool) (old new : ExternsContent) : Type 0 where
+pub record AreResolved (table : Table) (kernel : Option Table) (known : Option (List ℕ))
+    (failed : Bool) (old new : ExternsContent) : Type 0 where
   pub text : List ℕ
   pub given : IsGiven known text
   pub faultless : (f : KsymsError) → ResolutionFault table kernel failed text old.by_name f → ⊥
@@ -17,7 +18,8 @@ pub record AreResolved (table : Table) (kernel : Option Table) (known : Option (
   pub section : new.ksyms ≡ old.ksyms
 
 -- a fault stands
-pub record CannotResolve (table : Table) (kernel : Option Table) (known : Option (List ℕ)) (failed : Bool) (old : ExternsContent) (f : KsymsError) : Type 0 where
+pub record CannotResolve (table : Table) (kernel : Option Table) (known : Option (List ℕ))
+    (failed : Bool) (old : ExternsContent) (f : KsymsError) : Type 0 where
   pub text : List ℕ
   pub given : IsGiven known text
   pub stands : ResolutionFault table kernel failed text old.by_name f

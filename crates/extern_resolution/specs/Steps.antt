@@ -52,28 +52,33 @@ NoAddress addresses (error.VariableNotFound name) entry =
 NoAddress addresses _ entry = ⊥
 
 -- externs become others one by one
-pub record AreSteps (R : (List ℕ × ExternContent) → (List ℕ × ExternContent) → Type 0) (old new : ExternsContent) : Type 0 where
+pub record AreSteps (R : (List ℕ × ExternContent) → (List ℕ × ExternContent) → Type 0)
+    (old new : ExternsContent) : Type 0 where
   pub each : AllZip R old.by_name new.by_name
   pub section : new.ksyms ≡ old.ksyms
 
 -- of all entries those before the rest have become others
-pub record Grows (R : (List ℕ × ExternContent) → (List ℕ × ExternContent) → Type 0) (all rest done : List (List ℕ × ExternContent)) : Type 0 where
+pub record Grows (R : (List ℕ × ExternContent) → (List ℕ × ExternContent) → Type 0)
+    (all rest done : List (List ℕ × ExternContent)) : Type 0 where
   pub front : List (List ℕ × ExternContent)
   pub split : all ≡ front ++ rest
   pub each : AllZip R front done
 
 -- no fault of those before the rest stands
-pub record NoneBefore (fault : KsymsError → (List ℕ × ExternContent) → Type 0) (all rest : List (List ℕ × ExternContent)) : Type 0 where
+pub record NoneBefore (fault : KsymsError → (List ℕ × ExternContent) → Type 0)
+    (all rest : List (List ℕ × ExternContent)) : Type 0 where
   pub front : List (List ℕ × ExternContent)
   pub split : all ≡ front ++ rest
   pub none : AllByRecursion (λ x. NoFault (λ f. fault f x)) front
 
 -- these names are those of the externs that are looked for among the kernel's symbols
-pub record AreSoughtNames (externs : List (List ℕ × ExternContent)) (names : List (Bor (List ℕ))) : Type 0 where
+pub record AreSoughtNames (externs : List (List ℕ × ExternContent)) (names : List (Bor (List ℕ)))
+    : Type 0 where
   pub same : (name : List ℕ) → is_among names name ≡ is_name_sought externs name
 
 -- the addresses of the externs that are looked for there
-pub record AreSought (externs : List (List ℕ × ExternContent)) (known : Option (List ℕ)) (failed : Bool) (found : Addresses) : Type 0 where
+pub record AreSought (externs : List (List ℕ × ExternContent)) (known : Option (List ℕ))
+    (failed : Bool) (found : Addresses) : Type 0 where
   pub text : List ℕ
   pub given : IsGiven known text
   pub none : NoFault (SymbolsFault failed text externs)
@@ -81,7 +86,8 @@ pub record AreSought (externs : List (List ℕ × ExternContent)) (known : Optio
       → is_name_sought externs name ≡ true
       → address_under found name ≡ address_of name text
 
-pub record CannotSeek (externs : List (List ℕ × ExternContent)) (known : Option (List ℕ)) (failed : Bool) (f : KsymsError) : Type 0 where
+pub record CannotSeek (externs : List (List ℕ × ExternContent)) (known : Option (List ℕ))
+    (failed : Bool) (f : KsymsError) : Type 0 where
   pub text : List ℕ
   pub given : IsGiven known text
   pub stands : SymbolsFault failed text externs f

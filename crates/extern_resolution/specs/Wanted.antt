@@ -58,7 +58,8 @@ abbrev pub IsNoted : List ℕ → List ℕ → ℕ → Type 0
 IsNoted old new offset = (new ≡ old) ⊎ (new ≡ insert_key nat_cmp old offset)
 
 -- each wanted name has one of these beginnings
-pub record AreBeginnings (entries : List (Bor (List ℕ) × Option ℕ)) (marked : List Bool) : Type 0 where
+pub record AreBeginnings (entries : List (Bor (List ℕ) × Option ℕ)) (marked : List Bool)
+    : Type 0 where
   pub each : (name : List ℕ)
       → IfSome (ids_under entries name) (λ _. is_marked marked (beginning name) ≡ true)
 
@@ -126,5 +127,6 @@ IsEntryKnown table kernel r entry =
     IfSome entry.1.type_id (λ _. IsDeclaredKnown table kernel r entry.0 entry.1)
 
 -- of each extern, where kernel types are given
-pub record AreKnown (table : Table) (kernel : Option Table) (r : KernelRecords) (externs : List (List ℕ × ExternContent)) : Type 0 where
+pub record AreKnown (table : Table) (kernel : Option Table) (r : KernelRecords)
+    (externs : List (List ℕ × ExternContent)) : Type 0 where
   pub each : IfSome kernel (λ kernel. AllByRecursion (IsEntryKnown table kernel r) externs)

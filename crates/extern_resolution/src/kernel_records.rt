@@ -110,7 +110,8 @@ impl<'n> KernelRecords<'n> {
         Ok(())
     }
 
-    /// Goes through a table. Of nearly all types that aren't wanted the record isn't read.
+    /// Goes through a table. Where each string is known to be readable, the records of nearly all
+    /// types that aren't wanted aren't read.
     fn go_through(&mut self, kernel: &Btf<'_>) -> Result<(), AllocError>
         requires { AreBegun self.old }
         ensures said { OnOk result (AreAllSaid kernel.now self.new (length kernel.now.types + 1)) }

@@ -1,14 +1,14 @@
 -- Strings in which each byte begins a text.
-use Rattle.std.proofs.Common.{◌≡◌, ℕ, zero, suc, ◌+◌, ◌-◌, ◌<◌, Bool, true, false, cond, nat_eq, nat_lt, not, List, [], ◌∷◌, Option, None, Some, drop, take, length, length-drop, get_or, refl, ap, sym, ◌∙◌, arith}
-use Rattle.std.specs.Prelude.{◌==◌, IfSome, is_some, option_and_then, slice_get}
+use Rattle.std.proofs.Common.{◌≡◌, ℕ, zero, suc, ◌+◌, ◌-◌, ◌<◌, Bool, true, false, cond, nat_eq, nat_lt, not, List, [], ◌∷◌, None, Some, drop, take, length, length-drop, get_or, refl, ap, ◌∙◌, arith}
+use Rattle.std.specs.Prelude.{◌==◌, is_some, option_and_then, slice_get}
 use Rattle.std.proofs.lemmas.Bool.Decides.{nat_tests}
-use Rattle.std.proofs.lemmas.List.{drop_more, get_or-drop}
-use Rattle.std.proofs.lemmas.Option.{get_or_from_slice_get, slice_get_within}
+use Rattle.std.proofs.lemmas.List.{get_or-drop}
+use Rattle.std.proofs.lemmas.Option.{get_or_from_slice_get}
 use Rattle.std.proofs.lemmas.Str.{IsAscii-drop, IsAscii-take, IsUtf8-from_ascii, is_utf8-from_IsUtf8}
 use Rattle.std.specs.List.{position_or_len}
 use Rattle.std.specs.Option.{option_map}
-use Rattle.std.specs.Str.{IsAscii, is_utf8}
-use Rattle.first_bytes.specs.FirstBytes.{AreTexts, first_byte}
+use Rattle.std.specs.Str.{IsAscii}
+use Rattle.first_bytes.specs.FirstBytes.{AreTexts}
 use Rattle.string_table.specs.Texts.{before_nul, text_at, text_of}
 
 abbrev nul_at : List ℕ → ℕ
@@ -51,30 +51,3 @@ text_from strings last ascii offset lt =
 
 pub all_texts : (strings : List ℕ) → slice_get strings (length strings - 1) ≡ Some 0 → IsAscii strings → AreTexts strings
 all_texts strings last ascii = record { each = text_from strings last ascii }
-
--- ---- the first byte of a text
-
-whole : (test : Bool) (bytes text : List ℕ) → cond test (Some bytes) None ≡ Some text → bytes ≡ text
-whole true bytes text e = cc
-whole false bytes text e = absurd cc
-
-taken : (test : Bool) (len : ℕ) (bytes text : List ℕ) → option_and_then text_of (option_map (λ n. take n bytes) (cond test (Some len) None)) ≡ Some text → take len bytes ≡ text
-taken true len bytes text e = whole (is_utf8 (take len bytes)) (take len bytes) text e
-taken false len bytes text e = absurd cc
-
-first_by : (test : Bool) (b n : ℕ) (bs : List ℕ) → test ≡ nat_eq b 0 → first_byte (take (cond (not test) (1 + n) 0) (b ∷ bs)) ≡ b
-first_by true b n bs is = grind (arith, nat_tests, is)
-first_by false b n bs is = ap (λ (m : ℕ). first_byte (take m (b ∷ bs))) (let e : 1 + n ≡ suc n = omega arith in e)
-
-first_taken : (b : ℕ) (bs text : List ℕ) → option_and_then text_of (before_nul (b ∷ bs)) ≡ Some text → first_byte text ≡ b
-first_taken b bs text e = sym (ap first_byte (taken (nat_lt (nul_at (b ∷ bs)) (length (b ∷ bs))) (nul_at (b ∷ bs)) (b ∷ bs) text e)) ∙ first_by (nat_eq b 0) b (nul_at bs) bs refl
-
-pub first_here : (strings text : List ℕ) (offset b : ℕ) → text_at strings offset ≡ Some text → slice_get strings offset ≡ Some b → first_byte text ≡ b
-unfolding text_at
-first_here strings text offset b e at =
-    let split : drop offset strings ≡ b ∷ drop (offset + 1) strings = drop_more strings offset b (slice_get_within strings offset b at) ∙ ap (λ (x : ℕ). x ∷ drop (offset + 1) strings) (get_or_from_slice_get strings offset b b at) in
-    first_taken b (drop (offset + 1) strings) text (sym (ap (λ (bytes : List ℕ). option_and_then text_of (before_nul bytes)) split) ∙ e)
-
-pub first_at : (strings : List ℕ) (offset : ℕ) (byte : Option ℕ) → byte ≡ slice_get strings offset → IfSome byte (λ b. (text : List ℕ) → text_at strings offset ≡ Some text → first_byte text ≡ b)
-first_at strings offset None is = tt
-first_at strings offset (Some b) is = λ text e. first_here strings text offset b e (sym is)

@@ -1,9 +1,8 @@
-//! The first bytes of texts in a string table, by which most texts that aren't looked for are told
-//! without being read.
+//! Strings of which each byte begins a text, the first bytes of texts, and sets of bytes.
 #![tactic(auto)]
 
 mod marked_bytes;
 mod texts;
 
 pub use marked_bytes::MarkedBytes;
-pub use texts::{are_texts, first_byte, first_byte_at};
+pub use texts::{are_texts, first_byte};

@@ -21,7 +21,6 @@ impl Model for MarkedBytes {
 
 impl MarkedBytes {
     /// No bytes.
-
     pub fn new() -> MarkedBytes
         ensures { (byte : ℕ) → is_marked result byte ≡ false }
     {

@@ -177,7 +177,8 @@ SameSlot t own ks (Some key) p a b =
     × (a.off ≡ b.off)
     × ((start : ℕ) × (start_of t own ks key ≡ Some start) × (pos start ≡ (pos p +ℤ pos 1) +ℤ b.imm))
 
-pub record SameEvent (t : Table) (own : Key) (ks : List Key) (a : SourceEvent) (b : FlatEvent) : Type 0 where
+pub record SameEvent (t : Table) (own : Key) (ks : List Key) (a : SourceEvent) (b : FlatEvent)
+    : Type 0 where
   pub key : a.key ≡ b.key
   pub number : a.number ≡ b.number
   pub slot : SameSlot t own ks a.target b.position a.slot b.slot

@@ -33,7 +33,7 @@ fn stretch(places: &[IndexedSlot], from: u64, count: u64) -> &[IndexedSlot]
     let begin = places.partition_point(|place| (place.slot as u64) < from);
     let (_before, rest) = places.split_at(begin);
     let len = rest.partition_point(|place| (place.slot as u64).saturating_sub(from) < count);
-    let (stretch, _behind) = rest.split_at(len);
+    let (stretch, _after) = rest.split_at(len);
     stretch
 }
 

@@ -73,12 +73,12 @@ if_granted : {A : Type 0} (b : Bool) (x y : A) → b ≡ true → (if not b then
 if_granted true x y h = refl
 if_granted false x y h = absurd (cc)
 
-granted_rule : (known : Facts) (ts : List BtfType) (id : ℕ) (f : Func) (behind : Added) → record_of_id ts id ≡ Some (rewritten known behind (types.Func f)) → known.grants feature.Func ≡ true → IsFuncNamed ts id f.name_offset
-granted_rule known ts id f behind here granted = either_func ts id _ (record f { vlen = 0 }) f (here ∙ ap Some (if_granted (known.grants feature.Func) _ _ granted)) refl
+granted_rule : (known : Facts) (ts : List BtfType) (id : ℕ) (f : Func) (added_before : Added) → record_of_id ts id ≡ Some (rewritten known added_before (types.Func f)) → known.grants feature.Func ≡ true → IsFuncNamed ts id f.name_offset
+granted_rule known ts id f added_before here granted = either_func ts id _ (record f { vlen = 0 }) f (here ∙ ap Some (if_granted (known.grants feature.Func) _ _ granted)) refl
 
 rule_stays : (known : Facts) (ts : List BtfType) (id : ℕ) (f : Func) → Keeps known ts → record_of_id known.types id ≡ Some (types.Func f) → known.grants feature.Func ≡ true → IsFuncNamed ts id f.name_offset
 rule_stays known ts id f keeps h granted =
-    let becomes = keeps.each id (types.Func f) h in granted_rule known ts id f becomes.behind becomes.here granted
+    let becomes = keeps.each id (types.Func f) h in granted_rule known ts id f becomes.added_before becomes.here granted
 
 -- a question that was noted stays
 abbrev is_func : BtfFeature → Bool

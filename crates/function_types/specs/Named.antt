@@ -35,6 +35,7 @@ unfoldable pub keeps_type : List ℕ → ℕ → FunctionContent → Bool
 keeps_type name id f = bytes_eq f.name name && list_any (λ r. r.type_id == id) f.func_info
 
 -- a function of this name keeps a record of this type, which is no function with a name
-pub record IsNameless (table : Option Table) (functions : List ((ℕ × ℕ) × FunctionContent)) (name : List ℕ) (id : ℕ) : Type 0 where
+pub record IsNameless (table : Option Table) (functions : List ((ℕ × ℕ) × FunctionContent))
+    (name : List ℕ) (id : ℕ) : Type 0 where
   pub kept : list_any (λ e. keeps_type name id e.1) functions ≡ true
   pub nameless : names_function table id ≡ false

@@ -32,7 +32,8 @@ is_denied answers = option_map_or not (answer_to answers feature.Func) false
 
 -- A table is rewritten under such answers: its records' needs were asked, each record became what
 -- its rule says, and its texts stay.
-pub record IsRewrittenUnder (answers : Answers) (sizes offsets : List ℕ → Option ℕ) (ksyms : Option (ℕ × Option ℕ)) (table new : Table) : Type 0 where
+pub record IsRewrittenUnder (answers : Answers) (sizes offsets : List ℕ → Option ℕ)
+    (ksyms : Option (ℕ × Option ℕ)) (table new : Table) : Type 0 where
   pub asked : AreQuestions (stepped ksyms table).strings (stepped ksyms table).types answers
   pub step : StepStays ksyms table
   pub keeps : Keeps (facts_in answers sizes offsets (stepped ksyms table)) new.types

@@ -21,7 +21,8 @@ AreSet globals [] = Unit
 AreSet globals (g ∷ gs) = IsSet globals g.0 × AreSet globals gs
 
 -- the `BTreeMap` has for each name that is set the symbol of the greatest index
-pub record AreGlobalSymbols (globals : List (List ℕ × GlobalContent)) (symbols : List Symbol) (by_name : BTreeMap (Bor (List ℕ)) (Bor Symbol)) : Type 0 where
+pub record AreGlobalSymbols (globals : List (List ℕ × GlobalContent)) (symbols : List Symbol)
+    (by_name : BTreeMap (Bor (List ℕ)) (Bor Symbol)) : Type 0 where
   pub at : (name : List ℕ)
       → IsSet globals name
       → symbol_under by_name name ≡ symbol_named symbols name

@@ -12,7 +12,8 @@ abbrev pub extent_in : List (List ℕ × MapView) → ℕ → Option Extent
 extent_in maps index = option_map extent_of (find (λ m. m.1.section_index == index) maps)
 
 -- the `BTreeMap` has the extent of the map of each section, among maps whose names rise
-pub record AreExtents (maps : List (List ℕ × MapView)) (by_section : BTreeMap ℕ Extent) : Type 0 where
+pub record AreExtents (maps : List (List ℕ × MapView)) (by_section : BTreeMap ℕ Extent)
+    : Type 0 where
   pub at : (index : ℕ) → get nat_cmp by_section index ≡ extent_in maps index
   pub rising : IsStrictlySortedBy (slice_cmp nat_cmp) (map (λ e. e.0) maps)
 

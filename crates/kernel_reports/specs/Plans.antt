@@ -22,6 +22,7 @@ abbrev pub SaysOfPlan : Inputs → PlanAnswer → Type 0
 SaysOfPlan i Planned = (plan : PlanContent) × IsPlanFor takes_all true i plan
 SaysOfPlan i (Refused e) = (e ≢ OutOfMemory) × IsRefusalFor takes_all i e
 
-pub record IsPlanAnswer (file : List ℕ) (kernel : List Table) (text : List ℕ) (settings : SettingsContent) (answer : PlanAnswer) : Type 0 where
+pub record IsPlanAnswer (file : List ℕ) (kernel : List Table) (text : List ℕ)
+    (settings : SettingsContent) (answer : PlanAnswer) : Type 0 where
   pub failed : Bool
   pub says : SaysOfPlan (inputs_of file kernel text failed settings) answer

@@ -16,7 +16,9 @@ relocations_in o = relocations_of (types_of o []) (type_groups o)
 
 -- whether the object of a file gets a plan, what each of some relocations of it comes to, and
 -- whether the kernel has its externs
-pub record IsReport (file : List ℕ) (o : ObjectContent) (relocations : List RelocationAt) (kernel : List Table) (text : List ℕ) (has_symbols : Bool) (settings : SettingsContent) (r : KernelReport) : Type 0 where
+pub record IsReport (file : List ℕ) (o : ObjectContent) (relocations : List RelocationAt)
+    (kernel : List Table) (text : List ℕ) (has_symbols : Bool) (settings : SettingsContent)
+    (r : KernelReport) : Type 0 where
   pub plan : IsPlanAnswer file kernel text settings r.plan
   pub answers : r.relocations.items ≡ answers_to o.types kernel relocations
   pub externs : IfSome o.types (λ table.

@@ -6,7 +6,7 @@ use Rattle.std.proofs.KnownBytes.{Consumes-nil, Consumes-trans, starts_with_rest
 use Rattle.std.proofs.lemmas.Bool.Decides.{nat_tests}
 use Rattle.watched.specs.Handing.{HasAtHand}
 use Rattle.kernel_symbols.proofs.TextLemmas.{lines_front, no_lines, one_line, wanted_as}
-use Rattle.kernel_symbols.specs.Reading.{AreAddresses, AreSettled, AreWanted, CannotFinish, Finishes, HasRead, IsSettledAs, IsWantedIn, ReaderFault, ReadsSome, ReadsWhole, Refuses, RefusesLine, RefusesReader, StandsBehind, Takes, TakesLine, address_under, entries_of, text_of}
+use Rattle.kernel_symbols.specs.Reading.{AreAddresses, AreSettled, AreWanted, CannotFinish, Finishes, HasRead, IsSettledAs, IsWantedIn, ReaderFault, ReadsSome, ReadsWhole, Refuses, RefusesLine, RefusesReader, StandsAfter, Takes, TakesLine, address_under, entries_of, text_of}
 use Rattle.kernel_symbols.specs.Wanted.{under}
 use Rattle.kernel_symbols.specs.Texts.{IsAmong, IsGiven, LinesFault, TextFault, address_of, is_among, lines_of}
 use Rattle.kernel_symbols.specs.declared.error.SymbolsError.{SymbolsError}
@@ -17,7 +17,7 @@ use Rattle.kernel_symbols.specs.declared.wanted.Wanted.{Wanted}
 
 -- ---- faults
 
-at_hand : (known : Option (List ℕ)) (failed : Bool) (old : Reading) (text : List ℕ) (e : SymbolsError) → HasAtHand known (λ bytes. Refuses old bytes e) → e ≢ error.OutOfMemory → HasRead text old → StandsBehind known failed old text e
+at_hand : (known : Option (List ℕ)) (failed : Bool) (old : Reading) (text : List ℕ) (e : SymbolsError) → HasAtHand known (λ bytes. Refuses old bytes e) → e ≢ error.OutOfMemory → HasRead text old → StandsAfter known failed old text e
 at_hand None failed old text e h other read = record {
   more = h.bytes;
   given = tt;
@@ -33,7 +33,7 @@ at_hand (Some xs) failed old text e h other read = record {
 
 pub hand_refused : {T : Type 0} (r : Result T SymbolsError) (known : Option (List ℕ)) (failed : Bool) (old : Reading) → IfErr r (λ e. HasAtHand known (λ bytes. Refuses old bytes e)) → IfErr r (RefusesReader known failed old)
 hand_refused (Ok x) known failed old h = tt
-hand_refused (Err e) known failed old h = record { behind = λ other text read. at_hand known failed old text e h other read }
+hand_refused (Err e) known failed old h = record { after = λ other text read. at_hand known failed old text e h other read }
 
 -- any text of a reader, where its bytes aren't known none
 some_text : Option (List ℕ) → List ℕ
@@ -58,7 +58,7 @@ failed_stands failed P text (error.Ambiguous name first second) h is = absurd h
 failed_stands failed P text error.OutOfMemory h is = absurd h
 
 pub reader_failed : (known : Option (List ℕ)) (failed : Bool) (old : Reading) (x : SymbolsError) → IsAccess x → failed ≡ true → RefusesReader known failed old x
-reader_failed known failed old x access is = record { behind = λ _ text read. record { more = some_text known; given = some_given known; stands = failed_stands failed (IsWantedIn (entries_of old)) (text ++ some_text known) x access is } }
+reader_failed known failed old x access is = record { after = λ _ text read. record { more = some_text known; given = some_given known; stands = failed_stands failed (IsWantedIn (entries_of old)) (text ++ some_text known) x access is } }
 
 -- ---- more of a text
 
@@ -90,18 +90,18 @@ whole_given (Some xs) (Some ys) text lost end = lost ∙ ap (λ (l : List ℕ). 
 pub reads_whole : (known left : Option (List ℕ)) (one two : Reading) → ReadsSome known left one two → IsAtEnd left → ReadsWhole known one two
 reads_whole known left one two p end = record { text = p.text; given = whole_given known left p.text p.lost end; taken = p.taken }
 
-given_behind : (known left : Option (List ℕ)) (text more : List ℕ) → Consumes known left text → IsGiven left more → IsGiven known (text ++ more)
-given_behind None left text more lost given = tt
-given_behind (Some xs) None text more lost given = absurd lost
-given_behind (Some xs) (Some ys) text more lost given = lost ∙ ap (λ (l : List ℕ). text ++ l) given
+given_after : (known left : Option (List ℕ)) (text more : List ℕ) → Consumes known left text → IsGiven left more → IsGiven known (text ++ more)
+given_after None left text more lost given = tt
+given_after (Some xs) None text more lost given = absurd lost
+given_after (Some xs) (Some ys) text more lost given = lost ∙ ap (λ (l : List ℕ). text ++ l) given
 
 pub refused_later : (known left : Option (List ℕ)) (failed : Bool) (one two : Reading) (e : SymbolsError) → ReadsSome known left one two → RefusesReader left failed two e → RefusesReader known failed one e
 refused_later known left failed one two e p refuses = record {
-  behind = λ other text read.
-      let later = refuses.behind other (text ++ p.text) (p.taken.after text read) in
+  after = λ other text read.
+      let later = refuses.after other (text ++ p.text) (p.taken.after text read) in
       record {
         more = p.text ++ later.more;
-        given = given_behind known left p.text later.more p.lost later.given;
+        given = given_after known left p.text later.more p.lost later.given;
         stands = subst (λ (t : List ℕ). TextFault failed (IsWantedIn (entries_of one)) t e) (append_assoc text p.text later.more)
             (wanted_as (IsWantedIn (entries_of two)) (IsWantedIn (entries_of one)) (λ name h. sym (p.taken.names.same name) ∙ h) failed ((text ++ p.text) ++ later.more) e later.stands);
       };
@@ -180,11 +180,11 @@ all_found names known one two found wanted begun reads finishes =
 
 pub fault_read : (names : List (Bor (List ℕ))) (known : Option (List ℕ)) (failed : Bool) (one : Reading) (e : SymbolsError) → e ≢ error.OutOfMemory → AreWanted names (entries_of one) → HasRead [] one → RefusesReader known failed one e → ReaderFault names known failed e
 fault_read names known failed one e other wanted begun refuses =
-    let behind = refuses.behind other [] begun in
+    let after = refuses.after other [] begun in
     record {
-      text = behind.more;
-      given = behind.given;
-      stands = wanted_as (IsWantedIn (entries_of one)) (IsAmong names) (λ name h. sym (wanted.among name) ∙ h) failed behind.more e behind.stands;
+      text = after.more;
+      given = after.given;
+      stands = wanted_as (IsWantedIn (entries_of one)) (IsAmong names) (λ name h. sym (wanted.among name) ∙ h) failed after.more e after.stands;
     }
 
 pub fault_last : (names : List (Bor (List ℕ))) (known : Option (List ℕ)) (failed : Bool) (one two : Reading) (e : SymbolsError) → e ≢ error.OutOfMemory → AreWanted names (entries_of one) → HasRead [] one → ReadsWhole known one two → CannotFinish two e → ReaderFault names known failed e

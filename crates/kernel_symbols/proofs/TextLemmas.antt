@@ -209,8 +209,8 @@ wanted_as P Q from failed text (error.Ambiguous name first second) h = (from nam
 wanted_as P Q from failed text error.OutOfMemory h = h
 
 -- a line is refused after others
-pub refused_behind : (old between : Reading) (bytes rest line more : List ℕ) (e : SymbolsError) → TakesAllBut old bytes rest between → rest ≡ line ++ 10 ∷ more → Refuses between (line ++ 10 ∷ []) e → Refuses old bytes e
-refused_behind old between bytes rest line more e before split refuses = record {
+pub refused_after : (old between : Reading) (bytes rest line more : List ℕ) (e : SymbolsError) → TakesAllBut old bytes rest between → rest ≡ line ++ 10 ∷ more → Refuses between (line ++ 10 ∷ []) e → Refuses old bytes e
+refused_after old between bytes rest line more e before split refuses = record {
   stands = λ other failed text later read.
       let all : (text ++ bytes) ++ later ≡ ((text ++ before.taken) ++ (line ++ 10 ∷ [])) ++ (more ++ later) =
       ap (λ (l : List ℕ). (text ++ l) ++ later) (before.split ∙ ap (λ (l : List ℕ). before.taken ++ l) (split ∙ sym (append_assoc line (10 ∷ []) more)))

@@ -4,7 +4,7 @@ use Rattle.std.specs.Prelude.{filter, slice_index, ◌==◌}
 use Rattle.std.proofs.lemmas.Bool.{cases_lt}
 use Rattle.std.proofs.lemmas.Bool.Decides.{nat_tests}
 use Rattle.std.proofs.lemmas.List.{get_or-drop}
-use Rattle.kernel_symbols.specs.Words.{ArePlain, is_ascii_space, is_plain, words_of, pieces_behind, space_len, is_word, onto_first, IsPlain, EndsWord}
+use Rattle.kernel_symbols.specs.Words.{ArePlain, is_ascii_space, is_plain, words_of, pieces_after, space_len, is_word, onto_first, IsPlain, EndsWord}
 
 plain_byte : (b : ℕ) → is_plain b ≡ true → (is_ascii_space b ≡ false) × ((b == 194) ≡ false) × ((b == 225) ≡ false) × ((b == 226) ≡ false) × ((b == 227) ≡ false)
 plain_byte b plain = grind (arith, nat_tests)
@@ -36,8 +36,8 @@ plain_more bytes start between end front back = record {
 }
 
 -- the rest of a white space character is passed over
-skipped : (n : ℕ) (xs : List ℕ) → pieces_behind n xs ≡ pieces_behind 0 (drop n xs)
-unfolding pieces_behind
+skipped : (n : ℕ) (xs : List ℕ) → pieces_after n xs ≡ pieces_after 0 (drop n xs)
+unfolding pieces_after
 skipped zero [] = refl
 skipped (suc n) [] = refl
 skipped zero (x ∷ xs) = refl
@@ -47,27 +47,27 @@ not_zero : (n : ℕ) → (n ≡ 0 → ⊥) → (n == 0) ≡ false
 not_zero zero h = absurd (h refl)
 not_zero (suc n) h = grind (arith, nat_tests)
 
-behind_space : (x : ℕ) (xs : List ℕ) (n : ℕ) → space_len (x ∷ xs) ≡ suc n → words_of (x ∷ xs) ≡ words_of (drop n xs)
-unfolding pieces_behind
-behind_space x xs n is =
+after_space : (x : ℕ) (xs : List ℕ) (n : ℕ) → space_len (x ∷ xs) ≡ suc n → words_of (x ∷ xs) ≡ words_of (drop n xs)
+unfolding pieces_after
+after_space x xs n is =
     let less : suc n - 1 ≡ n = omega arith in
     rw (is, not_zero (suc n) (λ h. omega (arith, h)), less) (ap (filter is_word) (skipped n xs))
 
 at_space : (bytes : List ℕ) (n : ℕ) → 0 < length bytes → space_len bytes ≡ n → (n ≡ 0 → ⊥) → words_of (drop n bytes) ≡ words_of bytes
 at_space [] n some is more = absurd (omega arith)
 at_space (x ∷ xs) zero some is more = absurd (more refl)
-at_space (x ∷ xs) (suc n) some is more = sym (behind_space x xs n is)
+at_space (x ∷ xs) (suc n) some is more = sym (after_space x xs n is)
 
 -- words stay where white space at the front is passed over
-pub words_behind : (bytes rest : List ℕ) (n : ℕ) → 0 < length bytes → n ≡ space_len bytes → (n ≡ 0 → ⊥) → rest ≡ drop n bytes → words_of rest ≡ words_of bytes
-words_behind bytes rest n some is more left = ap words_of left ∙ at_space bytes n some (sym is) more
+pub words_past : (bytes rest : List ℕ) (n : ℕ) → 0 < length bytes → n ≡ space_len bytes → (n ≡ 0 → ⊥) → rest ≡ drop n bytes → words_of rest ≡ words_of bytes
+words_past bytes rest n some is more left = ap words_of left ∙ at_space bytes n some (sym is) more
 
 after_word : List ℕ → List (List ℕ)
 after_word [] = []
-after_word (x ∷ xs) = pieces_behind (space_len (x ∷ xs) - 1) xs
+after_word (x ∷ xs) = pieces_after (space_len (x ∷ xs) - 1) xs
 
-pieces_front : (bytes : List ℕ) (n : ℕ) → n ≤ length bytes → IsPlain n bytes → EndsWord (drop n bytes) → pieces_behind 0 bytes ≡ take n bytes ∷ after_word (drop n bytes)
-unfolding after_word pieces_behind
+pieces_front : (bytes : List ℕ) (n : ℕ) → n ≤ length bytes → IsPlain n bytes → EndsWord (drop n bytes) → pieces_after 0 bytes ≡ take n bytes ∷ after_word (drop n bytes)
+unfolding after_word pieces_after
 pieces_front [] zero within plain ends = refl
 pieces_front [] (suc n) within plain ends = absurd (omega arith)
 pieces_front (x ∷ xs) zero within plain ends = rw (not_zero (space_len (x ∷ xs)) ends) refl
@@ -75,7 +75,7 @@ pieces_front (x ∷ xs) (suc n) within plain ends =
     rw (plain 0 (omega arith)) (ap (onto_first x) (pieces_front xs n (omega arith) (λ k h. plain (suc k) (omega arith)) ends))
 
 words_after : (rest : List ℕ) → EndsWord rest → words_of rest ≡ filter is_word (after_word rest)
-unfolding after_word pieces_behind
+unfolding after_word pieces_after
 words_after [] ends = refl
 words_after (x ∷ xs) ends = rw (not_zero (space_len (x ∷ xs)) ends) refl
 
@@ -93,6 +93,6 @@ words_split bytes n some front within plain ends =
     ∙ ap (λ ws. take n bytes ∷ ws) (sym (words_after (drop n bytes) ends))
 
 pub no_words : (bytes : List ℕ) → length bytes ≡ 0 → words_of bytes ≡ []
-unfolding pieces_behind
+unfolding pieces_after
 no_words [] h = refl
 no_words (x ∷ xs) h = absurd (omega arith)

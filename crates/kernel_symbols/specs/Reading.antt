@@ -25,12 +25,14 @@ abbrev pub IsSettledAs : List ℕ → List (List ℕ) → Wanted → Type 0
 IsSettledAs name lines w = (w.name.now ≡ name) × IsSettled (said name lines) w.address
 
 -- each wanted name has the address that these lines say
-pub record AreSettled (entries : List (Bor (List ℕ) × Wanted)) (lines : List (List ℕ)) : Type 0 where
+pub record AreSettled (entries : List (Bor (List ℕ) × Wanted)) (lines : List (List ℕ))
+    : Type 0 where
   pub texts : list_any is_foreign lines ≡ false
   pub found : (name : List ℕ) → IfSome (under entries name) (IsSettledAs name lines)
 
 -- these names are wanted, and no others
-pub record AreWanted (names : List (Bor (List ℕ))) (entries : List (Bor (List ℕ) × Wanted)) : Type 0 where
+pub record AreWanted (names : List (Bor (List ℕ))) (entries : List (Bor (List ℕ) × Wanted))
+    : Type 0 where
   pub among : (name : List ℕ) → is_some (under entries name) ≡ is_among names name
 
 pub record HasNoAddress (entries : List (Bor (List ℕ) × Wanted)) : Type 0 where
@@ -58,7 +60,8 @@ pub record TakesLine (old new : List (Bor (List ℕ) × Wanted)) (line : List �
   pub names : SameNames old new
 
 -- one more line is refused: the fault stands whatever lines come after it
-pub record RefusesLine (old : List (Bor (List ℕ) × Wanted)) (line : List ℕ) (e : SymbolsError) : Type 0 where
+pub record RefusesLine (old : List (Bor (List ℕ) × Wanted)) (line : List ℕ) (e : SymbolsError)
+    : Type 0 where
   pub stands : e ≢ OutOfMemory
       → (failed : Bool) (lines more : List (List ℕ))
       → AreSettled old lines
@@ -81,7 +84,8 @@ text_of [] = []
 text_of (line ∷ lines) = line ++ 10 ∷ text_of lines
 
 -- so much of a text was taken: lines, and the beginning of another
-pub record IsAfter (text : List ℕ) (entries : List (Bor (List ℕ) × Wanted)) (partial : List ℕ) : Type 0 where
+pub record IsAfter (text : List ℕ) (entries : List (Bor (List ℕ) × Wanted)) (partial : List ℕ)
+    : Type 0 where
   pub lines : List (List ℕ)
   pub begun : text ≡ text_of lines ++ partial
   pub whole : AreUnbroken lines
@@ -124,16 +128,18 @@ pub record ReadsWhole (known : Option (List ℕ)) (old new : Reading) : Type 0 w
   pub taken : Takes old text new
 
 -- a fault stands in what was read and what the reader gives
-pub record StandsBehind (known : Option (List ℕ)) (failed : Bool) (old : Reading) (text : List ℕ) (e : SymbolsError) : Type 0 where
+pub record StandsAfter (known : Option (List ℕ)) (failed : Bool) (old : Reading) (text : List ℕ)
+    (e : SymbolsError) : Type 0 where
   pub more : List ℕ
   pub given : IsGiven known more
   pub stands : TextFault failed (IsWantedIn (entries_of old)) (text ++ more) e
 
-pub record RefusesReader (known : Option (List ℕ)) (failed : Bool) (old : Reading) (e : SymbolsError) : Type 0 where
-  pub behind : e ≢ OutOfMemory
+pub record RefusesReader (known : Option (List ℕ)) (failed : Bool) (old : Reading)
+    (e : SymbolsError) : Type 0 where
+  pub after : e ≢ OutOfMemory
       → (text : List ℕ)
       → HasRead text old
-      → StandsBehind known failed old text e
+      → StandsAfter known failed old text e
 
 -- what was read is the whole text
 pub record Finishes (old : Reading) (found : Addresses) : Type 0 where
@@ -150,7 +156,8 @@ pub record CannotFinish (old : Reading) (e : SymbolsError) : Type 0 where
 
 -- why the addresses of these names can't be had from a reader with these bytes, which failed or
 -- didn't: the fault stands in its text
-pub record ReaderFault (names : List (Bor (List ℕ))) (known : Option (List ℕ)) (failed : Bool) (e : SymbolsError) : Type 0 where
+pub record ReaderFault (names : List (Bor (List ℕ))) (known : Option (List ℕ)) (failed : Bool)
+    (e : SymbolsError) : Type 0 where
   pub text : List ℕ
   pub given : IsGiven known text
   pub stands : TextFault failed (IsAmong names) text e
@@ -160,7 +167,8 @@ abbrev pub address_under : Addresses → List ℕ → Option ℕ
 address_under a name = option_and_then (λ w. w.address) (under a.by_name.entries name)
 
 -- the reader's text has no fault, and each of the names has the address that it says
-pub record AreAddresses (names : List (Bor (List ℕ))) (known : Option (List ℕ)) (found : Addresses) : Type 0 where
+pub record AreAddresses (names : List (Bor (List ℕ))) (known : Option (List ℕ)) (found : Addresses)
+    : Type 0 where
   pub text : List ℕ
   pub given : IsGiven known text
   pub faultless : (e : SymbolsError) → TextFault false (IsAmong names) text e → ⊥

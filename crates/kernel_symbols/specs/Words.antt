@@ -47,20 +47,20 @@ onto_first x (piece ∷ pieces) = (x ∷ piece) ∷ pieces
 
 -- what stands between white space, empty pieces too; that many of the bytes still belong to a white
 -- space character
-unfoldable pub pieces_behind : ℕ → List ℕ → List (List ℕ)
-pieces_behind skipped [] = [] ∷ []
-pieces_behind (suc skipped) (x ∷ xs) = pieces_behind skipped xs
-pieces_behind zero (x ∷ xs) =
+unfoldable pub pieces_after : ℕ → List ℕ → List (List ℕ)
+pieces_after skipped [] = [] ∷ []
+pieces_after (suc skipped) (x ∷ xs) = pieces_after skipped xs
+pieces_after zero (x ∷ xs) =
     if space_len (x ∷ xs) == 0
-    then onto_first x (pieces_behind 0 xs)
-    else [] ∷ pieces_behind (space_len (x ∷ xs) - 1) xs
+    then onto_first x (pieces_after 0 xs)
+    else [] ∷ pieces_after (space_len (x ∷ xs) - 1) xs
 
 abbrev pub is_word : List ℕ → Bool
 is_word [] = false
 is_word (x ∷ xs) = true
 
 abbrev pub words_of : List ℕ → List (List ℕ)
-words_of bytes = filter is_word (pieces_behind 0 bytes)
+words_of bytes = filter is_word (pieces_after 0 bytes)
 
 -- a byte of ASCII past SPACE, which belongs to no white space
 abbrev pub is_plain : ℕ → Bool

@@ -11,7 +11,7 @@ use crate::error::SymbolsError;
 use crate::line::take_line;
 use crate::wanted::Addresses;
 use crate::wanted_names::WantedByName;
-use crate::words::behind;
+use crate::words::after;
 use memchr::memchr;
 use std::alloc::{AllocError, Global};
 use std::io::BufRead;
@@ -103,7 +103,7 @@ impl<'a> TakeBytes<SymbolsError<'a>> for Reading<'a> {
         let mut rest = bytes;
         while let Some(at) = line_end(rest) {
             self.end_line(&rest[..at], is_ascii)?;
-            rest = behind(rest, at + 1);
+            rest = after(rest, at + 1);
         }
         self.partial.extend_from_slice(rest)?;
         Ok(())

@@ -79,7 +79,7 @@ fn space_len(bytes: &[u8]) -> usize
 }
 
 /// The bytes after the first `count`.
-pub(crate) fn behind(bytes: &[u8], count: usize) -> &[u8]
+pub(crate) fn after(bytes: &[u8], count: usize) -> &[u8]
     ensures { result.now ≡ drop count bytes.now }
 {
     if count < bytes.len() {
@@ -100,7 +100,7 @@ fn skip_spaces(bytes: &[u8]) -> &[u8]
         if len == 0 {
             return rest;
         }
-        rest = behind(rest, len);
+        rest = after(rest, len);
     }
     rest
 }

@@ -55,7 +55,8 @@ IsLinkedIn u new key = (g : FunctionContent) × ((function_at new key ≡ Some g
 
 -- the functions of some keys are linked, from the functions as they stood before; all others, and
 -- the keys, are as before
-pub record AreLinked (u : Unlinked) (keys : List Key) (new : List (Key × FunctionContent)) : Type 0 where
+pub record AreLinked (u : Unlinked) (keys : List Key) (new : List (Key × FunctionContent))
+    : Type 0 where
   pub stay : keys_of new ≡ keys_of u.functions
   pub programs : (key : Key) → has keys key ≡ true → IsLinkedIn u new key
   pub others : (key : Key)

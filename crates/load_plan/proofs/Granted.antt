@@ -35,19 +35,19 @@ granted_at grants (x ∷ xs) zero r each here = let same : x ≡ r = cc in subst
 granted_at grants (x ∷ xs) (suc i) r each here = granted_at grants xs i r each.1 here
 
 -- an id past the records that were there
-granted_behind : (known : Facts) (types : List BtfType) → Keeps known types → (b : Bool) (i : ℕ) (r : BtfType) → (if b then Some Unknown else slice_get types i) ≡ Some r → (if b then Some Unknown else slice_get known.types i) ≡ None → AllGranted known.grants (needed_after r r)
-granted_behind known types keeps true i r here came = absurd (cc)
-granted_behind known types keeps false i r here came =
+granted_after : (known : Facts) (types : List BtfType) → Keeps known types → (b : Bool) (i : ℕ) (r : BtfType) → (if b then Some Unknown else slice_get types i) ≡ Some r → (if b then Some Unknown else slice_get known.types i) ≡ None → AllGranted known.grants (needed_after r r)
+granted_after known types keeps true i r here came = absurd (cc)
+granted_after known types keeps false i r here came =
     let past : length known.types ≤ i = get_none known.types i came in
     granted_at known.grants (drop (length known.types) types) (i - length known.types) r keeps.added (sym (get_drop (length known.types) types i past) ∙ here)
 
 granted_here : (known : Facts) (types : List BtfType) → Keeps known types → (id : ℕ) (r : BtfType) → record_of_id types id ≡ Some r → (o : Option BtfType) → record_of_id known.types id ≡ o → AllGranted known.grants (needed_after (unwrap_or o r) r)
 granted_here known types keeps id r here (Some t) came =
     let one = keeps.each id t came in
-    let same : Some (rewritten known one.behind t) ≡ Some r = sym one.here ∙ here in
-    let is : rewritten known one.behind t ≡ r = cc in
+    let same : Some (rewritten known one.added_before t) ≡ Some r = sym one.here ∙ here in
+    let is : rewritten known one.added_before t ≡ r = cc in
     subst (λ x. AllGranted known.grants (needed_after t x)) is one.granted
-granted_here known types keeps id r here None came = granted_behind known types keeps (id == 0) (id - 1) r here came
+granted_here known types keeps id r here None came = granted_after known types keeps (id == 0) (id - 1) r here came
 
 -- a table without a type has void alone
 void_needs : (grants : BtfFeature → Bool) (types : List BtfType) (b : Bool) (i : ℕ) (came r : BtfType) → (length types == 0) ≡ true → (if b then Some Unknown else slice_get types i) ≡ Some r → AllGranted grants (needed_after came r)

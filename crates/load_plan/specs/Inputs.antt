@@ -51,7 +51,8 @@ IsSaid Says (Some answer) = Says answer
 IsSaid Says None = Unit {0}
 
 -- the predicate and the probe answered this
-pub record AreSaid {F : Type 0} (predicate : Predicate F) (before : F) (Says : Bool → Type 0) (u : Under) : Type 0 where
+pub record AreSaid {F : Type 0} (predicate : Predicate F) (before : F) (Says : Bool → Type 0)
+    (u : Under) : Type 0 where
   pub features : AreAnswered predicate before u.answers
   pub helpers : IsSaid Says u.has_helpers
 

@@ -21,7 +21,8 @@ pub record AreKnown (grants : BtfFeature → Bool) (has_helpers : Bool) (u : Und
   pub helpers : IsSaid (λ answer. answer ≡ has_helpers) u.has_helpers
 
 -- the plan of the object that a file holds, for such a kernel
-pub record IsPlanFor (grants : BtfFeature → Bool) (has_helpers : Bool) (i : Inputs) (plan : PlanContent) : Type 0 where
+pub record IsPlanFor (grants : BtfFeature → Bool) (has_helpers : Bool) (i : Inputs)
+    (plan : PlanContent) : Type 0 where
   pub object : State
   pub whole : IsWholeObject i.file object
   pub under : Under
@@ -29,7 +30,8 @@ pub record IsPlanFor (grants : BtfFeature → Bool) (has_helpers : Bool) (i : In
   pub planned : IsPlanOf i under object plan
 
 -- a pass refuses the object, under the answers that were given so far
-pub record IsPassRefusalFor (grants : BtfFeature → Bool) (i : Inputs) (e : PrepareError) : Type 0 where
+pub record IsPassRefusalFor (grants : BtfFeature → Bool) (i : Inputs) (e : PrepareError)
+    : Type 0 where
   pub object : State
   pub whole : IsWholeObject i.file object
   pub under : Under

@@ -27,7 +27,8 @@ RefusesTypes RewriteFirst kernel answers s e =
     ⊎ ((m : State) × RewritesTypes answers s m × OfTypeRelocation (CannotRelocateTypes kernel m) e)
 
 -- all passes are made, under these answers about features and one of the probe
-pub record IsMade {F : Type 0} (predicate : Predicate F) (before : F) (Says : Bool → Type 0) (i : Inputs) (answers : Answers) (object final : State) : Type 0 where
+pub record IsMade {F : Type 0} (predicate : Predicate F) (before : F) (Says : Bool → Type 0)
+    (i : Inputs) (answers : Answers) (object final : State) : Type 0 where
   pub under : Under
   pub features : under.answers ≡ answers
   pub said : AreSaid predicate before Says under
@@ -36,19 +37,22 @@ pub record IsMade {F : Type 0} (predicate : Predicate F) (before : F) (Says : Bo
   pub linking : Made linking i under patched final
 
 -- the two passes over types are made, in an order, under answers that the predicate gave
-pub record AreTypesMade {F : Type 0} (predicate : Predicate F) (before : F) (kernel : List Table) (order : Order) (answers : Answers) (s t : State) : Type 0 where
+pub record AreTypesMade {F : Type 0} (predicate : Predicate F) (before : F) (kernel : List Table)
+    (order : Order) (answers : Answers) (s t : State) : Type 0 where
   pub answered : AreAnswered predicate before answers
   pub made : MakesTypes order kernel answers s t
 
 -- the types of an object can't be rewritten under answers that the predicate gave
-pub record IsRefusedTypes {F : Type 0} (predicate : Predicate F) (before : F) (s : State) (e : PrepareError) : Type 0 where
+pub record IsRefusedTypes {F : Type 0} (predicate : Predicate F) (before : F) (s : State)
+    (e : PrepareError) : Type 0 where
   pub answers : Answers
   pub answered : AreAnswered predicate before answers
   pub fault : OfTypes (CannotRewrite answers s.file s.externs.ksyms s.types) e
 
 -- the first of the two passes over types refuses, or the second after it, under the answers that
 -- the predicate gave so far
-pub record AreTypesRefused {F : Type 0} (predicate : Predicate F) (before : F) (kernel : List Table) (order : Order) (s : State) (e : PrepareError) : Type 0 where
+pub record AreTypesRefused {F : Type 0} (predicate : Predicate F) (before : F) (kernel : List Table)
+    (order : Order) (s : State) (e : PrepareError) : Type 0 where
   pub answers : Answers
   pub answered : AreAnswered predicate before answers
   pub refused : RefusesTypes order kernel answers s e

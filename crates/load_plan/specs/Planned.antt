@@ -30,24 +30,28 @@ pub record IsPlanOf (i : Inputs) (u : Under) (object : State) (plan : PlanConten
   pub programs : ArePlanPrograms i u object patched patching plan object.programs plan.programs
 
 -- the plan of an object, under answers that predicate and probe gave
-pub record IsPlannedObject {F : Type 0} (predicate : Predicate F) (before : F) (Says : Bool → Type 0) (i : Inputs) (object : State) (plan : PlanContent) : Type 0 where
+pub record IsPlannedObject {F : Type 0} (predicate : Predicate F) (before : F)
+    (Says : Bool → Type 0) (i : Inputs) (object : State) (plan : PlanContent) : Type 0 where
   pub under : Under
   pub said : AreSaid predicate before Says under
   pub planned : IsPlanOf i under object plan
 
 -- the plan of the object that a file holds
-pub record IsPlanned {F : Type 0} (predicate : Predicate F) (before : F) (Says : Bool → Type 0) (i : Inputs) (plan : PlanContent) : Type 0 where
+pub record IsPlanned {F : Type 0} (predicate : Predicate F) (before : F) (Says : Bool → Type 0)
+    (i : Inputs) (plan : PlanContent) : Type 0 where
   pub object : State
   pub whole : IsWholeObject i.file object
   pub planned : IsPlannedObject predicate before Says i object plan
 
 -- a pass refuses an object under the answers that the predicate gave so far
-pub record IsRefusedObject {F : Type 0} (predicate : Predicate F) (before : F) (i : Inputs) (object : State) (e : PrepareError) : Type 0 where
+pub record IsRefusedObject {F : Type 0} (predicate : Predicate F) (before : F) (i : Inputs)
+    (object : State) (e : PrepareError) : Type 0 where
   pub under : Under
   pub answered : AreAnswered predicate before under.answers
   pub refused : Refused (passes i.order) i under object e
 
-pub record IsPassRefusal {F : Type 0} (predicate : Predicate F) (before : F) (i : Inputs) (e : PrepareError) : Type 0 where
+pub record IsPassRefusal {F : Type 0} (predicate : Predicate F) (before : F) (i : Inputs)
+    (e : PrepareError) : Type 0 where
   pub object : State
   pub whole : IsWholeObject i.file object
   pub refused : IsRefusedObject predicate before i object e

@@ -62,7 +62,8 @@ for_helpers true s = s
 for_helpers false s = with_older_helper s
 
 -- a slot carries the number of a map that a relocation names, under which the map is one of these
-pub record NumbersMap (g : MapsGiven) (maps : List MapContent) (r : Relocation) (s : bpf_insn) : Type 0 where
+pub record NumbersMap (g : MapsGiven) (maps : List MapContent) (r : Relocation) (s : bpf_insn)
+    : Type 0 where
   pub carried : CarriesNumber g r s
   pub among : (m : NumberedMap) → map_of g r ≡ Some m → HasMap maps m
 
@@ -119,7 +120,8 @@ Carries _ i whole s key place x = Unit {0}
 
 -- what a slot is by the last pass that writes it: what one relocation alone puts there, older
 -- helpers aside, and what else it carries
-pub record IsWrittenBy (p : Pass) (i : Inputs) (has_helpers : Bool) (whole : List MapContent) (s : State) (key : Key) (place : ℕ) (x : bpf_insn) : Type 0 where
+pub record IsWrittenBy (p : Pass) (i : Inputs) (has_helpers : Bool) (whole : List MapContent)
+    (s : State) (key : Key) (place : ℕ) (x : bpf_insn) : Type 0 where
   pub alone : (y : bpf_insn) → PutsSlot p i s key place y → x ≡ for_helpers has_helpers y
   pub carries : Carries p i whole s key place x
 
@@ -139,13 +141,16 @@ AreWrittenLast (p ∷ ps) i u s t made whole key place x =
 
 -- What has become of a slot of an object's function: one that no relocation writes is the object's,
 -- older helpers aside, and another is what the last pass that writes it gives.
-pub record HasBecome (i : Inputs) (u : Under) (object patched : State) (made : Made (patching i.order) i u object patched) (whole : List MapContent) (key : Key) (place : ℕ) (s x : bpf_insn) : Type 0 where
+pub record HasBecome (i : Inputs) (u : Under) (object patched : State)
+    (made : Made (patching i.order) i u object patched) (whole : List MapContent) (key : Key)
+    (place : ℕ) (s x : bpf_insn) : Type 0 where
   pub unwritten : (IsWritten (patching i.order) i u object patched made key place → ⊥)
       → x ≡ for_helpers (keeps_helpers u) s
   pub written : AreWrittenLast (patching i.order) i u object patched made whole key place x
 
 -- the slot at a place of a function whose copy begins at a slot of a program refers to no function
-pub record IsCopied (functions : List (Key × FunctionContent)) (t : Table) (own : Key) (keys : List Key) (key : Key) (start place : ℕ) (s : bpf_insn) : Type 0 where
+pub record IsCopied (functions : List (Key × FunctionContent)) (t : Table) (own : Key)
+    (keys : List Key) (key : Key) (start place : ℕ) (s : bpf_insn) : Type 0 where
   pub copy : IsCopy t own keys key start
   pub function : FunctionContent
   pub here : function_at functions key ≡ Some function
@@ -154,7 +159,9 @@ pub record IsCopied (functions : List (Key × FunctionContent)) (t : Table) (own
 
 -- the slots of a program, by those of the object's functions that it has copies of and that refer
 -- to no function
-pub record AreSlotsOf (i : Inputs) (u : Under) (object patched : State) (made : Made (patching i.order) i u object patched) (whole : List MapContent) (own : Key) (keys : List Key) (slots : List bpf_insn) : Type 0 where
+pub record AreSlotsOf (i : Inputs) (u : Under) (object patched : State)
+    (made : Made (patching i.order) i u object patched) (whole : List MapContent) (own : Key)
+    (keys : List Key) (slots : List bpf_insn) : Type 0 where
   pub each : (key : Key) (start place : ℕ) (s : bpf_insn)
       → IsCopied object.functions (table_of (unlinked_of patched)) own keys key start place s
       → (x : bpf_insn)
@@ -164,7 +171,9 @@ pub record AreSlotsOf (i : Inputs) (u : Under) (object patched : State) (made : 
 -- A program of a plan: what it is by an object, by the same after its functions' slots were
 -- written, and by what was answered about the kernel. All is told by one layout, the keys of the
 -- functions whose copies are appended to the program's own.
-pub record IsPlanProgram (i : Inputs) (u : Under) (object patched : State) (made : Made (patching i.order) i u object patched) (whole : PlanContent) (e : List ℕ × ProgramContent) (p : plan.ProgramContent) : Type 0 where
+pub record IsPlanProgram (i : Inputs) (u : Under) (object patched : State)
+    (made : Made (patching i.order) i u object patched) (whole : PlanContent)
+    (e : List ℕ × ProgramContent) (p : plan.ProgramContent) : Type 0 where
   -- name and kind are the program's
   pub name : p.name ≡ e.0
   pub section : p.section ≡ e.1.section

@@ -9,7 +9,7 @@ use Rattle.btf_records.specs.declared.item.BtfMember.{BtfMember}
 use Rattle.btf_records.specs.declared.variables.Var.{Var}
 use Rattle.btf_tables.specs.Tables.{Table}
 use Rattle.ebpf_items.specs.Maps.{MapWords, btf_words, zero_btf_map_def}
-use Rattle.map_definitions.specs.Lookups.{and_then, answer_map, members_at, name_at, struct_behind, variable_at}
+use Rattle.map_definitions.specs.Lookups.{and_then, answer_map, members_at, name_at, struct_after_modifiers, variable_at}
 use Rattle.map_definitions.specs.Members.{member_said, member_said_inside, with_said}
 use Rattle.map_definitions.specs.declared.definition.BtfDefinition.{BtfDefinition}
 use Rattle.map_definitions.specs.declared.lookup.Refusal.{Refusal}
@@ -20,7 +20,7 @@ use Rattle.map_definitions.specs.declared.member.Said.TheVariants as said
 -- the name and the struct of the map that a variable is
 abbrev pub named_struct : Table → Var → Result (List ℕ × ℕ) BtfError
 named_struct table v =
-    and_then (λ name. answer_map (λ id. (name, id)) (struct_behind table v.btf_type))
+    and_then (λ name. answer_map (λ id. (name, id)) (struct_after_modifiers table v.btf_type))
     (name_at table v.name_offset)
 
 abbrev pub map_variable : Table → ℕ → Result (List ℕ × ℕ) BtfError

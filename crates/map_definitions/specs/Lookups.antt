@@ -64,8 +64,8 @@ abbrev pub struct_at_end : Table → ℕ → Result ℕ BtfError
 struct_at_end table end =
     of_record (λ t. if is_struct t then Ok end else Err (unexpected t)) table end
 
-abbrev pub struct_behind : Table → ℕ → Result ℕ BtfError
-struct_behind table id = and_then (struct_at_end table) (resolved_type table id)
+abbrev pub struct_after_modifiers : Table → ℕ → Result ℕ BtfError
+struct_after_modifiers table id = and_then (struct_at_end table) (resolved_type table id)
 
 -- a number: the count of the array that a pointer points to (libbpf's `__uint`)
 abbrev pub number_of : Table → ℕ → Result ℕ BtfError
@@ -88,7 +88,7 @@ sized_target table id = and_then (with_size table) (typed_target table id)
 -- `__array`)
 abbrev pub struct_of_element : Table → ℕ → Result ℕ BtfError
 struct_of_element table element =
-    and_then (struct_behind table) (and_then (pointer_target table) (resolved_type table element))
+    and_then (struct_after_modifiers table) (and_then (pointer_target table) (resolved_type table element))
 
 abbrev pub struct_of_values : Table → BtfArray → Result ℕ Refusal
 struct_of_values table a =

@@ -6,7 +6,7 @@ ghost use Rattle.btf_records.specs.declared.error.BtfError.TheVariants.{OutOfMem
 ghost use Rattle.map_definitions.specs.Definitions.{IsFaultAmong, inner_refusals, inner_words, map_variable};
 ghost use Rattle.map_definitions.specs.declared.lookup.Refusal.TheVariants.{Types};
 
-use crate::lookup::{Refusal, name_at, struct_behind, variable_at};
+use crate::lookup::{Refusal, name_at, struct_after_modifiers, variable_at};
 use crate::member::{enter_said, member_said_inside};
 use crate::members::Members;
 use btf_records::BtfError;
@@ -43,7 +43,7 @@ pub fn map_variable<'t>(table: &'t Btf<'_>, type_id: u32) -> Result<MapVariable<
 {
     let variable = variable_at(table, type_id)?;
     let name = name_at(table, variable.name_offset)?;
-    let struct_id = struct_behind(table, variable.btf_type)?;
+    let struct_id = struct_after_modifiers(table, variable.btf_type)?;
     Ok(MapVariable { name, struct_id })
 }
 

@@ -2,7 +2,7 @@
 
 ghost use Rattle.std.specs.Prelude.{◌≡◌, MatchResult, Ok, Err};
 ghost use Rattle.btf_records.specs.Fields.{type_of, var_of};
-ghost use Rattle.map_definitions.specs.Lookups.{array_at, is_struct, name_at, number_of, pointer_target, sized_target, struct_at_end, struct_behind, struct_of_element, target_of, typed_target, unexpected, values_struct, variable_at};
+ghost use Rattle.map_definitions.specs.Lookups.{array_at, is_struct, name_at, number_of, pointer_target, sized_target, struct_at_end, struct_after_modifiers, struct_of_element, target_of, typed_target, unexpected, values_struct, variable_at};
 
 use btf_encoding::TypeRef;
 use btf_records::{BtfArray, BtfError, BtfKind, Var};
@@ -109,8 +109,8 @@ pub(crate) fn variable_at(table: &Btf<'_>, type_id: u32) -> Result<Var, BtfError
 }
 
 /// The struct at the end of a chain of modifiers.
-pub(crate) fn struct_behind(table: &Btf<'_>, type_id: u32) -> Result<u32, BtfError>
-    ensures { result ≡ struct_behind table.now type_id }
+pub(crate) fn struct_after_modifiers(table: &Btf<'_>, type_id: u32) -> Result<u32, BtfError>
+    ensures { result ≡ struct_after_modifiers table.now type_id }
 {
     let end = table.resolve_type(type_id)?;
     let t = table.type_by_id(end)?;
@@ -152,7 +152,7 @@ fn struct_of_element(table: &Btf<'_>, element: u32) -> Result<u32, BtfError>
 {
     let end = table.resolve_type(element)?;
     let target = pointer_target(table, end)?;
-    struct_behind(table, target)
+    struct_after_modifiers(table, target)
 }
 
 /// The struct of the maps that a member gives as values.

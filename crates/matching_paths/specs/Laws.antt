@@ -9,6 +9,7 @@ use Rattle.matching_paths.specs.Matches.{matching_path}
 -- the path in a target's type is the same for every other local table that agrees on what the local
 -- path reaches, and whose texts there can be read alike
 pub record MatchesRest : Type 0 where
-  pub same : (reached : ℕ → Bool) (one other : Table) → AreAlike reached one other → (subject : Subject) (path : AccessPath) → IsReachedPath reached path
+  pub same : (reached : ℕ → Bool) (one other : Table) → AreAlike reached one other
+      → (subject : Subject) (path : AccessPath) → IsReachedPath reached path
       → (target : Table) (id : ℕ)
       → matching_path subject other path target id ≡ matching_path subject one path target id

@@ -31,17 +31,21 @@ abbrev pub entry_of : List (ℕ × FirstVariant) → ℕ → Option FirstVariant
 entry_of entries hash = lookup (is_at (nat_cmp hash)) entries
 
 -- a variant is entered for a hash that has none
-pub record EntersFirst (old new : List (ℕ × FirstVariant)) (hash : ℕ) (v : FirstVariant) : Type 0 where
+pub record EntersFirst (old new : List (ℕ × FirstVariant)) (hash : ℕ) (v : FirstVariant)
+    : Type 0 where
   pub here : entry_of new hash ≡ Some (unwrap_or (entry_of old hash) v)
   pub others : (other : ℕ) → other ≢ hash → entry_of new other ≡ entry_of old other
 
 -- an entry that has the name is the first variant of the name
-pub record AreFirst (target : Table) (value : List ℕ → Result (Option ℕ) AccessError) (entries : List (ℕ × FirstVariant)) : Type 0 where
-  pub each : (name : List ℕ) (v : FirstVariant) → entry_of entries (essential_hash name) ≡ Some v → is_so_named target v.name_offset name ≡ Ok true
+pub record AreFirst (target : Table) (value : List ℕ → Result (Option ℕ) AccessError)
+    (entries : List (ℕ × FirstVariant)) : Type 0 where
+  pub each : (name : List ℕ) (v : FirstVariant) → entry_of entries (essential_hash name) ≡ Some v
+      → is_so_named target v.name_offset name ≡ Ok true
       → value name ≡ Ok (Some v.index)
 
 -- of the names whose hashes have no entry
-pub record OthersGive (value rest : List ℕ → Result (Option ℕ) AccessError) (entries : List (ℕ × FirstVariant)) : Type 0 where
+pub record OthersGive (value rest : List ℕ → Result (Option ℕ) AccessError)
+    (entries : List (ℕ × FirstVariant)) : Type 0 where
   pub each : (name : List ℕ)
       → entry_of entries (essential_hash name) ≡ None
       → value name ≡ rest name
@@ -53,7 +57,8 @@ end_value None = Ok None
 end_value (Some offset) = Err (TypeError (InvalidStringOffset offset))
 
 -- an index of an enum in which the first variants are these
-pub record IsIndex (target : Table) (value : List ℕ → Result (Option ℕ) AccessError) (entries : List (ℕ × FirstVariant)) (unreadable : Option ℕ) : Type 0 where
+pub record IsIndex (target : Table) (value : List ℕ → Result (Option ℕ) AccessError)
+    (entries : List (ℕ × FirstVariant)) (unreadable : Option ℕ) : Type 0 where
   pub first : AreFirst target value entries
   pub others : OthersGive value (λ name. end_value unreadable) entries
 

@@ -29,7 +29,8 @@ abbrev pub pass : Table → BtfMember → Result Look AccessError
 pass target m = with_text target m.name_offset (pass_by_name target m)
 
 -- the first of a hash stays
-pub record EntersFirst (hash : ℕ) (m : FirstMember) (old new : List (ℕ × FirstMember)) : Type 0 where
+pub record EntersFirst (hash : ℕ) (m : FirstMember) (old new : List (ℕ × FirstMember))
+    : Type 0 where
   pub known : (first : FirstMember) → entry_of old hash ≡ Some first → new ≡ old
   pub added : entry_of old hash ≡ None
       → (other : ℕ)
@@ -57,10 +58,13 @@ moved_turn bits turns.Over = turns.Over
 
 -- entries that are there stay, and new ones are the first members of their names, where searches
 -- give these values
-pub record EntersMore (target : Table) (old new : List (ℕ × FirstMember)) (value : Search → Option ℕ → Result (Option Found) AccessError) : Type 0 where
+pub record EntersMore (target : Table) (old new : List (ℕ × FirstMember))
+    (value : Search → Option ℕ → Result (Option Found) AccessError) : Type 0 where
   pub stay : (name : List ℕ) (m : FirstMember)
       → first_of old name ≡ Some m
       → first_of new name ≡ Some m
-  pub first : (local : Table) (id : ℕ) (name : List ℕ) (bits : Option ℕ) (m : FirstMember) → first_of old name ≡ None → first_of new name ≡ Some m → text_at target.strings m.name_offset ≡ Some name
+  pub first : (local : Table) (id : ℕ) (name : List ℕ) (bits : Option ℕ) (m : FirstMember)
+      → first_of old name ≡ None → first_of new name ≡ Some m
+      → text_at target.strings m.name_offset ≡ Some name
       → Decides (fields_compatible local id target m.found.type_id) (moved bits m.found)
       (value (searched local id name target) bits)

@@ -28,7 +28,8 @@ free n open_ids = failing (is_among open_ids) n
 
 -- nothing is found in these, wherever they are met
 pub record HoldNothing (search : Search) (noted : List ℕ) : Type 0 where
-  pub each : (id : ℕ) → is_noted noted id ≡ true → (open_ids : List ℕ) → AreApart noted open_ids → (n : ℕ)
+  pub each : (id : ℕ) → is_noted noted id ≡ true → (open_ids : List ℕ) → AreApart noted open_ids
+      → (n : ℕ)
       → free (most_open search.target) open_ids ≤ n
       → (bits : Option ℕ)
       → found_in n search open_ids id bits ≡ Ok None

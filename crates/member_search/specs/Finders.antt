@@ -17,7 +17,8 @@ pub record AreIndexes (target : Table) (indexes : List (ℕ × MemberIndex)) : T
       IsIndex target root index.by_hash.entries index.walk_end)
 
 -- what the comparison decides is this answer
-pub record DecidesAs (compared : Result Bool BtfError) (found : Found) (answer : Result (Option Found) AccessError) : Type 0 where
+pub record DecidesAs (compared : Result Bool BtfError) (found : Found)
+    (answer : Result (Option Found) AccessError) : Type 0 where
   pub same : (value : Result (Option Found) AccessError)
       → Decides compared found value
       → value ≡ answer

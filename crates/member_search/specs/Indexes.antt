@@ -41,7 +41,8 @@ begun_at bits = rebased bits (Some 0)
 
 -- what holds for each search for a name whose hash isn't there, where the struct or union begins at
 -- any bits
-pub record ForOthers (target : Table) (entries : List (ℕ × FirstMember)) (Holds : Search → Option ℕ → Type 0) : Type 0 where
+pub record ForOthers (target : Table) (entries : List (ℕ × FirstMember))
+    (Holds : Search → Option ℕ → Type 0) : Type 0 where
   pub each : (local : Table) (id : ℕ) (name : List ℕ) (bits : Option ℕ)
       → first_of entries name ≡ None
       → Holds (searched local id name target) bits
@@ -54,8 +55,10 @@ Decides (Ok false) found value = found.parts ≡ 1 → value ≡ Ok None
 Decides (Err e) found value = value ≡ Err (TypeError e)
 
 -- the entries are the first members of their names, where searches give these values
-pub record AreFirst (target : Table) (entries : List (ℕ × FirstMember)) (value : Search → Option ℕ → Result (Option Found) AccessError) : Type 0 where
-  pub each : (local : Table) (id : ℕ) (name : List ℕ) (bits : Option ℕ) (m : FirstMember) → first_of entries name ≡ Some m → text_at target.strings m.name_offset ≡ Some name
+pub record AreFirst (target : Table) (entries : List (ℕ × FirstMember))
+    (value : Search → Option ℕ → Result (Option Found) AccessError) : Type 0 where
+  pub each : (local : Table) (id : ℕ) (name : List ℕ) (bits : Option ℕ) (m : FirstMember)
+      → first_of entries name ≡ Some m → text_at target.strings m.name_offset ≡ Some name
       → Decides (fields_compatible local id target m.found.type_id) (moved bits m.found)
       (value (searched local id name target) bits)
 
@@ -69,7 +72,8 @@ end_value (ends.LongChain id) = Some (Err (TypeError (MaximumTypeDepthReached id
 end_value ends.NotKept = None
 
 -- an index of the members of the struct or union of this id
-pub record IsIndex (target : Table) (root : ℕ) (entries : List (ℕ × FirstMember)) (walk_end : WalkEnd) : Type 0 where
+pub record IsIndex (target : Table) (root : ℕ) (entries : List (ℕ × FirstMember))
+    (walk_end : WalkEnd) : Type 0 where
   pub first : AreFirst target entries (λ s bits. member_found s root (begun_at bits))
   pub others : ForOthers target entries (λ s bits.
       IfSome (end_value walk_end) (λ value. member_found s root (begun_at bits) ≡ value))

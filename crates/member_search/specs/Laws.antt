@@ -14,7 +14,8 @@ pub record NestingNeverDecides : Type 0 where
 -- a search for a member that is compatible with a local type is the same from every other local
 -- table that agrees on what is reached from this type, and whose texts there can be read alike
 pub record SearchesRest : Type 0 where
-  pub same : (reached : ℕ → Bool) (one other : Table) → AreAlike reached one other → (id : ℕ) → reached id ≡ true
+  pub same : (reached : ℕ → Bool) (one other : Table) → AreAlike reached one other → (id : ℕ)
+      → reached id ≡ true
       → (name : List ℕ) (target : Table) (root : ℕ) (bits : Option ℕ)
       → member_found (searched other id name target) root bits
       ≡ member_found (searched one id name target) root bits

@@ -27,7 +27,8 @@ or_next (Err e) next = Err e
 
 -- after a look at a member that begins at these bits, where `next` is the answer for the members
 -- after it; `go` searches inside
-abbrev pub by_look : (ℕ → Option ℕ → Result (Option Found) AccessError) → Found → Result (Option Found) AccessError → Look
+abbrev pub by_look : (ℕ → Option ℕ → Result (Option Found) AccessError) → Found → Result
+    (Option Found) AccessError → Look
     → Result (Option Found) AccessError
 by_look go here next GoOn = next
 by_look go here next NotHere = Ok None
@@ -45,7 +46,8 @@ member_here id t depth bits index m = record {
 }
 
 -- the members from this index on
-unfoldable pub members_found : (ℕ → Option ℕ → Result (Option Found) AccessError) → Search → ℕ → BtfType → ℕ → Option ℕ → ℕ → List BtfMember
+unfoldable pub members_found : (ℕ → Option ℕ → Result (Option Found) AccessError) → Search → ℕ
+    → BtfType → ℕ → Option ℕ → ℕ → List BtfMember
     → Result (Option Found) AccessError
 members_found go search id t depth bits index [] = Ok None
 members_found go search id t depth bits index (m ∷ ms) =

@@ -69,7 +69,8 @@ abbrev pub work : Table → List Frame → ℕ
 work target stack = work_from target 0 stack
 
 -- a turn finds the member, or leaves a stack that gives the same
-pub record IsTurn (search : Search) (before : List Frame) (found : Option Found) (after : List Frame) : Type 0 where
+pub record IsTurn (search : Search) (before : List Frame) (found : Option Found)
+    (after : List Frame) : Type 0 where
   pub here : IfSome found (λ f. stack_value search before ≡ Ok (Some f))
   pub same : found ≡ None → stack_value search after ≡ stack_value search before
   pub smaller : found ≡ None → work search.target after < work search.target before
@@ -174,7 +175,8 @@ AllPassed search noted (f ∷ fs) top =
     IsPassed search (or_noted noted (first_id fs top)) f × AllPassed search noted fs top
 
 -- what holds between turns
-pub record IsSound (search : Search) (noted : List ℕ) (outer : List Frame) (f : Frame) : Type 0 where
+pub record IsSound (search : Search) (noted : List ℕ) (outer : List Frame) (f : Frame)
+    : Type 0 where
   pub nothing : HoldNothing search noted
   pub apart : AreApart noted (opened outer f)
   pub few : free (most_open search.target) (opened outer f) + length (opened outer f)

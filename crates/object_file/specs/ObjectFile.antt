@@ -13,7 +13,8 @@ use Rattle.object_file.specs.Version.{version_of, IsKnownVersion}
 use Rattle.object_file.specs.declared.relocations.RelocationTable.{RelocationTable}
 use Rattle.object_file.specs.declared.symbols.SymbolTable.{SymbolTable}
 
-pub record IsObjectFile (file bytes : List ℕ) (sections : List Section) (symbols : SymbolTable) (relocations : RelocationTable) (license : List ℕ) (version : Option ℕ) : Type 0 where
+pub record IsObjectFile (file bytes : List ℕ) (sections : List Section) (symbols : SymbolTable)
+    (relocations : RelocationTable) (license : List ℕ) (version : Option ℕ) : Type 0 where
   pub same : bytes ≡ file
   pub faultless : IsFaultless file
   pub read : sections ≡ read_sections file

@@ -21,7 +21,8 @@ pub record AreRelocationsOf (table : RelocationTable) (file : List ℕ) : Type 0
   pub none : table.none.entries ≡ []
 
 -- relocations of a target are added after those that it has
-pub record AddsRelocations (old new : RelocationTable) (target : ℕ) (added : List Relocation) : Type 0 where
+pub record AddsRelocations (old new : RelocationTable) (target : ℕ) (added : List Relocation)
+    : Type 0 where
   pub at : (i : ℕ)
       → relocations_at new i ≡ relocations_at old i ++ (if target == i then added else [])
   pub none : new.none ≡ old.none

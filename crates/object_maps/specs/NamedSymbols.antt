@@ -9,7 +9,8 @@ use Rattle.elf64.specs.Symbols.{Symbol}
 use Rattle.object_maps.specs.BtfMaps.{symbol_named}
 
 -- the map has for each name the symbol of the greatest index
-pub record AreNamed (by_name : BTreeMap (Bor (List ℕ)) (Bor Symbol)) (symbols : List Symbol) : Type 0 where
+pub record AreNamed (by_name : BTreeMap (Bor (List ℕ)) (Bor Symbol)) (symbols : List Symbol)
+    : Type 0 where
   pub at : (name : List ℕ)
       → option_copied (get_by (λ key. slice_cmp nat_cmp name key.now) by_name)
       ≡ symbol_named symbols name

@@ -14,7 +14,8 @@ pub record AreFirsts (numbers : List (ℕ × List ℕ)) (firsts : List (ℕ × B
       ≡ first_with numbers number
 
 -- more maps were noted, after whichever the kept names are the first ones of
-pub record AreNoted (more : List (ℕ × List ℕ)) (firsts firsts_after : List (ℕ × Bor (List ℕ))) (notes notes_after : List NoteContent) : Type 0 where
+pub record AreNoted (more : List (ℕ × List ℕ)) (firsts firsts_after : List (ℕ × Bor (List ℕ)))
+    (notes notes_after : List NoteContent) : Type 0 where
   pub firsts_are : (numbers : List (ℕ × List ℕ))
       → AreFirsts numbers firsts
       → AreFirsts (numbers ++ more) firsts_after

@@ -130,7 +130,8 @@ AreNumberNotes file settings notes =
     ⊎ (LacksMaps file × (notes ≡ []))
 
 -- after some notes those on the numbers of a file's maps
-pub record AddsNumberNotes (file : List ℕ) (settings : SettingsContent) (before after : List NoteContent) : Type 0 where
+pub record AddsNumberNotes (file : List ℕ) (settings : SettingsContent)
+    (before after : List NoteContent) : Type 0 where
   pub on_numbers : List NoteContent
   pub are_on_numbers : AreNumberNotes file settings on_numbers
   pub notes_are : after ≡ before ++ on_numbers

@@ -33,7 +33,8 @@ abbrev pub byte_count : Section → ℕ
 byte_count section = length (unwrap_or section.contents [])
 
 -- the functions of the places before an offset are entered, and these places are sound
-pub record AreEntered (info : SectionInfo) (symbols : List Symbol) (section : Section) (old new : List ((ℕ × ℕ) × FunctionContent)) (offset : ℕ) : Type 0 where
+pub record AreEntered (info : SectionInfo) (symbols : List Symbol) (section : Section)
+    (old new : List ((ℕ × ℕ) × FunctionContent)) (offset : ℕ) : Type 0 where
   pub steps : ℕ
   pub done : List Place
   pub enough : byte_count section ≤ offset + steps

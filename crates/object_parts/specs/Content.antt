@@ -72,7 +72,8 @@ abbrev pub with_older_helpers : FunctionContent → FunctionContent
 with_older_helpers f = record f { instructions = map with_older_helper f.instructions }
 
 -- a function stands in place of that of its key; all others, and the keys, are as they were
-pub record Replaces (old new : List ((ℕ × ℕ) × FunctionContent)) (f : FunctionContent) : Type 0 where
+pub record Replaces (old new : List ((ℕ × ℕ) × FunctionContent)) (f : FunctionContent)
+    : Type 0 where
   pub keys : keys_of new ≡ keys_of old
   pub at : (key : ℕ × ℕ)
       → function_at new key

@@ -20,12 +20,14 @@ installed_at (g ∷ gs) key o =
     if is_at (key_cmp (key_of g)) key then Some g else installed_at gs key o
 
 -- these were put in place
-pub record Installed (old new : List ((ℕ × ℕ) × FunctionContent)) (gs : List FunctionContent) : Type 0 where
+pub record Installed (old new : List ((ℕ × ℕ) × FunctionContent)) (gs : List FunctionContent)
+    : Type 0 where
   pub keys : keys_of new ≡ keys_of old
   pub at : (key : ℕ × ℕ) → function_at new key ≡ installed_at gs key (function_at old key)
 
 -- each function is changed, under its key
-pub record AreChanged (change : FunctionContent → FunctionContent) (old new : List ((ℕ × ℕ) × FunctionContent)) : Type 0 where
+pub record AreChanged (change : FunctionContent → FunctionContent)
+    (old new : List ((ℕ × ℕ) × FunctionContent)) : Type 0 where
   pub keys : keys_of new ≡ keys_of old
   pub at : (key : ℕ × ℕ) → function_at new key ≡ option_map change (function_at old key)
 

@@ -128,12 +128,12 @@ needs-same given grants strings (t ∷ ts) agree =
     λ (f : BtfFeature) (there : is_among (needs_of given strings t) f ≡ true). agree f
     (among-both (needs_of given strings t) (flat_map (needs_of given strings) ts) f
     ∙ or-left (is_among (needs_of given strings t) f) (is_among (flat_map (needs_of given strings) ts) f) there) in
-    let behind =
+    let after =
     λ (f : BtfFeature) (there : is_among (flat_map (needs_of given strings) ts) f ≡ true). agree f
     (among-both (needs_of given strings t) (flat_map (needs_of given strings) ts) f
     ∙ or-right (is_among (needs_of given strings t) f) (is_among (flat_map (needs_of given strings) ts) f) there) in
     ap₂ (λ (xs ys : List BtfFeature). xs ++ ys) (need-same (kind_of_type t) given grants strings t here)
-    (needs-same given grants strings ts behind)
+    (needs-same given grants strings ts after)
 
 -- ---- so the questions are the same, and then the answers
 

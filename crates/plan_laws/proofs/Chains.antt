@@ -85,14 +85,14 @@ pub made-not-refused : (laws : LayoutIsUnique) (i : Inputs) (u v : Under)
 made-not-refused laws i u v agree [] s t e sound needs made refused = refused
 made-not-refused laws i u v agree (p ∷ []) s t e sound needs made (inl refused) =
     refuses-not i u v agree p s made.0 e sound made.1 refused
-made-not-refused laws i u v agree (p ∷ []) s t e sound needs made (inr behind) = behind.2
+made-not-refused laws i u v agree (p ∷ []) s t e sound needs made (inr after) = after.2
 made-not-refused laws i u v agree (p ∷ q ∷ ps) s t e sound needs made (inl refused) =
     refuses-not i u v agree p s made.0 e sound made.1 refused
-made-not-refused laws i u v agree (p ∷ q ∷ ps) s t e sound needs made (inr behind) =
-    let same : behind.0 ≡ made.0 =
-    sym (makes-one laws i u v p s made.0 behind.0 sound needs.0 made.1 behind.1) in
+made-not-refused laws i u v agree (p ∷ q ∷ ps) s t e sound needs made (inr after) =
+    let same : after.0 ≡ made.0 =
+    sym (makes-one laws i u v p s made.0 after.0 sound needs.0 made.1 after.1) in
     made-not-refused laws i u v agree (q ∷ ps) made.0 t e (stays-sound i u p s made.0 sound made.1) needs.1 made.2
-    (subst (λ (m : State). Refused (q ∷ ps) i v m e) same behind.2)
+    (subst (λ (m : State). Refused (q ∷ ps) i v m e) same after.2)
 
 pub passes-need : (u v : Under) → Agree u v → (order : Order) → NeedsBefore u v (patching order ++ linking)
 passes-need u v agree RelocateFirst = (tt, (tt, (tt, (tt, (tt, (tt, (agree, (tt, (tt, (tt, tt))))))))))

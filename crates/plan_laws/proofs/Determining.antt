@@ -154,8 +154,8 @@ excluded laws = record { under = under; kernel = kernel } where
 abbrev before : List Pass
 before = FunctionRecords ∷ MapNumbers ∷ GlobalValues ∷ KernelTypes ∷ Externs ∷ TypeSlots ∷ []
 
-abbrev behind : List Pass
-behind = MapSlots ∷ ExternSlots ∷ []
+abbrev after : List Pass
+after = MapSlots ∷ ExternSlots ∷ []
 
 slots-by : (a b : Answers) (x y : Bool) (name : List ℕ) (section : ProgramSection) (o : Option FunctionContent)
     → (program_of a x name section o).slots ≡ (program_of b y name section o).slots
@@ -178,20 +178,20 @@ record Ends (i : Inputs) (u : Under) (object final : State) : Type 0 where
   made : Made before i u object middle
   rewritten : State
   only : rewritten ≡ record middle { types = rewritten.types }
-  rest : Made (behind ++ linking) i u rewritten final
+  rest : Made (after ++ linking) i u rewritten final
 
 ends : (i : Inputs) (u : Under) (object : State) (plan : PlanContent) → i.order ≡ RelocateFirst
     → (planned : IsPlanOf i u object plan) → Ends i u object planned.final
 ends i u object plan first planned =
     let made : Made (patching RelocateFirst) i u object planned.patched =
     subst (λ (o : Order). Made (patching o) i u object planned.patched) first planned.patching in
-    let parts = made-parts i u before (Types ∷ behind) object planned.patched made in
+    let parts = made-parts i u before (Types ∷ after) object planned.patched made in
     record {
       middle = parts.0;
       made = parts.1;
       rewritten = parts.2.0;
       only = parts.2.1.others;
-      rest = made-whole i u behind linking parts.2.0 planned.patched planned.final parts.2.2 planned.linking;
+      rest = made-whole i u after linking parts.2.0 planned.patched planned.final parts.2.2 planned.linking;
     }
 
 slots-and-maps-same : (laws : LayoutIsUnique) (i : Inputs) (first : i.order ≡ RelocateFirst)
@@ -207,7 +207,7 @@ slots-and-maps-same laws i first u v helped object a b sound one two =
     subst (λ (s : State). y.rewritten ≡ record s { types = y.rewritten.types }) middle y.only in
     let rises = made-sound i u before object x.middle sound x.made in
     let final =
-    blind-same laws i u v (behind ++ linking) (tt, (tt, (tt, (tt, tt))))
+    blind-same laws i u v (after ++ linking) (tt, (tt, (tt, (tt, tt))))
     (tt, (tt, (tt, (helped, tt)))) x.middle x.rewritten y.rewritten one.final two.final rises x.only only x.rest
     y.rest in
     let slots =

@@ -56,17 +56,17 @@ same-order Equal e = refl
 same-order Greater e = cc
 
 -- no key after the first is this one, where the first is
-none-behind : {K V : Type 0} {R : K → K → Ordering} (o : IsTotalOrder R) (key k : K) (es : List (K × V))
+none-after : {K V : Type 0} {R : K → K → Ordering} (o : IsTotalOrder R) (key k : K) (es : List (K × V))
     → R key k ≡ Equal → AllByRecursion (λ y. R k y ≡ Less) (keys_of es) → lookup (is_at (R key)) es ≡ None
-none-behind o key k [] equal all = refl
-none-behind {R = R} o key k (e ∷ es) equal all =
+none-after o key k [] equal all = refl
+none-after {R = R} o key k (e ∷ es) equal all =
     ap (λ (r : Ordering). cond (is_eq r) (Some e.1) (lookup (is_at (R key)) es)) (o.congr key k e.0 equal ∙ all.0)
-    ∙ none-behind o key k es equal all.1
+    ∙ none-after o key k es equal all.1
 
-behind-by : {V : Type 0} (at : Bool) (a b : V) (x y : Option V) → cond at (Some b) y ≡ cond at (Some a) x
+after-by : {V : Type 0} (at : Bool) (a b : V) (x y : Option V) → cond at (Some b) y ≡ cond at (Some a) x
     → (at ≡ true → (x ≡ None) × (y ≡ None)) → y ≡ x
-behind-by true a b x y same none = let n = none refl in n.1 ∙ sym n.0
-behind-by false a b x y same none = same
+after-by true a b x y same none = let n = none refl in n.1 ∙ sym n.0
+after-by false a b x y same none = same
 
 at-first : {K V : Type 0} {R : K → K → Ordering} (o : IsTotalOrder R) (e : K × V) (es : List (K × V))
     → lookup (is_at (R e.0)) (e ∷ es) ≡ Some e.1
@@ -98,7 +98,7 @@ same-entries {K} {V} {R} o (e ∷ es) (f ∷ fs) sorted keys same =
     ap (λ (x : Option V). unwrap_or x f.1) (sym (at-first o (e.0, f.1) fs) ∙ moved e.0 ∙ at-first o e es) in
     let others : fs ≡ es =
     same-entries o es fs sorted.1 rest
-    (λ key. behind-by (is_eq (R key e.0)) e.1 f.1 (lookup (is_at (R key)) es) (lookup (is_at (R key)) fs) (moved key)
+    (λ key. after-by (is_eq (R key e.0)) e.1 f.1 (lookup (is_at (R key)) es) (lookup (is_at (R key)) fs) (moved key)
     (λ at. let equal : R key e.0 ≡ Equal = same-order
-    (R key e.0) at in (none-behind o key e.0 es equal sorted.0, none-behind o key e.0 fs equal above-e))) in
+    (R key e.0) at in (none-after o key e.0 es equal sorted.0, none-after o key e.0 fs equal above-e))) in
     ap₂ (λ (k : K) (v : V). (k, v) ∷ fs) first value ∙ ap (λ (xs : List (K × V)). e ∷ xs) others

@@ -104,7 +104,7 @@ keep-lengths i u object plan whole planned =
     let two = one.2 in
     let three = two.2 in
     let first : two.0 ≡ object = two.1.1 ∙ one.1.1 in
-    let behind =
+    let after =
     made-keeps i u (λ s. s.maps) LeavesMaps (leaves-maps i u)
     (KernelTypes ∷ Externs ∷ first_of i.order ∷ second_of i.order ∷ MapSlots ∷ ExternSlots ∷ [])
     (all-leave i.order) three.0 planned.patched three.2 in
@@ -125,7 +125,7 @@ keep-lengths i u object plan whole planned =
     let all =
     maps-of i object object.maps (fold (patched_one (symbols_of i.file)) object.maps i.settings.globals) set
     (kept (symbols_of i.file) object.maps i.settings.globals (maps-rise i.file object whole) sound) in
-    let maps = ap (λ (p : PlanContent). p.maps) planned.is ∙ ap (map (plan_map i.settings)) (linked ∙ behind ∙ put) in
+    let maps = ap (λ (p : PlanContent). p.maps) planned.is ∙ ap (map (plan_map i.settings)) (linked ∙ after ∙ put) in
     subst (AllZip (IsMapOf i object) object.maps) (sym maps) all
 
 pub maps_keep_lengths : MapsKeepLengths

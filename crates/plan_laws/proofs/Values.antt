@@ -30,9 +30,9 @@ read-before : (contents bytes : List ℕ) (start place : ℕ) → start + length
     → get_or (overwritten contents start bytes) place 0 ≡ get_or contents place 0
 read-before contents bytes start place within before = grind (arith, common_steps)
 
-read-behind : (contents bytes : List ℕ) (start place : ℕ) → start + length bytes ≤ length contents
+read-after : (contents bytes : List ℕ) (start place : ℕ) → start + length bytes ≤ length contents
     → start + length bytes ≤ place → get_or (overwritten contents start bytes) place 0 ≡ get_or contents place 0
-read-behind contents bytes start place within behind = grind (arith, common_steps)
+read-after contents bytes start place within after = grind (arith, common_steps)
 
 read-same : (xs ys : List ℕ) (place : ℕ) → length xs ≡ length ys → get_or xs place 0 ≡ get_or ys place 0
     → slice_get xs place ≡ slice_get ys place
@@ -93,19 +93,19 @@ record Found (Outside : List ℕ → ℕ → Type 0) (before : Option (List ℕ 
   stays : Stays Outside map m
 
 found-by : (Outside : List ℕ → ℕ → Type 0) (t u : Bool) (x y m : List ℕ × MapView)
-    → (before behind : Option (List ℕ × MapView)) → u ≡ t → Stays Outside x y
-    → (behind ≡ Some m → Found Outside before m) → cond u (Some y) behind ≡ Some m
+    → (before after : Option (List ℕ × MapView)) → u ≡ t → Stays Outside x y
+    → (after ≡ Some m → Found Outside before m) → cond u (Some y) after ≡ Some m
     → Found Outside (cond t (Some x) before) m
-found-by Outside true true x y m before behind same stays rest is =
+found-by Outside true true x y m before after same stays rest is =
     record {
       map = x;
       is = refl;
       stays = subst (Stays Outside x)
           (ap (λ (o : Option (List ℕ × MapView)). unwrap_or o y) is) stays;
     }
-found-by Outside true false x y m before behind same stays rest is = absurd (cc)
-found-by Outside false true x y m before behind same stays rest is = absurd (cc)
-found-by Outside false false x y m before behind same stays rest is = rest is
+found-by Outside true false x y m before after same stays rest is = absurd (cc)
+found-by Outside false true x y m before after same stays rest is = absurd (cc)
+found-by Outside false false x y m before after same stays rest is = rest is
 
 found-before : (Outside : List ℕ → ℕ → Type 0) (index : ℕ) (a b : List (List ℕ × MapView)) (m : List ℕ × MapView)
     → AllZip (Stays Outside) a b → find (λ x. x.1.section_index == index) b ≡ Some m
@@ -224,7 +224,7 @@ entry-stays symbols first g s m e old true named over same is alone sized fits =
           (read-before e.1.contents g.1.bytes s.address place fit (grind arith))
       by place apart fit long false false lower upper =
           read-same (overwritten e.1.contents s.address g.1.bytes) e.1.contents place long
-          (read-behind e.1.contents g.1.bytes s.address place fit (grind arith))
+          (read-after e.1.contents g.1.bytes s.address place fit (grind arith))
       by place apart fit long false true lower upper =
           let known : old.0 ≡ e.0 = sym same ∙ (bytes_eq-Decides m.0 e.0).0 is in
           absurd (apart (record {

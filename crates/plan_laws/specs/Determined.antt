@@ -40,16 +40,19 @@ pub record IsKnown (i : Inputs) : Type 0 where
 pub record PlansAreDetermined : Type 0 where
   pub under : (i : Inputs) → IsKnown i → (u : Under) (a b : PlanContent)
       → IsPlanUnder i u a → IsPlanUnder i u b → a ≡ b
-  pub kernel : (i : Inputs) → IsKnown i → (grants : BtfFeature → Bool) (has_helpers : Bool) (a b : PlanContent)
+  pub kernel : (i : Inputs) → IsKnown i → (grants : BtfFeature → Bool) (has_helpers : Bool)
+      (a b : PlanContent)
       → IsPlanFor grants has_helpers i a → IsPlanFor grants has_helpers i b → a ≡ b
-  pub texts : (i : Inputs) → IsKnown i → (grants : BtfFeature → Bool) (has_helpers : Bool) (a b : PlanContent)
+  pub texts : (i : Inputs) → IsKnown i → (grants : BtfFeature → Bool) (has_helpers : Bool)
+      (a b : PlanContent)
       → IsPlanFor grants has_helpers i a → IsPlanFor grants has_helpers i b → text_of a ≡ text_of b
 
 -- where there is a plan nothing is refused, and where something is there is none
 pub record PlansExcludeRefusals : Type 0 where
   pub under : (i : Inputs) → IsKnown i → (u : Under) (plan : PlanContent) (e : PrepareError)
       → IsPlanUnder i u plan → IsRefusalUnder i u e → ⊥
-  pub kernel : (i : Inputs) → IsKnown i → (grants : BtfFeature → Bool) (has_helpers : Bool) (plan : PlanContent)
+  pub kernel : (i : Inputs) → IsKnown i → (grants : BtfFeature → Bool) (has_helpers : Bool)
+      (plan : PlanContent)
       → (e : PrepareError) → IsPlanFor grants has_helpers i plan → IsRefusalFor grants i e → ⊥
 
 -- the slots of a plan's programs
@@ -63,8 +66,10 @@ pub record SameSlotsAndMaps (a b : PlanContent) : Type 0 where
 
 -- where relocations come first, answers on features of types change neither slots nor maps
 pub record FeaturesLeaveSlotsAndMaps : Type 0 where
-  pub under : (i : Inputs) → IsKnown i → i.order ≡ RelocateFirst → (u v : Under) → u.has_helpers ≡ v.has_helpers
+  pub under : (i : Inputs) → IsKnown i → i.order ≡ RelocateFirst → (u v : Under)
+      → u.has_helpers ≡ v.has_helpers
       → (a b : PlanContent) → IsPlanUnder i u a → IsPlanUnder i v b → SameSlotsAndMaps a b
-  pub kernel : (i : Inputs) → IsKnown i → i.order ≡ RelocateFirst → (grants others : BtfFeature → Bool)
+  pub kernel : (i : Inputs) → IsKnown i → i.order ≡ RelocateFirst
+      → (grants others : BtfFeature → Bool)
       → (has_helpers : Bool) (a b : PlanContent)
       → IsPlanFor grants has_helpers i a → IsPlanFor others has_helpers i b → SameSlotsAndMaps a b

@@ -18,14 +18,16 @@ Functions = List (Key × FunctionContent)
 
 -- the slots of a program are those of its own function and of the others in its layout, each of
 -- these once, and no more than those of its own function and of all functions together
-pub record IsShort (t : Table) (all : Functions) (own : Key) (keys : List Key) (slots : List bpf_insn) : Type 0 where
+pub record IsShort (t : Table) (all : Functions) (own : Key) (keys : List Key)
+    (slots : List bpf_insn) : Type 0 where
   pub once : AreDistinct keys
   pub sum : length slots ≡ length (t.slots own) + slots_of t keys
   pub most : length slots ≤ length (t.slots own) + slot_total all
 
 -- so is each program of a plan
 pub record PlanProgramsAreShort : Type 0 where
-  pub each : (i : Inputs) (u : Under) (object patched : State) (made : Made (patching i.order) i u object patched)
+  pub each : (i : Inputs) (u : Under) (object patched : State)
+      (made : Made (patching i.order) i u object patched)
       → (whole : PlanContent) (e : List ℕ × ProgramContent) (p : plan.ProgramContent)
       → (is : IsPlanProgram i u object patched made whole e p)
       → IsShort (source u patched) patched.functions (own_key e.1) is.keys p.slots

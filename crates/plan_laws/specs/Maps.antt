@@ -21,7 +21,8 @@ Global = List ℕ × GlobalContent
 -- The value of a global variable goes over a byte of the map of a name: the variable's symbol is of
 -- the map's section, and the byte's place lies in the symbol's range, which begins at its address
 -- and is as long as its size.
-pub record IsPutOver (symbols : List Symbol) (maps : Maps) (name : List ℕ) (place : ℕ) (global : Global) : Type 0 where
+pub record IsPutOver (symbols : List Symbol) (maps : Maps) (name : List ℕ) (place : ℕ)
+    (global : Global) : Type 0 where
   pub symbol : Symbol
   pub named : symbol_named symbols global.0 ≡ Some symbol
   pub map : MapView
@@ -40,7 +41,8 @@ IsLeft i object name place = IsOutside (symbols_of i.file) object.maps i.setting
 
 -- A map of a plan is one of an object, under the number that is set for it and as long as it was.
 -- No byte is another but where the value of a global variable goes over it.
-pub record IsMapOf (i : Inputs) (object : State) (e : List ℕ × MapView) (m : MapContent) : Type 0 where
+pub record IsMapOf (i : Inputs) (object : State) (e : List ℕ × MapView) (m : MapContent)
+    : Type 0 where
   pub name : m.name ≡ e.0
   pub number : set_number i.settings e.0 ≡ Some m.number
   pub sized : length m.contents ≡ length e.1.contents

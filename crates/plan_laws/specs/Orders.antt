@@ -67,7 +67,8 @@ pub record IsOrderFree (reached : ℕ → Bool) (answers : Answers) (object : St
 -- then both orders come to the same plans, the kernel tables that relocations matched among all
 -- else that a plan says
 pub record OrdersAgree : Type 0 where
-  pub each : (i : Inputs) (u : Under) (object : State) (reached : ℕ → Bool) → IsOrderFree reached u.answers object
+  pub each : (i : Inputs) (u : Under) (object : State) (reached : ℕ → Bool)
+      → IsOrderFree reached u.answers object
       → (plan : PlanContent)
       → (IsMadePlan (in_order RelocateFirst i) u object plan
       → IsMadePlan (in_order RewriteFirst i) u object plan)
@@ -75,7 +76,8 @@ pub record OrdersAgree : Type 0 where
       → IsMadePlan (in_order RelocateFirst i) u object plan)
 
 -- under any answers that go by the feature alone
-pub record IsOrderFreeFor (reached : ℕ → Bool) (grants : BtfFeature → Bool) (object : State) : Type 0 where
+pub record IsOrderFreeFor (reached : ℕ → Bool) (grants : BtfFeature → Bool) (object : State)
+    : Type 0 where
   pub each : (answers : Answers) → GoByFeature grants answers → IsOrderFree reached answers object
 
 -- Under that premise plans of a file's object are equal, each in an order of its own: under the
@@ -87,7 +89,8 @@ pub record OrdersPlanAlike : Type 0 where
       → IsPlanUnder (in_order order i) u a
       → IsPlanUnder (in_order other i) u b
       → a ≡ b
-  pub kernel : (order other : Order) (i : Inputs) → IsKnown i → (grants : BtfFeature → Bool) (has_helpers : Bool)
+  pub kernel : (order other : Order) (i : Inputs) → IsKnown i → (grants : BtfFeature → Bool)
+      (has_helpers : Bool)
       → (object : State)
       → IsWholeObject i.file object
       → (reached : ℕ → Bool)
@@ -101,7 +104,8 @@ pub record OrdersRefuseAlike : Type 0 where
       → IsWholeObject i.file object → (reached : ℕ → Bool) → IsOrderFree reached u.answers object
       → (plan : PlanContent) (e : PrepareError) → IsPlanUnder (in_order order i) u plan
       → IsRefusalUnder (in_order other i) u e → ⊥
-  pub kernel : (order other : Order) (i : Inputs) → IsKnown i → (grants : BtfFeature → Bool) (has_helpers : Bool)
+  pub kernel : (order other : Order) (i : Inputs) → IsKnown i → (grants : BtfFeature → Bool)
+      (has_helpers : Bool)
       → (object : State)
       → IsWholeObject i.file object
       → (reached : ℕ → Bool)

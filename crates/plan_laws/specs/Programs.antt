@@ -20,7 +20,8 @@ use Rattle.plan_text.specs.Content.{PlanContent, ProgramContent}
 -- The bytes of a plan's types hold a table, of which the record of each id needs features alone
 -- that the plan says are granted; a section without entries that came with a size needs no more
 -- than one with entries.
-pub record HoldsGranted (object : State) (table : Table) (features : Answers) (bytes : List ℕ) : Type 0 where
+pub record HoldsGranted (object : State) (table : Table) (features : Answers) (bytes : List ℕ)
+    : Type 0 where
   pub old : object.types ≡ Some table
   pub held : Table
   pub holds : HoldsTable table.order bytes held
@@ -58,10 +59,12 @@ pub record IsDescribed (u : Unlinked) (t : Functions) (o : State) (plan : PlanCo
   pub types : TypesAreGranted o plan.features plan.type_bytes
 
 -- the programs of a plan are so
-pub record AreDescribed (i : Inputs) (u : Under) (object : State) (plan : PlanContent) : Type 0 where
+pub record AreDescribed (i : Inputs) (u : Under) (object : State) (plan : PlanContent)
+    : Type 0 where
   pub patched : State
   pub made : Made (patching i.order) i u object patched
-  pub programs : AllZip (IsDescribed (unlinked_of patched) (source u patched) object plan) object.programs
+  pub programs : AllZip
+      (IsDescribed (unlinked_of patched) (source u patched) object plan) object.programs
       plan.programs
 
 -- so are those of each plan

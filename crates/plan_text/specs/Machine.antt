@@ -110,7 +110,9 @@ step_types _ s type_bytes = None
 
 abbrev pub step_map : Phase → StateContent → MapContent → Option StateContent
 step_map AtMaps s m =
-    if follows (last_map_name s) m.name then Some (record s { maps = with_last s.maps s.last_map; last_map = Some m }) else None
+    if follows (last_map_name s) m.name
+    then Some (record s { maps = with_last s.maps s.last_map; last_map = Some m })
+    else None
 step_map _ s m = None
 
 -- a map without words of maps that it holds may have these
@@ -129,7 +131,12 @@ step_inner _ s words = None
 abbrev pub begin_program : StateContent → ProgramContent → Option StateContent
 begin_program s p =
     if follows (last_program_name s) p.name
-    then Some (record s { phase = AtSlots; programs = with_last s.programs s.last_program; last_program = Some p }) else None
+    then Some (record s {
+      phase = AtSlots;
+      programs = with_last s.programs s.last_program;
+      last_program = Some p;
+    })
+    else None
 
 abbrev pub step_program : Phase → StateContent → ProgramContent → Option StateContent
 step_program AtMaps s p = begin_program s p

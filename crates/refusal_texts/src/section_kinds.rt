@@ -8,7 +8,7 @@ const FIRST_PIECES: &str =
 
 /// What stands after some of them.
 const ENDINGS: &str =
-    "with .multi or .s behind uprobe and uretprobe, .s behind fentry, fexit, iter and lsm, .frags behind xdp";
+    "with .multi or .s after uprobe and uretprobe, .s after fentry, fexit, iter and lsm, .frags after xdp";
 
 /// What stands after a first piece that doesn't decide alone.
 fn second_pieces(first: &str) -> Option<&'static str> {
@@ -36,7 +36,7 @@ fn first_piece(section: &str) -> &str {
 pub(crate) fn section_hint(alloc: Global, section: &str) -> Result<String, AllocError> {
     let first = first_piece(section);
     match second_pieces(first) {
-        Some(second) => format!(in alloc; "behind {first} stands {second}"),
+        Some(second) => format!(in alloc; "after {first} may stand {second}"),
         None => format!(in alloc;
             "up to its first / the name of a program's section is one of {FIRST_PIECES}, {ENDINGS}"
         ),

@@ -14,7 +14,9 @@ HasReachedField reached v = IfSome v.field (λ f. reached f.type_id ≡ true)
 -- the value of a path is the same in every other table that agrees on what the path reaches, and
 -- its field's type is reached
 pub record ValuesRest : Type 0 where
-  pub same : (reached : ℕ → Bool) (one other : Table) → AreAlike reached one other → (kind : RelocationKind) (path : AccessPath) → IsReachedPath reached path
+  pub same : (reached : ℕ → Bool) (one other : Table) → AreAlike reached one other
+      → (kind : RelocationKind) (path : AccessPath) → IsReachedPath reached path
       → path_value other kind path ≡ path_value one kind path
-  pub within : (reached : ℕ → Bool) (one other : Table) → AreAlike reached one other → (kind : RelocationKind) (path : AccessPath) → IsReachedPath reached path
+  pub within : (reached : ℕ → Bool) (one other : Table) → AreAlike reached one other
+      → (kind : RelocationKind) (path : AccessPath) → IsReachedPath reached path
       → IfOk (path_value one kind path) (HasReachedField reached)

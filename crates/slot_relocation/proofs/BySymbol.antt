@@ -21,10 +21,10 @@ not_refused c w e = absurd (cc)
 pub not_skipped : (w : Write) → ◌≡◌ {A = Outcome Fault} Skipped (Written w) → ⊥
 not_skipped w e = absurd (cc)
 
--- what stood after an option
-pub behind : {A : Type 0} (o : Option A) (h : A → Outcome Fault) (d : Outcome Fault) (w : Write) → (d ≡ Written w → ⊥) → option_map_or h o d ≡ Written w → (a : A) × (o ≡ Some a) × (h a ≡ Written w)
-behind None h d w never e = absurd (never e)
-behind (Some a) h d w never e = (a, refl, e)
+-- what stood under an option
+pub under_option : {A : Type 0} (o : Option A) (h : A → Outcome Fault) (d : Outcome Fault) (w : Write) → (d ≡ Written w → ⊥) → option_map_or h o d ≡ Written w → (a : A) × (o ≡ Some a) × (h a ≡ Written w)
+under_option None h d w never e = absurd (never e)
+under_option (Some a) h d w never e = (a, refl, e)
 
 whole_slot : (slots : List bpf_insn) (distance : ℕ) (b : Bool) (slot : bpf_insn) → cond b (slice_get slots (distance / 8)) None ≡ Some slot → (b ≡ true) × (slice_get slots (distance / 8) ≡ Some slot)
 whole_slot slots distance true slot e = (refl, e)
@@ -46,7 +46,7 @@ pub stands : (file : List ℕ) (does : Does) (slots : List bpf_insn) (distance :
 stands file does slots distance r w e =
     let next = slice_get slots (distance / 8 + 1) in
     let index = symbol_index r in
-    let slot = behind (slot_at slots distance) (λ slot. outcome_of file does slot next r) (Refused InvalidOffset) w (not_refused InvalidOffset w) e in
-    let symbol = behind (symbol_at file index) (does slot.0 next index) (Refused (UnknownSymbol index)) w (not_refused (UnknownSymbol index) w) slot.2 in
+    let slot = under_option (slot_at slots distance) (λ slot. outcome_of file does slot next r) (Refused InvalidOffset) w (not_refused InvalidOffset w) e in
+    let symbol = under_option (symbol_at file index) (does slot.0 next index) (Refused (UnknownSymbol index)) w (not_refused (UnknownSymbol index) w) slot.2 in
     let at = whole_slot slots distance (distance % 8 == 0) slot.0 slot.1 in
     record { slot = slot.0; symbol = symbol.0; whole = is_zero (distance % 8) at.0; at = at.1; known = symbol.1; made = symbol.2 }

@@ -15,7 +15,7 @@ use Rattle.slot_relocation.specs.BySymbol.{symbol_index}
 use Rattle.slot_relocation.specs.Maps.{MapsGiven, NumberedMap, fits_32_bits, has_functions, map_for, map_rule, outcome_by, outcome_for, outcome_in, variable_write}
 use Rattle.slot_relocation.specs.Slots.{with_number}
 use Rattle.slot_relocation.specs.Laws.{map_by, map_of, mark_of}
-use Rattle.slot_relocation.proofs.BySymbol.{behind, not_refused, not_skipped, stands}
+use Rattle.slot_relocation.proofs.BySymbol.{under_option, not_refused, not_skipped, stands}
 
 abbrev first_in : bpf_insn → Outcome Fault → bpf_insn
 first_in d (Written w) = w.first
@@ -32,7 +32,7 @@ where_fits false v w e = absurd (not_refused InvalidOffset w e)
 first_for : (m : NumberedMap) (bytes : List ℕ) (slot : bpf_insn) (next : Option bpf_insn) (address : ℕ) (w : Write) → outcome_for m bytes slot next address ≡ Written w → w.first ≡ with_number slot (mark_of bytes) m.number
 first_for m [] slot next address w e = sym (ap (first_in slot) e)
 first_for m (byte ∷ bytes) slot next address w e =
-    let n = behind next (λ n. variable_write m slot n (slot.imm +ℤ pos address)) (Refused InvalidOffset) w (not_refused InvalidOffset w) e in
+    let n = under_option next (λ n. variable_write m slot n (slot.imm +ℤ pos address)) (Refused InvalidOffset) w (not_refused InvalidOffset w) e in
     sym (ap (first_in slot) (where_fits (fits_32_bits (slot.imm +ℤ pos address)) (record { first = with_number slot 2 m.number; next = Some (record n.0 { imm = slot.imm +ℤ pos address }) }) w n.2))
 
 -- the slot that is written, and the map whose number it gets
@@ -52,9 +52,9 @@ made_by g slots distance r w e =
     let next = slice_get slots (distance / 8 + 1) in
     let index = symbol_index r in
     let s = stands g.file (outcome_by g.text_sections g.maps) slots distance r w e in
-    let section = behind s.symbol.section_index (outcome_in g.text_sections g.maps s.slot next index s.symbol) Skipped w (not_skipped w) s.made in
+    let section = under_option s.symbol.section_index (outcome_in g.text_sections g.maps s.slot next index s.symbol) Skipped w (not_skipped w) s.made in
     let kept = unless (is_pseudo_call s.slot || has_functions g.text_sections section.0) _ w section.2 in
-    let map = behind (map_for g.maps index section.0) (λ m. outcome_for m m.map.contents s.slot next s.symbol.address) (Refused (NoMap section.0 index)) w (not_refused (NoMap section.0 index) w) kept in
+    let map = under_option (map_for g.maps index section.0) (λ m. outcome_for m m.map.contents s.slot next s.symbol.address) (Refused (NoMap section.0 index)) w (not_refused (NoMap section.0 index) w) kept in
     record {
       slot = s.slot;
       map = map.0;

@@ -41,8 +41,8 @@ above : (a b : ℕ) → nat_cmp a b ≡ Less → a < b
 above a b h = ranked a b Less (sym h)
 
 -- a later whole slot stands after
-behind_of : (start a b : ℕ) → start ≤ a → a < b → (a - start) % 8 ≡ 0 → (b - start) % 8 ≡ 0 → (a - start) / 8 < (b - start) / 8
-behind_of start a b from less whole other = omega arith
+after_of : (start a b : ℕ) → start ≤ a → a < b → (a - start) % 8 ≡ 0 → (b - start) % 8 ≡ 0 → (a - start) / 8 < (b - start) / 8
+after_of start a b from less whole other = omega arith
 
 not_at : (p q : ℕ) (w : Write) → q < p → Reaches p w q → ⊥
 not_at p q w less (inl same) = omega arith
@@ -52,7 +52,7 @@ later_stay : (file : List ℕ) (does : Does) (f : FunctionContent) (r : Placed) 
 later_stay file does f r slots [] from whole up = refl
 later_stay file does f r slots (x ∷ rest) from whole up =
     later_stay file does f r (after_one (symbol_rule file does) f slots x) rest from whole up.1
-    ∙ stays_at (symbol_rule file does) f slots x (index_of_slot f r.0) (λ w made. not_at (index_of_slot f x.0) (index_of_slot f r.0) w (behind_of f.section_offset r.0 x.0 from (above r.0 x.0 up.0) whole (stands file does slots (distance f x.0) x.1 w made).whole))
+    ∙ stays_at (symbol_rule file does) f slots x (index_of_slot f r.0) (λ w made. not_at (index_of_slot f x.0) (index_of_slot f r.0) w (after_of f.section_offset r.0 x.0 from (above r.0 x.0 up.0) whole (stands file does slots (distance f x.0) x.1 w made).whole))
 
 inside_passed : (f : FunctionContent) (rs : List Placed) → AllByRecursion (λ r. is_inside f r.0 ≡ true) rs → AllInside f rs
 inside_passed f [] all = tt

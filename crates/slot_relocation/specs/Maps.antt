@@ -62,7 +62,11 @@ map_write m slot = Written (record { first = with_number slot 1 m.number; next =
 -- in the value is the next slot's immediate.
 abbrev pub variable_write : NumberedMap → bpf_insn → bpf_insn → ℤ → Outcome Fault
 variable_write m slot next place =
-    if fits_32_bits place then Written (record { first = with_number slot 2 m.number; next = Some (record next { imm = place }) })
+    if fits_32_bits place
+    then Written (record {
+      first = with_number slot 2 m.number;
+      next = Some (record next { imm = place });
+    })
     else Refused InvalidOffset
 
 -- a variable stands where the slot's immediate leads from its symbol's address

@@ -11,7 +11,8 @@ use Rattle.slot_relocation.specs.declared.outcome.Write.{Write}
 use Rattle.slot_relocation.specs.Writes.{RuleOf, after_all, outcome_at, index_of_slot, relocations_inside}
 
 -- one of a function's relocations writes this, by the slots after those before it
-pub record Makes {A E : Type 0} (rule : RuleOf A E) (f : FunctionContent) (rs : List (ℕ × A)) (r : ℕ × A) (w : Write) : Type 0 where
+pub record Makes {A E : Type 0} (rule : RuleOf A E) (f : FunctionContent) (rs : List (ℕ × A))
+    (r : ℕ × A) (w : Write) : Type 0 where
   pub before : List (ℕ × A)
   pub rest : List (ℕ × A)
   pub split : before ++ (r ∷ rest) ≡ rs
@@ -26,7 +27,8 @@ abbrev pub Reaches : ℕ → Write → ℕ → Type 0
 Reaches at w place = (at ≡ place) ⊎ ((is_some w.next ≡ true) × (at + 1 ≡ place))
 
 -- some relocation writes the slot of a place
-pub record IsWritten {A E : Type 0} (rule : RuleOf A E) (f : FunctionContent) (rs : List (ℕ × A)) (place : ℕ) : Type 0 where
+pub record IsWritten {A E : Type 0} (rule : RuleOf A E) (f : FunctionContent) (rs : List (ℕ × A))
+    (place : ℕ) : Type 0 where
   pub relocation : ℕ × A
   pub write : Write
   pub made : Makes rule f rs relocation write
@@ -50,7 +52,8 @@ pub record OneWrites (A E : Type 0) : Type 0 where
       → slice_get (after_all rule f rs) place ≡ Some s
 
 -- one relocation alone writes the slot of a place, and puts this into it
-pub record WritesAlone {A E : Type 0} (rule : RuleOf A E) (f : FunctionContent) (rs : List (ℕ × A)) (place : ℕ) (s : bpf_insn) : Type 0 where
+pub record WritesAlone {A E : Type 0} (rule : RuleOf A E) (f : FunctionContent) (rs : List (ℕ × A))
+    (place : ℕ) (s : bpf_insn) : Type 0 where
   pub relocation : ℕ × A
   pub write : Write
   pub made : Makes rule f rs relocation write
@@ -66,7 +69,8 @@ pub record LengthsRemain (A E : Type 0) : Type 0 where
 
 -- so one that writes stands at a slot and is by a symbol, which say what it writes, and after all
 -- of them the slot carries that, whatever the others write
-pub record IsKept (file : List ℕ) (does : Does) (f : FunctionContent) (r : ℕ × Relocation) (w : Write) : Type 0 where
+pub record IsKept (file : List ℕ) (does : Does) (f : FunctionContent) (r : ℕ × Relocation)
+    (w : Write) : Type 0 where
   pub slot : bpf_insn
   pub next : Option bpf_insn
   pub symbol : Symbol

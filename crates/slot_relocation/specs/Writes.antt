@@ -99,7 +99,8 @@ HasFaultInside {A} {E} rule inside (g ∷ gs) =
     ⊎ HasFaultInside rule inside gs
 
 -- none has
-pub record AreFaultless {A E : Type 0} (rule : RuleOf A E) (inside : FunctionContent → List (ℕ × A)) (functions : List ((ℕ × ℕ) × FunctionContent)) : Type 0 where
+pub record AreFaultless {A E : Type 0} (rule : RuleOf A E) (inside : FunctionContent → List (ℕ × A))
+    (functions : List ((ℕ × ℕ) × FunctionContent)) : Type 0 where
   pub none : HasFaultInside rule inside functions → ⊥
 
 -- ---- relocations of the file's sections
@@ -175,5 +176,6 @@ HasErrorIn rule file (g ∷ gs) name e =
     HasError rule file g.1 name e ⊎ HasErrorIn rule file gs name e
 
 -- no relocation inside these functions has a fault
-pub record CanBeRelocated (rule : Rule) (file : List ℕ) (functions : List ((ℕ × ℕ) × FunctionContent)) : Type 0 where
+pub record CanBeRelocated (rule : Rule) (file : List ℕ)
+    (functions : List ((ℕ × ℕ) × FunctionContent)) : Type 0 where
   pub none : HasFaultInside rule (relocations_inside file) functions → ⊥

@@ -100,7 +100,7 @@ stands_at strings t offset left None e h l = absurd h
 stands_at strings t offset left (Some text) e h l =
     let b = begun (drop t.0 strings) text (text_here strings text t.0 e) in
     let end : offset + left ≡ t.0 + length text = l.end ∙ ap (λ (n : ℕ). t.0 + n) (sym h) in
-    stands_by strings text b.more offset left t.0 (text_utf8 strings text t.0 e) b.plain b.is l.behind end
+    stands_by strings text b.more offset left t.0 (text_utf8 strings text t.0 e) b.plain b.is l.after end
 
 pub left_stands : (strings rest : List ℕ) (known : KnownTexts) (t : ℕ × ℕ) (offset left : ℕ) → rest ≡ drop offset strings → AreLongTextsOf strings known → Contains known.texts t → IsLeft t offset left → StandsLeft rest left
 left_stands strings rest known t offset left is a c l = rw is (stands_at strings t offset left (text_at strings t.0) refl (All-contains (IsTextIn strings) known.texts t a.stand c) l)

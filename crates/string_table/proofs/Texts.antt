@@ -14,9 +14,9 @@ abbrev nul_at : List ℕ → ℕ
 nul_at bytes = position_or_len (λ b. b == 0) bytes
 
 -- the bytes before the first NUL by cases on the first byte
-abbrev behind_first : Bool → ℕ → Option (List ℕ) → Option (List ℕ)
-behind_first true b rest = Some []
-behind_first false b rest = option_map (λ bs. b ∷ bs) rest
+abbrev after_first : Bool → ℕ → Option (List ℕ) → Option (List ℕ)
+after_first true b rest = Some []
+after_first false b rest = option_map (λ bs. b ∷ bs) rest
 
 taken : (test : Bool) (b n : ℕ) (bs : List ℕ) → option_map (λ len. take len (b ∷ bs)) (cond test (Some (1 + n)) None) ≡ option_map (λ t. b ∷ t) (option_map (λ len. take len bs) (cond test (Some n) None))
 taken true b n bs = ap (λ (m : ℕ). Some (take m (b ∷ bs))) (let e : 1 + n ≡ suc n = omega arith in e)
@@ -25,11 +25,11 @@ taken false b n bs = refl
 shifted : (a b : ℕ) → nat_lt (1 + a) (suc b) ≡ nat_lt a b
 shifted a b = grind (arith, nat_tests)
 
-before_nul_by : (test : Bool) (b : ℕ) (bs : List ℕ) → option_map (λ len. take len (b ∷ bs)) (cond (nat_lt (cond (not test) (1 + nul_at bs) 0) (suc (length bs))) (Some (cond (not test) (1 + nul_at bs) 0)) None) ≡ behind_first test b (before_nul bs)
+before_nul_by : (test : Bool) (b : ℕ) (bs : List ℕ) → option_map (λ len. take len (b ∷ bs)) (cond (nat_lt (cond (not test) (1 + nul_at bs) 0) (suc (length bs))) (Some (cond (not test) (1 + nul_at bs) 0)) None) ≡ after_first test b (before_nul bs)
 before_nul_by true b bs = let some : nat_lt 0 (suc (length bs)) ≡ true = grind (arith, nat_tests) in rw some refl
 before_nul_by false b bs = rw (shifted (nul_at bs) (length bs)) (taken (nat_lt (nul_at bs) (length bs)) b (nul_at bs) bs)
 
-before_nul-cons : (b : ℕ) (bs : List ℕ) → before_nul (b ∷ bs) ≡ behind_first (nat_eq b 0) b (before_nul bs)
+before_nul-cons : (b : ℕ) (bs : List ℕ) → before_nul (b ∷ bs) ≡ after_first (nat_eq b 0) b (before_nul bs)
 before_nul-cons b bs = before_nul_by (nat_eq b 0) b bs
 
 -- a text and a NUL stand at the beginning
@@ -60,26 +60,26 @@ pub begins : (bytes text : List ℕ) → Begins bytes text → before_nul bytes 
 begins bytes text b = ap before_nul b.is ∙ begins_text text b.more b.plain
 
 -- the rest begins so
-begun_behind : (b : ℕ) (bs text : List ℕ) (test : Bool) (rest : Option (List ℕ)) → nat_eq b 0 ≡ test → before_nul bs ≡ rest → ((t : List ℕ) → before_nul bs ≡ Some t → Begins bs t) → behind_first test b rest ≡ Some text → Begins (b ∷ bs) text
-begun_behind b bs text true rest is_nul is go e =
+begun_after : (b : ℕ) (bs text : List ℕ) (test : Bool) (rest : Option (List ℕ)) → nat_eq b 0 ≡ test → before_nul bs ≡ rest → ((t : List ℕ) → before_nul bs ≡ Some t → Begins bs t) → after_first test b rest ≡ Some text → Begins (b ∷ bs) text
+begun_after b bs text true rest is_nul is go e =
     let none : [] ≡ text = cc in
     let nul : b ≡ 0 = grind (arith, nat_tests) in
     rw (← none, nul) (record { more = bs; is = refl; plain = refl })
-begun_behind b bs text false None is_nul is go e = absurd cc
-begun_behind b bs text false (Some t) is_nul is go e =
+begun_after b bs text false None is_nul is go e = absurd cc
+begun_after b bs text false (Some t) is_nul is go e =
     let whole : b ∷ t ≡ text = cc in
     let rest = go t is in
     rw (← whole) (record { more = rest.more; is = ap (λ (xs : List ℕ). b ∷ xs) rest.is; plain = both_false (nat_eq b 0) (list_any (λ c. c == 0) t) is_nul rest.plain })
 
 pub begun : (bytes text : List ℕ) → before_nul bytes ≡ Some text → Begins bytes text
 begun [] text e = absurd cc
-begun (b ∷ bs) text e = begun_behind b bs text (nat_eq b 0) (before_nul bs) refl refl (λ t is. begun bs t is) (sym (before_nul-cons b bs) ∙ e)
+begun (b ∷ bs) text e = begun_after b bs text (nat_eq b 0) (before_nul bs) refl refl (λ t is. begun bs t is) (sym (before_nul-cons b bs) ∙ e)
 
 -- what is compared, where a text and a NUL stand at the beginning
 pub record Compared (bytes text : List ℕ) : Type 0 where
   pub more : List ℕ
   pub prefix : take (length text) bytes ≡ text
-  pub behind : drop (length text) bytes ≡ 0 ∷ more
+  pub after : drop (length text) bytes ≡ 0 ∷ more
   pub plain : list_any (λ b. b == 0) text ≡ false
 
 pub compared : (bytes text : List ℕ) → before_nul bytes ≡ Some text → Compared bytes text
@@ -88,14 +88,14 @@ compared bytes text e =
     record {
       more = b.more;
       prefix = ap (take (length text)) b.is ∙ take-append_seam text (0 ∷ b.more);
-      behind = ap (drop (length text)) b.is ∙ drop-append_seam text (0 ∷ b.more);
+      after = ap (drop (length text)) b.is ∙ drop-append_seam text (0 ∷ b.more);
       plain = b.plain;
     }
 
 pub equal_by_bytes : (bytes text : List ℕ) → Compared bytes text → before_nul bytes ≡ Some text
 equal_by_bytes bytes text c =
     let whole : take (length text) bytes ++ drop (length text) bytes ≡ bytes = take-append-drop (length text) bytes in
-    let parts : take (length text) bytes ++ drop (length text) bytes ≡ text ++ 0 ∷ c.more = rw (c.prefix, c.behind) refl in
+    let parts : take (length text) bytes ++ drop (length text) bytes ≡ text ++ 0 ∷ c.more = rw (c.prefix, c.after) refl in
     begins bytes text (record { more = c.more; is = sym whole ∙ parts; plain = c.plain })
 
 utf8_text : (test : Bool) (text : List ℕ) → test ≡ true → cond test (Some text) None ≡ Some text

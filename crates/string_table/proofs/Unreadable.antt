@@ -124,9 +124,9 @@ no_nul bytes (Some text) e plain =
     let nul : list_any (λ b. b == 0) bytes ≡ true = ap (λ (bs : List ℕ). list_any (λ b. b == 0) bs) b.is ∙ has_nul text b.more in
     absurd cc
 
-pub none_behind : (strings : List ℕ) (end offset : ℕ) → IsLastNulBefore strings end → end ≤ offset → None ≡ text_at strings offset
+pub none_after : (strings : List ℕ) (end offset : ℕ) → IsLastNulBefore strings end → end ≤ offset → None ≡ text_at strings offset
 unfolding text_at
-none_behind strings end offset ended le =
+none_after strings end offset ended le =
     let k : ℕ = offset - end in
     let at : end + k ≡ offset = omega (arith, le) in
     let tail : drop offset strings ≡ drop k (drop end strings) = ap (λ (n : ℕ). drop n strings) (sym at) ∙ sym (drop-drop k end strings) in
@@ -154,10 +154,10 @@ text_step bytes rest after last valid e le is before not v taken =
     let none : IsNoTextBefore bytes (start + (valid + 1)) = no_text_before bytes rest start valid whole is before not v in
     (omega (arith, le, short), tail ∙ ap (λ (n : ℕ). drop n bytes) at, subst (IsNoTextBefore bytes) at none)
 
-pub none_behind_end : (strings : List ℕ) (seen known : KnownTexts) (offset : ℕ) → seen ≡ known → AreLongTextsOf strings known → seen.end ≤ offset → None ≡ text_at strings offset
-none_behind_end strings seen known offset e a le =
+pub none_after_end : (strings : List ℕ) (seen known : KnownTexts) (offset : ℕ) → seen ≡ known → AreLongTextsOf strings known → seen.end ≤ offset → None ≡ text_at strings offset
+none_after_end strings seen known offset e a le =
     let P : KnownTexts → Type 0 = λ k. IsLastNulBefore strings k.end in
-    none_behind strings seen.end offset (subst P (sym e) a.ended) le
+    none_after strings seen.end offset (subst P (sym e) a.ended) le
 
 pub stretch_entered : {Y : Type 0} (pair : Y → ℕ × ℕ) (strings : List ℕ) (seen known : KnownTexts) (old new : List Y) (y : Y) → seen ≡ known → AreLongTextsOf strings known → seen.unreadable ≡ map pair old → new ≡ old ++ y ∷ [] → IsUnreadableIn strings (pair y) → AreLongTextsOf strings (record seen { unreadable = map pair new })
 stretch_entered pair strings seen known old new y e a is more here =

@@ -12,7 +12,7 @@ pub record IsEnd (bytes : List ℕ) : Type 0 where
 
 -- how many bytes of a text are left from an offset on that lies in it
 pub record IsLeft (text : ℕ × ℕ) (offset left : ℕ) : Type 0 where
-  pub behind : text.0 ≤ offset
+  pub after : text.0 ≤ offset
   pub end : offset + left ≡ text.0 + text.1
 
 -- none of the ends that begin before an index is UTF-8

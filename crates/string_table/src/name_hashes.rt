@@ -38,8 +38,8 @@ fn last_bytes(bytes: &[u8]) -> &[u8]
     &bytes[bytes.len().saturating_sub(HASHED)..]
 }
 
-/// A hash of a name, by its length, its first 1,024 bytes and the last 1,024 after these. Names of
-/// one hash can't be made on purpose unless they are longer than 2,048 bytes.
+/// A hash of a name, by its length, its first 1,024 bytes and the last 1,024 after these. No way is
+/// known to make many names of one hash, but such as are longer than that.
 #[tactic(auto, unfolding(crate::specs::NameHashes::name_hash))]
 pub fn name_hash(name: &str) -> u64
     ensures { result ≡ name_hash name.now }

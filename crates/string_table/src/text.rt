@@ -60,10 +60,10 @@ pub(crate) fn from_offset(strings: &[u8], offset: u32) -> Option<&[u8]>
 fn begins_with(bytes: &[u8], text: &[u8]) -> bool
     ensures { IsTrue result ↔ (before_nul bytes.now ≡ Some text.now) }
 {
-    let Some(behind) = bytes.strip_prefix(text) else {
+    let Some(after) = bytes.strip_prefix(text) else {
         return false;
     };
-    let Some(next) = behind.first() else {
+    let Some(next) = after.first() else {
         return false;
     };
     if *next != 0 {

@@ -29,13 +29,13 @@ const INSIDE: [u32; 19] = [
 ];
 
 /// The same, a union after a CONST, by an empty name.
-const BEHIND_CONST: [u32; 25] = [
+const AFTER_CONST: [u32; 25] = [
     0, INT, 4, 0x20, 0, UNION_2, 8, B, 1, 0, A, 1, 0, 0, CONST, 2, S, STRUCT_2, 16, D, 1, 0, EMPTY,
     3, 64,
 ];
 
 /// A nameless struct with a pointer `a`, and after it the integer `a`.
-const BEHIND_POINTER: [u32; 22] = [
+const AFTER_POINTER: [u32; 22] = [
     0, INT, 4, 0x20, 0, PTR, 1, 0, STRUCT_1, 8, A, 2, 0, S, STRUCT_2, 16, 0, 3, 0, A, 1, 64,
 ];
 
@@ -70,8 +70,8 @@ const NO_TEXT: Answer = Answer::Kernel(0, 2, Fault::InvalidStringOffset(23));
 /// Kernels, and where they have `a` of the object's `s`.
 static KERNELS: [(&[u32], Answer); 11] = [
     (&INSIDE, Answer::Field(12, 1, 4)),
-    (&BEHIND_CONST, Answer::Field(8, 1, 4)),
-    (&BEHIND_POINTER, Answer::Field(8, 1, 4)),
+    (&AFTER_CONST, Answer::Field(8, 1, 4)),
+    (&AFTER_POINTER, Answer::Field(8, 1, 4)),
     (&POINTER_FIRST, Answer::Poison),
     (&INSIDE_FIRST, Answer::Field(4, 1, 4)),
     (&PASSED, Answer::Field(4, 1, 4)),

@@ -11,22 +11,22 @@ use std::collections::BTreeMap;
 
 /// The sizes of a type before and after a rewriting, and the answers on which that rests.
 #[derive(Drop)]
-pub struct SizeBehind {
+pub struct SizeAfter {
     pub answers: Answers,
     pub before: Option<u64>,
-    pub behind: Option<u64>,
+    pub after: Option<u64>,
 }
 
 /// Asks for the size of a type before and after a rewriting. They are the same where the records
 /// that are reached from the type stay.
-pub fn size_behind<'m, 'n, F: FnMut(BtfFeature) -> bool>(
+pub fn size_after<'m, 'n, F: FnMut(BtfFeature) -> bool>(
     table: &mut Btf<'_>,
     sizes: &'m BTreeMap<&'n str, u64>,
     offsets: &'m BTreeMap<&'n str, u64>,
     ksyms: Option<KsymsIds>,
     predicate: F,
     type_id: u32,
-) -> Result<SizeBehind, BtfError>
+) -> Result<SizeAfter, BtfError>
     requires { F.IsAlwaysCallable predicate }
     ensures { IfOk result (λ sizes_of.
         (reached : ℕ → Bool)
@@ -35,14 +35,14 @@ pub fn size_behind<'m, 'n, F: FnMut(BtfFeature) -> bool>(
         (facts_in sizes_of.answers.items (number_named sizes.now.entries)
         (number_named offsets.now.entries) (stepped ksyms table.old))) reached table.old
         → reached type_id ≡ true
-        → sizes_of.behind ≡ sizes_of.before) }
+        → sizes_of.after ≡ sizes_of.before) }
 {
     let before = table.type_size(type_id).ok();
     let answers = table.fixup_and_sanitize(sizes, offsets, ksyms, predicate)?;
-    let behind = table.type_size(type_id).ok();
-    Ok(SizeBehind {
+    let after = table.type_size(type_id).ok();
+    Ok(SizeAfter {
         answers,
         before,
-        behind,
+        after,
     })
 }

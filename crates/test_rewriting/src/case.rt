@@ -127,25 +127,25 @@ fn becomes(
     alloc: Global,
     order: Endianness,
     case: &Case,
-    [before, behind]: [&[u8]; 2],
+    [before, after]: [&[u8]; 2],
 ) -> bool {
     let Ok(mut table) = Btf::parse(alloc, before, order) else {
         return false;
     };
     let outcome = sanitize(rt, alloc, &mut table, &SIZES, case.ksyms, case.granted);
-    are_answers(&outcome, case.answers) && is_written_as(&table, behind)
+    are_answers(&outcome, case.answers) && is_written_as(&table, after)
 }
 
 fn is_rewritten(rt: &impl Abort, alloc: Global, order: Endianness, case: &Case) -> bool {
     let before = section(alloc, order, case.types, case.strings, &[]).expect(rt, "a section");
-    let behind = section(alloc, order, case.rewritten, case.strings, case.added);
-    let behind = behind.expect(rt, "a section");
+    let after = section(alloc, order, case.rewritten, case.strings, case.added);
+    let after = after.expect(rt, "a section");
     becomes(
         rt,
         alloc,
         order,
         case,
-        [before.as_slice(), behind.as_slice()],
+        [before.as_slice(), after.as_slice()],
     )
 }
 

@@ -76,19 +76,19 @@ static STEPS: [Step; 4] = [
 ];
 
 /// Whether the table of a section becomes that of another, as its step says.
-fn becomes(alloc: Global, order: Endianness, step: &Step, [before, behind]: [&[u8]; 2]) -> bool {
+fn becomes(alloc: Global, order: Endianness, step: &Step, [before, after]: [&[u8]; 2]) -> bool {
     let Ok(mut table) = Btf::parse(alloc, before, order) else {
         return false;
     };
     let outcome = table.fixup_ksyms_datasec(step.section, step.placeholder);
-    outcome.is_ok() && is_written_as(&table, behind)
+    outcome.is_ok() && is_written_as(&table, after)
 }
 
 fn is_stepped(rt: &impl Abort, alloc: Global, order: Endianness, step: &Step) -> bool {
     let before = section(alloc, order, step.types, &STRINGS, &[]).expect(rt, "a section");
-    let behind = section(alloc, order, step.stepped, &STRINGS, step.added);
-    let behind = behind.expect(rt, "a section");
-    becomes(alloc, order, step, [before.as_slice(), behind.as_slice()])
+    let after = section(alloc, order, step.stepped, &STRINGS, step.added);
+    let after = after.expect(rt, "a section");
+    becomes(alloc, order, step, [before.as_slice(), after.as_slice()])
 }
 
 fn check_step(rt: &impl Abort, alloc: Global, step: &Step) {

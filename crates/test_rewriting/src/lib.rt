@@ -19,4 +19,4 @@ mod variables;
 #[cfg(test)]
 mod worked;
 
-pub use carried::{SizeBehind, size_behind};
+pub use carried::{SizeAfter, size_after};

@@ -51,7 +51,7 @@ struct Worked {
     sizes: &'static [(&'static str, u64)],
     granted: &'static [BtfFeature],
     answers: &'static [(BtfFeature, bool)],
-    behind: &'static [u8],
+    after: &'static [u8],
 }
 
 static WORKED: [Worked; 2] = [
@@ -61,7 +61,7 @@ static WORKED: [Worked; 2] = [
         sizes: &[],
         granted: &[],
         answers: &[(BtfFeature::Float, false)],
-        behind: &STRUCTS,
+        after: &STRUCTS,
     },
     Worked {
         title: "an empty section is filled",
@@ -72,7 +72,7 @@ static WORKED: [Worked; 2] = [
             (BtfFeature::DataSec, true),
             (BtfFeature::DataSecZero, false),
         ],
-        behind: &FILLED,
+        after: &FILLED,
     },
 ];
 
@@ -81,7 +81,7 @@ fn is_rewritten(rt: &impl Abort, alloc: Global, worked: &Worked) -> bool {
         return false;
     };
     let outcome = sanitize(rt, alloc, &mut table, worked.sizes, None, worked.granted);
-    are_answers(&outcome, worked.answers) && is_written_as(&table, worked.behind)
+    are_answers(&outcome, worked.answers) && is_written_as(&table, worked.after)
 }
 
 fn check(rt: &impl Abort, alloc: Global, worked: &Worked) {

@@ -83,7 +83,7 @@ const LOAD: [u8; 24] = [
 ];
 
 // The same, of a place 2 bytes after the symbol, with a number in the second slot.
-const LOAD_BEHIND: [u8; 24] = [
+const LOAD_AFTER: [u8; 24] = [
     0x18, 0x01, 0, 0, 2, 0, 0, 0, 0, 0, 0, 0, 5, 0, 0, 0, 0x95, 0, 0, 0, 0, 0, 0, 0,
 ];
 
@@ -148,7 +148,7 @@ static WRITES: [(Case, Both); 16] = [
         (Some([LIMIT_LOADED, [0, 0, 0, 0, 4, 0, 0, 0], EXIT]), None),
     ),
     (
-        (0, FAR, &LOAD_BEHIND, [(0, 3), NONE]),
+        (0, FAR, &LOAD_AFTER, [(0, 3), NONE]),
         (Some([LIMIT_LOADED, [0, 0, 0, 0, 6, 0, 0, 0], EXIT]), None),
     ),
     (

@@ -2,7 +2,7 @@
 
 ghost use Rattle.std.specs.Prelude.{◌+◌, ◌<◌, ◌≤◌, SomeIff, length};
 ghost use Rattle.btf_records.specs.Kinds.{kind_count, kind_of};
-ghost use Rattle.btf_encoding.specs.Records.{kind_number_at, len_behind, record_len};
+ghost use Rattle.btf_encoding.specs.Records.{kind_number_at, len_after, record_len};
 
 use btf_records::{Endianness, word};
 
@@ -10,7 +10,7 @@ use btf_records::{Endianness, word};
 #[tactic(auto, unfolding(btf_records::specs::Kinds::kind_of))]
 fn len_of(kind: u32, count: usize) -> Option<usize>
     requires { count < 65536 }
-    ensures { SomeIff result (kind < kind_count) (12 + len_behind (kind_of kind) count) }
+    ensures { SomeIff result (kind < kind_count) (12 + len_after (kind_of kind) count) }
 {
     match kind {
         0 | 2 | 7 | 8 | 9 | 10 | 11 | 12 | 16 | 18 => Some(12),

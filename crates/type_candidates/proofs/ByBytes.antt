@@ -5,7 +5,7 @@ use Rattle.std.specs.Ordering.{nat_cmp, is_eq}
 use Rattle.std.specs.Cmp.Lexicographic.{slice_cmp}
 use Rattle.std.specs.BTreeMap.{is_at}
 use Rattle.std.specs.Map.{lookup}
-use Rattle.type_candidates.specs.NamedTypes.{by_bytes}
+use Rattle.string_table.specs.Names.{by_bytes}
 
 chosen : {V : Type 0} (test : Bool) (v : V) (a b : Option V) → a ≡ b → cond test (Some v) a ≡ cond test (Some v) b
 chosen true v a b same = refl

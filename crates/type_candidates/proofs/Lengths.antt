@@ -8,7 +8,8 @@ use Rattle.std.specs.List.{list_any, starts_with}
 use Rattle.std.specs.Ordering.{nat_cmp}
 use Rattle.std.specs.Str.{bytes_eq}
 use Rattle.btf_tables.specs.EssentialNames.{essential_name}
-use Rattle.type_candidates.specs.NamedTypes.{AreLengths, by_bytes, may_end, number_of_name}
+use Rattle.type_candidates.specs.NamedTypes.{AreLengths, may_end, number_of_name}
+use Rattle.string_table.specs.Names.{by_bytes}
 use Rattle.type_candidates.proofs.ByBytes.{by_bytes-lookup}
 use Rattle.type_candidates.proofs.Numbers.{under}
 

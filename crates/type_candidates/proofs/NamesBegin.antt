@@ -9,7 +9,8 @@ use Rattle.btf_tables.specs.EssentialNames.{essential_name}
 use Rattle.first_bytes.specs.FirstBytes.{first_byte, is_marked}
 use Rattle.type_headers.specs.Beginnings.{beginning, beginning_of}
 use Rattle.type_candidates.specs.NameBeginnings.{AreBeginnings, MarksBeginnings}
-use Rattle.type_candidates.specs.NamedTypes.{by_bytes, number_of_name}
+use Rattle.type_candidates.specs.NamedTypes.{number_of_name}
+use Rattle.string_table.specs.Names.{by_bytes}
 use Rattle.type_candidates.proofs.ByBytes.{by_bytes-lookup}
 use Rattle.type_candidates.proofs.Numbers.{under}
 use Rattle.type_candidates.proofs.SeenTypes.{equal}

@@ -11,7 +11,8 @@ use Rattle.std.specs.declared.cmp.Ordering.{Ordering}
 use Rattle.btf_tables.specs.EssentialNames.{essential_name}
 use Rattle.string_table.specs.Texts.{text_at}
 use Rattle.type_candidates.specs.declared.long_names.LongName.{LongName}
-use Rattle.type_candidates.specs.NamedTypes.{AreNumbered, AreNumbersOf, IsNumberAt, by_bytes, number_of_name}
+use Rattle.type_candidates.specs.NamedTypes.{AreNumbered, AreNumbersOf, IsNumberAt, number_of_name}
+use Rattle.string_table.specs.Names.{by_bytes}
 use Rattle.type_candidates.proofs.ByBytes.{by_bytes-lookup}
 
 -- the number that stands under a name

@@ -1,7 +1,6 @@
 -- The types of a kernel that have wanted names, found in one walk over each table.
 use Rattle.std.specs.Prelude.{◌≡◌, ℕ, ◌<◌, ◌==◌, ◌&&◌, ◌||◌, nat_eq, codes, drop, length, not, All, Bool, true, false, List, [], ◌∷◌, ◌++◌, filter, find, map, slice_get, slice_index_or, IfSome, Option, None, Some, if◌then◌else◌}
 use Rattle.std.specs.BTreeMap.{is_at}
-use Rattle.std.specs.Borrow.{Bor}
 use Rattle.std.specs.Cmp.Lexicographic.{slice_cmp}
 use Rattle.std.specs.List.{IsAmong, flat_map, list_any, range_with_len, starts_with}
 use Rattle.std.specs.Map.{lookup}
@@ -19,10 +18,6 @@ use Rattle.type_candidates.specs.declared.kernel_type.KernelType.{KernelType}
 use Rattle.type_candidates.specs.declared.long_names.LongName.{LongName}
 use Rattle.type_candidates.specs.declared.sighting.Sighting.{Sighting}
 use Rattle.type_candidates.specs.declared.sighting.Sighting.TheVariants.{Named, Other, Unreadable}
-
--- maps whose keys are names: the entries by the bytes of their names
-abbrev pub by_bytes : {V : Type 0} → List (Bor (List ℕ) × V) → List (List ℕ × V)
-by_bytes entries = map (λ e. (e.0.now, e.1)) entries
 
 abbrev pub number_of_name : List (List ℕ × ℕ) → List ℕ → Option ℕ
 number_of_name numbers name = lookup (is_at (slice_cmp nat_cmp name)) numbers
@@ -55,7 +50,7 @@ IsNumberAt numbers strings found =
     IsSomeAnd (text_at strings found.offset) (λ text.
     number_of_name numbers (essential_name text) ≡ found.number)
 
--- of all names of a table that were looked up
+-- the same of all long names of a table that were looked up
 abbrev pub AreNumbersOf : List (List ℕ × ℕ) → List ℕ → List LongName → Type 0
 AreNumbersOf numbers strings names = All (IsNumberAt numbers strings) names
 
@@ -101,21 +96,24 @@ is_unreadable_of kind (Unreadable other) = other == kind
 is_unreadable_of kind _ = false
 
 -- of which kinds the names of all types that were seen could be read
-pub record AreReadable (see : KernelType → Sighting) (seen : List KernelType) (unreadable : List Bool) : Type 0 where
+pub record AreReadable (see : KernelType → Sighting) (seen : List KernelType)
+    (unreadable : List Bool) : Type 0 where
   pub each : (kind : ℕ)
       → slice_index_or unreadable kind true ≡ false
       → find (λ place. is_unreadable_of kind (see place)) seen ≡ None
 
 -- by number, the types of that name among those that were seen; and of which kinds all names could
 -- be read
-pub record AreSeen (see : KernelType → Sighting) (seen : List KernelType) (named : List (List KernelType)) (unreadable : List Bool) : Type 0 where
+pub record AreSeen (see : KernelType → Sighting) (seen : List KernelType)
+    (named : List (List KernelType)) (unreadable : List Bool) : Type 0 where
   pub each : (number : ℕ)
       → IfSome (slice_get named number) (λ places.
       places ≡ filter (λ place. is_under number (see place)) seen)
   pub readable : AreReadable see seen unreadable
 
 -- one more is seen
-pub record IsNamedNext (sighting : Sighting) (place : KernelType) (old new : List (List KernelType)) : Type 0 where
+pub record IsNamedNext (sighting : Sighting) (place : KernelType) (old new : List (List KernelType))
+    : Type 0 where
   pub each : (number : ℕ)
       → IfSome (slice_get new number) (λ places.
       IsSomeAnd (slice_get old number) (λ before.
@@ -147,7 +145,8 @@ is_of_kind_at wanted targets place =
 
 -- the candidates are those of these types that are of the kind, and no name of the kind is
 -- unreadable
-pub record HoldCandidates (targets : List Table) (wanted : Wanted) (places : List KernelType) : Type 0 where
+pub record HoldCandidates (targets : List Table) (wanted : Wanted) (places : List KernelType)
+    : Type 0 where
   pub readable : find (is_unreadable_at wanted targets) (all_types targets) ≡ None
   pub all : filter (is_of_kind_at wanted targets) places
       ≡ filter (is_candidate wanted targets) (all_types targets)

@@ -121,8 +121,8 @@ fn note(
     note_named(sighting, place, named)
 }
 
-/// Whether the kind and the beginning of the name of the type of an id tell that it hasn't a wanted
-/// name.
+/// Whether the kind and the beginning of the name of the type of an id tell that it has no wanted
+/// name, or isn't of a wanted kind.
 #[tactic(auto, using(crate::proofs::OtherTypes::is_none, crate::proofs::OtherTypes::of_other_kind, crate::proofs::OtherTypes::begins_otherwise))]
 fn is_other(kinds: &[bool], names: &WantedNames<'_>, headers: &TypeHeaders<'_>, id: usize) -> bool
     ensures { (target : Table)
@@ -138,15 +138,15 @@ fn is_other(kinds: &[bool], names: &WantedNames<'_>, headers: &TypeHeaders<'_>, 
     }
 }
 
-/// A table.
+/// The table of a number.
 fn table_at<'t, 'a>(targets: &'t [Btf<'a>], table: usize) -> Option<&'t Btf<'a>>
     ensures { option_copied result ≡ slice_get targets.now table }
 {
     targets.get(table)
 }
 
-/// Enters the types of a table, after those of the tables before it. Of nearly all that haven't a
-/// wanted name the record isn't read.
+/// Enters the types of a table, after those of the tables before it. Where each string is
+/// known to be readable, the records of nearly all types without a wanted name aren't read.
 fn note_table(
     alloc: Global,
     kinds: &[bool],

@@ -1,11 +1,12 @@
 //! The names of the types that are wanted.
 
-ghost use Rattle.std.specs.Prelude.{◌≡◌, [], IfNone, IfSome, None, drop, length};
+ghost use Rattle.std.specs.Prelude.{◌≡◌, [], IfNone, IfSome, None, drop};
 ghost use Rattle.std.specs.BTreeMap.{btree_map_len};
 ghost use Rattle.std.specs.List.{list_any};
 ghost use Rattle.btf_tables.specs.EssentialNames.{essential_name};
 ghost use Rattle.type_candidates.specs.NameBeginnings.{AreBeginnings, MarksBeginnings};
-ghost use Rattle.type_candidates.specs.NamedTypes.{AreApart, AreLengths, AreNumbered, by_bytes, may_end, number_of_name};
+ghost use Rattle.type_candidates.specs.NamedTypes.{AreApart, AreLengths, AreNumbered, may_end, number_of_name};
+ghost use Rattle.string_table.specs.Names.{by_bytes};
 
 use btf_tables::essential_name;
 use first_bytes::MarkedBytes;
@@ -27,7 +28,8 @@ pub(crate) struct WantedNames<'l> {
 impl<'l> Model for WantedNames<'l> {
     ghost use Rattle.std.specs.Prelude.{ℕ, List};
     ghost use Rattle.type_candidates.specs.NameBeginnings.{AreBeginnings};
-    ghost use Rattle.type_candidates.specs.NamedTypes.{AreLengths, AreNumbered, by_bytes};
+    ghost use Rattle.type_candidates.specs.NamedTypes.{AreLengths, AreNumbered};
+    ghost use Rattle.string_table.specs.Names.{by_bytes};
     ghost use Rattle.std.specs.BTreeMap.{btree_map_len};
 
     ghost Value = { List (List ℕ × ℕ) };
@@ -81,7 +83,7 @@ fn enter<'l>(
 }
 
 /// The bytes after the first `len`.
-fn bytes_behind(bytes: &[u8], len: usize) -> Option<&[u8]>
+fn bytes_after(bytes: &[u8], len: usize) -> Option<&[u8]>
     ensures found { IfSome result (λ rest. rest.now ≡ drop len bytes.now) }
     ensures past { IfNone result (drop len bytes.now ≡ []) }
 {
@@ -95,7 +97,7 @@ fn may_end(text: &[u8], len: usize) -> bool
     if text.len() == len {
         return true;
     }
-    match bytes_behind(text, len) {
+    match bytes_after(text, len) {
         Some(rest) => rest.starts_with(b"___".as_slice()),
         None => false,
     }

@@ -2,7 +2,8 @@
 use Rattle.std.specs.Prelude.{ℕ, ◌+◌, ◌*◌, ◌%◌, ◌==◌, if◌then◌else◌, List, drop}
 use Rattle.first_bytes.specs.FirstBytes.{first_byte}
 
--- the number of all texts that begin with these two bytes; of the empty one the first is its NUL
+-- a number that all texts have which begin with these two bytes, a NUL after the last byte of a text
+-- being one of them; others may have it too
 abbrev pub beginning_of : ℕ → ℕ → ℕ
 beginning_of first second = if first == 0 then 0 else (first * 31 % 256 + second) % 256
 

@@ -28,7 +28,7 @@ BeginsOtherwise table beginnings id =
     IsSomeAnd (text_at table.strings (name_offset_of t)) (λ text.
     is_marked beginnings (beginning text) ≡ false))
 
--- the text at the offset of this name has this number
+-- the name of this id, which isn't void's, lies in the strings, and a text there has this number
 pub record IsBeginning (headers : Headers) (id number : ℕ) : Type 0 where
   pub offset : ℕ
   pub named : slice_get headers.name_offsets (id - 1) ≡ Some offset

@@ -1,14 +1,15 @@
 //! The first two bytes of texts.
 
-ghost use Rattle.std.specs.Prelude.{◌≡◌, ◌<◌, ℕ, List, Some, drop, length, slice_index_or, IfSome};
+ghost use Rattle.std.specs.Prelude.{◌≡◌, ◌<◌, ℕ, List, Some, drop, length, slice_get, slice_index_or, IfSome};
 ghost use Rattle.first_bytes.specs.FirstBytes.{first_byte};
 ghost use Rattle.type_headers.specs.Beginnings.{beginning, beginning_of};
 ghost use Rattle.string_table.specs.Texts.{text_at};
 
-use first_bytes::{first_byte, first_byte_at};
+use first_bytes::first_byte;
 
-/// The number of all texts that begin with these two bytes, a NUL after the last byte of a text
-/// being one of them.
+/// A number that all texts have which begin with these two bytes, a NUL after the last byte of a
+/// text being one of them. 31 is odd, so that where the second bytes are alike the numbers differ
+/// as the first bytes do.
 pub fn beginning_of(first: u8, second: u8) -> u8
     ensures { result ≡ beginning_of first second }
 {
@@ -35,6 +36,13 @@ pub fn beginning(text: &str) -> u8
     beginning_of(first_byte(text), second_byte(text))
 }
 
+/// The byte at an index.
+fn byte_at(bytes: &[u8], index: usize) -> Option<u8>
+    ensures { result ≡ slice_get bytes.now index }
+{
+    bytes.get(index).copied()
+}
+
 /// The byte at an index; past the end it is 0.
 fn byte_or_nul(bytes: &[u8], index: usize) -> u8
     ensures { result ≡ slice_index_or bytes.now index 0 }
@@ -53,7 +61,7 @@ pub fn beginning_at(strings: &[u8], offset: u32) -> Option<u8>
     ensures beginning { IfSome result (λ number.
         (text : List ℕ) → text_at strings.now offset ≡ Some text → beginning text ≡ number) }
 {
-    let first = first_byte_at(strings, offset)?;
+    let first = byte_at(strings, offset as usize)?;
     let second = byte_or_nul(strings, offset as usize + 1);
     Some(beginning_of(first, second))
 }

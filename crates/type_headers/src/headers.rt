@@ -1,9 +1,8 @@
 //! Kinds and names of a table's types.
 
-ghost use Rattle.std.specs.Prelude.{◌≡◌, ◌==◌, ◌-◌, Some, if◌then◌else◌, option_and_then, slice_get, true, IfSome};
+ghost use Rattle.std.specs.Prelude.{◌≡◌, true, IfSome};
 ghost use Rattle.std.specs.Option.{option_map};
 ghost use Rattle.btf_records.specs.Fields.{kind_of_type};
-ghost use Rattle.btf_records.specs.declared.kind.BtfKind.TheVariants.{Unknown};
 ghost use Rattle.btf_tables.specs.Tables.{Table, type_by_id};
 ghost use Rattle.type_headers.specs.Headers.{AreHeadersOf, BeginsOtherwise, IsBeginning};
 

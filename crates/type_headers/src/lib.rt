@@ -1,5 +1,5 @@
-//! What tells most types of a table apart without a look at their records: kinds, and how names
-//! begin.
+//! What tells nearly all types of a table apart without a look at their records: kinds, and how
+//! names begin.
 #![tactic(auto)]
 
 mod beginnings;

@@ -50,7 +50,8 @@ IsAdded found old new =
     (one : Option FoundPath) × (found ≡ Ok one) × (new ≡ old ++ option_to_list one)
 
 -- the paths so far, and those in these candidates, in order
-unfoldable pub paths_of : Subject → Table → AccessPath → List Table → List FoundPath → List KernelType
+unfoldable pub paths_of : Subject → Table → AccessPath → List Table → List FoundPath
+    → List KernelType
     → Result (List FoundPath) TypeRelocationError
 paths_of subject local path targets done [] = Ok done
 paths_of subject local path targets done (c ∷ cs) =

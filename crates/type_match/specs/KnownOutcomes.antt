@@ -10,5 +10,6 @@ abbrev pub IsOutcome : Table → List Table → TypeRelocation → RelocationOut
 IsOutcome local targets relocation outcome =
     relocation_outcome local relocation targets ≡ Ok outcome
 
-pub record AreOutcomes (local : Table) (targets : List Table) (known : List KnownOutcome) : Type 0 where
+pub record AreOutcomes (local : Table) (targets : List Table) (known : List KnownOutcome)
+    : Type 0 where
   pub each : All (λ k. IsOutcome local targets k.relocation k.outcome) known

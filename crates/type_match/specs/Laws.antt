@@ -25,12 +25,14 @@ pub record ListsOfOneTable : Type 0 where
 -- agrees on what is reached from its type, and whose texts there, and the access string, can be
 -- read alike
 pub record OutcomesRest : Type 0 where
-  pub same : (reached : ℕ → Bool) (one other : Table) → AreAlike reached one other → (r : TypeRelocation) → reached r.type_id ≡ true
+  pub same : (reached : ℕ → Bool) (one other : Table) → AreAlike reached one other
+      → (r : TypeRelocation) → reached r.type_id ≡ true
       → text_at other.strings r.access_str_off ≡ text_at one.strings r.access_str_off
       → (targets : List Table)
       → relocation_outcome other r targets ≡ relocation_outcome one r targets
   -- and the type of the field that its instruction was compiled for is reached, if there is one
-  pub field : (reached : ℕ → Bool) (one other : Table) → AreAlike reached one other → (r : TypeRelocation) → reached r.type_id ≡ true
+  pub field : (reached : ℕ → Bool) (one other : Table) → AreAlike reached one other
+      → (r : TypeRelocation) → reached r.type_id ≡ true
       → (targets : List Table)
       → IfOk (relocation_outcome one r targets) (λ o.
       IfSome o.local_field (λ f. reached f.type_id ≡ true))

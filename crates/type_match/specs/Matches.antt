@@ -22,7 +22,8 @@ use Rattle.type_match.specs.declared.error.TypeRelocationError.TheVariants as er
 use Rattle.type_match.specs.declared.matches.Match.{Match}
 
 -- what comes of an answer
-abbrev pub followed_by : {T U : Type 0} → Result T TypeRelocationError → (T → Result U TypeRelocationError)
+abbrev pub followed_by : {T U : Type 0} → Result T TypeRelocationError
+    → (T → Result U TypeRelocationError)
     → Result U TypeRelocationError
 followed_by (Ok x) go = go x
 followed_by (Err e) go = Err e
@@ -56,7 +57,8 @@ with_candidates (Ok x) go = go x
 with_candidates (Err e) go = Err (of_candidates e)
 
 -- of one about a type of a kernel's
-abbrev pub with_kernel : {T U : Type 0} → KernelType → Result T AccessError → (T → Result U TypeRelocationError)
+abbrev pub with_kernel : {T U : Type 0} → KernelType → Result T AccessError
+    → (T → Result U TypeRelocationError)
     → Result U TypeRelocationError
 with_kernel place (Ok x) go = go x
 with_kernel place (Err e) go = Err (errors.Kernel place e)
@@ -105,7 +107,8 @@ match_at kind local path targets place =
     (slice_get targets place.table) (Ok None)
 
 -- the matches so far, and those of these candidates, in order
-unfoldable pub matches_of : RelocationKind → Table → AccessPath → List Table → List Match → List KernelType
+unfoldable pub matches_of : RelocationKind → Table → AccessPath → List Table → List Match
+    → List KernelType
     → Result (List Match) TypeRelocationError
 matches_of kind local path targets done [] = Ok done
 matches_of kind local path targets done (c ∷ cs) =

@@ -63,13 +63,16 @@ with_types_of g other = record g { local = other }
 -- what type relocations come to, write and are refused for is the same for every other table that
 -- agrees on their reach
 pub record RelocationsRest : Type 0 where
-  pub placed : (reached : ℕ → Bool) (g : TypesGiven) (other : Table) (groups : Groups) → AgreeOnReach reached g.local other groups
+  pub placed : (reached : ℕ → Bool) (g : TypesGiven) (other : Table) (groups : Groups)
+      → AgreeOnReach reached g.local other groups
       → all_placed (with_types_of g other) groups ≡ all_placed g groups
-  pub relocated : (reached : ℕ → Bool) (g : TypesGiven) (other : Table) (groups : Groups) → AgreeOnReach reached g.local other groups
+  pub relocated : (reached : ℕ → Bool) (g : TypesGiven) (other : Table) (groups : Groups)
+      → AgreeOnReach reached g.local other groups
       → (new : List ((ℕ × ℕ) × FunctionContent))
       → (AreRelocated g groups new → AreRelocated (with_types_of g other) groups new)
       × (AreRelocated (with_types_of g other) groups new → AreRelocated g groups new)
-  pub refused : (reached : ℕ → Bool) (g : TypesGiven) (other : Table) (groups : Groups) → AgreeOnReach reached g.local other groups
+  pub refused : (reached : ℕ → Bool) (g : TypesGiven) (other : Table) (groups : Groups)
+      → AgreeOnReach reached g.local other groups
       → (c : BtfRelocationCause)
       → (HasTypesFault g groups c → HasTypesFault (with_types_of g other) groups c)
       × (HasTypesFault (with_types_of g other) groups c → HasTypesFault g groups c)

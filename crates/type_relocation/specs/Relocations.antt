@@ -100,7 +100,9 @@ placed g position section r =
 abbrev pub placed_from : TypesGiven → ℕ → ℕ → Option ℕ → ℕ → List bpf_core_relo → List Placed
 placed_from g group name section number [] = []
 placed_from g group name section number (r ∷ rs) =
-    option_to_list (placed g (record { group = group; name_offset = name; number = number }) section r) ++ placed_from g group name section (suc number) rs
+    option_to_list
+    (placed g (record { group = group; name_offset = name; number = number }) section r)
+    ++ placed_from g group name section (suc number) rs
 
 -- those of the groups, from one on: group by group and record by record
 abbrev pub placed_group : TypesGiven → ℕ → Group bpf_core_relo → List Placed

@@ -30,7 +30,8 @@ AppendsPart old new text = (rest : List ℕ) × AppendsAllBut old new text rest
 
 -- The whole text was appended, or a beginning of it where the writer has failed. One that had
 -- failed before is left as it was, and no call that may be passed on is gained.
-pub record Sends {W : Type 0} (contents : W → Option (List ℕ)) (old new : Watched W) (text : List ℕ) : Type 0 where
+pub record Sends {W : Type 0} (contents : W → Option (List ℕ)) (old new : Watched W) (text : List ℕ)
+    : Type 0 where
   pub ok : has_failed new ≡ false
       → (has_failed old ≡ false)
       × Appends (contents (watched_inner old)) (contents (watched_inner new)) text

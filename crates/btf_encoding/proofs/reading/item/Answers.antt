@@ -8,7 +8,7 @@ use Rattle.btf_encoding.proofs.reading.item.Goals as goal
 pub returns-then-index-count : goal.returns-then-index-count
 returns-then-index-count g c =
     let within : c.args.index < count_at c.args.order c.args.bytes.now = rw (← c.word.ensures) c.if-index-count.true in
-    rw (c.read.ensures, c.behind.ensures.value, c.SIZE.ensures, c.behind-list.ensures.value)
+    rw (c.read.ensures, c.after.ensures.value, c.SIZE.ensures, c.after-list.ensures.value)
     (sym (get-items_in (g.T.Item.item_in c.args.order) g.T.Item.SIZE (count_at c.args.order c.args.bytes.now) c.args.index (drop 12 c.args.bytes.now) within))
 
 pub returns-else-index-count : goal.returns-else-index-count

@@ -1,7 +1,7 @@
 use Rattle.std.proofs.Common.{◌≡◌, ℕ, ◌-◌, [], true, length, drop, take, ◌∙◌, ap, arith, rules, length-drop}
 use Rattle.btf_encoding.specs.Records.{kind_at, record_len}
 use Rattle.btf_encoding.specs.Rewriting.{is_kept}
-use Rattle.btf_encoding.proofs.Kept.{is_kept_behind}
+use Rattle.btf_encoding.proofs.Kept.{is_kept_after}
 use Rattle.btf_encoding.proofs.ManyTypes.{first_record}
 use Rattle.btf_encoding.proofs.Rewritten.{copied_more, left_more, records_left}
 use Rattle.btf_encoding.proofs.rewriting.split_kept.Goals as goal
@@ -17,8 +17,8 @@ loop-order-preserved c =
     let i = c.loop-order.invariant in
     let has = first_record order rest i.are (search rules) in
     let kept : is_kept (kind_at order rest) order rest ≡ true = search rules in
-    let left : c.behind-rest.result.now ≡ drop (record_len order rest) rest = c.behind-rest.ensures.value ∙ ap (λ (n : ℕ). drop n rest) c.len_of.ensures in
-    let up = copied_more order bytes rest i.left i.within i.kept has (is_kept_behind order bytes rest (length bytes - length rest) i.left has (λ k. omega (arith, c.type_inv.bytes k)) kept) in
+    let left : c.after-rest.result.now ≡ drop (record_len order rest) rest = c.after-rest.ensures.value ∙ ap (λ (n : ℕ). drop n rest) c.len_of.ensures in
+    let up = copied_more order bytes rest i.left i.within i.kept has (is_kept_after order bytes rest (length bytes - length rest) i.left has (λ k. omega (arith, c.type_inv.bytes k)) kept) in
     rw left (record {
       kept = up;
       left = left_more bytes rest (record_len order rest) i.left i.within has.whole;

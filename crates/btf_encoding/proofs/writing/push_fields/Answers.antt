@@ -2,7 +2,7 @@ use Rattle.std.proofs.Common.{◌∷◌, [], refl}
 use Rattle.std.specs.List.{flat_map}
 use Rattle.btf_encoding.specs.Items.{array_words, entry_words, enum64_words, param_words}
 use Rattle.btf_encoding.specs.Records.{words_of}
-use Rattle.btf_encoding.proofs.Written.{on_ok, fit_behind, fit_same}
+use Rattle.btf_encoding.proofs.Written.{on_ok, fit_after, fit_same}
 use Rattle.btf_encoding.proofs.writing.push_fields.Goals as goal
 
 pub returns-in-Int-clause-fits : goal.returns-in-Int-clause-fits
@@ -25,28 +25,28 @@ returns-in-DeclTag-clause-fits c =
 
 pub returns-in_ok-push_words-in-Array-clause-fits : goal.returns-in_ok-push_words-in-Array-clause-fits
 returns-in_ok-push_words-in-Array-clause-fits c =
-    fit_behind _ (c.in-Array.t.name_offset ∷ c.word-info-in-Array.result ∷ 0 ∷ []) (array_words c.in-Array.t.array) (words_of c.args.t.now)
+    fit_after _ (c.in-Array.t.name_offset ∷ c.word-info-in-Array.result ∷ 0 ∷ []) (array_words c.in-Array.t.array) (words_of c.args.t.now)
     (rw (c.in-Array.is, c.word-info-in-Array.ensures.value) refl)
     c.in_ok-push_words-in-Array.ensures.fits
     (on_ok _ _ c.write.ensures.fits)
 
 pub returns-in_ok-push_words-in-FuncProto-clause-fits : goal.returns-in_ok-push_words-in-FuncProto-clause-fits
 returns-in_ok-push_words-in-FuncProto-clause-fits c =
-    fit_behind _ (c.in-FuncProto.t.name_offset ∷ c.word-info-in-FuncProto.result ∷ c.in-FuncProto.t.return_type ∷ []) (flat_map param_words c.as_slice-in-FuncProto.result.now) (words_of c.args.t.now)
+    fit_after _ (c.in-FuncProto.t.name_offset ∷ c.word-info-in-FuncProto.result ∷ c.in-FuncProto.t.return_type ∷ []) (flat_map param_words c.as_slice-in-FuncProto.result.now) (words_of c.args.t.now)
     (rw (c.in-FuncProto.is, c.word-info-in-FuncProto.ensures.value, c.as_slice-in-FuncProto.ensures.value, c.len-in-FuncProto.ensures.value) refl)
     c.in_ok-push_words-in-FuncProto.ensures.fits
     c.push_items-in-FuncProto.ensures.fits
 
 pub returns-in_ok-push_words-in-DataSec-clause-fits : goal.returns-in_ok-push_words-in-DataSec-clause-fits
 returns-in_ok-push_words-in-DataSec-clause-fits c =
-    fit_behind _ (c.in-DataSec.t.name_offset ∷ c.word-info-in-DataSec.result ∷ c.in-DataSec.t.size ∷ []) (flat_map entry_words c.as_slice-in-DataSec.result.now) (words_of c.args.t.now)
+    fit_after _ (c.in-DataSec.t.name_offset ∷ c.word-info-in-DataSec.result ∷ c.in-DataSec.t.size ∷ []) (flat_map entry_words c.as_slice-in-DataSec.result.now) (words_of c.args.t.now)
     (rw (c.in-DataSec.is, c.word-info-in-DataSec.ensures.value, c.as_slice-in-DataSec.ensures.value, c.len-in-DataSec.ensures.value) refl)
     c.in_ok-push_words-in-DataSec.ensures.fits
     c.push_items-in-DataSec.ensures.fits
 
 pub returns-in_ok-push_words-in-Enum64-clause-fits : goal.returns-in_ok-push_words-in-Enum64-clause-fits
 returns-in_ok-push_words-in-Enum64-clause-fits c =
-    fit_behind _ (c.in-Enum64.t.name_offset ∷ c.word-info-in-Enum64.result ∷ c.in-Enum64.t.size ∷ []) (flat_map enum64_words c.as_slice-in-Enum64.result.now) (words_of c.args.t.now)
+    fit_after _ (c.in-Enum64.t.name_offset ∷ c.word-info-in-Enum64.result ∷ c.in-Enum64.t.size ∷ []) (flat_map enum64_words c.as_slice-in-Enum64.result.now) (words_of c.args.t.now)
     (rw (c.in-Enum64.is, c.word-info-in-Enum64.ensures.value, c.as_slice-in-Enum64.ensures.value, c.len-in-Enum64.ensures.value) refl)
     c.in_ok-push_words-in-Enum64.ensures.fits
     c.push_items-in-Enum64.ensures.fits

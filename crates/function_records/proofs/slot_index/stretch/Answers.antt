@@ -17,8 +17,8 @@ below from many slot h = grind (arith, nat_tests)
 inside : (from many slot : ℕ) → ltb slot from ≡ false → ltb (slot - from) many ≡ true → is_within from many slot ≡ true
 inside from many slot h l = grind (arith, nat_tests)
 
-behind : (from many slot : ℕ) → ltb (slot - from) many ≡ false → is_within from many slot ≡ false
-behind from many slot h = grind (arith, nat_tests)
+after : (from many slot : ℕ) → ltb (slot - from) many ≡ false → is_within from many slot ≡ false
+after from many slot h = grind (arith, nat_tests)
 
 -- what holds in the rest after a place holds there
 at_place : {X : Type 0} (p : X → Bool) (b : Bool) (places : List X) (begin k : ℕ) (d : X) → begin ≤ k → p (get_or (drop begin places) (k - begin) d) ≡ b → p (get_or places k d) ≡ b
@@ -31,7 +31,7 @@ stretch_by from many begin len places first second =
     kept_stretch (λ p. is_within from many p.slot) places begin len
     (λ k d h l. below from many (get_or places k d).slot (first.0 k d (omega arith) h))
     (λ k d h m l. inside from many (get_or places k d).slot (first.1 k d h l) (at_place (λ p. ltb (p.slot - from) many) true places begin k d h (second.0 (k - begin) d (omega arith) (omega arith))))
-    (λ k d h l. behind from many (get_or places k d).slot (at_place (λ p. ltb (p.slot - from) many) false places begin k d (omega arith) (second.1 (k - begin) d (omega arith) (omega (arith, length-drop begin places)))))
+    (λ k d h l. after from many (get_or places k d).slot (at_place (λ p. ltb (p.slot - from) many) false places begin k d (omega arith) (second.1 (k - begin) d (omega arith) (omega (arith, length-drop begin places)))))
 
 pub returns : goal.returns
 returns c =

@@ -6,14 +6,14 @@ use Rattle.string_table.proofs.Texts.{compared, equal_by_bytes}
 use Rattle.string_table.proofs.text.begins_with.Goals as goal
 
 -- the byte after a text that stands at the beginning
-nul_behind : (bytes text behind : List ℕ) (next : ℕ) → behind ≡ drop (length text) bytes → Some next ≡ slice_get behind 0 → before_nul bytes ≡ Some text → next ≡ 0
-nul_behind bytes text behind next is first e =
+nul_after : (bytes text after : List ℕ) (next : ℕ) → after ≡ drop (length text) bytes → Some next ≡ slice_get after 0 → before_nul bytes ≡ Some text → next ≡ 0
+nul_after bytes text after next is first e =
     let c = compared bytes text e in
-    let nul : slice_get behind 0 ≡ Some 0 = ap (λ (bs : List ℕ). slice_get bs 0) (is ∙ c.behind) in
+    let nul : slice_get after 0 ≡ Some 0 = ap (λ (bs : List ℕ). slice_get bs 0) (is ∙ c.after) in
     cc
 
 pub returns-then-next-ne0 : goal.returns-then-next-ne0
-returns-then-next-ne0 c = (λ no. absurd cc, λ e. absurd (c.if-next-ne0.true (nul_behind _ _ _ _ c.in-Some.ensures.cases.1 c.in-Some-first.ensures.value e)))
+returns-then-next-ne0 c = (λ no. absurd cc, λ e. absurd (c.if-next-ne0.true (nul_after _ _ _ _ c.in-Some.ensures.cases.1 c.in-Some-first.ensures.value e)))
 
 split : (xs : List ℕ) (x : ℕ) → Some x ≡ slice_get xs 0 → x ≡ 0 → (more : List ℕ) × (xs ≡ 0 ∷ more)
 split [] x e z = absurd cc
@@ -28,8 +28,8 @@ not_by b e = rw e refl
 
 pub returns : goal.returns
 returns c =
-    let s = split c.in-Some.behind.now _ c.in-Some-first.ensures.value c.if-next-ne0.false in
+    let s = split c.in-Some.after.now _ c.in-Some-first.ensures.value c.if-next-ne0.false in
     let prefix = sym (same_text _ _ (sym c.in-Some.ensures.cases.0)) in (
-      λ plain. equal_by_bytes c.args.bytes.now c.args.text.now (record { more = s.0; prefix = sym prefix; behind = sym c.in-Some.ensures.cases.1 ∙ s.1; plain = sym c.has_nul.ensures ∙ plain_by c.has_nul.result plain }),
+      λ plain. equal_by_bytes c.args.bytes.now c.args.text.now (record { more = s.0; prefix = sym prefix; after = sym c.in-Some.ensures.cases.1 ∙ s.1; plain = sym c.has_nul.ensures ∙ plain_by c.has_nul.result plain }),
       λ e. not_by c.has_nul.result (c.has_nul.ensures ∙ (compared c.args.bytes.now c.args.text.now e).plain),
     )

@@ -3,7 +3,7 @@ use Rattle.std.specs.BTreeMap.{is_at}
 use Rattle.std.specs.List.{list_any}
 use Rattle.std.specs.Ordering.{nat_cmp}
 use Rattle.std.proofs.lemmas.Map.Text.{btree_map_updates_str}
-use Rattle.type_candidates.specs.NamedTypes.{by_bytes}
+use Rattle.string_table.specs.Names.{by_bytes}
 use Rattle.type_candidates.proofs.NamesBegin.{more_beginnings}
 use Rattle.type_candidates.proofs.Lengths.{more_lengths, more_names}
 use Rattle.type_candidates.proofs.Numbers.{entered_next}

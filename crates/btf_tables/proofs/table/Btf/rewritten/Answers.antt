@@ -4,7 +4,7 @@ use Rattle.btf_sanitizing.specs.Answers.{granted}
 use Rattle.btf_sanitizing.specs.Facts.{number_named}
 use Rattle.btf_tables.specs.Sanitizing.{IsRefused}
 use Rattle.btf_tables.specs.Tables.{Table}
-use Rattle.btf_tables.proofs.Sanitized.{passed_on, short_table, texts_behind}
+use Rattle.btf_tables.proofs.Sanitized.{passed_on, short_table, texts_after}
 use Rattle.btf_tables.proofs.table.Btf.rewritten.Goals as goal
 
 pub returns-in_err-sanitized-clause-refused : goal.returns-in_err-sanitized-clause-refused
@@ -25,4 +25,4 @@ pub invariant_of-table : goal.invariant_of-table
 invariant_of-table g c = rw (c.in_ok-with_texts.ensures, c.as_slice.ensures.value, c.in_ok-sanitized.ensures.strings) (short_table c.self.inside.records.order (record { grants = granted c.ask_all-answers.result.items; strings = c.self.inside.strings; types = c.self.inside.records.types; sizes = number_named c.args.sizes.now.entries; offsets = number_named c.args.offsets.now.entries }) c.in_ok-sanitized.ensures.accepted)
 
 pub returns-clause-texts : goal.returns-clause-texts
-returns-clause-texts g c = texts_behind c.args.self.now _ c.as_slice.result.now (c.in_ok-with_texts.ensures ∙ ap (λ (s : List ℕ). s ++ c.as_slice.result.now) (ap (λ (t : Table). t.strings) c.self.view_is))
+returns-clause-texts g c = texts_after c.args.self.now _ c.as_slice.result.now (c.in_ok-with_texts.ensures ∙ ap (λ (s : List ℕ). s ++ c.as_slice.result.now) (ap (λ (t : Table). t.strings) c.self.view_is))

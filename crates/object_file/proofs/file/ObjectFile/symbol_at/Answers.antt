@@ -8,6 +8,6 @@ returns-in_err-place c = rw c.from_residual.ensures (no_symbol_0 c.args.self.now
 
 pub returns : goal.returns
 returns c =
-    let behind = c.in_ok-place.ensures in
-    let index : suc c.in_ok-place.place ≡ c.args.index = omega (arith, behind.0, behind.1) in
+    let after = c.in_ok-place.ensures in
+    let index : suc c.in_ok-place.place ≡ c.args.index = omega (arith, after.0, after.1) in
     c.symbol_of_place.ensures ∙ ap (λ symbols. slice_get symbols c.in_ok-place.place) c.symbols.ensures.value ∙ place_of_index c.args.self.now c.in_ok-place.place c.args.index index

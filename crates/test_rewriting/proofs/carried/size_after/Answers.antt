@@ -4,7 +4,7 @@ use Rattle.btf_sanitizing.specs.Facts.{number_named}
 use Rattle.btf_tables.specs.Carrying.{stays_in}
 use Rattle.btf_tables.specs.Sanitizing.{facts_in, stepped}
 use Rattle.test_rewriting.proofs.Sizes.{same_size}
-use Rattle.test_rewriting.proofs.carried.size_behind.Goals as goal
+use Rattle.test_rewriting.proofs.carried.size_after.Goals as goal
 
 pub returns : goal.returns
 returns g c = λ reached left here.
@@ -12,4 +12,4 @@ returns g c = λ reached left here.
     let done = c.in_ok-answers in
     let known = facts_in done.answers.items (number_named a.sizes.now.entries) (number_named a.offsets.now.entries) (stepped a.ksyms a.table.now) in
     let same = same_size (stays_in a.ksyms a.table.now known) a.table.now _ a.type_id c.type_size.ensures.rests c.type_size.ensures.held done.ensures.carries reached left here in
-    c.ok-behind.ensures.value ∙ (ap result_ok (c.type_size-2.ensures.value ∙ (same ∙ sym c.type_size.ensures.value)) ∙ sym c.ok-before.ensures.value)
+    c.ok-after.ensures.value ∙ (ap result_ok (c.type_size-2.ensures.value ∙ (same ∙ sym c.type_size.ensures.value)) ∙ sym c.ok-before.ensures.value)
