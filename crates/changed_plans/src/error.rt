@@ -1,13 +1,14 @@
-//! Why the program counts nothing.
+//! Why nothing is counted.
 
 use load_plan::BtfError;
 use std::alloc::{AllocError, AllocFailed};
 use std::io;
 use thiserror::Error;
 
+/// Why nothing is counted.
 #[derive(Debug, Drop, Error)]
-pub(crate) enum ChangesError {
-    #[error("usage: changed_plans [--plans] MAP[,MAP].. OBJECT little|big [TYPES..]")]
+pub enum ChangesError {
+    #[error("call it with the words of an exercise")]
     Usage,
     #[error("{0}")]
     Io(#[from] io::Error),
@@ -25,7 +26,7 @@ impl<T: Drop> From<AllocFailed<T>> for ChangesError {
 
 impl ChangesError {
     /// The status that the program ends with: 2 where it is called otherwise, else 1.
-    pub(crate) fn status(&self) -> u8 {
+    pub fn status(&self) -> u8 {
         match self {
             ChangesError::Usage => 2,
             _ => 1,

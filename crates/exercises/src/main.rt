@@ -2,6 +2,10 @@
 //!
 //! - `memory-calls`: the calls that take memory;
 //! - `changed-bytes OBJECT`: each front of an object, and the object with each byte changed;
+//! - `changed-plans [--plans] MAP[,MAP].. OBJECT little|big [TYPES..]`: plans of an object that is
+//!   cut off or changed in one byte, and of an object for kernel types that are;
+//! - `changed-texts PLAN`, `changed-lines PLAN`: the text of a plan that is cut off or changed in one
+//!   byte, and for each byte the lines at which it is refused with each other value of it;
 //! - `linkers OBJECT..`: linked programs beside those of the plain linker;
 //! - `matchings COUNT [counts]`: type relocations over random tables of types, beside the plain
 //!   definitions;
@@ -20,6 +24,7 @@ mod relocated_objects;
 mod rewritten_tables;
 mod thousand_structs;
 
+use changed_plans::{ChangesError, print_changed_lines, print_changed_plans, print_changed_texts};
 use measures::{ExerciseError, measure_matching, measure_object, measure_symbols, measure_types};
 use std::env;
 use std::env::Args;
@@ -36,11 +41,25 @@ fn status_of(rt: &HostRuntime, answer: Result<(), ExerciseError>) -> ExitCode {
     }
 }
 
+/// The status of an exercise on changed plans; its error is printed.
+fn status_of_changes(rt: &HostRuntime, answer: Result<(), ChangesError>) -> ExitCode {
+    match answer {
+        Ok(()) => ExitCode::SUCCESS,
+        Err(error) => {
+            let _ = eprintln!(rt; "exercises: {error}");
+            ExitCode::from(error.status())
+        }
+    }
+}
+
 /// Does an exercise.
 fn run(rt: &HostRuntime, exercise: &str, words: &mut Args) -> ExitCode {
     match exercise {
         "memory-calls" => memory_calls::run(rt),
         "changed-bytes" => status_of(rt, changed_objects::run(rt, words)),
+        "changed-plans" => status_of_changes(rt, print_changed_plans(rt, words)),
+        "changed-texts" => status_of_changes(rt, print_changed_texts(rt, words)),
+        "changed-lines" => status_of_changes(rt, print_changed_lines(rt, words)),
         "linkers" => status_of(rt, linked_objects::run(rt, words)),
         "matchings" => status_of(rt, matchings::run(rt, words)),
         "refused-objects" => status_of(rt, relocated_objects::run(rt, words)),

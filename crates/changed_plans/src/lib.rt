@@ -1,15 +1,6 @@
 //! Plans of an object that is cut off or changed in one byte, and of an object for kernel types
 //! that are: how many runs of `prepare` end with a plan, whose text is read as a plan that is
-//! written alike, or with a refusal.
-//!
-//! `changed_plans [--plans] MAP[,MAP].. OBJECT little|big [TYPES..]`: maps that get a number, the
-//! object's file, the byte order of the kernel's types and their files. With `--plans` it also
-//! prints how many plans there are.
-//!
-//! `changed_plans --text PLAN`: the text of a plan that is cut off or changed in one byte, read.
-//!
-//! `changed_plans --lines PLAN`: for each byte of a plan's text the lines at which it is refused
-//! with each other value of it.
+//! written alike, or with a refusal. For the program of exercises.
 #![tactic(auto)]
 
 mod changes;
@@ -20,13 +11,12 @@ mod refused_lines;
 mod texts;
 
 use counts::Counts;
-use error::ChangesError;
+pub use error::ChangesError;
 use load_plan::Endianness;
 use planning::{changed_object_counts, changed_types_counts};
 use refused_lines::print_refused_lines;
 use std::env::Args;
-use std::process::ExitCode;
-use std::{env, fs};
+use std::fs;
 use texts::{changed_text_counts, count_refused_texts};
 
 fn next_word(words: &mut Args) -> Result<String, ChangesError> {
@@ -112,30 +102,27 @@ fn count_texts(rt: &HostRuntime, words: &mut Args) -> Result<(), ChangesError> {
     Ok(())
 }
 
-fn run(rt: &HostRuntime) -> Result<(), ChangesError> {
-    let mut words = env::args(rt)?;
-    let _program = next_word(&mut words)?;
-    let first = next_word(&mut words)?;
-    match first.as_str() {
-        "--text" => count_texts(rt, &mut words),
-        "--lines" => {
-            let mut text = fs::read(rt, next_word(&mut words)?.as_str())?;
-            print_refused_lines(rt, text.as_mut_slice())
-        }
-        "--plans" => {
-            let maps = next_word(&mut words)?;
-            count_all(rt, maps.as_str(), &mut words, true)
-        }
-        maps => count_all(rt, maps, &mut words, false),
+/// Counts over what the words name, and prints what it comes to: `[--plans] MAP[,MAP].. OBJECT
+/// little|big [TYPES..]`, maps that get a number, the object's file, the byte order of the kernel's
+/// types and their files. With `--plans` how many plans there are is printed too.
+pub fn print_changed_plans(rt: &HostRuntime, words: &mut Args) -> Result<(), ChangesError> {
+    let first = next_word(words)?;
+    if first.as_str() == "--plans" {
+        let maps = next_word(words)?;
+        return count_all(rt, maps.as_str(), words, true);
     }
+    count_all(rt, first.as_str(), words, false)
 }
 
-fn main(rt: HostRuntime) -> ExitCode {
-    match run(&rt) {
-        Ok(()) => ExitCode::SUCCESS,
-        Err(error) => {
-            let _ = eprintln!(rt; "changed_plans: {error}");
-            ExitCode::from(error.status())
-        }
-    }
+/// Reads the text of a plan, whose file a word names, cut off and changed in one byte, and prints
+/// what that comes to.
+pub fn print_changed_texts(rt: &HostRuntime, words: &mut Args) -> Result<(), ChangesError> {
+    count_texts(rt, words)
+}
+
+/// Prints for each byte of the text of a plan, whose file a word names, the lines at which it is
+/// refused with each other value of the byte.
+pub fn print_changed_lines(rt: &HostRuntime, words: &mut Args) -> Result<(), ChangesError> {
+    let mut text = fs::read(rt, next_word(words)?.as_str())?;
+    print_refused_lines(rt, text.as_mut_slice())
 }
