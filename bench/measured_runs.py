@@ -2,16 +2,20 @@
 
 import os
 import subprocess
+import sys
 import time
 
 TOP = os.path.dirname(os.path.dirname(os.path.realpath(__file__)))
+sys.path.insert(0, os.path.join(TOP, "bin"))
+
+from toolkit import repository
 
 
 def built(program):
     """The file of a program, which is proved and built first where the proved one of these sources isn't there; None where it can't be."""
     if subprocess.run([os.path.join(TOP, "bin", "build"), program], check=False).returncode != 0:
         return None
-    return os.path.join(TOP, "crates", program, "out", program)
+    return repository.program_file(program)
 
 
 def measured(command, runs):
