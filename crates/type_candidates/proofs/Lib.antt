@@ -7,4 +7,5 @@ pub mod NamesBegin
 pub mod Numbers
 pub mod OtherTypes
 pub mod PickedTypes
+pub mod SeenBlocks
 pub mod SeenTypes

@@ -1,5 +1,5 @@
 -- The types of a kernel that have wanted names, found in one walk over each table.
-use Rattle.std.specs.Prelude.{◌≡◌, ℕ, ◌<◌, ◌==◌, ◌&&◌, ◌||◌, nat_eq, codes, drop, length, not, All, Bool, true, false, List, [], ◌∷◌, ◌++◌, filter, find, map, slice_get, slice_index_or, IfSome, Option, None, Some, if◌then◌else◌}
+use Rattle.std.specs.Prelude.{◌≡◌, ℕ, ◌<◌, ◌==◌, ◌&&◌, ◌||◌, nat_eq, codes, drop, length, not, All, Bool, true, false, List, [], ◌∷◌, ◌++◌, filter, find, slice_get, slice_index_or, IfSome, Option, None, Some, if◌then◌else◌}
 use Rattle.std.specs.BTreeMap.{is_at}
 use Rattle.std.specs.Cmp.Lexicographic.{slice_cmp}
 use Rattle.std.specs.List.{IsAmong, flat_map, list_any, range_with_len, starts_with}

@@ -1,8 +1,8 @@
 //! One walk over each table of a kernel, for all types that are wanted.
 
-ghost use Rattle.std.specs.Prelude.{◌≡◌, ◌≤◌, ◌+◌, false, length, slice_get, slice_index_or, take, true, IfOk, OnOk, []};
+ghost use Rattle.std.specs.Prelude.{◌≡◌, ◌≤◌, ◌+◌, ◌^◌, length, slice_get, take, true, IfOk, OnOk, []};
 ghost use Rattle.std.specs.List.{flat_map, range_with_len};
-ghost use Rattle.std.specs.Option.{option_copied};
+ghost use Rattle.std.specs.Option.{IsSomeAnd, option_copied};
 ghost use Rattle.type_candidates.specs.Candidates.{all_types, types_at};
 ghost use Rattle.type_candidates.specs.NamedTypes.{AreNumbersAt, AreNumbersOf, AreReadable, AreSeen, IsNamedNext, IsUnreadableNext, of_type, of_type_by_id, sighted, types_before};
 ghost use Rattle.type_candidates.specs.declared.sighting.Sighting.TheVariants.{Other};
@@ -12,23 +12,12 @@ ghost use Rattle.btf_tables.specs.Tables.{Table};
 use crate::kernel_type::KernelType;
 use crate::long_names::LongNames;
 use crate::places::Places;
-use crate::search::type_count;
 use crate::sighting::Sighting;
 use crate::wanted_names::WantedNames;
 use btf_encoding::TypeRef;
 use btf_tables::Btf;
 use std::alloc::{AllocError, Global};
-use type_headers::TypeHeaders;
-
-/// Whether a kind, by its number, is wanted.
-fn is_wanted(kinds: &[bool], kind: usize) -> bool
-    ensures { result ≡ slice_index_or kinds.now kind false }
-{
-    match kinds.get(kind) {
-        Some(is) => *is,
-        None => false,
-    }
-}
+use type_headers::{BLOCK, TypeHeaders, is_among};
 
 /// What a type of a table is.
 fn of_type(
@@ -44,7 +33,7 @@ fn of_type(
     ensures numbers { AreNumbersOf names.now target.now.strings long_names.new }
 {
     let kind = t.kind() as usize;
-    if is_wanted(kinds, kind) {
+    if is_among(kinds, kind) {
         long_names.sighted(names, target, kind, t.name_offset())
     } else {
         Ok(Sighting::Other)
@@ -132,7 +121,7 @@ fn is_other(kinds: &[bool], names: &WantedNames<'_>, headers: &TypeHeaders<'_>, 
 {
     match headers.kind(id) {
         Some(kind) => {
-            !is_wanted(kinds, kind as usize) || headers.begins_otherwise(id, names.beginnings())
+            !is_among(kinds, kind as usize) || headers.begins_otherwise(id, names.beginnings())
         }
         None => true,
     }
@@ -145,8 +134,49 @@ fn table_at<'t, 'a>(targets: &'t [Btf<'a>], table: usize) -> Option<&'t Btf<'a>>
     targets.get(table)
 }
 
-/// Enters the types of a table, after those of the tables before it. Where each string is
-/// known to be readable, the records of nearly all types without a wanted name aren't read.
+/// Enters the types of a table from one id up to another, a block, after those before them. Where
+/// each string is known to be readable, the records of nearly all types without a wanted name
+/// aren't read.
+fn note_block(
+    kinds: &[bool],
+    names: &WantedNames<'_>,
+    targets: &[Btf<'_>],
+    headers: &TypeHeaders<'_>,
+    table: usize,
+    from: usize,
+    to: usize,
+    long_names: &mut LongNames,
+    named: &mut [Places],
+    unreadable: &mut [bool],
+) -> Result<(), AllocError>
+    requires headers { IsSomeAnd (slice_get targets.now table) (λ target.
+        AreHeadersOf target headers.now) }
+    requires order { from ≤ to }
+    requires few { to ≤ from + 1024 }
+    requires countable { to ≤ 2 ^ 32 }
+    requires seen { AreSeen (sighted kinds.now names.now targets.now)
+        (types_before targets.now table from) named.old unreadable.old }
+    requires numbers { AreNumbersAt names.now targets.now table long_names.old }
+    ensures numbers { AreNumbersAt names.now targets.now table long_names.new }
+    ensures seen { OnOk result
+        (AreSeen (sighted kinds.now names.now targets.now) (types_before targets.now table to)
+        named.new unreadable.new) }
+{
+    let ids = headers.ids_of_kinds(kinds, from, to);
+    for id in ids.as_slice() {
+        if is_other(kinds, names, headers, *id as usize) {
+            continue;
+        }
+        let place = KernelType {
+            table,
+            type_id: *id,
+        };
+        note(kinds, names, targets, place, long_names, named, unreadable)?;
+    }
+    Ok(())
+}
+
+/// Enters the types of a table, after those of the tables before it.
 fn note_table(
     alloc: Global,
     kinds: &[bool],
@@ -167,21 +197,23 @@ fn note_table(
     };
     let headers = TypeHeaders::new(target);
     let mut long_names = LongNames::new(alloc);
-    let count = type_count(targets, table);
-    for id in 0..count {
-        if is_other(kinds, names, &headers, id) {
-            continue;
-        }
-        let type_id = id as u32;
-        note(
+    let count = target.len() + 1;
+    let mut from = 0;
+    while from < count {
+        let to = count.min(from + BLOCK);
+        note_block(
             kinds,
             names,
             targets,
-            KernelType { table, type_id },
+            &headers,
+            table,
+            from,
+            to,
             &mut long_names,
             named,
             unreadable,
         )?;
+        from = to;
     }
     Ok(())
 }

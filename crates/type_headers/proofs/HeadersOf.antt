@@ -37,17 +37,14 @@ type_otherwise strings beginnings offset number (Some t) texts within begins isn
     let same : offset ≡ name_offset_of t = cc in
     subst (λ (at : ℕ). IsSomeAnd (text_at strings at) (λ text. is_marked beginnings (beginning text) ≡ false)) same (text_otherwise strings beginnings offset number (text_at strings offset) refl (texts.each offset within) begins isnt)
 
-pub is_otherwise : (table : Table) (headers : Headers) (beginnings : List Bool) (id number : ℕ) → AreHeadersOf table headers → IsBeginning headers id number → headers.are_texts ≡ true → is_marked beginnings number ≡ false → BeginsOtherwise table beginnings id
-is_otherwise table headers beginnings id number are begins sure isnt =
-    let named : option_map name_offset_of (type_by_id table id) ≡ Some begins.offset =
-    ap (option_map name_offset_of) (by_id table id (λ e. omega (arith, begins.isnt_void, e))) ∙ (sym (slice_get-map name_offset_of table.types (id - 1)) ∙ (ap (λ (os : List ℕ). slice_get os (id - 1)) (sym are.names) ∙ begins.named))
-    in
-    subst (λ (strings : List ℕ). IsSomeAnd (type_by_id table id) (λ t. IsSomeAnd (text_at strings (name_offset_of t)) (λ text. is_marked beginnings (beginning text) ≡ false))) are.strings
-    (type_otherwise headers.strings beginnings begins.offset number (type_by_id table id) (are.texts sure) begins.within begins.begins isnt named)
-
 not_false : (b : Bool) → not b ≡ true → b ≡ false
 not_false true e = absurd cc
 not_false false e = refl
 
 pub isnt_among : (table : Table) (headers : Headers) (beginnings : List Bool) (id number : ℕ) → AreHeadersOf table headers → IsBeginning headers id number → headers.are_texts ≡ true → not (is_marked beginnings number) ≡ true → BeginsOtherwise table beginnings id
-isnt_among table headers beginnings id number are begins sure isnt = is_otherwise table headers beginnings id number are begins sure (not_false (is_marked beginnings number) isnt)
+isnt_among table headers beginnings id number are begins sure isnt =
+    let named : option_map name_offset_of (type_by_id table id) ≡ Some begins.offset =
+    ap (option_map name_offset_of) (by_id table id (λ e. omega (arith, begins.isnt_void, e))) ∙ (sym (slice_get-map name_offset_of table.types (id - 1)) ∙ (ap (λ (os : List ℕ). slice_get os (id - 1)) (sym are.names) ∙ begins.named))
+    in
+    subst (λ (strings : List ℕ). IsSomeAnd (type_by_id table id) (λ t. IsSomeAnd (text_at strings (name_offset_of t)) (λ text. is_marked beginnings (beginning text) ≡ false))) are.strings
+    (type_otherwise headers.strings beginnings begins.offset number (type_by_id table id) (are.texts sure) begins.within begins.begins (not_false (is_marked beginnings number) isnt) named)

@@ -1,2 +1,3 @@
 pub mod FirstTwo
 pub mod HeadersOf
+pub mod WrittenIds

@@ -84,8 +84,11 @@ impl<'t> TypeHeaders<'t> {
             → result ≡ true
             → BeginsOtherwise table beginnings.now id }
     {
+        if !self.are_texts {
+            return false;
+        }
         match self.beginning(id) {
-            Some(number) => self.are_texts && !beginnings.contains(number),
+            Some(number) => !beginnings.contains(number),
             None => false,
         }
     }

@@ -3,7 +3,9 @@
 #![tactic(auto)]
 
 mod beginnings;
+mod blocks;
 mod headers;
 
 pub use beginnings::{beginning, beginning_of};
+pub use blocks::{BLOCK, IdsOfKinds, is_among};
 pub use headers::TypeHeaders;

@@ -1,0 +1,20 @@
+use Rattle.std.proofs.Common.{◌≡◌, ◌≤◌, ◌<◌, Bool, true, false, cond, ℕ, length, length-set, refl, ◌∙◌, arith}
+use Rattle.type_headers.proofs.WrittenIds.{next, none}
+use Rattle.type_headers.proofs.headers.TypeHeaders.ids_of_kinds.Goals as goal
+
+one_at_most : (is : Bool) (count : ℕ) → count ≡ cond is 1 0 → count ≤ 1
+one_at_most true count is = omega (arith, is)
+one_at_most false count is = omega (arith, is)
+
+pub loop-id-init : goal.loop-id-init
+loop-id-init c = (omega arith, refl, λ table are. none table c.args.kinds.now c.args.from)
+
+pub loop-id-preserved : goal.loop-id-preserved
+loop-id-preserved c =
+    let (room, long, before) = c.loop-id.invariant in
+    let one = one_at_most c.is_of_kinds.result c.count_of-len.result c.count_of-len.ensures in
+    let within : c.loop-id.len < length c.loop-id.ids = omega (arith, room, long, c.loop-id-test.true, c.requires.few) in (
+      omega (arith, room, one),
+      length-set c.loop-id.ids c.loop-id.len c.loop-id.id ∙ long,
+      λ table are. next table c.args.kinds.now c.args.from c.loop-id.id c.loop-id.len c.count_of-len.result c.loop-id.ids c.is_of_kinds.result c.loop-id.auto.id within (c.is_of_kinds.ensures table are) c.count_of-len.ensures (before table are),
+    )
