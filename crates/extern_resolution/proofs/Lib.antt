@@ -6,4 +6,5 @@ pub mod Found
 pub mod Growing
 pub mod NamesBegin
 pub mod PassedTypes
+pub mod SaidBlocks
 pub mod Seeking

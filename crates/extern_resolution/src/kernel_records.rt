@@ -1,7 +1,9 @@
 //! What the kernel's table has of the functions and variables that externs are declared as.
 
-ghost use Rattle.std.specs.Prelude.{◌≡◌, ◌+◌, length, true, IfOk, OnOk};
+ghost use Rattle.std.specs.Prelude.{◌≡◌, ◌≤◌, ◌+◌, ◌^◌, false, length, slice_index_or, true, IfOk, OnOk};
 ghost use Rattle.std.specs.Option.{option_copied};
+ghost use Rattle.btf_records.specs.Kinds.{number_of};
+ghost use Rattle.btf_records.specs.declared.kind.BtfKind.TheVariants.{Func, Var};
 ghost use Rattle.btf_tables.specs.Tables.{Table};
 ghost use Rattle.type_headers.specs.Headers.{AreHeadersOf};
 ghost use Rattle.extern_resolution.specs.Gathering.{AreAllSaid, AreBegun, AreEntriesWanted, SameWanted, WantsEntry, records_of};
@@ -12,7 +14,18 @@ use btf_records::BtfKind;
 use btf_tables::{Btf, essential_name};
 use object_externs::{ExternDesc, Externs};
 use std::alloc::{AllocError, Global};
-use type_headers::TypeHeaders;
+use type_headers::{BLOCK, TypeHeaders};
+
+/// The kinds that externs have, by their numbers.
+fn extern_kinds() -> [bool; 20]
+    ensures functions { slice_index_or result (number_of Func) false ≡ true }
+    ensures variables { slice_index_or result (number_of Var) false ≡ true }
+{
+    let mut kinds = [false; 20];
+    kinds[BtfKind::Func as usize] = true;
+    kinds[BtfKind::Var as usize] = true;
+    kinds
+}
 
 /// The kernel's functions and variables that have the names of externs.
 #[derive(Debug, Drop)]
@@ -110,8 +123,36 @@ impl<'n> KernelRecords<'n> {
         Ok(())
     }
 
-    /// Goes through a table. Where each string is known to be readable, the records of nearly all
-    /// types that aren't wanted aren't read.
+    /// Takes the records of a table from one id up to another, a block, after those of lesser ids.
+    /// Where each string is known to be readable, the records of nearly all types that aren't wanted
+    /// aren't read.
+    fn take_block(
+        &mut self,
+        kernel: &Btf<'_>,
+        headers: &TypeHeaders<'_>,
+        from: usize,
+        to: usize,
+    ) -> Result<(), AllocError>
+        requires headers { AreHeadersOf kernel.now headers.now }
+        requires order { from ≤ to }
+        requires few { to ≤ from + 1024 }
+        requires countable { to ≤ 2 ^ 32 }
+        requires said { AreAllSaid kernel.now self.old from }
+        ensures said { OnOk result (AreAllSaid kernel.now self.new to) }
+        ensures wanted { OnOk result (SameWanted self.old self.new) }
+    {
+        let kinds = extern_kinds();
+        let ids = headers.ids_of_kinds(&kinds, from, to);
+        for id in ids.as_slice() {
+            if self.is_passed_over(headers, *id as usize) {
+                continue;
+            }
+            self.take(kernel, *id)?;
+        }
+        Ok(())
+    }
+
+    /// Goes through a table.
     fn go_through(&mut self, kernel: &Btf<'_>) -> Result<(), AllocError>
         requires { AreBegun self.old }
         ensures said { OnOk result (AreAllSaid kernel.now self.new (length kernel.now.types + 1)) }
@@ -119,11 +160,11 @@ impl<'n> KernelRecords<'n> {
     {
         let headers = TypeHeaders::new(kernel);
         let count = kernel.len() + 1;
-        for id in 0..count {
-            if self.is_passed_over(&headers, id) {
-                continue;
-            }
-            self.take(kernel, id as u32)?;
+        let mut from = 0;
+        while from < count {
+            let to = count.min(from + BLOCK);
+            self.take_block(kernel, &headers, from, to)?;
+            from = to;
         }
         Ok(())
     }

@@ -3,7 +3,7 @@ use Rattle.std.proofs.Common.{◌≡◌, ℕ, zero, suc, ◌+◌, ◌-◌, ◌<�
 use Rattle.std.specs.Prelude.{slice_get, slice_index_or}
 use Rattle.std.specs.List.{flat_map, range_with_len}
 use Rattle.std.specs.Option.{IsSomeAnd, option_map_or}
-use Rattle.std.proofs.lemmas.List.{drop_more}
+use Rattle.std.proofs.lemmas.List.{drop_all, drop_more}
 use Rattle.btf_records.specs.Fields.{kind_of_type}
 use Rattle.btf_records.specs.Kinds.{number_of}
 use Rattle.btf_records.specs.declared.types.BtfType.{BtfType}
@@ -62,9 +62,6 @@ passed_to kinds numbers targets target table next to named unreadable at order o
     subst (λ (id : ℕ). AreSeen (sighted kinds numbers targets) (types_before targets table id) named unreadable) same
     (passed_on kinds numbers targets target table next (to - next) named unreadable at (subst (AreOfOtherKinds target kinds next) (sym same) others) seen)
 
-first_is : (items : List ℕ) (index : ℕ) → index < length items → drop index items ≡ slice_index_or items index 0 ∷ drop (index + 1) items
-first_is items index within = drop_more items index 0 within
-
 up_to : (kinds : List Bool) (numbers : List (List ℕ × ℕ)) (targets : List Table) (headers : Headers) (table to id : ℕ) (rest ids : List ℕ) (named : List (List KernelType)) (unreadable : List Bool) → rest ≡ id ∷ ids → AreSeenSoFar kinds numbers targets headers table to rest named unreadable → AreSeen (sighted kinds numbers targets) (types_before targets table id) named unreadable
 unfolding AreIdsOfKinds
 up_to kinds numbers targets headers table to id rest ids named unreadable is so =
@@ -74,7 +71,7 @@ up_to kinds numbers targets headers table to id rest ids named unreadable is so 
 -- those before the next of a wanted kind were seen
 pub seen_up_to : (kinds : List Bool) (numbers : List (List ℕ × ℕ)) (targets : List Table) (headers : Headers) (table to index : ℕ) (ids : List ℕ) (named : List (List KernelType)) (unreadable : List Bool) → index < length ids → AreSeenSoFar kinds numbers targets headers table to (drop index ids) named unreadable
     → AreSeen (sighted kinds numbers targets) (types_before targets table (slice_index_or ids index 0)) named unreadable
-seen_up_to kinds numbers targets headers table to index ids named unreadable within so = up_to kinds numbers targets headers table to (slice_index_or ids index 0) (drop index ids) (drop (index + 1) ids) named unreadable (first_is ids index within) so
+seen_up_to kinds numbers targets headers table to index ids named unreadable within so = up_to kinds numbers targets headers table to (slice_index_or ids index 0) (drop index ids) (drop (index + 1) ids) named unreadable (drop_more ids index 0 within) so
 
 one_later : (kinds : List Bool) (numbers : List (List ℕ × ℕ)) (targets : List Table) (headers : Headers) (table to id : ℕ) (rest ids : List ℕ) (old new : List (List KernelType)) (was is : List Bool) → rest ≡ id ∷ ids → AreSeenSoFar kinds numbers targets headers table to rest old was → AreSeen (sighted kinds numbers targets) (types_before targets table (id + 1)) new is → AreSeenSoFar kinds numbers targets headers table to ids new is
 unfolding AreIdsOfKinds
@@ -85,7 +82,7 @@ one_later kinds numbers targets headers table to id rest ids old new was is same
 -- and with it
 pub seen_later : (kinds : List Bool) (numbers : List (List ℕ × ℕ)) (targets : List Table) (headers : Headers) (table to index : ℕ) (ids : List ℕ) (old new : List (List KernelType)) (was is : List Bool) → index < length ids → AreSeenSoFar kinds numbers targets headers table to (drop index ids) old was
     → AreSeen (sighted kinds numbers targets) (types_before targets table (slice_index_or ids index 0 + 1)) new is → AreSeenSoFar kinds numbers targets headers table to (drop (index + 1) ids) new is
-seen_later kinds numbers targets headers table to index ids old new was is within so seen = one_later kinds numbers targets headers table to (slice_index_or ids index 0) (drop index ids) (drop (index + 1) ids) old new was is (first_is ids index within) so seen
+seen_later kinds numbers targets headers table to index ids old new was is within so seen = one_later kinds numbers targets headers table to (slice_index_or ids index 0) (drop index ids) (drop (index + 1) ids) old new was is (drop_more ids index 0 within) so seen
 
 -- it has no wanted name
 pub other_later : (kinds : List Bool) (numbers : List (List ℕ × ℕ)) (targets : List Table) (headers : Headers) (table to index : ℕ) (ids : List ℕ) (named : List (List KernelType)) (unreadable : List Bool) → index < length ids → ((t : Table) → AreHeadersOf t headers → of_type_by_id kinds numbers t (slice_index_or ids index 0) ≡ Other)
@@ -98,16 +95,10 @@ to_end : (kinds : List Bool) (numbers : List (List ℕ × ℕ)) (targets : List 
 unfolding AreIdsOfKinds
 to_end kinds numbers targets headers table to rest named unreadable none so = passed_to kinds numbers targets so.target table so.next to named unreadable so.at so.order (subst (AreIdsOfKinds so.target kinds so.next to) none so.left) so.seen
 
-none_left : (ids : List ℕ) (index : ℕ) → length ids ≤ index → drop index ids ≡ []
-none_left [] zero past = refl
-none_left [] (suc index) past = refl
-none_left (id ∷ ids) zero past = absurd (omega (arith, past))
-none_left (id ∷ ids) (suc index) past = none_left ids index (omega (arith, past))
-
 -- a block ends
 pub seen_to_end : (kinds : List Bool) (numbers : List (List ℕ × ℕ)) (targets : List Table) (headers : Headers) (table to index : ℕ) (ids : List ℕ) (named : List (List KernelType)) (unreadable : List Bool) → length ids ≤ index → AreSeenSoFar kinds numbers targets headers table to (drop index ids) named unreadable
     → AreSeen (sighted kinds numbers targets) (types_before targets table to) named unreadable
-seen_to_end kinds numbers targets headers table to index ids named unreadable past so = to_end kinds numbers targets headers table to (drop index ids) named unreadable (none_left ids index past) so
+seen_to_end kinds numbers targets headers table to index ids named unreadable past so = to_end kinds numbers targets headers table to (drop index ids) named unreadable (drop_all index ids past) so
 
 types_by : (targets : List Table) (target : Table) (table count : ℕ) → slice_get targets table ≡ Some target → count ≡ length target.types + 1 → types_at targets table ≡ first_types table count
 types_by targets target table count at is =

@@ -1,5 +1,9 @@
+use Rattle.std.specs.Prelude.{◌≤◌, ◌-◌}
 use Rattle.extern_resolution.specs.Gathering.{AreAllSaid, SameWanted}
 use Rattle.extern_resolution.proofs.kernel_records.KernelRecords.go_through.Given as goal
 
-abbrev pub invariant-loop-id : goal.invariant-loop-id
-invariant-loop-id l = AreAllSaid l.kernel l.self l.id × SameWanted l.fn.self l.self
+abbrev pub invariant-loop-from : goal.invariant-loop-from
+invariant-loop-from l = (l.from ≤ l.count) × AreAllSaid l.kernel l.self l.from × SameWanted l.fn.self l.self
+
+abbrev pub decreases-loop-from : goal.decreases-loop-from
+decreases-loop-from l = l.count - l.from

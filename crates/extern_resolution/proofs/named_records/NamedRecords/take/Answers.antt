@@ -1,9 +1,9 @@
-use Rattle.std.proofs.Common.{◌≡◌, ◌≢◌, ℕ, List, None, Some, refl, ap, sym, subst, ◌∙◌, rules}
+use Rattle.std.proofs.Common.{◌≡◌, ◌≢◌, ℕ, None, Some, refl, ap, sym, subst, ◌∙◌, rules}
 use Rattle.std.specs.BTreeMap.{is_at}
 use Rattle.std.specs.List.{list_any}
 use Rattle.std.specs.Ordering.{nat_cmp}
 use Rattle.btf_records.specs.Fields.{kind_of_type, name_offset_of}
-use Rattle.extern_resolution.specs.Wanted.{IsLookedUp, IsNoted}
+use Rattle.extern_resolution.specs.Wanted.{IsNoted}
 use Rattle.extern_resolution.proofs.FirstNamed.{entered_there, hidden_there, looked_up_there, other_kind}
 use Rattle.extern_resolution.proofs.named_records.NamedRecords.take.Goals as goal
 use Rattle.string_table.specs.Texts.{text_at}
