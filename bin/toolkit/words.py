@@ -21,27 +21,38 @@ WITH_OPTIONS = ("bpf_prepare", "inspect_object")
 FILE_OPTIONS = (b"--types", b"--symbols", b"--settings")
 VALUE_OPTIONS = (b"--types-order", b"--deny", b"--map", b"--global")
 
+# The characters that have escapes of their own in messages.
+ESCAPES = {'"': '\\"', "\\": "\\\\", "\n": "\\n", "\r": "\\r", "\t": "\\t", "\0": "\\0"}
+
 # Files that are opened here get descriptors from this one on: lower ones may be named by the caller.
 FIRST_DESCRIPTOR = 200
 
 
-def file_positions(program, words):
-    """The positions of the words that name files."""
+def is_option(word):
+    """Whether a word of a program with options is one; a dash alone names a file."""
+    return word.startswith(b"-") and word != b"-"
+
+
+def file_places(program, words):
+    """Where words name files: the position of each such word, and how many of its bytes stand before the name."""
     if program not in WITH_OPTIONS:
-        return list(range(len(words)))
-    positions = []
+        return [(at, 0) for at in range(len(words))]
+    places = []
     at = 0
     while at < len(words):
-        word = words[at]
-        if word in FILE_OPTIONS:
+        word, has_value = words[at], at + 1 < len(words) and not is_option(words[at + 1])
+        if word == b"--":
+            return places + [(after, 0) for after in range(at + 1, len(words))]
+        if word in FILE_OPTIONS + VALUE_OPTIONS and has_value:
             at += 1
-            positions.append(at)
-        elif word in VALUE_OPTIONS:
-            at += 1
-        elif not word.startswith(b"--"):
-            positions.append(at)
+            if word in FILE_OPTIONS:
+                places.append((at, 0))
+        elif word.split(b"=")[0] in FILE_OPTIONS and b"=" in word:
+            places.append((at, word.index(b"=") + 1))
+        elif not is_option(word):
+            places.append((at, 0))
         at += 1
-    return [at for at in positions if at < len(words)]
+    return places
 
 
 def is_text(word):
@@ -78,13 +89,36 @@ def read_whole(descriptor):
 def for_proved(program, words):
     """The words for the proved program, which takes the place of this process."""
     words = list(words)
-    for at in file_positions(program, words):
-        if not is_text(words[at]):
-            descriptor = opened(words[at])
+    for at, before in file_places(program, words):
+        option, name = words[at][:before], words[at][before:]
+        if not is_text(name):
+            descriptor = opened(name)
             if descriptor is not None:
                 os.set_inheritable(descriptor, True)
-                words[at] = b"/dev/fd/%d" % descriptor
+                words[at] = option + b"/dev/fd/%d" % descriptor
     return words
+
+
+def is_printed(byte):
+    """Whether a byte stands for itself in double quotes in the lines of a program."""
+    return 0x20 <= byte <= 0x7E and byte not in b'"\\'
+
+
+def quoted(word):
+    """A name in double quotes, as it stands in the lines that `inspect_object` prints."""
+    return b'"' + b"".join(b"%c" % byte if is_printed(byte) else b"\\x%02x" % byte for byte in word) + b'"'
+
+
+def escaped(letter):
+    """A character in double quotes, as messages have it: with the escapes of Rust."""
+    if letter in ESCAPES:
+        return ESCAPES[letter]
+    return letter if letter.isprintable() else f"\\u{{{ord(letter):x}}}"
+
+
+def told(word):
+    """A name in double quotes, as messages have it."""
+    return b'"' + "".join(map(escaped, word.decode("utf-8", "replace"))).encode() + b'"'
 
 
 class Handed:
@@ -99,11 +133,10 @@ class Handed:
         self.named = {}
         self.words = list(words)
         self.folder = os.path.abspath(folder)
-        for at in file_positions(program, words):
-            self.words[at] = self.path_of(words[at])
-        # A word that isn't UTF-8 ends the program with its usage line, as no words do.
-        if not all(map(is_text, self.words)):
-            self.words = []
+        for at, before in file_places(program, words):
+            self.words[at] = words[at][:before] + self.path_of(words[at][before:])
+        # `rt try` takes no others.
+        self.are_texts = all(map(is_text, self.words))
 
     def path_of(self, word):
         """The path by which a file goes."""
@@ -132,11 +165,15 @@ class Handed:
             return self.process + b"/cwd/"
         return self.folder + b"/"
 
-    def as_called(self, text):
-        """What a program wrote, with the files named as the caller did."""
+    def as_called(self, text, quote=quoted):
+        """What a program printed, with the files named as the caller did; `quote` says how names stand in double quotes."""
         for path, word in self.named.items():
-            text = text.replace(b'"' + path + b'"', b'"' + word + b'"')
+            text = text.replace(b'"' + path + b'"', quote(word)).replace(path, word)
         return text.replace(self.start(), b"")
+
+    def as_told(self, text):
+        """What a program wrote on standard error, likewise."""
+        return self.as_called(text, told)
 
     def close(self):
         while self.descriptors:
