@@ -1,30 +1,70 @@
 //! What a user is told about a text of settings, in one line.
 
 use command_line::first_paragraph;
+use line_words::Text;
 use run_settings::invalid_key;
 use std::alloc::{AllocError, Global};
 
-/// The number of the first line that holds the last part of a key, from 1.
-fn line_of(text: &str, key: &str) -> Option<usize> {
-    let name = match key.rsplit_once('.') {
-        Some((_, name)) => name,
-        None => key,
-    };
+/// The key of a line's table or entry, as it stands there, if the line has one.
+fn key_in(line: &str) -> Option<&str> {
+    let line = line.trim();
+    match line.strip_prefix('[') {
+        Some(table) => table.split_once(']').map(|(key, _)| key),
+        None => line.split_once('=').map(|(key, _)| key),
+    }
+}
+
+/// Adds the names of a key, without white space and quotes, each with a dot before it.
+fn push_names(path: &mut String, key: &str) -> Result<(), AllocError> {
+    for name in key.split('.') {
+        path.push_str(".")?;
+        path.push_str(name.trim().trim_matches(|letter| letter == '"' || letter == '\''))?;
+    }
+    Ok(())
+}
+
+/// Whether a table or an entry is the one of a key, or has it.
+fn has_key(path: &str, key: &str) -> bool {
+    match key.strip_prefix(path) {
+        Some(rest) => rest.is_empty() || rest.starts_with('.'),
+        None => false,
+    }
+}
+
+/// The number of the last line, from 1, whose table or entry has a key, as far as a look at the
+/// lines one by one tells.
+fn line_of(alloc: Global, text: &str, key: &str) -> Result<Option<usize>, AllocError> {
+    let mut wanted = String::new(alloc);
+    push_names(&mut wanted, key)?;
+    let mut table = String::new(alloc);
+    let mut found = None;
     for (index, line) in text.lines().enumerate() {
-        if line.contains(name) {
-            return index.checked_add(1);
+        let Some(names) = key_in(line) else {
+            continue;
+        };
+        let mut path = String::new(alloc);
+        if line.trim().starts_with('[') {
+            push_names(&mut path, names)?;
+            table = path.clone()?;
+        } else {
+            path.push_str(&table)?;
+            push_names(&mut path, names)?;
+        }
+        if has_key(&path, &wanted) {
+            found = index.checked_add(1);
         }
     }
-    None
+    Ok(found)
 }
 
 /// What is wrong with a table of settings: its key, and the line that has it.
 fn key_text(alloc: Global, text: &str, key: &str) -> Result<String, AllocError> {
-    match line_of(text, key) {
+    let shown = Text::of(key);
+    match line_of(alloc, text, key)? {
         Some(line) => {
-            format!(in alloc; "line {line}: {key} is no setting, or its value is of another kind")
+            format!(in alloc; "line {line}: {shown} is no setting, or its value is of another kind")
         }
-        None => format!(in alloc; "{key} is no setting, or its value is of another kind"),
+        None => format!(in alloc; "{shown} is no setting, or its value is of another kind"),
     }
 }
 

@@ -19,8 +19,8 @@ const PROGRAM: ProgramTexts<'static> = ProgramTexts {
 Settings (TOML): [maps] NAME = NUMBER; [globals.NAME] value = \"HEX\", required = true|false;
 [features] NAME = true|false; probe = true|false. A word on the line beats the file.
 
-Status: 0 the plan is on standard output; 1 the object is refused; 2 the line is otherwise,
-a file can't be read, or the plan can't be written.
+Status: 0 the plan is on standard output; 1 the object is refused; 2 the line is otherwise, a file
+can't be read, settings or kernel types can't be parsed, or the plan can't be written.
 
 A running kernel's types are in /sys/kernel/btf/vmlinux, its symbols in /proc/kallsyms.
 An example that works in the repository:

@@ -20,6 +20,9 @@ pub enum InputError {
     /// The kernel types of a file can't be parsed.
     #[error("kernel types in {name:?}: {error}")]
     Types { name: String, error: BtfError },
+    /// They can't be parsed, and begin as types of the other byte order do.
+    #[error("kernel types in {name:?}: {error}; they begin as types of the other byte order (--types-order)")]
+    TypesOrder { name: String, error: BtfError },
     /// More files with kernel types are named than tables are taken.
     #[error("more than 4294967296 files of kernel types")]
     TooManyTypes,

@@ -5,7 +5,7 @@ ghost use Rattle.std.specs.Prelude.{◌≤◌, ◌^◌, length, IfOk};
 use crate::error::InputError;
 use btf_records::{BtfError, Endianness};
 use btf_tables::Btf;
-use std::alloc::Global;
+use std::alloc::{AllocError, Global};
 use std::fs::File;
 use std::io::BufReader;
 use std::{fs, io};
@@ -43,11 +43,36 @@ pub fn read_all(rt: &HostRuntime, names: &[&str]) -> Result<Vec<Vec<u8>>, InputE
     Ok(files)
 }
 
+/// Whether bytes begin as types of the other byte order do.
+fn begin_otherwise(bytes: &[u8], order: Endianness) -> bool {
+    let magic: [u8; 2] = match order {
+        Endianness::Little => [0xeb, 0x9f],
+        Endianness::Big => [0x9f, 0xeb],
+    };
+    bytes.starts_with(&magic)
+}
+
+/// What is wrong with the types that the file of a name holds, in its bytes.
+fn types_fault(
+    alloc: Global,
+    name: &str,
+    bytes: &[u8],
+    order: Endianness,
+    error: BtfError,
+) -> Result<InputError, AllocError> {
+    let name = String::from_str(alloc, name)?;
+    if begin_otherwise(bytes, order) {
+        Ok(InputError::TypesOrder { name, error })
+    } else {
+        Ok(InputError::Types { name, error })
+    }
+}
+
 /// The types of a kernel that the file of a name holds, in its bytes.
 ///
 /// # Errors
 ///
-/// `Types`, with what is wrong, and `OutOfMemory`.
+/// `Types` or `TypesOrder`, with what is wrong, and `OutOfMemory`.
 pub fn kernel_table<'t>(
     alloc: Global,
     name: &str,
@@ -57,10 +82,7 @@ pub fn kernel_table<'t>(
     match Btf::parse(alloc, bytes, order) {
         Ok(table) => Ok(table),
         Err(BtfError::OutOfMemory) => Err(InputError::OutOfMemory),
-        Err(error) => Err(InputError::Types {
-            name: String::from_str(alloc, name)?,
-            error,
-        }),
+        Err(error) => Err(types_fault(alloc, name, bytes, order, error)?),
     }
 }
 
@@ -71,7 +93,7 @@ const MAX_TABLES: usize = 0x1_0000_0000;
 ///
 /// # Errors
 ///
-/// `Types` at the first that can't be parsed, `TooManyTypes` where there are more than 2^32 files,
+/// `Types` or `TypesOrder` at the first that can't be parsed, `TooManyTypes` where there are more than 2^32 files,
 /// and `OutOfMemory`.
 pub fn kernel_tables<'t>(
     alloc: Global,
