@@ -7,6 +7,7 @@ Extension aren't served. Nothing is attached or pinned, and all is gone when the
 bpf is printed, and none is made.
 """
 import ctypes
+import os
 import struct
 import sys
 
@@ -14,6 +15,9 @@ CALL = 321  # bpf
 MAP_CREATE, MAP_UPDATE_ELEM, PROG_LOAD, BTF_LOAD, MAP_FREEZE = 0, 2, 5, 18, 22
 NAMES = {0: "BPF_MAP_CREATE", 2: "BPF_MAP_UPDATE_ELEM", 5: "BPF_PROG_LOAD", 18: "BPF_BTF_LOAD", 22: "BPF_MAP_FREEZE"}
 READ_ONLY = 128  # BPF_F_RDONLY_PROG
+PERF_EVENT_ARRAY = 4
+# The types of maps that the kernel makes without types of keys and values (bpf_object__create_map, tools/lib/bpf/libbpf.c).
+UNTYPED = (PERF_EVENT_ARRAY, 7, 8, 12, 13, 14, 15, 16, 17, 18, 22, 23, 25, 33)
 
 # By KIND: the program type, the flag that A sets, and the expected attach types by B where there is a flag, else by A.
 KINDS = (
@@ -61,6 +65,10 @@ class Loader:
 
     def make_map(self, name, words, inner):
         kind, key, value, most, flags, extra, _pin, _id, key_type, value_type = words
+        if kind in UNTYPED:
+            key_type = value_type = 0
+        if kind == PERF_EVENT_ARRAY and most == 0:
+            most = os.sysconf("SC_NPROCESSORS_CONF")
         types = self.types if key_type or value_type else 0
         attributes = struct.pack("<7I16s5IQ", kind, key, value, most, flags, inner, 0, label(name), 0, types, key_type,
                                  value_type, 0, extra)

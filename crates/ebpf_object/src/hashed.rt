@@ -101,11 +101,10 @@ impl<'a> Object<'a> {
         ensures relocated { OnOk result
             (HandsOver I.next_gives maps (λ handed.
             AreRelocated (map_rule (given self.old.file (in_order text_sections.now.keys) handed))
-            self.old.file self.old.functions self.new.functions)) }
-        ensures sound { OnOk result
-            (HandsOver I.next_gives maps (λ handed.
-            CanBeRelocated (map_rule (given self.old.file (in_order text_sections.now.keys) handed))
-            self.old.file self.old.functions)) }
+            self.old.file self.old.functions self.new.functions
+            × CanBeRelocated
+            (map_rule (given self.old.file (in_order text_sections.now.keys) handed)) self.old.file
+            self.old.functions)) }
         ensures others { self.new ≡ record self.old { functions = self.new.functions } }
         ensures fault { IfErr result (λ e.
             e.error ≢ RelocationError.OutOfMemory
