@@ -1,17 +1,16 @@
 -- What resolved weak externs tell of those that were declared.
 use Rattle.std.proofs.Common.{◌≡◌, ℕ, List, [], ◌∷◌, map, refl, sym, subst, inl, inr, Bool, true, false, Option, None, Some}
-use Rattle.std.specs.Prelude.{◌&&◌, not, if◌then◌else◌, is_none, IfSome}
+use Rattle.std.specs.Prelude.{◌&&◌, not, if◌then◌else◌, is_none}
 use Rattle.std.specs.List.{AllZip}
-use Rattle.std.specs.Option.{IsSomeAnd, MatchOption}
+use Rattle.std.specs.Option.{MatchOption}
 use Rattle.btf_tables.specs.Tables.{Table}
-use Rattle.extern_resolution.specs.Faults.{ResolutionFault}
 use Rattle.extern_resolution.specs.Outcomes.{EntryBecomes, IsFoundIn, left_weak, sought_address, with_address, with_kernel_id}
 use Rattle.extern_resolution.specs.Resolution.{AreResolved, CannotResolve}
 use Rattle.extern_resolution.specs.declared.error.KsymsError.{KsymsError}
 use Rattle.kernel_symbols.specs.Texts.{address_of}
 use Rattle.object_externs.specs.Externs.{ExternContent, ExternsContent}
 use Rattle.extern_reports.proofs.Growing.{weak_entry}
-use Rattle.extern_reports.specs.Presences.{SaysOfExtern, SaysOfExterns, all_weak, as_weak, presence_of}
+use Rattle.extern_reports.specs.Presences.{SaysOfExtern, SaysOfExterns, WeakFault, all_unknown, all_weak, as_weak, presence_of}
 use Rattle.extern_reports.specs.declared.presences.Presence.{Presence}
 use Rattle.extern_reports.specs.declared.presences.Presence.TheVariants.{Found, Missing, Unknown}
 
@@ -73,24 +72,26 @@ told table kernel text has_symbols (x ∷ xs) [] h = absurd h
 told table kernel text has_symbols (x ∷ xs) (y ∷ ys) h = (by_type table kernel text has_symbols x.0 x.1 y.1 x.1.type_id refl h.0.1, told table kernel text has_symbols xs ys h.1)
 
 -- what externs tell that were resolved by a text of these bytes
-resolved_told : (table : Table) (kernel : Option Table) (bytes : List ℕ) (failed has_symbols : Bool) (externs weak new : ExternsContent) (said : List Presence) → weak ≡ all_weak externs → AreResolved table kernel (Some bytes) failed weak new → said ≡ map (λ e. presence_of has_symbols e.1) new.by_name → SaysOfExterns table kernel bytes has_symbols externs said
-resolved_told table kernel bytes failed has_symbols externs weak new said all resolved is =
-    let each : AllZip (EntryBecomes table kernel resolved.text) (map weak_entry externs.by_name) new.by_name = subst (λ (w : ExternsContent). AllZip (EntryBecomes table kernel resolved.text) w.by_name new.by_name) all resolved.each in
-    let sound : (f : KsymsError) → ResolutionFault table kernel failed resolved.text (all_weak externs).by_name f → ⊥ = subst (λ (w : ExternsContent). (f : KsymsError) → ResolutionFault table kernel failed resolved.text w.by_name f → ⊥) all resolved.faultless in
+pub told_of : (table : Table) (kernel : Option Table) (known : Option (List ℕ)) (bytes : List ℕ) (failed has_symbols : Bool) (externs weak new : ExternsContent) (said : List Presence) → known ≡ Some bytes → failed ≡ false → weak ≡ all_weak externs → AreResolved table kernel known failed weak new → said ≡ map (λ e. presence_of has_symbols e.1) new.by_name → SaysOfExterns (Some table) kernel bytes has_symbols externs said
+told_of table kernel known bytes failed has_symbols externs weak new said whole read all h is =
+    let resolved : AreResolved table kernel (Some bytes) false (all_weak externs) new =
+    subst (λ (w : ExternsContent). AreResolved table kernel (Some bytes) false w new) all
+    (subst (λ (b : Bool). AreResolved table kernel (Some bytes) b weak new) read
+    (subst (λ (k : Option (List ℕ)). AreResolved table kernel k failed weak new) whole h)) in
     inl (rw (is, resolved.given) (record {
-      failed = failed;
-      faultless = sound;
-      each = told table kernel resolved.text has_symbols externs.by_name new.by_name each;
+      faultless = resolved.faultless;
+      each = told table kernel resolved.text has_symbols externs.by_name new.by_name resolved.each;
     }))
 
-pub told_of : (table : Option Table) (kernel : Option Table) (known : Option (List ℕ)) (bytes : List ℕ) (failed has_symbols : Bool) (externs weak new : ExternsContent) (said : List Presence) → known ≡ Some bytes → weak ≡ all_weak externs → IfSome table (λ t. AreResolved t kernel known failed weak new) → said ≡ map (λ e. presence_of has_symbols e.1) new.by_name → IfSome table (λ t. SaysOfExterns t kernel bytes has_symbols externs said)
-told_of None kernel known bytes failed has_symbols externs weak new said whole all resolved is = tt
-told_of (Some t) kernel known bytes failed has_symbols externs weak new said whole all resolved is =
-    resolved_told t kernel bytes failed has_symbols externs weak new said all (subst (λ (k : Option (List ℕ)). AreResolved t kernel k failed weak new) whole resolved) is
-
 -- and where they weren't
-pub nothing_of : (table : Option Table) (kernel : Option Table) (known : Option (List ℕ)) (bytes : List ℕ) (failed has_symbols : Bool) (externs weak : ExternsContent) (fault : KsymsError) (said : List Presence) → known ≡ Some bytes → weak ≡ all_weak externs → IsSomeAnd table (λ t. CannotResolve t kernel known failed weak fault) → said ≡ map (λ e. Unknown) externs.by_name → IfSome table (λ t. SaysOfExterns t kernel bytes has_symbols externs said)
-nothing_of None kernel known bytes failed has_symbols externs weak fault said whole all stands is = tt
-nothing_of (Some t) kernel known bytes failed has_symbols externs weak fault said whole all stands is =
-    let here : CannotResolve t kernel (Some bytes) failed weak fault = subst (λ (k : Option (List ℕ)). CannotResolve t kernel k failed weak fault) whole stands in
-    inr (record { failed = failed; fault = fault; stands = subst (λ (w : ExternsContent). CannotResolve t kernel (Some bytes) failed w fault) all here; nothing = is })
+pub nothing_of : (table : Table) (kernel : Option Table) (known : Option (List ℕ)) (bytes : List ℕ) (failed has_symbols : Bool) (externs weak : ExternsContent) (fault : KsymsError) (said : List Presence) → known ≡ Some bytes → failed ≡ false → weak ≡ all_weak externs → CannotResolve table kernel known failed weak fault → said ≡ all_unknown externs → SaysOfExterns (Some table) kernel bytes has_symbols externs said
+nothing_of table kernel known bytes failed has_symbols externs weak fault said whole read all h is =
+    let refused : CannotResolve table kernel (Some bytes) false (all_weak externs) fault =
+    subst (λ (w : ExternsContent). CannotResolve table kernel (Some bytes) false w fault) all
+    (subst (λ (b : Bool). CannotResolve table kernel (Some bytes) b weak fault) read
+    (subst (λ (k : Option (List ℕ)). CannotResolve table kernel k failed weak fault) whole h)) in
+    inr (record {
+      fault = fault;
+      stands = subst (λ (t : List ℕ). WeakFault table kernel t externs fault) (sym refused.given) refused.stands;
+      nothing = is;
+    })

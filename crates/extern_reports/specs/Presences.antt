@@ -5,7 +5,6 @@ use Rattle.std.specs.Option.{MatchOption}
 use Rattle.btf_tables.specs.Tables.{Table}
 use Rattle.extern_resolution.specs.Faults.{ResolutionFault}
 use Rattle.extern_resolution.specs.Outcomes.{IsFoundIn}
-use Rattle.extern_resolution.specs.Resolution.{CannotResolve}
 use Rattle.extern_resolution.specs.declared.error.KsymsError.{KsymsError}
 use Rattle.kernel_symbols.specs.Texts.{address_of}
 use Rattle.object_externs.specs.Externs.{ExternContent, ExternsContent}
@@ -48,32 +47,38 @@ SaysOfExtern table kernel text has_symbols e Missing =
     (is_untold has_symbols e.1 ≡ false) × IsNotThere table kernel text e.0 e.1
 SaysOfExtern table kernel text has_symbols e Unknown = is_untold has_symbols e.1 ≡ true
 
--- each is told where the externs can be resolved, all of which may be missing
+-- why externs that may all be missing can't be resolved by a text of symbols that is read whole
+abbrev pub WeakFault : Table → Option Table → List ℕ → ExternsContent → KsymsError → Type 0
+WeakFault table kernel text externs f =
+    ResolutionFault table kernel false text (all_weak externs).by_name f
+
+-- each is told where no fault stands
 pub record SaysEach (table : Table) (kernel : Option Table) (text : List ℕ) (has_symbols : Bool)
     (externs : ExternsContent) (said : List Presence) : Type 0 where
-  pub failed : Bool
-  pub faultless : (f : KsymsError)
-      → ResolutionFault table kernel failed text (all_weak externs).by_name f
-      → ⊥
+  pub faultless : (f : KsymsError) → WeakFault table kernel text externs f → ⊥
   pub each : AllZip (SaysOfExtern table kernel text has_symbols) externs.by_name said
 
--- nothing is said of any where they can't
+-- nothing is said of any
+abbrev pub all_unknown : ExternsContent → List Presence
+all_unknown externs = map (λ e. Unknown) externs.by_name
+
+-- nothing is said where one stands
 pub record SaysNothing (table : Table) (kernel : Option Table) (text : List ℕ)
     (externs : ExternsContent) (said : List Presence) : Type 0 where
-  pub failed : Bool
   pub fault : KsymsError
-  pub stands : CannotResolve table kernel (Some text) failed (all_weak externs) fault
-  pub nothing : said ≡ map (λ e. Unknown) externs.by_name
+  pub stands : WeakFault table kernel text externs fault
+  pub nothing : said ≡ all_unknown externs
 
--- what is said of the externs of an object, by name
-abbrev pub SaysOfExterns : Table
+-- what is said of the externs of an object, by name: nothing where it has no types
+abbrev pub SaysOfExterns : Option Table
     → Option Table
     → List ℕ
     → Bool
     → ExternsContent
     → List Presence
     → Type 0
-SaysOfExterns table kernel text has_symbols externs said =
+SaysOfExterns None kernel text has_symbols externs said = said ≡ all_unknown externs
+SaysOfExterns (Some table) kernel text has_symbols externs said =
     SaysEach table kernel text has_symbols externs said
     ⊎ SaysNothing table kernel text externs said
 

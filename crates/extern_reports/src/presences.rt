@@ -1,6 +1,6 @@
 //! Whether a kernel has the externs of an object.
 
-ghost use Rattle.std.specs.Prelude.{◌≡◌, ◌≢◌, map, option_copied, slice_get, IfOk, IfSome};
+ghost use Rattle.std.specs.Prelude.{◌≡◌, ◌≢◌, map, option_copied, slice_get, IfOk};
 ghost use Rattle.extern_resolution.specs.declared.error.KsymsError.TheVariants.{OutOfMemory};
 ghost use Rattle.extern_reports.specs.Presences.{SaysOfExterns, all_weak, as_weak, presence_of};
 ghost use Rattle.extern_reports.specs.declared.presences.Presence.TheVariants.{Unknown};
@@ -98,7 +98,8 @@ fn fault_of(error: KsymsError) -> Result<KsymsError, AllocError>
 }
 
 /// Whether a kernel has each of an object's externs, by name: those with a type by its types,
-/// the others by a text of its symbols, where these are given.
+/// the others by a text of its symbols, where these are given. An object without types of its own
+/// has none to look for, and nothing is said of any.
 pub fn presences_of(
     alloc: Global,
     externs: &Externs<'_>,
@@ -108,13 +109,21 @@ pub fn presences_of(
     has_symbols: bool,
 ) -> Result<Vec<Presence>, AllocError>
     ensures { IfOk result (λ said.
-        IfSome (option_copied table.entry) (λ t.
-        SaysOfExterns t (slice_get kernel_types.now 0) symbols.now has_symbols externs.now
-        said.items)) }
+        SaysOfExterns (option_copied table.entry) (slice_get kernel_types.now 0) symbols.now
+        has_symbols externs.now said.items) }
 {
+    let Some(table) = table else {
+        let said = all_unknown(alloc, externs)?;
+        return Ok(said);
+    };
     let mut weak = all_weak(alloc, externs)?;
     let mut symbols = Watched::new(symbols);
-    match resolve_externs(alloc, &mut weak, table, kernel_types, &mut symbols) {
+    let answer = resolve_externs(alloc, &mut weak, Some(table), kernel_types, &mut symbols);
+    // a reader of bytes doesn't fail
+    if symbols.failed() {
+        return Err(AllocError);
+    }
+    match answer {
         Ok(()) => {
             let said = all_told(alloc, &weak, has_symbols)?;
             Ok(said)

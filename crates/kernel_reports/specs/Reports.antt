@@ -1,5 +1,5 @@
 -- What is reported of an object and a kernel.
-use Rattle.std.specs.Prelude.{◌≡◌, ℕ, List, [], Bool, IfSome, slice_get}
+use Rattle.std.specs.Prelude.{◌≡◌, ℕ, List, [], Bool, slice_get}
 use Rattle.ebpf_object.specs.ParsedObject.{ObjectContent}
 use Rattle.ebpf_object.specs.TypeRelocations.{type_groups, types_of}
 use Rattle.load_plan.specs.Inputs.{SettingsContent, Table}
@@ -21,5 +21,5 @@ pub record IsReport (file : List ℕ) (o : ObjectContent) (relocations : List Re
     (r : KernelReport) : Type 0 where
   pub plan : IsPlanAnswer file kernel text settings r.plan
   pub answers : r.relocations.items ≡ answers_to o.types kernel relocations
-  pub externs : IfSome o.types (λ table.
-      SaysOfExterns table (slice_get kernel 0) text has_symbols o.externs r.externs.items)
+  pub externs :
+      SaysOfExterns o.types (slice_get kernel 0) text has_symbols o.externs r.externs.items
