@@ -1,2 +1,5 @@
 pub mod Growing
+pub mod Lines
+pub mod Spaces
 pub mod Told
+pub mod Writing

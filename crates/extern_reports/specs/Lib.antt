@@ -1,1 +1,2 @@
 pub mod Presences
+pub mod Symbols
