@@ -1,5 +1,5 @@
 -- Answers of closures that go by what they are asked alone.
-use Rattle.std.proofs.Common.{◌≡◌, ◌≢◌, ℕ, true, Bool, List, [], ◌∷◌, Option, None, Some, inl, inr, subst, sym}
+use Rattle.std.proofs.Common.{◌≡◌, ◌≢◌, ℕ, true, false, Bool, List, [], ◌∷◌, Option, None, Some, inl, inr, subst, sym}
 use Rattle.std.specs.Fn.{Called}
 use Rattle.std.specs.List.{FoldsTo}
 use Rattle.load_plan.specs.Content.{PlanContent}
@@ -49,25 +49,21 @@ module _ {F : Type 0} (predicate : Predicate F) (grants : BtfFeature → Bool) (
     refused = r.refused.refused;
   })
 
--- a plan for a kernel whose symbols are these bytes
-pub planned_says : {F : Type 0} (predicate : Predicate F) (Keeps : F → Type 0) → ((s t : F) (f : BtfFeature) (b : Bool) → Keeps s → Called predicate s (f, tt) b t → (b ≡ takes_all f) × Keeps t) → (before : F) → Keeps before → (Says : Bool → Type 0) → ((answer : Bool) → Says answer → answer ≡ true) → (file : List ℕ) (kernel : List Table) (known : Option (List ℕ)) (bytes : List ℕ) (failed : Bool) (settings : SettingsContent) (plan : PlanContent) → known ≡ Some bytes → IsPlanned predicate before Says (inputs file kernel (symbols_given known failed) settings RelocateFirst) plan → IsPlanAnswer file kernel bytes settings Planned
-planned_says predicate Keeps tells before keeps Says says file kernel known bytes failed settings plan whole p = record {
-  failed = failed;
-  says = (
-    plan,
-    subst (λ (k : Option (List ℕ)). IsPlanFor takes_all true (inputs file kernel (symbols_given k failed) settings RelocateFirst) plan) whole
-        (planned predicate takes_all Keeps tells before keeps Says true says (inputs file kernel (symbols_given known failed) settings RelocateFirst) plan p),
-  );
-}
+-- a plan for a kernel whose symbols are these bytes, which are read whole
+pub planned_says : {F : Type 0} (predicate : Predicate F) (Keeps : F → Type 0) → ((s t : F) (f : BtfFeature) (b : Bool) → Keeps s → Called predicate s (f, tt) b t → (b ≡ takes_all f) × Keeps t) → (before : F) → Keeps before → (Says : Bool → Type 0) → ((answer : Bool) → Says answer → answer ≡ true) → (file : List ℕ) (kernel : List Table) (known : Option (List ℕ)) (bytes : List ℕ) (failed : Bool) (settings : SettingsContent) (plan : PlanContent) → known ≡ Some bytes → failed ≡ false → IsPlanned predicate before Says (inputs file kernel (symbols_given known failed) settings RelocateFirst) plan → IsPlanAnswer file kernel bytes settings Planned
+planned_says predicate Keeps tells before keeps Says says file kernel known bytes failed settings plan whole read p = (
+  plan,
+  subst (λ (k : Option (List ℕ)). IsPlanFor takes_all true (inputs file kernel (symbols_given k false) settings RelocateFirst) plan) whole
+      (subst (λ (b : Bool). IsPlanFor takes_all true (inputs file kernel (symbols_given known b) settings RelocateFirst) plan) read
+      (planned predicate takes_all Keeps tells before keeps Says true says (inputs file kernel (symbols_given known failed) settings RelocateFirst) plan p)),
+)
 
 -- and a refusal
-pub refused_says : {F : Type 0} (predicate : Predicate F) (Keeps : F → Type 0) → ((s t : F) (f : BtfFeature) (b : Bool) → Keeps s → Called predicate s (f, tt) b t → (b ≡ takes_all f) × Keeps t) → (before : F) → Keeps before → (file : List ℕ) (kernel : List Table) (known : Option (List ℕ)) (bytes : List ℕ) (failed : Bool) (settings : SettingsContent) (e r : PrepareError) → known ≡ Some bytes → (r ≡ e) → (e ≢ OutOfMemory) → (e ≢ OutOfMemory → IsRefusal predicate before (inputs file kernel (symbols_given known failed) settings RelocateFirst) e) → IsPlanAnswer file kernel bytes settings (Refused r)
-refused_says predicate Keeps tells before keeps file kernel known bytes failed settings e r whole same other h = record {
-  failed = failed;
-  says =
-      subst (λ (x : PrepareError). (x ≢ OutOfMemory) × IsRefusalFor takes_all (inputs file kernel (symbols_given (Some bytes) failed) settings RelocateFirst) x) (sym same) (
-        other,
-        subst (λ (k : Option (List ℕ)). IsRefusalFor takes_all (inputs file kernel (symbols_given k failed) settings RelocateFirst) e) whole
-            (refused predicate takes_all Keeps tells before keeps (inputs file kernel (symbols_given known failed) settings RelocateFirst) e (h other)),
-      );
-}
+pub refused_says : {F : Type 0} (predicate : Predicate F) (Keeps : F → Type 0) → ((s t : F) (f : BtfFeature) (b : Bool) → Keeps s → Called predicate s (f, tt) b t → (b ≡ takes_all f) × Keeps t) → (before : F) → Keeps before → (file : List ℕ) (kernel : List Table) (known : Option (List ℕ)) (bytes : List ℕ) (failed : Bool) (settings : SettingsContent) (e r : PrepareError) → known ≡ Some bytes → failed ≡ false → (r ≡ e) → (e ≢ OutOfMemory) → (e ≢ OutOfMemory → IsRefusal predicate before (inputs file kernel (symbols_given known failed) settings RelocateFirst) e) → IsPlanAnswer file kernel bytes settings (Refused r)
+refused_says predicate Keeps tells before keeps file kernel known bytes failed settings e r whole read same other h =
+    subst (λ (x : PrepareError). (x ≢ OutOfMemory) × IsRefusalFor takes_all (inputs file kernel (symbols_given (Some bytes) false) settings RelocateFirst) x) (sym same) (
+      other,
+      subst (λ (k : Option (List ℕ)). IsRefusalFor takes_all (inputs file kernel (symbols_given k false) settings RelocateFirst) e) whole
+          (subst (λ (b : Bool). IsRefusalFor takes_all (inputs file kernel (symbols_given known b) settings RelocateFirst) e) read
+          (refused predicate takes_all Keeps tells before keeps (inputs file kernel (symbols_given known failed) settings RelocateFirst) e (h other))),
+    )

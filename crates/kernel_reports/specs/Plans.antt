@@ -1,6 +1,6 @@
 -- Whether an object gets a plan for a kernel that takes all features of types and has the newer
 -- helpers.
-use Rattle.std.specs.Prelude.{◌≢◌, ℕ, List, Bool, true, Some}
+use Rattle.std.specs.Prelude.{◌≢◌, ℕ, List, Bool, true, false, Some}
 use Rattle.load_plan.specs.Content.{PlanContent}
 use Rattle.load_plan.specs.Inputs.{BtfFeature, Inputs, SettingsContent, Table, inputs, symbols_given}
 use Rattle.load_plan.specs.Known.{IsPlanFor, IsRefusalFor}
@@ -12,17 +12,21 @@ use Rattle.kernel_reports.specs.declared.planned.PlanAnswer.TheVariants.{Planned
 abbrev pub takes_all : BtfFeature → Bool
 takes_all feature = true
 
--- the inputs with this text of symbols, and whether reading it failed
-abbrev pub inputs_of : List ℕ → List Table → List ℕ → Bool → SettingsContent → Inputs
-inputs_of file kernel text failed settings =
-    inputs file kernel (symbols_given (Some text) failed) settings RelocateFirst
+-- the inputs with this text of symbols, which is read whole
+abbrev pub inputs_of : List ℕ → List Table → List ℕ → SettingsContent → Inputs
+inputs_of file kernel text settings =
+    inputs file kernel (symbols_given (Some text) false) settings RelocateFirst
 
 -- a plan is there, or a stated fault stands
 abbrev pub SaysOfPlan : Inputs → PlanAnswer → Type 0
 SaysOfPlan i Planned = (plan : PlanContent) × IsPlanFor takes_all true i plan
 SaysOfPlan i (Refused e) = (e ≢ OutOfMemory) × IsRefusalFor takes_all i e
 
-pub record IsPlanAnswer (file : List ℕ) (kernel : List Table) (text : List ℕ)
-    (settings : SettingsContent) (answer : PlanAnswer) : Type 0 where
-  pub failed : Bool
-  pub says : SaysOfPlan (inputs_of file kernel text failed settings) answer
+abbrev pub IsPlanAnswer : List ℕ
+    → List Table
+    → List ℕ
+    → SettingsContent
+    → PlanAnswer
+    → Type 0
+IsPlanAnswer file kernel text settings answer =
+    SaysOfPlan (inputs_of file kernel text settings) answer

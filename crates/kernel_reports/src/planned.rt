@@ -38,7 +38,7 @@ pub fn plan_answer(
     ensures { IfOk result (IsPlanAnswer object.now kernel_types.now symbols.now settings.now) }
 {
     let mut symbols = Watched::new(symbols);
-    match prepare(
+    let prepared = prepare(
         alloc,
         object,
         kernel_types,
@@ -47,7 +47,12 @@ pub fn plan_answer(
         Order::RelocateFirst,
         |_feature| true,
         || true,
-    ) {
+    );
+    // a reader of bytes doesn't fail
+    if symbols.failed() {
+        return Err(AllocError);
+    }
+    match prepared {
         Ok(_plan) => Ok(PlanAnswer::Planned),
         Err(error) => {
             let refusal = fault_of(error)?;
