@@ -1,2 +1,3 @@
+pub mod MapNumbers
 pub mod Plans
 pub mod Reports
