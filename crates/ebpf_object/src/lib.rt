@@ -20,7 +20,7 @@ pub use ebpf_items::{
     bpf_insn, bpf_map_def, bpf_map_info, bpf_map_type, bpf_prog_type, copy_instructions,
     parse_map_info,
 };
-pub use extern_resolution::KsymsError;
+pub use extern_resolution::{KernelExterns, KsymsError};
 pub use global_values::{GlobalValue, GlobalValues};
 pub use object::Object;
 pub use object_externs::{ExternDesc, Externs};
@@ -30,4 +30,4 @@ pub use object_parts::{Function, Functions, Program, Programs};
 pub use places::{function_without_code, name_at};
 pub use relocation_errors::{EbpfRelocationError, RelocationError};
 pub use slot_relocation::NumberedMap;
-pub use type_relocation::{BtfRelocationCause, BtfRelocationError, RelocationPlace};
+pub use type_relocation::{BtfRelocationCause, BtfRelocationError, Candidates, RelocationPlace};

@@ -1,6 +1,7 @@
 //! The type relocations of an object.
 
-ghost use Rattle.std.specs.Prelude.{◌≡◌, ◌≢◌, ◌≤◌, ◌^◌, length, IfErr, OnErr, OnOk};
+ghost use Rattle.std.specs.Prelude.{◌≡◌, ◌≢◌, ◌≤◌, ◌^◌, length, IfErr, IfSome, OnErr, OnOk};
+ghost use Rattle.std.specs.Option.{option_copied};
 ghost use Rattle.ebpf_object.specs.TypeRelocations.{type_groups, types_of};
 ghost use Rattle.type_relocation.specs.Faults.{CanBeRelocated, HasTypesFault};
 ghost use Rattle.type_relocation.specs.Writes.{AreRelocated};
@@ -8,7 +9,7 @@ ghost use Rattle.type_relocation.specs.declared.error.BtfRelocationCause.TheVari
 
 use crate::object::Object;
 use btf_tables::Btf;
-use type_relocation::{BtfRelocationError, relocate_types};
+use type_relocation::{BtfRelocationError, Candidates, relocate_types};
 
 impl<'a> Object<'a> {
     /// Writes what the object's type relocations come to in a kernel's tables into the slots at
@@ -18,9 +19,36 @@ impl<'a> Object<'a> {
     /// # Errors
     ///
     /// Those of [`relocate_types`], with the section's name; the object is as before then.
-    #[tactic(auto, using(crate::proofs::Linked::functions_stay_changed, crate::proofs::NoTypeRelocations::none_written, crate::proofs::NoTypeRelocations::none_refused))]
     pub fn relocate_btf(&mut self, kernel_types: &[Btf<'_>]) -> Result<(), BtfRelocationError>
         requires { length kernel_types.now ≤ 2 ^ 32 }
+        ensures relocated { OnOk result
+            (AreRelocated (types_of self.old kernel_types.now) (type_groups self.old)
+            self.new.functions) }
+        ensures sound { OnOk result
+            (CanBeRelocated (types_of self.old kernel_types.now) (type_groups self.old)) }
+        ensures others { self.new ≡ record self.old { functions = self.new.functions } }
+        ensures fault { IfErr result (λ e.
+            e.error ≢ OutOfMemory
+            → HasTypesFault (types_of self.old kernel_types.now) (type_groups self.old) e.error) }
+        ensures unchanged { OnErr result (self.new ≡ self.old) }
+    {
+        self.relocate_btf_among(kernel_types, None)
+    }
+
+    /// The same, with candidates that were collected in these tables before, if there are some:
+    /// they decide no answer, and spare a walk over each table.
+    ///
+    /// # Errors
+    ///
+    /// Those of [`Object::relocate_btf`]; the object is as before then.
+    #[tactic(auto, using(crate::proofs::Linked::functions_stay_changed, crate::proofs::NoTypeRelocations::none_written, crate::proofs::NoTypeRelocations::none_refused))]
+    pub fn relocate_btf_among<'c>(
+        &mut self,
+        kernel_types: &[Btf<'_>],
+        candidates: Option<&'c Candidates<'c>>,
+    ) -> Result<(), BtfRelocationError>
+        requires few { length kernel_types.now ≤ 2 ^ 32 }
+        requires candidates { IfSome (option_copied candidates) (λ c. c ≡ kernel_types.now) }
         ensures relocated { OnOk result
             (AreRelocated (types_of self.old kernel_types.now) (type_groups self.old)
             self.new.functions) }
@@ -47,6 +75,7 @@ impl<'a> Object<'a> {
             extension,
             local,
             kernel_types,
+            candidates,
             &mut self.functions,
         )
     }

@@ -1,12 +1,12 @@
 //! Whether a kernel has the externs of an object.
 
-ghost use Rattle.std.specs.Prelude.{◌≡◌, ◌≢◌, map, option_copied, slice_get, IfOk};
+ghost use Rattle.std.specs.Prelude.{◌≡◌, ◌≢◌, Some, map, option_copied, slice_get, IfOk, IfSome};
 ghost use Rattle.extern_resolution.specs.declared.error.KsymsError.TheVariants.{OutOfMemory};
 ghost use Rattle.extern_reports.specs.Presences.{SaysOfExterns, all_weak, as_weak, presence_of};
 ghost use Rattle.extern_reports.specs.declared.presences.Presence.TheVariants.{Unknown};
 
 use btf_tables::Btf;
-use extern_resolution::{KsymsError, resolve_externs};
+use extern_resolution::{KernelExterns, KsymsError, resolve_externs_among};
 use object_externs::{ExternDesc, Externs};
 use std::alloc::{AllocError, Global};
 use std::collections::BTreeMap;
@@ -99,15 +99,18 @@ fn fault_of(error: KsymsError) -> Result<KsymsError, AllocError>
 
 /// Whether a kernel has each of an object's externs, by name: those with a type by its types,
 /// the others by a text of its symbols, where these are given. An object without types of its own
-/// has none to look for, and nothing is said of any.
+/// has none to look for, and nothing is said of any. What was gathered of the first of the kernel's
+/// tables before decides no answer, and spares a walk over it.
 pub fn presences_of(
     alloc: Global,
     externs: &Externs<'_>,
     table: Option<&Btf<'_>>,
     kernel_types: &[Btf<'_>],
+    gathered: Option<&KernelExterns<'_, '_>>,
     symbols: &[u8],
     has_symbols: bool,
 ) -> Result<Vec<Presence>, AllocError>
+    requires { IfSome (option_copied gathered) (λ k. slice_get kernel_types.now 0 ≡ Some k) }
     ensures { IfOk result (λ said.
         SaysOfExterns (option_copied table.entry) (slice_get kernel_types.now 0) symbols.now
         has_symbols externs.now said.items) }
@@ -118,7 +121,14 @@ pub fn presences_of(
     };
     let mut weak = all_weak(alloc, externs)?;
     let mut symbols = Watched::new(symbols);
-    let answer = resolve_externs(alloc, &mut weak, Some(table), kernel_types, &mut symbols);
+    let answer = resolve_externs_among(
+        alloc,
+        &mut weak,
+        Some(table),
+        kernel_types,
+        &mut symbols,
+        gathered,
+    );
     // a reader of bytes doesn't fail
     if symbols.failed() {
         return Err(AllocError);

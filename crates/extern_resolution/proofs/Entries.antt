@@ -1,4 +1,5 @@
 -- Externs whose names are wanted, and what is known of them.
+use Rattle.std.proofs.lemmas.List.Elements.{All-nil}
 use Rattle.std.proofs.Common.{◌≡◌, ℕ, ◌+◌, ◌<◌, Bool, true, false, ◌||◌, List, [], ◌∷◌, ◌++◌, length, Option, None, Some, Result, Ok, Err, refl, ap, sym, ◌∙◌, subst, arith, append_assoc, append-nil, inl, inr}
 use Rattle.std.specs.Prelude.{IfSome, OnOk, is_some}
 use Rattle.std.specs.Cmp.Lexicographic.{nat_list_eq_equiv}
@@ -11,10 +12,10 @@ use Rattle.btf_records.specs.declared.kind.BtfKind.TheVariants as kinds
 use Rattle.btf_records.specs.declared.types.BtfType.{BtfType}
 use Rattle.btf_tables.specs.Tables.{Table, type_by_id}
 use Rattle.btf_tables.specs.TypesByName.{IsFirstNamed}
-use Rattle.extern_resolution.specs.Gathering.{AreAllSaid, AreBegun, AreEntriesWanted, AreWantedBefore, SameWanted, WantsEntry}
+use Rattle.extern_resolution.specs.Gathering.{AreAllSaid, AreBegun, AreEntriesWanted, AreNoneWanted, AreWantedBefore, SameWanted, WantsEntry}
 use Rattle.extern_resolution.specs.Outcomes.{IsMissing, kernel_name}
 use Rattle.extern_resolution.specs.Steps.{NoneBefore}
-use Rattle.extern_resolution.specs.Wanted.{AreKnown, AreNotNamed, AreSaid, IsBegun, IsEntryKnown, IsEntryWanted, IsKnownAs, IsWantedAs, SameNames, Says, Wants, under}
+use Rattle.extern_resolution.specs.Wanted.{AreKnown, AreNotNamed, AreSaid, IsBegun, IsEntryKnown, IsEntryWanted, IsKnownAs, IsLookedUp, IsWantedAs, SameNames, Says, Wants, under}
 use Rattle.extern_resolution.specs.declared.error.KsymsError.{KsymsError}
 use Rattle.extern_resolution.specs.declared.kernel_records.KernelRecords.{KernelRecords}
 use Rattle.extern_resolution.specs.declared.named_records.NamedRecords.{NamedRecords}
@@ -126,6 +127,9 @@ one_wanted table old new all rest more x next before wants = record {
   each = each_kept table old new wants.kept before.front x before.each wants.wanted;
 }
 
+pub one_more_wanted : (table : Table) (r : KernelRecords) (all rest more : List (List ℕ × ExternContent)) (x : List ℕ × ExternContent) → rest ≡ x ∷ more → AreWantedBefore table r all rest → IsEntryWanted table r x → AreWantedBefore table r all more
+one_more_wanted table r all rest more x next before here = one_wanted table r r all rest more x next before (record { begun = λ begun. begun; wanted = here; kept = λ other h. h })
+
 pub all_wanted : (table : Table) (r : KernelRecords) (all rest : List (List ℕ × ExternContent)) → rest ≡ [] → AreWantedBefore table r all rest → AreEntriesWanted table r all
 all_wanted table r all rest none before =
     let same : all ≡ before.front = before.split ∙ ap (λ (l : List (List ℕ × ExternContent)). before.front ++ l) none ∙ append-nil before.front in
@@ -212,33 +216,57 @@ known_entry table kernel r below whole said entry = typed entry.1.type_id
 wanted_still : (old new : KernelRecords) → SameWanted old new → Keeps old new
 wanted_still old new same = record { functions = λ name h. same.functions.same name ∙ h; variables = λ name h. same.variables.same name ∙ h }
 
-each_known : (table kernel : Table) (old new : KernelRecords) (below : ℕ) → length kernel.types < below → AreAllSaid kernel new below → SameWanted old new → (externs : List (List ℕ × ExternContent)) → AllByRecursion (IsEntryWanted table old) externs → AllByRecursion (IsEntryKnown table kernel new) externs
-each_known table kernel old new below whole said same [] all = tt
-each_known table kernel old new below whole said same (x ∷ xs) all = (known_entry table kernel new below whole said x (keeps_entry table old new (wanted_still old new same) x all.0), each_known table kernel old new below whole said same xs all.1)
+each_still_wanted : (table : Table) (old new : KernelRecords) → Keeps old new → (externs : List (List ℕ × ExternContent)) → AllByRecursion (IsEntryWanted table old) externs → AllByRecursion (IsEntryWanted table new) externs
+each_still_wanted table old new keeps [] all = tt
+each_still_wanted table old new keeps (x ∷ xs) all = (keeps_entry table old new keeps x all.0, each_still_wanted table old new keeps xs all.1)
 
-pub known : (table kernel : Table) (old new : KernelRecords) (externs : List (List ℕ × ExternContent)) → AreEntriesWanted table old externs → AreAllSaid kernel new (length kernel.types + 1) → SameWanted old new → AreKnown table (Some kernel) new externs
-known table kernel old new externs wanted said same = record { each = each_known table kernel old new (length kernel.types + 1) (omega arith) said same externs wanted.each }
+pub still_wanted : (table : Table) (old new : KernelRecords) (externs : List (List ℕ × ExternContent)) → AreEntriesWanted table old externs → SameWanted old new → AreEntriesWanted table new externs
+still_wanted table old new externs wanted same = record { each = each_still_wanted table old new (wanted_still old new same) externs wanted.each }
+
+each_known : (table kernel : Table) (r : KernelRecords) (below : ℕ) → length kernel.types < below → AreAllSaid kernel r below → (externs : List (List ℕ × ExternContent)) → AllByRecursion (IsEntryWanted table r) externs → AllByRecursion (IsEntryKnown table kernel r) externs
+each_known table kernel r below whole said [] all = tt
+each_known table kernel r below whole said (x ∷ xs) all = (known_entry table kernel r below whole said x all.0, each_known table kernel r below whole said xs all.1)
+
+pub known : (table kernel : Table) (r : KernelRecords) (externs : List (List ℕ × ExternContent)) → AreEntriesWanted table r externs → AreAllSaid kernel r (length kernel.types + 1) → AreKnown table (Some kernel) r externs
+known table kernel r externs wanted said = record { each = each_known table kernel r (length kernel.types + 1) (omega arith) said externs wanted.each }
 
 pub none_given : (table : Table) (r : KernelRecords) (externs : List (List ℕ × ExternContent)) → AreKnown table None r externs
 none_given table r externs = record { each = tt }
 
-no_type_at : (table kernel : Table) (r : KernelRecords) (entry : List ℕ × ExternContent) → is_some entry.1.type_id ≡ false → IsEntryKnown table kernel r entry
-no_type_at table kernel r entry = at entry.1.type_id
+no_type_at : (table : Table) (r : KernelRecords) (entry : List ℕ × ExternContent) → is_some entry.1.type_id ≡ false → IsEntryWanted table r entry
+no_type_at table r entry = at entry.1.type_id
   where
-    at : (o : Option ℕ) → is_some o ≡ false → IfSome o (λ _. IfSome (type_by_id table entry.1.btf_id) (λ t. IsKnownAs kernel r (kind_of_type t) entry.0))
+    at : (o : Option ℕ) → is_some o ≡ false → IfSome o (λ _. IfSome (type_by_id table entry.1.btf_id) (λ t. IsWantedAs r (kind_of_type t) entry.0))
     at None h = tt
     at (Some id) h = absurd cc
 
-no_types_at : (table kernel : Table) (r : KernelRecords) (x : List ℕ × ExternContent) (xs : List (List ℕ × ExternContent)) (b : Bool) → is_some x.1.type_id ≡ b → (b || list_any (λ e. is_some e.1.type_id) xs) ≡ false → (list_any (λ e. is_some e.1.type_id) xs ≡ false → AllByRecursion (IsEntryKnown table kernel r) xs) → AllByRecursion (IsEntryKnown table kernel r) (x ∷ xs)
-no_types_at table kernel r x xs true is h rest = absurd cc
-no_types_at table kernel r x xs false is h rest = (no_type_at table kernel r x is, rest h)
+no_types_at : (table : Table) (r : KernelRecords) (x : List ℕ × ExternContent) (xs : List (List ℕ × ExternContent)) (b : Bool) → is_some x.1.type_id ≡ b → (b || list_any (λ e. is_some e.1.type_id) xs) ≡ false → (list_any (λ e. is_some e.1.type_id) xs ≡ false → AllByRecursion (IsEntryWanted table r) xs) → AllByRecursion (IsEntryWanted table r) (x ∷ xs)
+no_types_at table r x xs true is h rest = absurd cc
+no_types_at table r x xs false is h rest = (no_type_at table r x is, rest h)
 
-no_types : (table kernel : Table) (r : KernelRecords) (externs : List (List ℕ × ExternContent)) → list_any (λ e. is_some e.1.type_id) externs ≡ false → AllByRecursion (IsEntryKnown table kernel r) externs
-no_types table kernel r [] none = tt
-no_types table kernel r (x ∷ xs) none = no_types_at table kernel r x xs (is_some x.1.type_id) refl none (no_types table kernel r xs)
+no_types : (table : Table) (r : KernelRecords) (externs : List (List ℕ × ExternContent)) → list_any (λ e. is_some e.1.type_id) externs ≡ false → AllByRecursion (IsEntryWanted table r) externs
+no_types table r [] none = tt
+no_types table r (x ∷ xs) none = no_types_at table r x xs (is_some x.1.type_id) refl none (no_types table r xs)
 
-pub none_typed : (table kernel : Table) (r : KernelRecords) (externs : List (List ℕ × ExternContent)) → list_any (λ e. is_some e.1.type_id) externs ≡ false → AreKnown table (Some kernel) r externs
-none_typed table kernel r externs none = record { each = no_types table kernel r externs none }
+pub none_typed : (table : Table) (r : KernelRecords) (externs : List (List ℕ × ExternContent)) → list_any (λ e. is_some e.1.type_id) externs ≡ false → AreEntriesWanted table r externs
+none_typed table r externs none = record { each = no_types table r externs none }
+
+-- ---- where no name is wanted
+
+nothing_under : (kernel : Table) (r : NamedRecords) (below : ℕ) → IsBegun r → ((name : List ℕ) → under r name ≡ None) → AreSaid kernel r below
+nothing_under kernel r below begun none = record {
+  beginnings = begun.beginnings;
+  each = λ name. subst (λ (o : Option (Option ℕ)). IfSome o (Says kernel r.kind below r.is_hidden name)) (sym (none name)) tt;
+  looked_up = rw begun.none (All-nil (IsLookedUp kernel.strings r.ids.entries));
+}
+
+pub nothing_said : (kernel : Table) (r : KernelRecords) (below : ℕ) → AreBegun r → AreNoneWanted r → AreAllSaid kernel r below
+nothing_said kernel r below begun none = record {
+  functions = nothing_under kernel r.functions below begun.functions none.functions;
+  variables = nothing_under kernel r.variables below begun.variables none.variables;
+  function_kind = begun.function_kind;
+  variable_kind = begun.variable_kind;
+}
 
 -- ---- of one extern
 

@@ -4,7 +4,7 @@ use Rattle.std.specs.List.{AllByRecursion}
 use Rattle.btf_records.specs.declared.kind.BtfKind.{BtfKind}
 use Rattle.btf_records.specs.declared.kind.BtfKind.TheVariants as kinds
 use Rattle.btf_tables.specs.Tables.{Table}
-use Rattle.extern_resolution.specs.Wanted.{AreSaid, IsBegun, IsEntryWanted, SameNames}
+use Rattle.extern_resolution.specs.Wanted.{AreSaid, IsBegun, IsEntryWanted, SameNames, under}
 use Rattle.extern_resolution.specs.declared.kernel_records.KernelRecords.{KernelRecords}
 use Rattle.extern_resolution.specs.declared.named_records.NamedRecords.{NamedRecords}
 use Rattle.object_externs.specs.Externs.{ExternContent}
@@ -15,6 +15,11 @@ pub record AreBegun (r : KernelRecords) : Type 0 where
   pub variables : IsBegun r.variables
   pub function_kind : r.functions.kind ≡ kinds.Func
   pub variable_kind : r.variables.kind ≡ kinds.Var
+
+-- no name is wanted
+pub record AreNoneWanted (r : KernelRecords) : Type 0 where
+  pub functions : (name : List ℕ) → under r.functions name ≡ None
+  pub variables : (name : List ℕ) → under r.variables name ≡ None
 
 -- under each wanted name stands what the records below an id say
 pub record AreAllSaid (kernel : Table) (r : KernelRecords) (below : ℕ) : Type 0 where

@@ -6,8 +6,8 @@ ghost use Rattle.btf_records.specs.Kinds.{number_of};
 ghost use Rattle.btf_records.specs.declared.kind.BtfKind.TheVariants.{Func, Var};
 ghost use Rattle.btf_tables.specs.Tables.{Table};
 ghost use Rattle.type_headers.specs.Headers.{AreHeadersOf};
-ghost use Rattle.extern_resolution.specs.Gathering.{AreAllSaid, AreBegun, AreEntriesWanted, SameWanted, WantsEntry, records_of};
-ghost use Rattle.extern_resolution.specs.Wanted.{AreKnown, id_of};
+ghost use Rattle.extern_resolution.specs.Gathering.{AreAllSaid, AreBegun, AreEntriesWanted, AreNoneWanted, SameWanted, WantsEntry, records_of};
+ghost use Rattle.extern_resolution.specs.Wanted.{AreKnown, IsEntryWanted, id_of};
 
 use crate::named_records::NamedRecords;
 use btf_records::BtfKind;
@@ -37,7 +37,8 @@ pub(crate) struct KernelRecords<'n> {
 impl<'n> KernelRecords<'n> {
     /// No name is wanted.
     fn new(alloc: Global) -> KernelRecords<'n>
-        ensures { AreBegun result }
+        ensures begun { AreBegun result }
+        ensures none { AreNoneWanted result }
     {
         KernelRecords {
             functions: NamedRecords::new(alloc, BtfKind::Func),
@@ -66,6 +67,36 @@ impl<'n> KernelRecords<'n> {
             BtfKind::Var => self.variables.want(name),
             _ => Ok(()),
         }
+    }
+
+    /// Whether the name of an extern is wanted, or need not be.
+    fn has(&self, table: &Btf<'_>, name: &str, desc: &ExternDesc<'_>) -> bool
+        ensures { result ≡ true → IsEntryWanted table.now self.now (name.now, desc.now) }
+    {
+        if desc.type_id.is_none() {
+            return true;
+        }
+        let Ok(t) = table.type_by_id(desc.btf_id) else {
+            return true;
+        };
+        match t.kind() {
+            BtfKind::Func => self.functions.is_wanted(essential_name(name)),
+            BtfKind::Var => self.variables.is_wanted(name),
+            _ => true,
+        }
+    }
+
+    /// Whether the names of all externs with types are wanted.
+    #[tactic(auto, using(crate::proofs::Entries::none_wanted))]
+    pub(crate) fn has_all(&self, externs: &Externs<'_>, table: &Btf<'_>) -> bool
+        ensures { result ≡ true → AreEntriesWanted table.now self.now externs.now.by_name }
+    {
+        for (name, desc) in externs.iter() {
+            if !self.has(table, name, desc) {
+                return false;
+            }
+        }
+        true
     }
 
     /// The id of the first record of a kind and a name.
@@ -188,10 +219,30 @@ fn wanted_records<'n>(
     Ok(records)
 }
 
-/// What the kernel's table, where one is given, has of the functions and variables that externs
-/// with types are declared as. It is gone through once, and not at all where there is no such
-/// extern.
-#[tactic(auto, using(crate::proofs::Entries::none_given, crate::proofs::Entries::none_typed, crate::proofs::Entries::known))]
+/// What a kernel's table has of the functions and variables that externs with types are declared as.
+/// It is gone through once, and not at all where there is no such extern.
+#[tactic(auto, using(crate::proofs::Entries::none_typed, crate::proofs::Entries::nothing_said, crate::proofs::Entries::still_wanted))]
+pub(crate) fn records_in<'n>(
+    alloc: Global,
+    externs: &Externs<'n>,
+    table: &Btf<'_>,
+    kernel: &Btf<'_>,
+) -> Result<KernelRecords<'n>, AllocError>
+    ensures said { IfOk result (λ records.
+        AreAllSaid kernel.now records (length kernel.now.types + 1)) }
+    ensures wanted { IfOk result (λ records.
+        AreEntriesWanted table.now records externs.now.by_name) }
+{
+    if !externs.has_typed() {
+        return Ok(KernelRecords::new(alloc));
+    }
+    let mut records = wanted_records(alloc, externs, table)?;
+    records.go_through(kernel)?;
+    Ok(records)
+}
+
+/// What the kernel's table, where one is given, has of them.
+#[tactic(auto, using(crate::proofs::Entries::none_given, crate::proofs::Entries::known))]
 pub(crate) fn kernel_records<'n>(
     alloc: Global,
     externs: &Externs<'n>,
@@ -201,13 +252,8 @@ pub(crate) fn kernel_records<'n>(
     ensures { IfOk result (λ records.
         AreKnown table.now (option_copied kernel.entry) records externs.now.by_name) }
 {
-    let Some(kernel) = kernel else {
-        return Ok(KernelRecords::new(alloc));
-    };
-    if !externs.has_typed() {
-        return Ok(KernelRecords::new(alloc));
+    match kernel {
+        Some(kernel) => records_in(alloc, externs, table, kernel),
+        None => Ok(KernelRecords::new(alloc)),
     }
-    let mut records = wanted_records(alloc, externs, table)?;
-    records.go_through(kernel)?;
-    Ok(records)
 }

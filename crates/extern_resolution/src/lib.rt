@@ -4,6 +4,7 @@
 
 mod addressed;
 mod error;
+mod kernel_externs;
 mod kernel_records;
 mod named_records;
 mod records;
@@ -11,4 +12,5 @@ mod resolving;
 mod typed;
 
 pub use error::KsymsError;
-pub use resolving::resolve_externs;
+pub use kernel_externs::KernelExterns;
+pub use resolving::{resolve_externs, resolve_externs_among};

@@ -3,7 +3,7 @@
 ghost use Rattle.std.specs.Prelude.{◌≡◌, ◌+◌, ◌||◌, ℕ, List, None, Some, false, true, if◌then◌else◌, is_some, IfOk, OnOk};
 ghost use Rattle.std.specs.Str.{bytes_eq};
 ghost use Rattle.btf_tables.specs.Tables.{type_by_id};
-ghost use Rattle.extern_resolution.specs.Wanted.{AreSaid, IsBegun, IsNoted, SameNames, Wants, entered, id_under, ids_under};
+ghost use Rattle.extern_resolution.specs.Wanted.{AreSaid, IsBegun, IsNoted, SameNames, Wants, entered, id_under, ids_under, under};
 
 use btf_encoding::TypeRef;
 use btf_records::BtfKind;
@@ -69,6 +69,7 @@ impl<'n> NamedRecords<'n> {
     pub(crate) fn new(alloc: Global, kind: BtfKind) -> NamedRecords<'n>
         ensures kind { result.kind ≡ kind }
         ensures begun { IsBegun result }
+        ensures none { (name : List ℕ) → under result name ≡ None }
     {
         NamedRecords {
             kind,
@@ -116,6 +117,13 @@ impl<'n> NamedRecords<'n> {
         enter(&mut self.ids, name, id);
         note(&mut self.looked_up, name, offset)?;
         Ok(())
+    }
+
+    /// Whether a name is wanted.
+    pub(crate) fn is_wanted(&self, name: &str) -> bool
+        ensures { result ≡ is_some (under self.now name.now) }
+    {
+        self.ids.contains_key(name)
     }
 
     /// The id under a name.

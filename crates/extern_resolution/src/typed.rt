@@ -1,13 +1,14 @@
 //! Externs with a type.
 
-ghost use Rattle.std.specs.Prelude.{◌≡◌, ◌≢◌, Any, option_copied, IfErr, IfOk, IfSome, OnOk};
+ghost use Rattle.std.specs.Prelude.{◌≡◌, ◌≢◌, Any, Some, option_copied, IfErr, IfOk, IfSome, OnOk};
 ghost use Rattle.extern_resolution.specs.Faults.{EntryTypedFault, KindFault, RecordFault, TypedFault};
 ghost use Rattle.extern_resolution.specs.Outcomes.{IsFound, IsFoundFor, IsFoundIn, kernel_name, with_kernel_id};
 ghost use Rattle.extern_resolution.specs.Steps.{AreSteps, EntryTyped, NoFault, TypedBecomes};
-ghost use Rattle.extern_resolution.specs.Wanted.{IsDeclaredKnown, IsEntryKnown, IsKnown};
+ghost use Rattle.extern_resolution.specs.Wanted.{AreKnown, IsDeclaredKnown, IsEntryKnown, IsKnown};
 ghost use Rattle.extern_resolution.specs.declared.error.KsymsError.TheVariants.{OutOfMemory};
 
 use crate::error::KsymsError;
+use crate::kernel_externs::KernelExterns;
 use crate::kernel_records::{KernelRecords, kernel_records};
 use crate::records::{KernelRecord, kernel_record};
 use btf_records::BtfKind;
@@ -180,13 +181,15 @@ fn typed_extern<'a>(
     }
 }
 
-/// The externs after the look-up by their types.
-pub(crate) fn typed_externs<'a>(
+/// The externs after the look-up by their types among these records.
+fn typed_by<'a>(
     alloc: Global,
     externs: &Externs<'a>,
     table: &Btf<'_>,
     kernel: Option<&Btf<'_>>,
+    records: &KernelRecords<'_>,
 ) -> Result<Externs<'a>, KsymsError>
+    requires { AreKnown table.now (option_copied kernel) records.now externs.now.by_name }
     ensures becomes { IfOk result
         (AreSteps (EntryTyped table.now (option_copied kernel.entry)) externs.now) }
     ensures accepted { OnOk result
@@ -196,11 +199,37 @@ pub(crate) fn typed_externs<'a>(
         f ≢ OutOfMemory
         → Any (EntryTypedFault table.now (option_copied kernel.entry) f) externs.now.by_name) }
 {
-    let records = kernel_records(alloc, externs, table, kernel)?;
     let mut by_name = BTreeMap::new(alloc);
     for (name, desc) in externs.iter() {
-        let desc = typed_extern(alloc, table, kernel, &records, name, desc)?;
+        let desc = typed_extern(alloc, table, kernel, records, name, desc)?;
         by_name.insert(*name, desc)?;
     }
     Ok(externs.replaced(by_name))
+}
+
+/// The externs after the look-up by their types, among shared records where those have all names.
+pub(crate) fn typed_externs<'a>(
+    alloc: Global,
+    externs: &Externs<'a>,
+    table: &Btf<'_>,
+    kernel: Option<&Btf<'_>>,
+    shared: Option<&KernelExterns<'_, '_>>,
+) -> Result<Externs<'a>, KsymsError>
+    requires { IfSome (option_copied shared) (λ k. option_copied kernel ≡ Some k) }
+    ensures becomes { IfOk result
+        (AreSteps (EntryTyped table.now (option_copied kernel.entry)) externs.now) }
+    ensures accepted { OnOk result
+        (NoFault (λ f.
+        Any (EntryTypedFault table.now (option_copied kernel.entry) f) externs.now.by_name)) }
+    ensures refused { IfErr result (λ f.
+        f ≢ OutOfMemory
+        → Any (EntryTypedFault table.now (option_copied kernel.entry) f) externs.now.by_name) }
+{
+    if let Some(shared) = shared {
+        if let Some(records) = shared.records_of(externs, table) {
+            return typed_by(alloc, externs, table, kernel, records);
+        }
+    }
+    let records = kernel_records(alloc, externs, table, kernel)?;
+    typed_by(alloc, externs, table, kernel, &records)
 }

@@ -1,12 +1,13 @@
 //! What becomes of an object on a kernel.
 
-ghost use Rattle.std.specs.Prelude.{◌≤◌, ◌^◌, length, IfOk};
+ghost use Rattle.std.specs.Prelude.{◌≡◌, ◌≤◌, ◌^◌, length, slice_get, IfOk, IfSome, Some};
+ghost use Rattle.std.specs.Option.{option_copied};
 ghost use Rattle.kernel_reports.specs.Reports.{IsReport};
 
 use crate::planned::{PlanAnswer, plan_answer};
 use ebpf_object::Object;
 use extern_reports::{Presence, presences_of};
-use load_plan::{Btf, Settings};
+use load_plan::{Btf, Gathered, KernelExterns, Settings};
 use relocation_reports::{RelocationAnswer, RelocationAt, relocation_answers};
 use std::alloc::{AllocError, Global};
 
@@ -37,8 +38,53 @@ pub struct KernelReport {
     pub externs: Vec<Presence>,
 }
 
+/// What becomes of an object on a kernel, with what its first table has of the names of externs.
+fn report_among<'g, 'n>(
+    alloc: Global,
+    reported: &Reported<'_, '_>,
+    kernel_types: &[Btf<'_>],
+    externs: Option<&'g KernelExterns<'g, 'n>>,
+) -> Result<KernelReport, AllocError>
+    requires tables { length kernel_types.now ≤ 2 ^ 32 }
+    requires externs { IfSome (option_copied externs) (λ k. slice_get kernel_types.now 0 ≡ Some k) }
+    ensures { IfOk result
+        (IsReport reported.now.file.now reported.now.object.now reported.now.relocations.now
+        kernel_types.now reported.now.symbols.now reported.now.has_symbols
+        reported.now.settings.now) }
+{
+    let object = reported.object;
+    let gathered = Gathered {
+        candidates: None,
+        externs,
+    };
+    let plan = plan_answer(
+        alloc,
+        reported.file,
+        kernel_types,
+        gathered,
+        reported.symbols,
+        reported.settings,
+    )?;
+    let relocations = relocation_answers(alloc, object.btf(), kernel_types, reported.relocations)?;
+    let externs = presences_of(
+        alloc,
+        object.externs(),
+        object.btf(),
+        kernel_types,
+        externs,
+        reported.symbols,
+        reported.has_symbols,
+    )?;
+    Ok(KernelReport {
+        plan,
+        relocations,
+        externs,
+    })
+}
+
 /// What becomes of an object on a kernel of these types, in no more than 2^32 tables: whether it
-/// gets a plan, and what each relocation and each extern comes to by itself.
+/// gets a plan, and what each relocation and each extern comes to by itself. What the first table
+/// has of the names of externs is gathered once.
 pub fn report_on(
     alloc: Global,
     reported: &Reported<'_, '_>,
@@ -51,25 +97,11 @@ pub fn report_on(
         reported.now.settings.now) }
 {
     let object = reported.object;
-    let plan = plan_answer(
-        alloc,
-        reported.file,
-        kernel_types,
-        reported.symbols,
-        reported.settings,
-    )?;
-    let relocations = relocation_answers(alloc, object.btf(), kernel_types, reported.relocations)?;
-    let externs = presences_of(
-        alloc,
-        object.externs(),
-        object.btf(),
-        kernel_types,
-        reported.symbols,
-        reported.has_symbols,
-    )?;
-    Ok(KernelReport {
-        plan,
-        relocations,
-        externs,
-    })
+    let externs = match (object.btf(), kernel_types.first()) {
+        (Some(table), Some(kernel)) => {
+            Some(KernelExterns::collect(alloc, object.externs(), table, kernel)?)
+        }
+        _ => None,
+    };
+    report_among(alloc, reported, kernel_types, externs.as_ref())
 }

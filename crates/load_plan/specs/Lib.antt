@@ -1,4 +1,5 @@
 pub mod Errors
+pub mod Gathered
 pub mod Granted
 pub mod Inputs
 pub mod Made

@@ -14,8 +14,8 @@ mod relocation;
 
 pub use error::TypeRelocationError;
 pub use laws::{lists_of_one_table, outcomes_rest};
-pub use matcher::TypeMatcher;
+pub use matcher::{TypeMatcher, collected};
 pub use matches::{Match, kernel_matches};
 pub use outcome::{Outcome, conflicts, outcome_of};
 pub use relocation::{RelocationOutcome, TypeRelocation, relocation_outcome};
-pub use type_candidates::KernelType;
+pub use type_candidates::{Candidates, KernelType};

@@ -27,11 +27,13 @@ use type_candidates::{CandidateError, Candidates, KernelType, WantedType, candid
 
 /// An object's own types, and a kernel's, with the candidates of relocations.
 #[derive(Debug, Drop)]
-pub struct TypeMatcher<'m> {
+pub struct TypeMatcher<'m, 'c> {
     local: &'m Btf<'m>,
     targets: &'m [Btf<'m>],
     /// The candidates, where they were collected.
     collected: Option<Candidates<'m>>,
+    /// Those that were collected before, and serve others too.
+    shared: Option<&'c Candidates<'c>>,
     /// What relocations came to.
     known: BTreeMap<AccessKey, KnownOutcome>,
     /// The paths that were found for relocations about fields and variants, by type and access
@@ -40,7 +42,7 @@ pub struct TypeMatcher<'m> {
     finders: TableFinders<'m>,
 }
 
-impl<'m> Model for TypeMatcher<'m> {
+impl<'m, 'c> Model for TypeMatcher<'m, 'c> {
     ghost use Rattle.std.specs.Prelude.{◌≡◌, IfSome};
     ghost use Rattle.std.specs.Map.{values_of};
     ghost use Rattle.type_match.specs.FoundPaths.{AreKnown};
@@ -55,7 +57,8 @@ impl<'m> Model for TypeMatcher<'m> {
         (IfSome m.collected (λ c. c ≡ m.targets.now))
         × AreOutcomes m.local.now m.targets.now (values_of m.known.entries)
         × AreKnown m.local.now m.targets.now (values_of m.paths.entries)
-        × (m.finders ≡ m.targets.now) };
+        × (m.finders ≡ m.targets.now)
+        × (IfSome m.shared (λ c. c.now ≡ m.targets.now)) };
 }
 
 /// The local types of relocations that are looked for in a kernel's types, each once.
@@ -72,7 +75,7 @@ fn wanted_types(local: &Btf<'_>, relocations: &[TypeRelocation]) -> Result<Vec<u
 }
 
 /// The candidates for some local types; none where there are no such types.
-fn collected<'m>(
+fn collected_for<'m>(
     local: &'m Btf<'m>,
     type_ids: &[u32],
     targets: &'m [Btf<'m>],
@@ -84,6 +87,19 @@ fn collected<'m>(
     }
     let found = Candidates::collect(local, type_ids, targets)?;
     Ok(Some(found))
+}
+
+/// The candidates for the types that relocations are about, for which each of a kernel's tables is
+/// gone over once; none where they are about no types of a kernel.
+pub fn collected<'m>(
+    local: &'m Btf<'m>,
+    relocations: &[TypeRelocation],
+    targets: &'m [Btf<'m>],
+) -> Result<Option<Candidates<'m>>, AllocError>
+    ensures { IfOk result (λ found. IfSome found (λ c. c ≡ targets.now)) }
+{
+    let type_ids = wanted_types(local, relocations)?;
+    collected_for(local, type_ids.as_slice(), targets)
 }
 
 /// Those of collected candidates that a kind asks for.
@@ -105,16 +121,17 @@ fn candidates_for(
     }
 }
 
-impl<'m> TypeMatcher<'m> {
+impl<'m, 'c> TypeMatcher<'m, 'c> {
     /// The types of an object and of a kernel. Each relocation goes over the kernel's tables.
     #[tactic(auto, using(crate::proofs::KnownOutcomes::none_known, crate::proofs::FoundPaths::no_paths_known))]
-    pub fn new(local: &'m Btf<'m>, targets: &'m [Btf<'m>]) -> TypeMatcher<'m>
+    pub fn new(local: &'m Btf<'m>, targets: &'m [Btf<'m>]) -> TypeMatcher<'m, 'c>
         ensures { result ≡ record { local = local.now; targets = targets.now } }
     {
         TypeMatcher {
             local,
             targets,
             collected: None,
+            shared: None,
             known: BTreeMap::new(local.allocator()),
             paths: BTreeMap::new(local.allocator()),
             finders: TableFinders::new(local.allocator(), targets),
@@ -128,20 +145,42 @@ impl<'m> TypeMatcher<'m> {
         local: &'m Btf<'m>,
         relocations: &[TypeRelocation],
         targets: &'m [Btf<'m>],
-    ) -> Result<TypeMatcher<'m>, AllocError>
+    ) -> Result<TypeMatcher<'m, 'c>, AllocError>
         ensures { IfOk result (λ matcher.
             matcher ≡ record { local = local.now; targets = targets.now }) }
     {
-        let type_ids = wanted_types(local, relocations)?;
-        let collected = collected(local, type_ids.as_slice(), targets)?;
+        let collected = collected(local, relocations, targets)?;
         Ok(TypeMatcher {
             local,
             targets,
             collected,
+            shared: None,
             known: BTreeMap::new(local.allocator()),
             paths: BTreeMap::new(local.allocator()),
             finders: TableFinders::new(local.allocator(), targets),
         })
+    }
+
+    /// The types of an object and of a kernel, with candidates that were collected before.
+    /// Relocations about types that weren't asked for then go over the kernel's tables.
+    #[tactic(auto, using(crate::proofs::KnownOutcomes::none_known, crate::proofs::FoundPaths::no_paths_known))]
+    pub fn among(
+        local: &'m Btf<'m>,
+        candidates: &'c Candidates<'c>,
+        targets: &'m [Btf<'m>],
+    ) -> TypeMatcher<'m, 'c>
+        requires { candidates.now ≡ targets.now }
+        ensures { result ≡ record { local = local.now; targets = targets.now } }
+    {
+        TypeMatcher {
+            local,
+            targets,
+            collected: None,
+            shared: Some(candidates),
+            known: BTreeMap::new(local.allocator()),
+            paths: BTreeMap::new(local.allocator()),
+            finders: TableFinders::new(local.allocator(), targets),
+        }
     }
 
     /// The candidates for a local type.
@@ -156,6 +195,9 @@ impl<'m> TypeMatcher<'m> {
             e ≢ NoMemory → candidates wanted.now (searched_tables kind self.now.targets) ≡ Err e) }
     {
         let alloc = self.local.allocator();
+        if let Some(shared) = self.shared {
+            return candidates_for(alloc, kind, wanted, shared);
+        }
         match &self.collected {
             Some(collected) => candidates_for(alloc, kind, wanted, collected),
             None => candidates(alloc, wanted, searched_tables(kind, self.targets)),

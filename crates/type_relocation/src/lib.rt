@@ -23,4 +23,5 @@ pub use laws::{relocations_rest, types_are_written};
 pub use place::RelocationPlace;
 pub use placed::{Placed, PlacedFault, Position};
 pub use relocation::relocate_types;
+pub use type_match::Candidates;
 pub use type_patches::{Patch, Width, WriteFault};

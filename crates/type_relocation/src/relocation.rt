@@ -2,6 +2,7 @@
 
 ghost use Rattle.std.specs.Prelude.{◌≡◌, ◌≢◌, ◌≤◌, ◌^◌, ◌⊎◌, length, map, None, IfErr, IfOk, IfSome, OnErr, OnOk};
 ghost use Rattle.std.specs.Map.{values_of};
+ghost use Rattle.std.specs.Option.{option_copied};
 ghost use Rattle.object_parts.specs.Content.{AreKeyed};
 ghost use Rattle.object_parts.specs.Installed.{AreChanged};
 ghost use Rattle.slot_relocation.specs.Writes.{AreFaultless};
@@ -26,7 +27,7 @@ use object_names::section_indexes;
 use object_parts::{Function, Functions, changes_are_installed};
 use slot_relocation::{FaultAt, Stop, relocated_functions};
 use std::alloc::{AllocError, Global};
-use type_match::TypeMatcher;
+use type_match::{Candidates, TypeMatcher};
 
 /// Relocations in their functions, up to the first that can't be placed, and why that can't.
 #[derive(Drop)]
@@ -35,16 +36,18 @@ struct Placement {
     stopped: Option<BtfRelocationError>,
 }
 
-/// Places the relocations of groups.
-fn placement_of(
+/// Places the relocations of groups, with a matcher for these tables.
+fn placement_by(
     alloc: Global,
     file: &ObjectFile<'_>,
     functions: &Functions<'_>,
     local: &Btf<'_>,
     targets: &[Btf<'_>],
+    matcher: &mut TypeMatcher<'_, '_>,
     groups: &[RelocationGroup],
 ) -> Result<Placement, AllocError>
-    requires { length targets.now ≤ 2 ^ 32 }
+    requires few { length targets.now ≤ 2 ^ 32 }
+    requires matcher { matcher.old ≡ record { local = local.now; targets = targets.now } }
     ensures front { IfOk result (λ p.
         IsFront p.all.items
         (all_placed (types_given file.now functions.now local.now targets.now) groups.now)) }
@@ -60,7 +63,6 @@ fn placement_of(
         → GroupsFault (types_given file.now functions.now local.now targets.now) groups.now
         e.error)) }
 {
-    let asked = asked_by(alloc, groups)?;
     let sections = section_indexes(alloc, file)?;
     let lookup = Lookup {
         alloc,
@@ -70,15 +72,51 @@ fn placement_of(
         local,
         targets,
     };
-    let mut matcher = TypeMatcher::collect(local, asked.as_slice(), targets)?;
     let mut all = Vec::new(alloc);
-    match lookup.place_groups(&mut matcher, groups, &mut all) {
+    match lookup.place_groups(matcher, groups, &mut all) {
         Ok(()) => Ok(Placement { all, stopped: None }),
         Err(error) => Ok(Placement {
             all,
             stopped: Some(error),
         }),
     }
+}
+
+/// Places the relocations of groups, which are looked up among these candidates, where some are
+/// given, else among those that a walk over each table finds.
+fn placement_of<'c>(
+    alloc: Global,
+    file: &ObjectFile<'_>,
+    functions: &Functions<'_>,
+    local: &Btf<'_>,
+    targets: &[Btf<'_>],
+    candidates: Option<&'c Candidates<'c>>,
+    groups: &[RelocationGroup],
+) -> Result<Placement, AllocError>
+    requires few { length targets.now ≤ 2 ^ 32 }
+    requires candidates { IfSome (option_copied candidates) (λ c. c ≡ targets.now) }
+    ensures front { IfOk result (λ p.
+        IsFront p.all.items
+        (all_placed (types_given file.now functions.now local.now targets.now) groups.now)) }
+    ensures whole { IfOk result (λ p.
+        p.stopped ≡ None
+        → (p.all.items
+        ≡ all_placed (types_given file.now functions.now local.now targets.now) groups.now)
+        × StandsNone
+        (GroupsFault (types_given file.now functions.now local.now targets.now) groups.now)) }
+    ensures stopped { IfOk result (λ p.
+        IfSome p.stopped (λ e.
+        e.error ≢ OutOfMemory
+        → GroupsFault (types_given file.now functions.now local.now targets.now) groups.now
+        e.error)) }
+{
+    if let Some(candidates) = candidates {
+        let mut matcher = TypeMatcher::among(local, candidates, targets);
+        return placement_by(alloc, file, functions, local, targets, &mut matcher, groups);
+    }
+    let asked = asked_by(alloc, groups)?;
+    let mut matcher = TypeMatcher::collect(local, asked.as_slice(), targets)?;
+    placement_by(alloc, file, functions, local, targets, &mut matcher, groups)
 }
 
 /// Where a relocation stands at which a value doesn't fit.
@@ -202,7 +240,8 @@ fn first_error(
 /// integers; a load of 64 bits gets the low word in its own slot and the high word in the next one.
 /// Where the kernel has nothing to give, the instruction becomes a call of a helper that isn't
 /// there, a load of 64 bits two of these. The functions know in which tables their relocations have
-/// their first matches; there are no more than 2^32 tables.
+/// their first matches; there are no more than 2^32 tables. Candidates that were collected in these
+/// tables before spare a walk over each, and decide no answer.
 ///
 /// # Errors
 ///
@@ -213,15 +252,17 @@ fn first_error(
 /// and an instruction of another class; `InvalidInstructionIndex` for a load of 64 bits without a
 /// second slot; and `OutOfMemory`. Of several faults the first by group and relocation is answered.
 /// The functions then stay as they are.
-pub fn relocate_types<'f>(
+pub fn relocate_types<'c, 'f>(
     alloc: Global,
     file: &ObjectFile<'_>,
     extension: &BtfExt<'_>,
     local: &Btf<'_>,
     targets: &[Btf<'_>],
+    candidates: Option<&'c Candidates<'c>>,
     functions: &mut Functions<'f>,
 ) -> Result<(), BtfRelocationError>
-    requires { length targets.now ≤ 2 ^ 32 }
+    requires few { length targets.now ≤ 2 ^ 32 }
+    requires candidates { IfSome (option_copied candidates) (λ c. c ≡ targets.now) }
     ensures relocated { OnOk result
         (AreRelocated (types_given file.now functions.old local.now targets.now)
         extension.now.relocations functions.new) }
@@ -235,7 +276,15 @@ pub fn relocate_types<'f>(
     ensures unchanged { OnErr result (functions.new ≡ functions.old) }
 {
     let groups = groups_of(alloc, extension)?;
-    let placement = placement_of(alloc, file, functions, local, targets, groups.as_slice())?;
+    let placement = placement_of(
+        alloc,
+        file,
+        functions,
+        local,
+        targets,
+        candidates,
+        groups.as_slice(),
+    )?;
     let Placement { all, stopped } = placement;
     match stopped {
         None => write_all(alloc, local, groups.as_slice(), all, functions),

@@ -6,17 +6,17 @@ use Rattle.object_externs.specs.Names.{by_bytes}
 use Rattle.extern_resolution.proofs.Each.{none_at_all, none_more, passed_here}
 use Rattle.extern_resolution.proofs.Entries.{known_here}
 use Rattle.extern_resolution.proofs.Growing.{grows_by}
-use Rattle.extern_resolution.proofs.typed.typed_externs.Goals as goal
+use Rattle.extern_resolution.proofs.typed.typed_by.Goals as goal
 
 pub typed_extern-requires : goal.typed_extern-requires
 typed_extern-requires c =
     let next : by_bytes c.loop-name.name-iterator ≡ (c.in-Some.name.now.now, c.in-Some.desc.now) ∷ by_bytes c.next.new.self = search rules in
-    known_here (EntryTypedFault c.args.table.now (option_copied c.args.kernel)) c.args.table.now (option_copied c.args.kernel) c.in_ok-records.records c.args.externs.now.by_name _ _ _ c.in_ok-records.ensures c.loop-name.invariant.1 next
+    known_here (EntryTypedFault c.args.table.now (option_copied c.args.kernel)) c.args.table.now (option_copied c.args.kernel) c.args.records.now c.args.externs.now.by_name _ _ _ c.requires c.loop-name.invariant.1 next
 
 pub returns-in_err-desc-clause-refused : goal.returns-in_err-desc-clause-refused
 returns-in_err-desc-clause-refused c =
     let next : by_bytes c.loop-name.name-iterator ≡ (c.in-Some.name.now.now, c.in-Some.desc.now) ∷ by_bytes c.next.new.self = search rules in
-    passed_here (EntryTypedFault c.args.table.now (option_copied c.args.kernel)) c.from_residual-in_err-desc.result c.args.externs.now.by_name _ _ _ c.in_err-desc.field-0.0 next c.loop-name.invariant.1 c.from_residual-in_err-desc.ensures.1 c.in_err-desc.ensures.refused
+    passed_here (EntryTypedFault c.args.table.now (option_copied c.args.kernel)) c.from_residual.result c.args.externs.now.by_name _ _ _ c.in_err-desc.field-0.0 next c.loop-name.invariant.1 c.from_residual.ensures.1 c.in_err-desc.ensures.refused
 
 pub loop-name-preserved : goal.loop-name-preserved
 loop-name-preserved c =

@@ -2,7 +2,7 @@ use Rattle.std.specs.Prelude.{option_copied}
 use Rattle.extern_resolution.specs.Faults.{EntryTypedFault}
 use Rattle.extern_resolution.specs.Steps.{EntryTyped, Grows, NoneBefore}
 use Rattle.object_externs.specs.Names.{by_bytes}
-use Rattle.extern_resolution.proofs.typed.typed_externs.Given as goal
+use Rattle.extern_resolution.proofs.typed.typed_by.Given as goal
 
 abbrev pub invariant-loop-name : goal.invariant-loop-name
 invariant-loop-name l =
