@@ -18,7 +18,10 @@ fn key_in(line: &str) -> Option<&str> {
 fn push_names(path: &mut String, key: &str) -> Result<(), AllocError> {
     for name in key.split('.') {
         path.push_str(".")?;
-        path.push_str(name.trim().trim_matches(|letter| letter == '"' || letter == '\''))?;
+        path.push_str(
+            name.trim()
+                .trim_matches(|letter| letter == '"' || letter == '\''),
+        )?;
     }
     Ok(())
 }
