@@ -167,7 +167,8 @@ class Handed:
 
     def as_called(self, text, quote=quoted):
         """What a program printed, with the files named as the caller did; `quote` says how names stand in double quotes."""
-        for path, word in self.named.items():
+        # One path may begin another, so that the longer ones come first.
+        for path, word in sorted(self.named.items(), reverse=True):
             text = text.replace(b'"' + path + b'"', quote(word)).replace(path, word)
         return text.replace(self.start(), b"")
 
