@@ -5,12 +5,20 @@ use line_words::Text;
 use run_settings::invalid_key;
 use std::alloc::{AllocError, Global};
 
-/// The key of a line's table or entry, as it stands there, if the line has one.
-fn key_in(line: &str) -> Option<&str> {
+/// The key of a line, as it stands there.
+enum LineKey<'t> {
+    /// Of a table, whose entries follow.
+    Table(&'t str),
+    /// Of an entry of the last table.
+    Entry(&'t str),
+}
+
+/// The key of a line, if it has one.
+fn key_in(line: &str) -> Option<LineKey<'_>> {
     let line = line.trim();
     match line.strip_prefix('[') {
-        Some(table) => table.split_once(']').map(|(key, _)| key),
-        None => line.split_once('=').map(|(key, _)| key),
+        Some(table) => table.split_once(']').map(|(key, _)| LineKey::Table(key)),
+        None => line.split_once('=').map(|(key, _)| LineKey::Entry(key)),
     }
 }
 
@@ -42,16 +50,17 @@ fn line_of(alloc: Global, text: &str, key: &str) -> Result<Option<usize>, AllocE
     let mut table = String::new(alloc);
     let mut found = None;
     for (index, line) in text.lines().enumerate() {
-        let Some(names) = key_in(line) else {
-            continue;
-        };
         let mut path = String::new(alloc);
-        if line.trim().starts_with('[') {
-            push_names(&mut path, names)?;
-            table = path.clone()?;
-        } else {
-            path.push_str(&table)?;
-            push_names(&mut path, names)?;
+        match key_in(line) {
+            Some(LineKey::Table(names)) => {
+                push_names(&mut path, names)?;
+                table = path.clone()?;
+            }
+            Some(LineKey::Entry(names)) => {
+                path.push_str(&table)?;
+                push_names(&mut path, names)?;
+            }
+            None => continue,
         }
         if has_key(&path, &wanted) {
             found = index.checked_add(1);
