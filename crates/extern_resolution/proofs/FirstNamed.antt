@@ -16,11 +16,10 @@ use Rattle.btf_records.specs.declared.kind.BtfKind.{BtfKind}
 use Rattle.btf_records.specs.declared.types.BtfType.{BtfType}
 use Rattle.btf_tables.specs.Tables.{Table, type_by_id}
 use Rattle.btf_tables.specs.TypesByName.{IsFirstNamed, IsNotNamed}
-use Rattle.first_bytes.specs.FirstBytes.{is_marked}
 use Rattle.extern_resolution.specs.Wanted.{AreNotNamed, AreSaid, IsBegun, IsLookedUp, IsNoted, Says, entered, ids_under, under}
 use Rattle.extern_resolution.specs.declared.named_records.NamedRecords.{NamedRecords}
 use Rattle.string_table.specs.Texts.{text_at}
-use Rattle.type_headers.specs.Beginnings.{beginning}
+use Rattle.type_headers.specs.Beginnings.{MayBegin}
 
 -- ---- one more record
 
@@ -96,10 +95,10 @@ looked_up_there kernel r below t said here any =
 
 -- ---- a name that is entered
 
-entered_first : (id : ℕ) (o : Option (Option ℕ)) (marked : Bool) → IfSome o (λ _. marked ≡ true) → IfSome (entered id o) (λ _. marked ≡ true)
-entered_first id None marked h = tt
-entered_first id (Some None) marked h = h
-entered_first id (Some (Some first)) marked h = h
+entered_first : (id : ℕ) (o : Option (Option ℕ)) (Begins : Type 0) → IfSome o (λ _. Begins) → IfSome (entered id o) (λ _. Begins)
+entered_first id None Begins h = tt
+entered_first id (Some None) Begins h = h
+entered_first id (Some (Some first)) Begins h = h
 
 entered_closed : (id : ℕ) (o : Option (Option ℕ)) → entered id o ≢ Some None
 entered_closed id None is = absurd cc
@@ -152,8 +151,8 @@ entered_there kernel old new below t text said shown here is name same_kind same
       (All-weaker (IsLookedUp kernel.strings old.ids.entries) (IsLookedUp kernel.strings new.ids.entries) (λ offset h. still_looked_up text below old.ids.entries new.ids.entries kernel.strings offset put h) old.looked_up.keys said.looked_up)
       (rw name (closed_here text below old.ids.entries new.ids.entries put));
   beginnings = record {
-    each = λ other. under_name text below old.ids.entries new.ids.entries put (λ o. IfSome o (λ _. is_marked old.beginnings (beginning other) ≡ true)) other
-        (λ same. subst (λ (n : List ℕ). IfSome (entered below (under old text)) (λ _. is_marked old.beginnings (beginning n) ≡ true)) same (entered_first below (under old text) (is_marked old.beginnings (beginning text)) (said.beginnings.each text)))
+    each = λ other. under_name text below old.ids.entries new.ids.entries put (λ o. IfSome o (λ _. MayBegin old.beginnings other)) other
+        (λ same. subst (λ (n : List ℕ). IfSome (entered below (under old text)) (λ _. MayBegin old.beginnings n)) same (entered_first below (under old text) (MayBegin old.beginnings text) (said.beginnings.each text)))
         (λ differs. said.beginnings.each other);
   };
 })

@@ -1,5 +1,5 @@
 -- Types that aren't wanted, as their kinds and the beginnings of their names tell.
-use Rattle.std.proofs.Common.{◌≡◌, ◌≢◌, ℕ, ◌+◌, Bool, true, false, List, Option, None, Some, Bor, refl, sym, ap, ◌∙◌, subst}
+use Rattle.std.proofs.Common.{◌≡◌, ◌≢◌, ℕ, ◌+◌, List, Option, None, Some, Bor, refl, sym, ap, ◌∙◌, subst}
 use Rattle.std.specs.Prelude.{IfSome}
 use Rattle.std.specs.Option.{IsSomeAnd, option_map}
 use Rattle.btf_records.specs.Fields.{kind_of_type, name_offset_of}
@@ -7,9 +7,8 @@ use Rattle.btf_records.specs.declared.kind.BtfKind.{BtfKind}
 use Rattle.btf_records.specs.declared.kind.BtfKind.TheVariants as kinds
 use Rattle.btf_records.specs.declared.types.BtfType.{BtfType}
 use Rattle.btf_tables.specs.Tables.{Table, type_by_id}
-use Rattle.first_bytes.specs.FirstBytes.{is_marked}
 use Rattle.string_table.specs.Texts.{text_at}
-use Rattle.type_headers.specs.Beginnings.{beginning}
+use Rattle.type_headers.specs.Beginnings.{BeginningMarks, MayBegin}
 use Rattle.type_headers.specs.Headers.{BeginsOtherwise}
 use Rattle.extern_resolution.specs.Gathering.{AreAllSaid, records_of}
 use Rattle.extern_resolution.specs.Wanted.{AreBeginnings, AreSaid, ids_under}
@@ -53,19 +52,19 @@ kind_other kernel r id kind (Some t) said here is none =
 pub of_other_kind : (kernel : Table) (r : KernelRecords) (id : ℕ) (kind : BtfKind) → AreAllSaid kernel r id → Some kind ≡ option_map kind_of_type (type_by_id kernel id) → None ≡ records_of r kind → AreAllSaid kernel r (id + 1)
 of_other_kind kernel r id kind said is none = kind_other kernel r id kind (type_by_id kernel id) said refl is none
 
-unwanted_by : (found : Option (Option ℕ)) (marked : Bool) → IfSome found (λ _. marked ≡ true) → marked ≡ false → found ≢ Some None
-unwanted_by None marked has isnt = λ is. cc
-unwanted_by (Some f) marked has isnt = let both : true ≡ false = sym has ∙ isnt in absurd cc
+unwanted_by : (found : Option (Option ℕ)) (Begins : Type 0) → IfSome found (λ _. Begins) → (Begins → ⊥) → found ≢ Some None
+unwanted_by None Begins has isnt = λ is. cc
+unwanted_by (Some f) Begins has isnt = absurd (isnt has)
 
-looked_up : (entries : List (Bor (List ℕ) × Option ℕ)) (marks : List Bool) (text : Option (List ℕ)) → AreBeginnings entries marks → IsSomeAnd text (λ t. is_marked marks (beginning t) ≡ false) → IsSomeAnd text (λ name. ids_under entries name ≢ Some None)
+looked_up : (entries : List (Bor (List ℕ) × Option ℕ)) (marks : BeginningMarks) (text : Option (List ℕ)) → AreBeginnings entries marks → IsSomeAnd text (λ t. MayBegin marks t → ⊥) → IsSomeAnd text (λ name. ids_under entries name ≢ Some None)
 looked_up entries marks None are begins = absurd begins
-looked_up entries marks (Some name) are begins = unwanted_by (ids_under entries name) (is_marked marks (beginning name)) (are.each name) begins
+looked_up entries marks (Some name) are begins = unwanted_by (ids_under entries name) (MayBegin marks name) (are.each name) begins
 
-said_on : (kernel : Table) (r : NamedRecords) (id : ℕ) (t : BtfType) → AreSaid kernel r id → type_by_id kernel id ≡ Some t → IsSomeAnd (text_at kernel.strings (name_offset_of t)) (λ text. is_marked r.beginnings (beginning text) ≡ false) → AreSaid kernel r (id + 1)
+said_on : (kernel : Table) (r : NamedRecords) (id : ℕ) (t : BtfType) → AreSaid kernel r id → type_by_id kernel id ≡ Some t → IsSomeAnd (text_at kernel.strings (name_offset_of t)) (λ text. MayBegin r.beginnings text → ⊥) → AreSaid kernel r (id + 1)
 said_on kernel r id t said here begins = passed_there kernel r id t said here (looked_up r.ids.entries r.beginnings (text_at kernel.strings (name_offset_of t)) said.beginnings begins)
 
 abbrev Otherwise : Table → NamedRecords → BtfType → Type 0
-Otherwise kernel records t = IsSomeAnd (text_at kernel.strings (name_offset_of t)) (λ text. is_marked records.beginnings (beginning text) ≡ false)
+Otherwise kernel records t = IsSomeAnd (text_at kernel.strings (name_offset_of t)) (λ text. MayBegin records.beginnings text → ⊥)
 
 of_function : (kernel : Table) (r : KernelRecords) (id : ℕ) (t : BtfType) → AreAllSaid kernel r id → type_by_id kernel id ≡ Some t → kind_of_type t ≡ kinds.Func → Otherwise kernel r.functions t → AreAllSaid kernel r (id + 1)
 of_function kernel r id t said here is begins = record {

@@ -14,13 +14,12 @@ use Rattle.btf_records.specs.declared.kind.BtfKind.{BtfKind}
 use Rattle.btf_records.specs.declared.kind.BtfKind.TheVariants as kinds
 use Rattle.btf_tables.specs.Tables.{Table, type_by_id}
 use Rattle.btf_tables.specs.TypesByName.{IsFirstNamed, IsNotNamed}
-use Rattle.first_bytes.specs.FirstBytes.{is_marked}
 use Rattle.extern_resolution.specs.Outcomes.{IsMissing, kernel_name}
 use Rattle.extern_resolution.specs.declared.kernel_records.KernelRecords.{KernelRecords}
 use Rattle.extern_resolution.specs.declared.named_records.NamedRecords.{NamedRecords}
 use Rattle.object_externs.specs.Externs.{ExternContent}
 use Rattle.string_table.specs.Texts.{text_at}
-use Rattle.type_headers.specs.Beginnings.{beginning}
+use Rattle.type_headers.specs.Beginnings.{BeginningMarks, MayBegin}
 
 -- what stands under a name: nothing where it isn't wanted
 abbrev pub ids_under : List (Bor (List ℕ) × Option ℕ) → List ℕ → Option (Option ℕ)
@@ -57,11 +56,10 @@ IsLookedUp strings entries offset =
 abbrev pub IsNoted : List ℕ → List ℕ → ℕ → Type 0
 IsNoted old new offset = (new ≡ old) ⊎ (new ≡ insert_key nat_cmp old offset)
 
--- each wanted name has one of these beginnings
-pub record AreBeginnings (entries : List (Bor (List ℕ) × Option ℕ)) (marked : List Bool)
+-- each wanted name begins so
+pub record AreBeginnings (entries : List (Bor (List ℕ) × Option ℕ)) (marks : BeginningMarks)
     : Type 0 where
-  pub each : (name : List ℕ)
-      → IfSome (ids_under entries name) (λ _. is_marked marked (beginning name) ≡ true)
+  pub each : (name : List ℕ) → IfSome (ids_under entries name) (λ _. MayBegin marks name)
 
 -- under each wanted name stands what the records below an id say
 pub record AreSaid (kernel : Table) (r : NamedRecords) (below : ℕ) : Type 0 where

@@ -8,10 +8,9 @@ ghost use Rattle.extern_resolution.specs.Wanted.{AreSaid, IsBegun, IsNoted, Same
 use btf_encoding::TypeRef;
 use btf_records::BtfKind;
 use btf_tables::Btf;
-use first_bytes::MarkedBytes;
 use std::alloc::{AllocError, Global};
 use std::collections::{BTreeMap, BTreeSet};
-use type_headers::beginning;
+use type_headers::NameBeginnings;
 
 /// Names of at least this many bytes are looked up once.
 const LONG: usize = 256;
@@ -23,7 +22,7 @@ pub(crate) struct NamedRecords<'n> {
     /// The id under each wanted name, where a record was met that has it.
     pub(crate) ids: BTreeMap<&'n str, Option<u32>>,
     /// The beginnings of the wanted names.
-    pub(crate) beginnings: MarkedBytes,
+    pub(crate) beginnings: NameBeginnings,
     /// The offsets of long names that were looked up.
     pub(crate) looked_up: BTreeSet<u32>,
     /// Whether a record was met whose name can't be read, which hides those after it.
@@ -74,17 +73,18 @@ impl<'n> NamedRecords<'n> {
         NamedRecords {
             kind,
             ids: BTreeMap::new(alloc),
-            beginnings: MarkedBytes::new(),
+            beginnings: NameBeginnings::new(),
             looked_up: BTreeSet::new(alloc),
             is_hidden: false,
         }
     }
 
     /// Wants a name, before the table is gone through.
+    #[tactic(auto, using(crate::proofs::NamesBegin::one_more))]
     pub(crate) fn want(&mut self, name: &'n str) -> Result<(), AllocError>
         ensures { OnOk result (Wants self.old self.new name.now) }
     {
-        self.beginnings.mark(beginning(name));
+        self.beginnings.mark(name);
         want(&mut self.ids, name)
     }
 

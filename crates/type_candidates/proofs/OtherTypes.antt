@@ -1,17 +1,15 @@
--- Types that have no wanted name, as their kinds and the beginnings of their names tell.
-use Rattle.std.proofs.Common.{◌≡◌, ℕ, ◌+◌, ◌++◌, [], append-nil, subst, Bool, true, false, cond, not, List, Option, None, Some, refl, sym, ap, ◌∙◌}
+-- Types that have no wanted name, as the beginnings of their names tell.
+use Rattle.std.proofs.Common.{◌≡◌, ℕ, ◌+◌, ◌++◌, [], append-nil, subst, Bool, true, false, cond, List, Option, None, Some, refl, sym, ap, ◌∙◌}
 use Rattle.std.specs.Prelude.{slice_get, slice_index_or, IfSome}
 use Rattle.std.specs.List.{flat_map, range_with_len}
-use Rattle.std.specs.Option.{IsSomeAnd, option_map, option_map_or}
+use Rattle.std.specs.Option.{IsSomeAnd, option_map_or}
 use Rattle.btf_records.specs.Fields.{kind_of_type, name_offset_of}
 use Rattle.btf_records.specs.Kinds.{number_of}
-use Rattle.btf_records.specs.declared.kind.BtfKind.{BtfKind}
 use Rattle.btf_records.specs.declared.types.BtfType.{BtfType}
 use Rattle.btf_tables.specs.EssentialNames.{essential_name}
 use Rattle.btf_tables.specs.Tables.{Table, type_by_id}
-use Rattle.first_bytes.specs.FirstBytes.{is_marked}
 use Rattle.string_table.specs.Texts.{text_at}
-use Rattle.type_headers.specs.Beginnings.{beginning}
+use Rattle.type_headers.specs.Beginnings.{BeginningMarks, MayBegin}
 use Rattle.type_headers.specs.Headers.{BeginsOtherwise}
 use Rattle.type_candidates.specs.Candidates.{types_at}
 use Rattle.type_candidates.specs.NameBeginnings.{AreBeginnings}
@@ -22,47 +20,25 @@ use Rattle.type_candidates.specs.declared.sighting.Sighting.TheVariants.{Other}
 use Rattle.type_candidates.proofs.FoundCandidates.{type_at}
 use Rattle.type_candidates.proofs.SeenTypes.{same_places, seen_next, tables_more, types_more}
 
-not_false : (b : Bool) → not b ≡ true → b ≡ false
-not_false true e = absurd cc
-not_false false e = refl
+none_by : (number : Option ℕ) (Begins : Type 0) → IfSome number (λ _. Begins) → (Begins → ⊥) → number ≡ None
+none_by None Begins has isnt = refl
+none_by (Some n) Begins has isnt = absurd (isnt has)
 
-none_of : (kinds : List Bool) (numbers : List (List ℕ × ℕ)) (strings : List ℕ) (t : Option BtfType) → option_map kind_of_type t ≡ None → option_map_or (of_type kinds numbers strings) t Other ≡ Other
-none_of kinds numbers strings None e = refl
-none_of kinds numbers strings (Some t) e = absurd cc
-
--- there is no type of this id
-pub is_none : (kinds : List Bool) (numbers : List (List ℕ × ℕ)) (target : Table) (id : ℕ) (kind : Option BtfKind) → kind ≡ option_map kind_of_type (type_by_id target id) → kind ≡ None → of_type_by_id kinds numbers target id ≡ Other
-is_none kinds numbers target id kind is none = none_of kinds numbers target.strings (type_by_id target id) (sym is ∙ none)
-
-other_kind : (kinds : List Bool) (numbers : List (List ℕ × ℕ)) (strings : List ℕ) (t : Option BtfType) (kind : BtfKind) → Some kind ≡ option_map kind_of_type t → slice_index_or kinds (number_of kind) false ≡ false → option_map_or (of_type kinds numbers strings) t Other ≡ Other
-other_kind kinds numbers strings None kind is isnt = absurd cc
-other_kind kinds numbers strings (Some t) kind is isnt =
-    let same : kind ≡ kind_of_type t = cc in
-    let unwanted : slice_index_or kinds (number_of (kind_of_type t)) false ≡ false = sym (ap (λ (k : BtfKind). slice_index_or kinds (number_of k) false) same) ∙ isnt in
-    rw unwanted refl
-
-pub of_other_kind : (kinds : List Bool) (numbers : List (List ℕ × ℕ)) (target : Table) (id : ℕ) (kind : BtfKind) → Some kind ≡ option_map kind_of_type (type_by_id target id) → not (slice_index_or kinds (number_of kind) false) ≡ true → of_type_by_id kinds numbers target id ≡ Other
-of_other_kind kinds numbers target id kind is isnt = other_kind kinds numbers target.strings (type_by_id target id) kind is (not_false (slice_index_or kinds (number_of kind) false) isnt)
-
-none_by : (number : Option ℕ) (marked : Bool) → IfSome number (λ _. marked ≡ true) → marked ≡ false → number ≡ None
-none_by None marked has isnt = refl
-none_by (Some n) marked has isnt = let both : true ≡ false = sym has ∙ isnt in absurd cc
-
-name_otherwise : (numbers : List (List ℕ × ℕ)) (marks : List Bool) (kind : ℕ) (text : Option (List ℕ)) → AreBeginnings numbers marks → IsSomeAnd text (λ t. is_marked marks (beginning t) ≡ false) → of_name numbers kind text ≡ Other
+name_otherwise : (numbers : List (List ℕ × ℕ)) (marks : BeginningMarks) (kind : ℕ) (text : Option (List ℕ)) → AreBeginnings numbers marks → IsSomeAnd text (λ t. MayBegin marks t → ⊥) → of_name numbers kind text ≡ Other
 name_otherwise numbers marks kind None are begins = absurd begins
-name_otherwise numbers marks kind (Some text) are begins = ap of_number (none_by (number_of_name numbers (essential_name text)) (is_marked marks (beginning text)) (are.each text) begins)
+name_otherwise numbers marks kind (Some text) are begins = ap of_number (none_by (number_of_name numbers (essential_name text)) (MayBegin marks text) (are.each text) begins)
 
 wanted_by : (test : Bool) (s : Sighting) → s ≡ Other → cond test s Other ≡ Other
 wanted_by true s is = is
 wanted_by false s is = refl
 
-type_otherwise : (kinds : List Bool) (numbers : List (List ℕ × ℕ)) (marks : List Bool) (strings : List ℕ) (t : Option BtfType) → AreBeginnings numbers marks → IsSomeAnd t (λ t. IsSomeAnd (text_at strings (name_offset_of t)) (λ text. is_marked marks (beginning text) ≡ false)) → option_map_or (of_type kinds numbers strings) t Other ≡ Other
+type_otherwise : (kinds : List Bool) (numbers : List (List ℕ × ℕ)) (marks : BeginningMarks) (strings : List ℕ) (t : Option BtfType) → AreBeginnings numbers marks → IsSomeAnd t (λ t. IsSomeAnd (text_at strings (name_offset_of t)) (λ text. MayBegin marks text → ⊥)) → option_map_or (of_type kinds numbers strings) t Other ≡ Other
 type_otherwise kinds numbers marks strings None are begins = refl
 type_otherwise kinds numbers marks strings (Some t) are begins =
     wanted_by (slice_index_or kinds (number_of (kind_of_type t)) false) (of_name numbers (number_of (kind_of_type t)) (text_at strings (name_offset_of t))) (name_otherwise numbers marks (number_of (kind_of_type t)) (text_at strings (name_offset_of t)) are begins)
 
 -- its name begins otherwise than the wanted ones
-pub begins_otherwise : (kinds : List Bool) (numbers : List (List ℕ × ℕ)) (marks : List Bool) (target : Table) (id : ℕ) → AreBeginnings numbers marks → BeginsOtherwise target marks id → of_type_by_id kinds numbers target id ≡ Other
+pub begins_otherwise : (kinds : List Bool) (numbers : List (List ℕ × ℕ)) (marks : BeginningMarks) (target : Table) (id : ℕ) → AreBeginnings numbers marks → BeginsOtherwise target marks id → of_type_by_id kinds numbers target id ≡ Other
 begins_otherwise kinds numbers marks target id are begins = type_otherwise kinds numbers marks target.strings (type_by_id target id) are begins
 
 -- ---- a type that has no wanted name is passed over

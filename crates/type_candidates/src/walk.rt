@@ -1,6 +1,6 @@
 //! One walk over each table of a kernel, for all types that are wanted.
 
-ghost use Rattle.std.specs.Prelude.{◌≡◌, ◌≤◌, ◌+◌, ◌^◌, length, slice_get, take, true, IfOk, OnOk, []};
+ghost use Rattle.std.specs.Prelude.{◌≡◌, ◌≤◌, ◌+◌, ◌^◌, Bool, List, length, slice_get, take, true, IfOk, OnOk, []};
 ghost use Rattle.std.specs.List.{flat_map, range_with_len};
 ghost use Rattle.std.specs.Option.{IsSomeAnd, option_copied};
 ghost use Rattle.type_candidates.specs.Candidates.{all_types, types_at};
@@ -110,21 +110,15 @@ fn note(
     note_named(sighting, place, named)
 }
 
-/// Whether the kind and the beginning of the name of the type of an id tell that it has no wanted
-/// name, or isn't of a wanted kind.
-#[tactic(auto, using(crate::proofs::OtherTypes::is_none, crate::proofs::OtherTypes::of_other_kind, crate::proofs::OtherTypes::begins_otherwise))]
-fn is_other(kinds: &[bool], names: &WantedNames<'_>, headers: &TypeHeaders<'_>, id: usize) -> bool
-    ensures { (target : Table)
+/// Whether the beginning of the name of the type of an id tells that it has no wanted name.
+#[tactic(auto, using(crate::proofs::OtherTypes::begins_otherwise))]
+fn is_other(names: &WantedNames<'_>, headers: &TypeHeaders<'_>, id: usize) -> bool
+    ensures { (target : Table) (kinds : List Bool)
         → AreHeadersOf target headers.now
         → result ≡ true
-        → of_type_by_id kinds.now names.now target id ≡ Other }
+        → of_type_by_id kinds names.now target id ≡ Other }
 {
-    match headers.kind(id) {
-        Some(kind) => {
-            !is_among(kinds, kind as usize) || headers.begins_otherwise(id, names.beginnings())
-        }
-        None => true,
-    }
+    headers.begins_otherwise(id, names.beginnings())
 }
 
 /// The table of a number.
@@ -164,7 +158,7 @@ fn note_block(
 {
     let ids = headers.ids_of_kinds(kinds, from, to);
     for id in ids.as_slice() {
-        if is_other(kinds, names, headers, *id as usize) {
+        if is_other(names, headers, *id as usize) {
             continue;
         }
         let place = KernelType {

@@ -4,16 +4,15 @@ ghost use Rattle.std.specs.Prelude.{◌≡◌, [], IfNone, IfSome, None, drop};
 ghost use Rattle.std.specs.BTreeMap.{btree_map_len};
 ghost use Rattle.std.specs.List.{list_any};
 ghost use Rattle.btf_tables.specs.EssentialNames.{essential_name};
-ghost use Rattle.type_candidates.specs.NameBeginnings.{AreBeginnings, MarksBeginnings};
+ghost use Rattle.type_candidates.specs.NameBeginnings.{AreBeginnings};
 ghost use Rattle.type_candidates.specs.NamedTypes.{AreApart, AreLengths, AreNumbered, may_end, number_of_name};
 ghost use Rattle.string_table.specs.Names.{by_bytes};
 
 use btf_tables::essential_name;
-use first_bytes::MarkedBytes;
 use std::alloc::{AllocError, Global};
 use std::collections::{BTreeMap, BTreeSet};
 use std::marker::Model;
-use type_headers::beginning_of;
+use type_headers::NameBeginnings;
 
 /// Names without flavours, each with a number of its own.
 #[derive(Debug, Drop)]
@@ -22,7 +21,7 @@ pub(crate) struct WantedNames<'l> {
     /// How many bytes the names have.
     lengths: BTreeSet<usize>,
     /// How a text of such a name can begin.
-    beginnings: MarkedBytes,
+    beginnings: NameBeginnings,
 }
 
 impl<'l> Model for WantedNames<'l> {
@@ -41,30 +40,11 @@ impl<'l> Model for WantedNames<'l> {
         × AreBeginnings (by_bytes n.numbers.entries) n.beginnings };
 }
 
-/// Marks how a text of a name can begin: as the name does, a flavour or the NUL following where it
-/// has fewer than two bytes.
-#[tactic(auto, using(crate::proofs::NamesBegin::two_bytes, crate::proofs::NamesBegin::one_byte, crate::proofs::NamesBegin::no_byte))]
-fn mark_beginnings(beginnings: &mut MarkedBytes, name: &str)
-    ensures { MarksBeginnings name.now beginnings.old beginnings.new }
-{
-    match name.as_bytes() {
-        [first, second, ..] => beginnings.mark(beginning_of(*first, *second)),
-        [first] => {
-            beginnings.mark(beginning_of(*first, 0));
-            beginnings.mark(beginning_of(*first, b'_'));
-        }
-        [] => {
-            beginnings.mark(beginning_of(0, 0));
-            beginnings.mark(beginning_of(b'_', b'_'));
-        }
-    }
-}
-
 /// Adds a name with the next number.
 fn enter<'l>(
     numbers: &mut BTreeMap<&'l str, usize>,
     lengths: &mut BTreeSet<usize>,
-    beginnings: &mut MarkedBytes,
+    beginnings: &mut NameBeginnings,
     name: &'l str,
 ) -> Result<(), AllocError>
     requires numbered { AreNumbered (by_bytes numbers.old.entries) (btree_map_len numbers.old) }
@@ -76,7 +56,7 @@ fn enter<'l>(
     ensures beginnings { AreBeginnings (by_bytes numbers.new.entries) beginnings.new }
 {
     let number = numbers.len();
-    mark_beginnings(beginnings, name);
+    beginnings.mark(name);
     lengths.insert(name.len())?;
     numbers.insert(name, number)?;
     Ok(())
@@ -118,7 +98,7 @@ impl<'l> WantedNames<'l> {
         WantedNames {
             numbers: BTreeMap::new(alloc),
             lengths: BTreeSet::new(alloc),
-            beginnings: MarkedBytes::new(),
+            beginnings: NameBeginnings::new(),
         }
     }
 
@@ -150,7 +130,7 @@ impl<'l> WantedNames<'l> {
 
     /// The beginnings of all texts that have one of the names.
     #[tactic(auto, using(crate::proofs::NamesBegin::are_beginnings))]
-    pub(crate) fn beginnings(&self) -> &MarkedBytes
+    pub(crate) fn beginnings(&self) -> &NameBeginnings
         ensures { AreBeginnings self.now result.now }
     {
         &self.beginnings

@@ -1,3 +1,6 @@
-pub mod FirstTwo
 pub mod HeadersOf
+pub mod KindsFrom
+pub mod LongBeginnings
+pub mod MarkedNames
+pub mod RawTexts
 pub mod WrittenIds

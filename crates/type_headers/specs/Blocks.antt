@@ -1,8 +1,9 @@
 -- The types of some kinds among those of following ids.
-use Rattle.std.specs.Prelude.{◌≡◌, ◌≤◌, ◌<◌, ℕ, suc, Bool, true, false, List, [], ◌∷◌, slice_index_or}
-use Rattle.std.specs.Option.{option_map_or}
+use Rattle.std.specs.Prelude.{◌≡◌, ◌≤◌, ◌<◌, ◌+◌, ℕ, suc, Bool, true, false, List, [], ◌∷◌, slice_get, slice_index_or, IfSome, Some}
+use Rattle.std.specs.Option.{option_map, option_map_or}
 use Rattle.btf_records.specs.Fields.{kind_of_type}
 use Rattle.btf_records.specs.Kinds.{number_of}
+use Rattle.btf_records.specs.declared.kind.BtfKind.{BtfKind}
 use Rattle.btf_tables.specs.Tables.{Table, type_by_id}
 
 -- whether the type of an id is of one of these kinds, which are told by their numbers
@@ -25,3 +26,9 @@ AreIdsOfKinds table kinds from to (id ∷ ids) =
     × AreOfOtherKinds table kinds from id
     × (is_of_kinds table kinds id ≡ true)
     × AreIdsOfKinds table kinds (suc id) to ids
+
+-- the types from an id on are of these kinds, one by one
+pub record AreKindsFrom (table : Table) (first : ℕ) (types : List BtfKind) : Type 0 where
+  pub each : (index : ℕ)
+      → IfSome (slice_get types index) (λ kind.
+      option_map kind_of_type (type_by_id table (first + index)) ≡ Some kind)

@@ -1,12 +1,12 @@
 -- Kinds and names of a table's types.
-use Rattle.std.specs.Prelude.{◌≡◌, ℕ, ◌-◌, ◌<◌, Bool, true, false, List, length, map, slice_get, Some}
+use Rattle.std.specs.Prelude.{◌≡◌, ℕ, ◌-◌, ◌<◌, Bool, true, List, drop, length, map, slice_get, Some}
 use Rattle.std.specs.Option.{IsSomeAnd}
 use Rattle.btf_records.specs.Fields.{kind_of_type, name_offset_of}
 use Rattle.btf_records.specs.declared.kind.BtfKind.{BtfKind}
 use Rattle.btf_tables.specs.Tables.{Table, type_by_id}
-use Rattle.first_bytes.specs.FirstBytes.{AreTexts, is_marked}
+use Rattle.first_bytes.specs.FirstBytes.{AreTexts}
 use Rattle.string_table.specs.Texts.{text_at}
-use Rattle.type_headers.specs.Beginnings.{beginning}
+use Rattle.type_headers.specs.Beginnings.{BeginningMarks, MayBegin}
 
 pub record Headers : Type 0 where
   pub kinds : List BtfKind
@@ -21,19 +21,16 @@ pub record AreHeadersOf (table : Table) (headers : Headers) : Type 0 where
   pub strings : headers.strings ≡ table.strings
   pub texts : headers.are_texts ≡ true → AreTexts headers.strings
 
--- the name of the type of an id can be read, and its beginning isn't among these
-abbrev pub BeginsOtherwise : Table → List Bool → ℕ → Type 0
-BeginsOtherwise table beginnings id =
+-- the name of the type of an id can be read, and begins as none of some names does
+abbrev pub BeginsOtherwise : Table → BeginningMarks → ℕ → Type 0
+BeginsOtherwise table marks id =
     IsSomeAnd (type_by_id table id) (λ t.
-    IsSomeAnd (text_at table.strings (name_offset_of t)) (λ text.
-    is_marked beginnings (beginning text) ≡ false))
+    IsSomeAnd (text_at table.strings (name_offset_of t)) (λ text. MayBegin marks text → ⊥))
 
--- the name of this id, which isn't void's, lies in the strings, and a text there has this number
-pub record IsBeginning (headers : Headers) (id number : ℕ) : Type 0 where
+-- the name of this id, which isn't void's, lies in the strings, which go on with these bytes there
+pub record IsNameOf (headers : Headers) (id : ℕ) (bytes : List ℕ) : Type 0 where
   pub offset : ℕ
   pub named : slice_get headers.name_offsets (id - 1) ≡ Some offset
   pub isnt_void : 0 < id
   pub within : offset < length headers.strings
-  pub begins : (text : List ℕ)
-      → text_at headers.strings offset ≡ Some text
-      → beginning text ≡ number
+  pub are : bytes ≡ drop offset headers.strings

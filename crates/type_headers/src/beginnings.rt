@@ -1,16 +1,17 @@
-//! The first two bytes of texts.
+//! How names begin.
 
-ghost use Rattle.std.specs.Prelude.{◌≡◌, ◌<◌, ℕ, List, Some, drop, length, slice_get, slice_index_or, IfSome};
-ghost use Rattle.first_bytes.specs.FirstBytes.{first_byte};
-ghost use Rattle.type_headers.specs.Beginnings.{beginning, beginning_of};
+ghost use Rattle.std.specs.Prelude.{◌≡◌, ◌&&◌, ℕ, List, Some, drop, false};
+ghost use Rattle.first_bytes.specs.FirstBytes.{is_marked};
 ghost use Rattle.string_table.specs.Texts.{text_at};
+ghost use Rattle.type_headers.specs.Beginnings.{MarksName, MarksShort, MayBegin, beginning, beginning_of, long_beginning, next_number};
 
-use first_bytes::first_byte;
+use first_bytes::MarkedBytes;
+use std::marker::Model;
 
 /// A number that all texts have which begin with these two bytes, a NUL after the last byte of a
 /// text being one of them. 31 is odd, so that where the second bytes are alike the numbers differ
 /// as the first bytes do.
-pub fn beginning_of(first: u8, second: u8) -> u8
+fn beginning_of(first: u8, second: u8) -> u8
     ensures { result ≡ beginning_of first second }
 {
     if first == 0 {
@@ -19,49 +20,128 @@ pub fn beginning_of(first: u8, second: u8) -> u8
     first.wrapping_mul(31).wrapping_add(second)
 }
 
-/// The second byte of a text that a NUL ends.
-fn second_byte(text: &str) -> u8
-    ensures { result ≡ first_byte (drop 1 text.now) }
+/// The number of the text that these bytes begin with, by its first two.
+fn beginning(bytes: &[u8]) -> u8
+    ensures { result ≡ beginning bytes.now }
 {
-    match text.as_bytes() {
-        [_, second, ..] => *second,
-        _ => 0,
+    match bytes {
+        [first, second, ..] => beginning_of(*first, *second),
+        [first] => beginning_of(*first, 0),
+        [] => beginning_of(0, 0),
     }
 }
 
-/// The number of a text by its first two bytes.
-pub fn beginning(text: &str) -> u8
-    ensures { result ≡ beginning text.now }
+/// The number of some bytes and the next one.
+fn next_number(number: u8, byte: u8) -> u8
+    ensures { result ≡ next_number number byte }
 {
-    beginning_of(first_byte(text), second_byte(text))
+    number.wrapping_mul(31).wrapping_add(byte)
 }
 
-/// The byte at an index.
-fn byte_at(bytes: &[u8], index: usize) -> Option<u8>
-    ensures { result ≡ slice_get bytes.now index }
+/// A number that all texts have which begin with these eight bytes, if there are as many.
+#[tactic(auto, using(crate::proofs::LongBeginnings::too_few))]
+fn long_beginning(bytes: &[u8]) -> Option<u8>
+    ensures { result ≡ long_beginning bytes.now }
 {
-    bytes.get(index).copied()
-}
-
-/// The byte at an index; past the end it is 0.
-fn byte_or_nul(bytes: &[u8], index: usize) -> u8
-    ensures { result ≡ slice_index_or bytes.now index 0 }
-{
-    match bytes.get(index) {
-        Some(byte) => *byte,
-        None => 0,
+    match bytes {
+        [a, b, c, d, e, f, g, h, ..] => {
+            let two = next_number(next_number(0, *a), *b);
+            let four = next_number(next_number(two, *c), *d);
+            let six = next_number(next_number(four, *e), *f);
+            Some(next_number(next_number(six, *g), *h))
+        }
+        _ => None,
     }
 }
 
-/// The number of the text at an offset of a string table, if one begins there, by its first two
-/// bytes.
-#[tactic(auto, using(crate::proofs::FirstTwo::begins_at))]
-pub fn beginning_at(strings: &[u8], offset: u32) -> Option<u8>
-    ensures within { IfSome result (λ _. offset < length strings.now) }
-    ensures beginning { IfSome result (λ number.
-        (text : List ℕ) → text_at strings.now offset ≡ Some text → beginning text ≡ number) }
+/// Marks how a text of a name can begin: as the name does, a flavour or the NUL following where it
+/// has fewer than two bytes.
+#[tactic(auto, using(crate::proofs::MarkedNames::two_bytes, crate::proofs::MarkedNames::one_byte, crate::proofs::MarkedNames::no_byte))]
+fn mark_short(marks: &mut MarkedBytes, name: &str)
+    ensures { MarksShort name.now marks.old marks.new }
 {
-    let first = byte_at(strings, offset as usize)?;
-    let second = byte_or_nul(strings, offset as usize + 1);
-    Some(beginning_of(first, second))
+    match name.as_bytes() {
+        [first, second, ..] => marks.mark(beginning_of(*first, *second)),
+        [first] => {
+            marks.mark(beginning_of(*first, 0));
+            marks.mark(beginning_of(*first, b'_'));
+        }
+        [] => {
+            marks.mark(beginning_of(0, 0));
+            marks.mark(beginning_of(b'_', b'_'));
+        }
+    }
+}
+
+/// How some names begin, with flavours or without: by a number of their first eight bytes, and of
+/// those that have fewer by one of the first two.
+#[derive(Debug, Drop)]
+pub struct NameBeginnings {
+    short: MarkedBytes,
+    long: MarkedBytes,
+    /// Whether a name has fewer than eight bytes.
+    has_short: bool,
+}
+
+impl Model for NameBeginnings {
+    ghost use Rattle.type_headers.specs.Beginnings.{BeginningMarks};
+
+    ghost Value = { BeginningMarks };
+
+    ghost view = { λ b. record { short = b.short; long = b.long; has_short = b.has_short } };
+}
+
+impl NameBeginnings {
+    /// No names.
+    #[tactic(auto, using(crate::proofs::MarkedNames::none_begins))]
+    pub fn new() -> NameBeginnings
+        ensures { (text : List ℕ) → MayBegin result text → ⊥ }
+    {
+        NameBeginnings {
+            short: MarkedBytes::new(),
+            long: MarkedBytes::new(),
+            has_short: false,
+        }
+    }
+
+    /// Adds a name.
+    #[tactic(auto, using(crate::proofs::MarkedNames::marked_long, crate::proofs::MarkedNames::marked_short))]
+    pub fn mark(&mut self, name: &str)
+        ensures { MarksName name.now self.old self.new }
+    {
+        match long_beginning(name.as_bytes()) {
+            Some(number) => self.long.mark(number),
+            None => {
+                mark_short(&mut self.short, name);
+                self.has_short = true;
+            }
+        }
+    }
+
+    /// Whether these bytes may begin with a text of one of the names that have fewer than eight.
+    fn may_be_short(&self, bytes: &[u8]) -> bool
+        ensures { result
+            ≡ (self.now.has_short && is_marked self.now.short (beginning bytes.now)) }
+    {
+        self.has_short && self.short.contains(beginning(bytes))
+    }
+
+    /// Whether these bytes may begin with a text of one of the names.
+    #[tactic(auto, using(crate::proofs::RawTexts::unmarked, crate::proofs::RawTexts::too_short))]
+    pub(crate) fn may_begin(&self, bytes: &[u8]) -> bool
+        ensures { (strings text : List ℕ) (offset : ℕ)
+            → bytes.now ≡ drop offset strings
+            → text_at strings offset ≡ Some text
+            → result ≡ false
+            → MayBegin self.now text
+            → ⊥ }
+    {
+        if self.may_be_short(bytes) {
+            return true;
+        }
+        match long_beginning(bytes) {
+            Some(number) => self.long.contains(number),
+            None => false,
+        }
+    }
 }

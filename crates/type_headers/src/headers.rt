@@ -1,22 +1,32 @@
 //! Kinds and names of a table's types.
 
-ghost use Rattle.std.specs.Prelude.{◌≡◌, true, IfSome};
+ghost use Rattle.std.specs.Prelude.{◌≡◌, ◌<◌, drop, length, true, IfSome};
 ghost use Rattle.std.specs.Option.{option_map};
 ghost use Rattle.btf_records.specs.Fields.{kind_of_type};
 ghost use Rattle.btf_tables.specs.Tables.{Table, type_by_id};
-ghost use Rattle.type_headers.specs.Headers.{AreHeadersOf, BeginsOtherwise, IsBeginning};
+ghost use Rattle.type_headers.specs.Headers.{AreHeadersOf, BeginsOtherwise, IsNameOf};
 
-use crate::beginnings::beginning_at;
+use crate::beginnings::NameBeginnings;
 use btf_records::BtfKind;
 use btf_tables::Btf;
-use first_bytes::MarkedBytes;
 use std::marker::Model;
+
+/// The bytes from an index on, if there are some.
+fn bytes_from(bytes: &[u8], index: usize) -> Option<&[u8]>
+    ensures { IfSome result (λ rest.
+        (rest.now ≡ drop index bytes.now) × (index < length bytes.now)) }
+{
+    if index >= bytes.len() {
+        return None;
+    }
+    Some(&bytes[index..])
+}
 
 /// The kinds of a table's types, and where their names begin.
 #[derive(Debug, Drop)]
 pub struct TypeHeaders<'t> {
     /// The kinds from id 1 on.
-    kinds: &'t [BtfKind],
+    pub(crate) kinds: &'t [BtfKind],
     /// The offsets of names from id 1 on.
     name_offsets: &'t [u32],
     strings: &'t [u8],
@@ -64,31 +74,30 @@ impl<'t> TypeHeaders<'t> {
         self.kinds.get(id - 1).copied()
     }
 
-    /// The number of the name of the type of an id, by its first two bytes. None of void, or where
-    /// no name begins.
-    fn beginning(&self, id: usize) -> Option<u8>
-        ensures { IfSome result (λ number. IsBeginning self.now id number) }
+    /// The strings from the name of the type of an id on. None of void, or where no name begins.
+    fn name_bytes(&self, id: usize) -> Option<&'t [u8]>
+        ensures { IfSome result (λ bytes. IsNameOf self.now id bytes.now) }
     {
         if id == 0 {
             return None;
         }
         let offset = self.name_offsets.get(id - 1).copied()?;
-        beginning_at(self.strings, offset)
+        bytes_from(self.strings, offset as usize)
     }
 
-    /// Whether the name of the type of an id can be read, and begins with none of these beginnings.
+    /// Whether the name of the type of an id can be read, and begins as none of some names does.
     #[tactic(auto, using(crate::proofs::HeadersOf::isnt_among))]
-    pub fn begins_otherwise(&self, id: usize, beginnings: &MarkedBytes) -> bool
+    pub fn begins_otherwise(&self, id: usize, names: &NameBeginnings) -> bool
         ensures { (table : Table)
             → AreHeadersOf table self.now
             → result ≡ true
-            → BeginsOtherwise table beginnings.now id }
+            → BeginsOtherwise table names.now id }
     {
         if !self.are_texts {
             return false;
         }
-        match self.beginning(id) {
-            Some(number) => !beginnings.contains(number),
+        match self.name_bytes(id) {
+            Some(bytes) => !names.may_begin(bytes),
             None => false,
         }
     }

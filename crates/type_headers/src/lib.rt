@@ -6,6 +6,6 @@ mod beginnings;
 mod blocks;
 mod headers;
 
-pub use beginnings::{beginning, beginning_of};
+pub use beginnings::NameBeginnings;
 pub use blocks::{BLOCK, IdsOfKinds, is_among};
 pub use headers::TypeHeaders;

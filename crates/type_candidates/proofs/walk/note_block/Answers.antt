@@ -12,7 +12,7 @@ loop-id-init c = (
 pub loop-id-preserved-then-is_other : goal.loop-id-preserved-then-is_other
 loop-id-preserved-then-is_other c = (
   other_later c.args.kinds.now c.args.names.now c.args.targets.now c.args.headers.now c.args.table c.args.to c.loop-id.id-index c.as_slice-id-items.result.now c.loop-id.named c.loop-id.unreadable c.loop-id-test.true
-      (λ table are. c.is_other.ensures table are c.if-is_other.true)
+      (λ table are. c.is_other.ensures table c.args.kinds.now are c.if-is_other.true)
       c.loop-id.invariant.0,
   c.loop-id.invariant.1,
 )

@@ -18,4 +18,4 @@ returns-clause-lengths c =
     more_names c.args.numbers.now.entries c.insert-2.new.self.entries c.args.name.now _ c.insert.new.self.keys (more_lengths (by_bytes c.args.numbers.now.entries) c.args.lengths.now.keys c.insert.new.self.keys _ c.requires.lengths c.in_ok-insert.ensures.updates.0) here (λ other. btree_map_updates_str c.args.name.now c.args.numbers.now c.insert-2.new.self _ c.in_ok-insert-2.ensures.updates other)
 
 pub returns-clause-beginnings : goal.returns-clause-beginnings
-returns-clause-beginnings c = more_beginnings c.args.numbers.now.entries c.insert-2.new.self.entries c.args.name.now _ c.args.beginnings.now _ c.requires.beginnings c.mark_beginnings.ensures (λ other. btree_map_updates_str c.args.name.now c.args.numbers.now c.insert-2.new.self _ c.in_ok-insert-2.ensures.updates other)
+returns-clause-beginnings c = more_beginnings c.args.numbers.now.entries c.insert-2.new.self.entries c.args.name.now _ c.args.beginnings.now _ c.requires.beginnings c.mark.ensures (λ other. btree_map_updates_str c.args.name.now c.args.numbers.now c.insert-2.new.self _ c.in_ok-insert-2.ensures.updates other)

@@ -1,6 +1,6 @@
 use Rattle.std.proofs.Common.{◌≡◌, ◌≤◌, ◌<◌, Bool, true, false, cond, ℕ, length, length-set, refl, ◌∙◌, arith}
 use Rattle.type_headers.proofs.WrittenIds.{next, none}
-use Rattle.type_headers.proofs.headers.TypeHeaders.ids_of_kinds.Goals as goal
+use Rattle.type_headers.proofs.headers.TypeHeaders.ids_one_by_one.Goals as goal
 
 one_at_most : (is : Bool) (count : ℕ) → count ≡ cond is 1 0 → count ≤ 1
 one_at_most true count is = omega (arith, is)
