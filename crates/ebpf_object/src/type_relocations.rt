@@ -45,7 +45,7 @@ impl<'a> Object<'a> {
     pub fn relocate_btf_among<'c>(
         &mut self,
         kernel_types: &[Btf<'_>],
-        candidates: Option<&'c Candidates<'c>>,
+        candidates: Option<&'c Candidates<'c, 'c>>,
     ) -> Result<(), BtfRelocationError>
         requires few { length kernel_types.now ≤ 2 ^ 32 }
         requires candidates { IfSome (option_copied candidates) (λ c. c ≡ kernel_types.now) }

@@ -9,16 +9,16 @@ use ebpf_object::{Candidates, KernelExterns};
 /// What was found in a kernel's tables before, so that plans and reports on one kernel go over each
 /// table once. It decides no answer.
 #[derive(Clone, Copy, Debug)]
-pub struct Gathered<'g, 'n> {
+pub struct Gathered<'c, 'e, 'n> {
     /// The candidates for type relocations.
-    pub candidates: Option<&'g Candidates<'g>>,
+    pub candidates: Option<&'c Candidates<'c, 'c>>,
     /// What the first table has of the names of externs.
-    pub externs: Option<&'g KernelExterns<'g, 'n>>,
+    pub externs: Option<&'e KernelExterns<'e, 'n>>,
 }
 
-impl<'g, 'n> Gathered<'g, 'n> {
+impl<'c, 'e, 'n> Gathered<'c, 'e, 'n> {
     /// Nothing.
-    pub fn nothing() -> Gathered<'g, 'n>
+    pub fn nothing() -> Gathered<'c, 'e, 'n>
         ensures { (kernel : List Table) → AreGathered kernel result }
     {
         Gathered {

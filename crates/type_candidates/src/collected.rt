@@ -24,9 +24,9 @@ const ENUM64: usize = BtfKind::Enum64 as usize;
 /// The types of a kernel's tables that may be taken for wanted ones, found in one walk over each
 /// table.
 #[derive(Debug, Drop)]
-pub struct Candidates<'c> {
-    targets: &'c [Btf<'c>],
-    names: WantedNames<'c>,
+pub struct Candidates<'t, 'l> {
+    targets: &'t [Btf<'t>],
+    names: WantedNames<'l>,
     /// By number, which kinds are wanted.
     kinds: [bool; 20],
     /// By number, of which kinds a name can't be read.
@@ -37,7 +37,7 @@ pub struct Candidates<'c> {
     named: Vec<Places>,
 }
 
-impl<'c> Model for Candidates<'c> {
+impl<'t, 'l> Model for Candidates<'t, 'l> {
     ghost use Rattle.std.specs.Prelude.{List, take};
     ghost use Rattle.btf_tables.specs.Tables.{Table};
     ghost use Rattle.type_candidates.specs.Candidates.{all_types};
@@ -163,14 +163,14 @@ fn first_table<'t, 'a>(targets: &'t [Btf<'a>]) -> &'t [Btf<'a>]
     }
 }
 
-impl<'c> Candidates<'c> {
+impl<'t, 'l> Candidates<'t, 'l> {
     /// The candidates for local types of these ids, in these tables.
     #[tactic(auto, using(crate::proofs::SeenTypes::none_seen))]
     pub fn collect(
-        local: &'c Btf<'c>,
+        local: &'l Btf<'_>,
         type_ids: &[u32],
-        targets: &'c [Btf<'c>],
-    ) -> Result<Candidates<'c>, AllocError>
+        targets: &'t [Btf<'t>],
+    ) -> Result<Candidates<'t, 'l>, AllocError>
         ensures { IfOk result (λ candidates. candidates ≡ targets.now) }
     {
         let alloc = local.allocator();

@@ -31,9 +31,9 @@ pub struct TypeMatcher<'m, 'c> {
     local: &'m Btf<'m>,
     targets: &'m [Btf<'m>],
     /// The candidates, where they were collected.
-    collected: Option<Candidates<'m>>,
+    collected: Option<Candidates<'m, 'm>>,
     /// Those that were collected before, and serve others too.
-    shared: Option<&'c Candidates<'c>>,
+    shared: Option<&'c Candidates<'c, 'c>>,
     /// What relocations came to.
     known: BTreeMap<AccessKey, KnownOutcome>,
     /// The paths that were found for relocations about fields and variants, by type and access
@@ -75,11 +75,11 @@ fn wanted_types(local: &Btf<'_>, relocations: &[TypeRelocation]) -> Result<Vec<u
 }
 
 /// The candidates for some local types; none where there are no such types.
-fn collected_for<'m>(
-    local: &'m Btf<'m>,
+fn collected_for<'t, 'l>(
+    local: &'l Btf<'_>,
     type_ids: &[u32],
-    targets: &'m [Btf<'m>],
-) -> Result<Option<Candidates<'m>>, AllocError>
+    targets: &'t [Btf<'t>],
+) -> Result<Option<Candidates<'t, 'l>>, AllocError>
     ensures { IfOk result (λ found. IfSome found (λ c. c ≡ targets.now)) }
 {
     if type_ids.is_empty() {
@@ -91,11 +91,11 @@ fn collected_for<'m>(
 
 /// The candidates for the types that relocations are about, for which each of a kernel's tables is
 /// gone over once; none where they are about no types of a kernel.
-pub fn collected<'m>(
-    local: &'m Btf<'m>,
+pub fn collected<'t, 'l>(
+    local: &'l Btf<'_>,
     relocations: &[TypeRelocation],
-    targets: &'m [Btf<'m>],
-) -> Result<Option<Candidates<'m>>, AllocError>
+    targets: &'t [Btf<'t>],
+) -> Result<Option<Candidates<'t, 'l>>, AllocError>
     ensures { IfOk result (λ found. IfSome found (λ c. c ≡ targets.now)) }
 {
     let type_ids = wanted_types(local, relocations)?;
@@ -107,7 +107,7 @@ fn candidates_for(
     alloc: Global,
     kind: RelocationKind,
     wanted: &WantedType<'_>,
-    collected: &Candidates<'_>,
+    collected: &Candidates<'_, '_>,
 ) -> Result<Vec<KernelType>, CandidateError>
     ensures value { IfOk result (λ found.
         candidates wanted.now (searched_tables kind collected.now) ≡ Ok found.items) }
@@ -166,7 +166,7 @@ impl<'m, 'c> TypeMatcher<'m, 'c> {
     #[tactic(auto, using(crate::proofs::KnownOutcomes::none_known, crate::proofs::FoundPaths::no_paths_known))]
     pub fn among(
         local: &'m Btf<'m>,
-        candidates: &'c Candidates<'c>,
+        candidates: &'c Candidates<'c, 'c>,
         targets: &'m [Btf<'m>],
     ) -> TypeMatcher<'m, 'c>
         requires { candidates.now ≡ targets.now }

@@ -90,7 +90,7 @@ fn placement_of<'c>(
     functions: &Functions<'_>,
     local: &Btf<'_>,
     targets: &[Btf<'_>],
-    candidates: Option<&'c Candidates<'c>>,
+    candidates: Option<&'c Candidates<'c, 'c>>,
     groups: &[RelocationGroup],
 ) -> Result<Placement, AllocError>
     requires few { length targets.now ≤ 2 ^ 32 }
@@ -258,7 +258,7 @@ pub fn relocate_types<'c, 'f>(
     extension: &BtfExt<'_>,
     local: &Btf<'_>,
     targets: &[Btf<'_>],
-    candidates: Option<&'c Candidates<'c>>,
+    candidates: Option<&'c Candidates<'c, 'c>>,
     functions: &mut Functions<'f>,
 ) -> Result<(), BtfRelocationError>
     requires few { length targets.now ≤ 2 ^ 32 }
