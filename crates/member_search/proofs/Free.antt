@@ -64,7 +64,7 @@ before false true m n h lt = omega arith
 before false false m n h lt = omega arith
 before true false m n h lt = absurd (let e : true ≡ false = h refl in cc)
 
-fails-lt : (p q : ℕ → Bool) (y n : ℕ) → ((k : ℕ) → p k ≡ true → q k ≡ true) → y < n → p y ≡ false → q y ≡ true → suc (failing q n) ≤ failing p n
+pub fails-lt : (p q : ℕ → Bool) (y n : ℕ) → ((k : ℕ) → p k ≡ true → q k ≡ true) → y < n → p y ≡ false → q y ≡ true → suc (failing q n) ≤ failing p n
 fails-lt p q y zero h lt here there = absurd (omega arith)
 fails-lt p q y (suc n) h lt here there =
     elim (below_suc y n lt) [

@@ -4,11 +4,14 @@ pub mod EmptyTypes
 pub mod Entries
 pub mod Followed
 pub mod Free
+pub mod Listed
 pub mod Members
 pub mod Moved
 pub mod Nesting
 pub mod Passed
 pub mod Rests
 pub mod SearchesAlike
+pub mod Skipped
 pub mod Turns
+pub mod Unlike
 pub mod Work

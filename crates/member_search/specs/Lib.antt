@@ -4,5 +4,7 @@ pub mod Finders
 pub mod Indexes
 pub mod Laws
 pub mod Looks
+pub mod MemberTypes
+pub mod OwnNames
 pub mod Searches
 pub mod Stacks

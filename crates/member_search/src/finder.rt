@@ -1,6 +1,6 @@
 //! Many searches in one table.
 
-ghost use Rattle.std.specs.Prelude.{◌≡◌, ◌≢◌, IfErr, IfOk, IfSome, Some, Ok, Err};
+ghost use Rattle.std.specs.Prelude.{◌≡◌, ◌≢◌, IfErr, IfOk, IfSome, Some, Ok, Err, true};
 ghost use Rattle.access_paths.specs.declared.error.AccessError.TheVariants.{BtfError as TypeError};
 ghost use Rattle.btf_records.specs.declared.error.BtfError.TheVariants.{OutOfMemory};
 ghost use Rattle.member_search.specs.Looks.{searched};
@@ -9,9 +9,12 @@ ghost use Rattle.btf_compatibility.specs.FieldCompatibility.{fields_compatible};
 ghost use Rattle.string_table.specs.Texts.{text_at};
 ghost use Rattle.member_search.specs.Finders.{DecidesAs};
 ghost use Rattle.member_search.specs.Indexes.{begun_at, moved};
+ghost use Rattle.member_search.specs.MemberTypes.{FindsNothing, IsWalkedOver};
 
-use crate::member_index::{FirstMember, MemberIndex};
-use crate::search::{Found, find_member};
+use crate::member_index::{FirstMember, MemberIndex, WalkEnd};
+use crate::member_types::MemberTypes;
+use crate::own_names::OwnNames;
+use crate::search::Found;
 use access_paths::{AccessError, bits_after};
 use btf_compatibility::fields_are_compatible;
 use btf_tables::Btf;
@@ -23,12 +26,15 @@ use string_table::name_hash;
 /// How many searches in a struct or union go over its members; the next one makes an index of them.
 const WALKS: u8 = 7;
 
-/// Where indexes have this many members together, no more are made: those of structs and unions
-/// that have the members of one in common may have as many as the product.
+/// Where indexes and lists of types have this many members together, no more are made: those of
+/// structs and unions that have the members of one in common may have as many as the product.
 const MOST_INDEXED: usize = 1_000_000;
 
+/// A type that is listed takes the memory of as many members of an index.
+const LISTED: usize = 4;
+
 /// Searches for members in the structs and unions of one table. The members of one that is searched
-/// often are gone over once.
+/// often are indexed; where that doesn't decide, their types are listed.
 #[derive(Debug, Drop)]
 pub struct MemberFinder<'t> {
     target: &'t Btf<'t>,
@@ -36,19 +42,27 @@ pub struct MemberFinder<'t> {
     searches: BTreeMap<u32, u8>,
     /// By the ids of structs and unions.
     indexes: BTreeMap<u32, MemberIndex>,
-    /// How many members they have together.
+    /// By the ids of those in which the first member of a name didn't decide.
+    types: BTreeMap<u32, MemberTypes>,
+    /// How many members the indexes and the lists of types have together.
     indexed: usize,
+    names: OwnNames<'t>,
 }
 
 impl<'t> Model for MemberFinder<'t> {
     ghost use Rattle.btf_tables.specs.Tables.{Table};
+    ghost use Rattle.std.specs.Prelude.{◌≡◌};
     ghost use Rattle.member_search.specs.Finders.{AreIndexes};
+    ghost use Rattle.member_search.specs.MemberTypes.{AreMemberTypes};
 
     ghost Value = { Table };
 
     ghost view = { λ f. f.target.now };
 
-    ghost invariant = { λ f. AreIndexes f.target.now f.indexes.entries };
+    ghost invariant = { λ f.
+        AreIndexes f.target.now f.indexes.entries
+        × AreMemberTypes f.target.now f.types.entries
+        × (f.names ≡ f.target.now) };
 }
 
 /// What a member is in a struct or union that begins at these bits, if it is this where that begins
@@ -83,7 +97,9 @@ impl<'t> MemberFinder<'t> {
             target,
             searches: BTreeMap::new(target.allocator()),
             indexes: BTreeMap::new(target.allocator()),
+            types: BTreeMap::new(target.allocator()),
             indexed: 0,
+            names: OwnNames::new(target),
         }
     }
 
@@ -162,8 +178,61 @@ impl<'t> MemberFinder<'t> {
         }
     }
 
+    /// Whether a search for no name, which passes all members that have names, is known to find
+    /// nothing.
+    fn is_walked_over(&self, root: u32) -> bool
+        ensures { result ≡ true → IsWalkedOver self.now root }
+    {
+        let Some(index) = self.indexes.get(&root) else {
+            return false;
+        };
+        match index.walk_end {
+            WalkEnd::Over => !index.by_hash.contains_key(&name_hash("")),
+            _ => false,
+        }
+    }
+
+    /// Lists the types of the members of a struct or union, unless they are listed, or too many
+    /// are.
+    fn list_types(&mut self, root: u32) -> Result<(), AllocError>
+        ensures { self.new ≡ self.old }
+    {
+        if self.types.contains_key(&root) || self.indexed >= MOST_INDEXED {
+            return Ok(());
+        }
+        let types = MemberTypes::collect(self.target, root)?;
+        self.indexed = self
+            .indexed
+            .saturating_add(types.len().saturating_mul(LISTED));
+        self.types.insert(root, types)?;
+        Ok(())
+    }
+
+    /// Whether the members of a name are known to be incompatible with a local type, in a struct or
+    /// union that has an index, and in those of its members without names.
+    fn are_unlike(
+        &mut self,
+        local: &Btf<'t>,
+        type_id: u32,
+        name: &str,
+        root: u32,
+    ) -> Result<bool, AllocError>
+        ensures same { self.new ≡ self.old }
+        ensures nothing { IfOk result (λ yes.
+            yes ≡ true → FindsNothing (searched local.now type_id name.now self.old) root) }
+    {
+        if !self.is_walked_over(root) {
+            return Ok(false);
+        }
+        self.list_types(root)?;
+        let Some(types) = self.types.get(&root) else {
+            return Ok(false);
+        };
+        Ok(types.are_unlike(local, type_id, name, self.target))
+    }
+
     /// What `find_member` answers about this table; `BtfError::OutOfMemory` too where there is no
-    /// memory for an index.
+    /// memory for an index, for types or for names.
     pub fn find(
         &mut self,
         local: &Btf<'t>,
@@ -180,9 +249,13 @@ impl<'t> MemberFinder<'t> {
             → member_found (searched local.now type_id name.now self.old) root bits ≡ Err e) }
     {
         self.count_search(root)?;
-        match self.answer(local, type_id, name, root, bits) {
-            Some(answer) => answer,
-            None => find_member(local, type_id, name, self.target, root, bits),
+        let bits = begun_at(bits);
+        if let Some(answer) = self.answer(local, type_id, name, root, bits) {
+            return answer;
         }
+        if self.are_unlike(local, type_id, name, root)? {
+            return Ok(None);
+        }
+        self.names.find(local, type_id, name, root, bits)
     }
 }

@@ -8,6 +8,8 @@ mod finder;
 mod laws;
 mod look;
 mod member_index;
+mod member_types;
+mod own_names;
 mod search;
 mod turn;
 
