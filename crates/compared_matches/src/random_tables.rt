@@ -2,10 +2,10 @@
 //! name, beside what the plain definitions say.
 
 use crate::tally::Tally;
-use access_paths::{Subject, subject_of};
+use access_paths::{AccessError, Subject, subject_of};
 use btf::{Btf, BtfError, BtfFeature, BtfKind, Endianness, TypeRef};
 use ebpf_items::RelocationKind;
-use member_search::{Found, find_member};
+use member_search::{Found, MemberFinder, find_member};
 use plain_matching::{Answer, Fault, plain_member, plain_outcome};
 use sample_tables::{Dice, Texts, random_types, section};
 use std::alloc::{AllocError, Global};
@@ -22,12 +22,15 @@ const LEAST: u32 = 3;
 
 const MORE: u32 = 14;
 
+/// How often a finder is asked for a member: more often than it goes over members.
+const AGAIN: u32 = 9;
+
 /// How often a type is looked for that is fit.
 const TRIES: u32 = 4;
 
 /// What type relocations come to, with faults of the object's types and of a kernel's, and what
-/// searches for members give.
-pub const SORTS: [&str; 22] = [
+/// searches for members give, also where a finder is asked so often that it keeps what it finds.
+pub const SORTS: [&str; 23] = [
     "value",
     "field",
     "poison",
@@ -50,6 +53,7 @@ pub const SORTS: [&str; 22] = [
     "member found",
     "member not found",
     "search refused",
+    "search again and again",
 ];
 
 fn sort_of_fault(is_local: bool, fault: Fault) -> &'static str {
@@ -135,29 +139,58 @@ fn member_of(found: Option<Found>) -> Option<(u32, u64, u32, Option<u32>, usize)
     ))
 }
 
+/// Whether two searches give one member, none, or one fault.
+fn are_alike(
+    one: &Result<Option<Found>, AccessError>,
+    other: &Result<Option<Found>, AccessError>,
+) -> bool {
+    match (one, other) {
+        (Ok(one), Ok(other)) => member_of(*one) == member_of(*other),
+        (Err(one), Err(other)) => Fault::of(one) == Fault::of(other),
+        (_, _) => false,
+    }
+}
+
+fn sort_of_search(found: &Result<Option<Found>, AccessError>) -> &'static str {
+    match found {
+        Ok(Some(_)) => "member found",
+        Ok(None) => "member not found",
+        Err(_error) => "search refused",
+    }
+}
+
+/// Whether a finder gives the same again and again.
+fn is_kept<'t>(
+    finder: &mut MemberFinder<'t>,
+    local: &Btf<'t>,
+    type_id: u32,
+    name: &str,
+    root: u32,
+    plain: &Result<Option<Found>, AccessError>,
+) -> bool {
+    let mut is_kept = true;
+    for _ in 0..AGAIN {
+        let found = finder.find(local, type_id, name, root, Some(8));
+        is_kept = is_kept && are_alike(&found, plain);
+    }
+    is_kept
+}
+
 /// Compares which member is found with what the definition says.
 fn compare_members<'t>(
     local: &Btf<'t>,
     type_id: u32,
     name: &str,
-    kernel: &Btf<'t>,
+    finder: &mut MemberFinder<'t>,
     root: u32,
     tally: &mut Tally,
 ) -> Result<(), AllocError> {
+    let kernel = finder.target();
     let found = find_member(local, type_id, name, kernel, root, Some(8));
     let plain = plain_member(local, type_id, name, kernel, root, Some(8));
-    match (found, plain) {
-        (Ok(Some(one)), Ok(other)) => tally.count(
-            "member found",
-            member_of(Some(one)) == member_of(other),
-        ),
-        (Ok(None), Ok(other)) => tally.count("member not found", other.is_none()),
-        (Err(one), Err(other)) => tally.count(
-            "search refused",
-            Fault::of(&one) == Fault::of(&other),
-        ),
-        (_, _) => tally.count("search refused", false),
-    }
+    tally.count(sort_of_search(&found), are_alike(&found, &plain))?;
+    let is_kept = is_kept(finder, local, type_id, name, root, &plain);
+    tally.count("search again and again", is_kept)
 }
 
 /// Kinds of type relocations.
@@ -220,9 +253,10 @@ fn search_random<'t>(
     dice: &mut Dice,
     texts: &Texts,
     local: &Btf<'t>,
-    kernel: &Btf<'t>,
+    finder: &mut MemberFinder<'t>,
     tally: &mut Tally,
 ) -> Result<(), AllocError> {
+    let kernel = finder.target();
     let root = random_type(dice, kernel, Subject::Field);
     let type_id = random_type(dice, local, Subject::Type);
     let mut name_offset = dice.any_of(texts.names.as_slice());
@@ -232,7 +266,7 @@ fn search_random<'t>(
         name_offset = member.map_or(name_offset, |member| member.name_offset);
     }
     let name = kernel.string_at(name_offset).unwrap_or("a");
-    compare_members(local, type_id, name, kernel, root, tally)
+    compare_members(local, type_id, name, finder, root, tally)
 }
 
 /// Asks for members and for what relocations come to, over the tables of an object and of kernels.
@@ -244,10 +278,11 @@ fn compare_tables<'m>(
     tally: &mut Tally,
 ) -> Result<(), AllocError> {
     let mut relocations = Vec::new(local.allocator());
+    let mut finder = kernel.first().map(MemberFinder::new);
     for _ in 0..ASKED {
         relocations.push(random_relocation(dice, texts, local))?;
-        if let Some(first) = kernel.first() {
-            search_random(dice, texts, local, first, tally)?;
+        if let Some(finder) = &mut finder {
+            search_random(dice, texts, local, finder, tally)?;
         }
     }
     compare_outcomes(local, relocations.as_slice(), kernel, tally)
