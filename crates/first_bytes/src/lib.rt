@@ -1,8 +1,8 @@
-//! Strings of which each byte begins a text, the first bytes of texts, and sets of bytes.
+//! Strings of which each byte begins a text, and sets of bytes.
 #![tactic(auto)]
 
 mod marked_bytes;
 mod texts;
 
 pub use marked_bytes::MarkedBytes;
-pub use texts::{are_texts, first_byte};
+pub use texts::are_texts;

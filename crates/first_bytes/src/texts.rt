@@ -1,7 +1,7 @@
-//! Texts and their first bytes.
+//! Strings of which each byte begins a text.
 
 ghost use Rattle.std.specs.Prelude.{◌≡◌, true};
-ghost use Rattle.first_bytes.specs.FirstBytes.{AreTexts, first_byte};
+ghost use Rattle.first_bytes.specs.FirstBytes.{AreTexts};
 
 /// Whether each byte of these strings is known to begin a text: they are ASCII, and end in a NUL.
 #[tactic(auto, using(crate::proofs::Beginnings::all_texts))]
@@ -11,15 +11,5 @@ pub fn are_texts(strings: &[u8]) -> bool
     match strings.last() {
         Some(0) => strings.is_ascii(),
         _ => false,
-    }
-}
-
-/// The first byte of a text that a NUL ends.
-pub fn first_byte(text: &str) -> u8
-    ensures { result ≡ first_byte text.now }
-{
-    match text.as_bytes() {
-        [first, ..] => *first,
-        [] => 0,
     }
 }
