@@ -42,10 +42,10 @@ impl<'a> Object<'a> {
     ///
     /// Those of [`Object::relocate_btf`]; the object is as before then.
     #[tactic(auto, using(crate::proofs::Linked::functions_stay_changed, crate::proofs::NoTypeRelocations::none_written, crate::proofs::NoTypeRelocations::none_refused))]
-    pub fn relocate_btf_among<'c>(
+    pub fn relocate_btf_among<'c, 'l>(
         &mut self,
         kernel_types: &[Btf<'_>],
-        candidates: Option<&'c Candidates<'c, 'c>>,
+        candidates: Option<&'c Candidates<'c, 'l>>,
     ) -> Result<(), BtfRelocationError>
         requires few { length kernel_types.now ≤ 2 ^ 32 }
         requires candidates { IfSome (option_copied candidates) (λ c. c ≡ kernel_types.now) }

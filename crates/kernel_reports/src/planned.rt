@@ -32,7 +32,7 @@ pub fn plan_answer(
     alloc: Global,
     object: &[u8],
     kernel_types: &[Btf<'_>],
-    gathered: Gathered<'_, '_, '_>,
+    gathered: Gathered<'_, '_, '_, '_>,
     symbols: &[u8],
     settings: &Settings,
 ) -> Result<PlanAnswer, AllocError>

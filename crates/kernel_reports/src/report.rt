@@ -7,8 +7,8 @@ ghost use Rattle.kernel_reports.specs.Reports.{IsReport};
 use crate::planned::{PlanAnswer, plan_answer};
 use ebpf_object::Object;
 use extern_reports::{Presence, presences_of};
-use load_plan::{Btf, Gathered, KernelExterns, Settings};
-use relocation_reports::{RelocationAnswer, RelocationAt, relocation_answers};
+use load_plan::{Btf, Candidates, Gathered, KernelExterns, Settings};
+use relocation_reports::{RelocationAnswer, RelocationAt, candidates_of, relocation_answers};
 use std::alloc::{AllocError, Global};
 
 /// An object of which it is reported.
@@ -38,14 +38,17 @@ pub struct KernelReport {
     pub externs: Vec<Presence>,
 }
 
-/// What becomes of an object on a kernel, with what its first table has of the names of externs.
-fn report_among<'g, 'n>(
+/// What becomes of an object on a kernel, with the candidates for its type relocations and what the
+/// first table has of the names of its externs.
+fn report_among<'c, 'l, 'e, 'n>(
     alloc: Global,
     reported: &Reported<'_, '_>,
     kernel_types: &[Btf<'_>],
-    externs: Option<&'g KernelExterns<'g, 'n>>,
+    candidates: Option<&'c Candidates<'c, 'l>>,
+    externs: Option<&'e KernelExterns<'e, 'n>>,
 ) -> Result<KernelReport, AllocError>
     requires tables { length kernel_types.now ≤ 2 ^ 32 }
+    requires candidates { IfSome (option_copied candidates) (λ c. c ≡ kernel_types.now) }
     requires externs { IfSome (option_copied externs) (λ k. slice_get kernel_types.now 0 ≡ Some k) }
     ensures { IfOk result
         (IsReport reported.now.file.now reported.now.object.now reported.now.relocations.now
@@ -54,7 +57,7 @@ fn report_among<'g, 'n>(
 {
     let object = reported.object;
     let gathered = Gathered {
-        candidates: None,
+        candidates,
         externs,
     };
     let plan = plan_answer(
@@ -65,7 +68,13 @@ fn report_among<'g, 'n>(
         reported.symbols,
         reported.settings,
     )?;
-    let relocations = relocation_answers(alloc, object.btf(), kernel_types, reported.relocations)?;
+    let relocations = relocation_answers(
+        alloc,
+        object.btf(),
+        kernel_types,
+        candidates,
+        reported.relocations,
+    )?;
     let externs = presences_of(
         alloc,
         object.externs(),
@@ -83,8 +92,8 @@ fn report_among<'g, 'n>(
 }
 
 /// What becomes of an object on a kernel of these types, in no more than 2^32 tables: whether it
-/// gets a plan, and what each relocation and each extern comes to by itself. What the first table
-/// has of the names of externs is gathered once.
+/// gets a plan, and what each relocation and each extern comes to by itself. Each table is gone over
+/// once for the plan and for the answers together.
 pub fn report_on(
     alloc: Global,
     reported: &Reported<'_, '_>,
@@ -97,11 +106,18 @@ pub fn report_on(
         reported.now.settings.now) }
 {
     let object = reported.object;
+    let candidates = candidates_of(alloc, object.btf(), kernel_types, reported.relocations)?;
     let externs = match (object.btf(), kernel_types.first()) {
         (Some(table), Some(kernel)) => {
             Some(KernelExterns::collect(alloc, object.externs(), table, kernel)?)
         }
         _ => None,
     };
-    report_among(alloc, reported, kernel_types, externs.as_ref())
+    report_among(
+        alloc,
+        reported,
+        kernel_types,
+        candidates.as_ref(),
+        externs.as_ref(),
+    )
 }

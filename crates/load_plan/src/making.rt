@@ -80,7 +80,7 @@ fn require_kernel_types(kernel_types: &[Btf<'_>], object: &Object<'_>) -> Result
 /// Resolves an object's externs by a kernel's types and symbols.
 fn resolve<R: BufRead>(
     kernel_types: &[Btf<'_>],
-    gathered: Gathered<'_, '_, '_>,
+    gathered: Gathered<'_, '_, '_, '_>,
     symbols: &mut Watched<R>,
     object: &mut Object<'_>,
 ) -> Result<(), PrepareError>
@@ -103,7 +103,7 @@ fn resolve<R: BufRead>(
 /// Writes what an object's type relocations come to into its slots.
 fn relocate_types(
     kernel_types: &[Btf<'_>],
-    gathered: Gathered<'_, '_, '_>,
+    gathered: Gathered<'_, '_, '_, '_>,
     object: &mut Object<'_>,
 ) -> Result<(), PrepareError>
     requires few { length kernel_types.now ≤ 2 ^ 32 }
@@ -194,7 +194,7 @@ fn link(object: &mut Object<'_>, text_sections: &BTreeSet<usize>) -> Result<(), 
 /// answered about the kernel's features.
 fn make_types<F: FnMut(BtfFeature) -> bool>(
     kernel_types: &[Btf<'_>],
-    gathered: Gathered<'_, '_, '_>,
+    gathered: Gathered<'_, '_, '_, '_>,
     order: Order,
     object: &mut Object<'_>,
     predicate: F,
@@ -226,7 +226,7 @@ fn make_types<F: FnMut(BtfFeature) -> bool>(
 pub(crate) fn make<R: BufRead, F: FnMut(BtfFeature) -> bool, P: FnOnce() -> bool>(
     alloc: Global,
     kernel_types: &[Btf<'_>],
-    gathered: Gathered<'_, '_, '_>,
+    gathered: Gathered<'_, '_, '_, '_>,
     symbols: &mut Watched<R>,
     settings: &Settings,
     order: Order,

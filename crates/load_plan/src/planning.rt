@@ -39,7 +39,7 @@ fn parse<'a>(alloc: Global, file: &'a [u8]) -> Result<Object<'a>, PrepareError>
 fn plan_object<'a, R: BufRead, F: FnMut(BtfFeature) -> bool, P: FnOnce() -> bool>(
     alloc: Global,
     kernel_types: &[Btf<'_>],
-    gathered: Gathered<'_, '_, '_>,
+    gathered: Gathered<'_, '_, '_, '_>,
     symbols: &mut Watched<R>,
     settings: &Settings,
     order: Order,
@@ -161,7 +161,7 @@ pub fn prepare_among<'a, R: BufRead, F: FnMut(BtfFeature) -> bool, P: FnOnce() -
     alloc: Global,
     object: &'a [u8],
     kernel_types: &[Btf<'_>],
-    gathered: Gathered<'_, '_, '_>,
+    gathered: Gathered<'_, '_, '_, '_>,
     symbols: &mut Watched<R>,
     settings: &Settings,
     order: Order,

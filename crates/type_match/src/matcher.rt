@@ -27,13 +27,13 @@ use type_candidates::{CandidateError, Candidates, KernelType, WantedType, candid
 
 /// An object's own types, and a kernel's, with the candidates of relocations.
 #[derive(Debug, Drop)]
-pub struct TypeMatcher<'m, 'c> {
+pub struct TypeMatcher<'m, 'c, 'l> {
     local: &'m Btf<'m>,
     targets: &'m [Btf<'m>],
     /// The candidates, where they were collected.
     collected: Option<Candidates<'m, 'm>>,
     /// Those that were collected before, and serve others too.
-    shared: Option<&'c Candidates<'c, 'c>>,
+    shared: Option<&'c Candidates<'c, 'l>>,
     /// What relocations came to.
     known: BTreeMap<AccessKey, KnownOutcome>,
     /// The paths that were found for relocations about fields and variants, by type and access
@@ -42,7 +42,7 @@ pub struct TypeMatcher<'m, 'c> {
     finders: TableFinders<'m>,
 }
 
-impl<'m, 'c> Model for TypeMatcher<'m, 'c> {
+impl<'m, 'c, 'l> Model for TypeMatcher<'m, 'c, 'l> {
     ghost use Rattle.std.specs.Prelude.{◌≡◌, IfSome};
     ghost use Rattle.std.specs.Map.{values_of};
     ghost use Rattle.type_match.specs.FoundPaths.{AreKnown};
@@ -121,10 +121,10 @@ fn candidates_for(
     }
 }
 
-impl<'m, 'c> TypeMatcher<'m, 'c> {
+impl<'m, 'c, 'l> TypeMatcher<'m, 'c, 'l> {
     /// The types of an object and of a kernel. Each relocation goes over the kernel's tables.
     #[tactic(auto, using(crate::proofs::KnownOutcomes::none_known, crate::proofs::FoundPaths::no_paths_known))]
-    pub fn new(local: &'m Btf<'m>, targets: &'m [Btf<'m>]) -> TypeMatcher<'m, 'c>
+    pub fn new(local: &'m Btf<'m>, targets: &'m [Btf<'m>]) -> TypeMatcher<'m, 'c, 'l>
         ensures { result ≡ record { local = local.now; targets = targets.now } }
     {
         TypeMatcher {
@@ -145,7 +145,7 @@ impl<'m, 'c> TypeMatcher<'m, 'c> {
         local: &'m Btf<'m>,
         relocations: &[TypeRelocation],
         targets: &'m [Btf<'m>],
-    ) -> Result<TypeMatcher<'m, 'c>, AllocError>
+    ) -> Result<TypeMatcher<'m, 'c, 'l>, AllocError>
         ensures { IfOk result (λ matcher.
             matcher ≡ record { local = local.now; targets = targets.now }) }
     {
@@ -166,9 +166,9 @@ impl<'m, 'c> TypeMatcher<'m, 'c> {
     #[tactic(auto, using(crate::proofs::KnownOutcomes::none_known, crate::proofs::FoundPaths::no_paths_known))]
     pub fn among(
         local: &'m Btf<'m>,
-        candidates: &'c Candidates<'c, 'c>,
+        candidates: &'c Candidates<'c, 'l>,
         targets: &'m [Btf<'m>],
-    ) -> TypeMatcher<'m, 'c>
+    ) -> TypeMatcher<'m, 'c, 'l>
         requires { candidates.now ≡ targets.now }
         ensures { result ≡ record { local = local.now; targets = targets.now } }
     {

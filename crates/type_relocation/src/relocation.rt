@@ -43,7 +43,7 @@ fn placement_by(
     functions: &Functions<'_>,
     local: &Btf<'_>,
     targets: &[Btf<'_>],
-    matcher: &mut TypeMatcher<'_, '_>,
+    matcher: &mut TypeMatcher<'_, '_, '_>,
     groups: &[RelocationGroup],
 ) -> Result<Placement, AllocError>
     requires few { length targets.now ≤ 2 ^ 32 }
@@ -84,13 +84,13 @@ fn placement_by(
 
 /// Places the relocations of groups, which are looked up among these candidates, where some are
 /// given, else among those that a walk over each table finds.
-fn placement_of<'c>(
+fn placement_of<'c, 'l>(
     alloc: Global,
     file: &ObjectFile<'_>,
     functions: &Functions<'_>,
     local: &Btf<'_>,
     targets: &[Btf<'_>],
-    candidates: Option<&'c Candidates<'c, 'c>>,
+    candidates: Option<&'c Candidates<'c, 'l>>,
     groups: &[RelocationGroup],
 ) -> Result<Placement, AllocError>
     requires few { length targets.now ≤ 2 ^ 32 }
@@ -252,13 +252,13 @@ fn first_error(
 /// and an instruction of another class; `InvalidInstructionIndex` for a load of 64 bits without a
 /// second slot; and `OutOfMemory`. Of several faults the first by group and relocation is answered.
 /// The functions then stay as they are.
-pub fn relocate_types<'c, 'f>(
+pub fn relocate_types<'c, 'l, 'f>(
     alloc: Global,
     file: &ObjectFile<'_>,
     extension: &BtfExt<'_>,
     local: &Btf<'_>,
     targets: &[Btf<'_>],
-    candidates: Option<&'c Candidates<'c, 'c>>,
+    candidates: Option<&'c Candidates<'c, 'l>>,
     functions: &mut Functions<'f>,
 ) -> Result<(), BtfRelocationError>
     requires few { length targets.now ≤ 2 ^ 32 }
