@@ -1,20 +1,26 @@
-"""Proves the crates that a program stands on, side by side, and builds the program.
+"""Proves the crates that a program stands on, and builds the program.
 
-A crate's turn is its proof and then its library, for the crates above. The next turn is of the crate under the longest
-chain of crates to come, and it gets a share of the processors that are free.
+The toolchain's gate does both, over a copy that has these crates alone and none of the edits which a prover must refuse.
+It proves crates side by side, and keeps what it proved on this machine, so that builds and gates to come prove only what
+changed. Its other commands hold all crates below the one that they prove, so that they would wait for each other.
 """
 
-import contextlib
 import fcntl
 import os
+import re
+import shutil
 import subprocess
 import sys
 import time
 
 from toolkit import processes, repository
 
-TURN = 'rt check --jobs "$1" && if [ -e src/lib.rt ]; then rt lib; fi'
-MOST_JOBS = 4
+# What isn't copied of a crate: what was made from it, and the edits.
+LEFT_OUT = shutil.ignore_patterns("out", "must-fail")
+# What the gate says of a crate: where its lines begin, and what it came to.
+BEGINS = re.compile(r"== (\w+)")
+ENDS = re.compile(r"rt: (\w+) (proved|is kept|NOT PROVED)\b")
+SHOWN = 40
 
 
 def say(name, text):
@@ -26,117 +32,93 @@ def work_of(crate):
     return 20_000 + sum(os.path.getsize(path) for path in repository.source_files(crate))
 
 
-class Turns:
-    """Which crates were proved, which are being proved, and which come next."""
+def copy_crates(needed, top):
+    """Copies some crates into a folder, as a repository of its own."""
+    os.mkdir(top)
+    shutil.copy2(os.path.join(repository.TOP, "HANDLES"), top)
+    lines = repository.crate_lines()
+    with open(os.path.join(top, "crates.txt"), "w", encoding="utf-8") as file:
+        file.writelines(lines[crate] + "\n" for crate in sorted(needed))
+    for crate in needed:
+        shutil.copytree(repository.crate_folder(crate), os.path.join(top, "crates", crate), ignore=LEFT_OUT)
 
-    def __init__(self, name, folder):
+
+class Progress:
+    """What a build has come to, by the lines of the gate."""
+
+    def __init__(self, name, needed):
         self.name = name
-        self.folder = folder
-        self.below = repository.needed_crates(name)
-        self.work = {crate: work_of(crate) for crate in self.below}
-        self.chain = {}
-        self.proved = set()
-        self.running = {}
-        self.processors = len(os.sched_getaffinity(0))
+        self.work = {crate: work_of(crate) for crate in needed}
+        self.count = len(needed)
         self.began = time.monotonic()
+        self.done = 0
+        self.lines = []
 
-    def chain_of(self, crate):
-        """The work of the longest chain of crates from this one up to the program."""
-        if crate not in self.chain:
-            above = [other for other, names in self.below.items() if crate in names]
-            self.chain[crate] = self.work[crate] + max(map(self.chain_of, above), default=0)
-        return self.chain[crate]
-
-    def ready(self):
-        """The crates that can be proved now, the one under the longest chain first."""
-        open_crates = self.below.keys() - self.proved - self.running.keys()
-        ready = [crate for crate in open_crates if self.proved.issuperset(self.below[crate])]
-        return sorted(ready, key=lambda crate: (-self.chain_of(crate), crate))
-
-    def begin(self, crate, jobs):
-        with open(os.path.join(self.folder, crate), "wb") as log:
-            words = ["sh", "-c", TURN, "", str(jobs)]
-            where = repository.crate_folder(crate)
-            process = processes.begin(words, cwd=where, stdout=log, stderr=subprocess.STDOUT)
-        self.running[crate] = (process, jobs)
-
-    def begin_ready(self):
-        """Begins as many turns as there are processors for."""
-        ready = self.ready()
-        while ready:
-            free = self.processors - sum(jobs for _process, jobs in self.running.values())
-            if free <= 0:
-                return
-            self.begin(ready[0], max(1, min(MOST_JOBS, free // len(ready))))
-            ready = ready[1:]
-
-    def ended(self):
-        """The crates whose turn has ended, once there is one."""
-        while True:
-            found = [crate for crate, (process, _jobs) in self.running.items() if process.poll() is not None]
-            if found:
-                return found
-            time.sleep(0.2)
-
-    def note(self, crate):
-        """Notes that a crate's turn has ended; says whether it is proved."""
-        process, _jobs = self.running.pop(crate)
-        processes.forget(process)
-        if process.returncode != 0:
-            show_log(self.name, os.path.join(self.folder, crate))
-            say(self.name, f"the crate {crate} could not be proved")
-            return False
-        self.proved.add(crate)
-        say(self.name, f"{len(self.proved)} of {len(self.below)} crates are proved{self.time_left()}")
-        return True
+    def note(self, line):
+        """Notes a line; tells what became of a crate."""
+        if BEGINS.match(line):
+            self.lines = []
+        self.lines.append(line)
+        ended = ENDS.match(line)
+        if not ended or ended[1] not in self.work:
+            return
+        work = self.work.pop(ended[1])
+        if ended[2] == "NOT PROVED":
+            self.show_lines()
+            say(self.name, f"the crate {ended[1]} could not be proved")
+            return
+        if ended[2] == "proved":
+            self.done += work
+        say(self.name, f"{self.count - len(self.work)} of {self.count} crates are proved{self.time_left()}")
 
     def time_left(self):
-        done = sum(self.work[crate] for crate in self.proved)
-        left = sum(self.work.values()) - done
-        if left == 0:
+        """About how long it will take, once a crate was proved in this build."""
+        left = sum(self.work.values())
+        if left == 0 or self.done == 0:
             return ""
-        minutes = (time.monotonic() - self.began) * left / done / 60
-        minutes = max(1, round(minutes))
+        minutes = max(1, round((time.monotonic() - self.began) * left / self.done / 60))
         return f", about {minutes} minute{'s' if minutes > 1 else ''} left"
 
-    def run(self):
-        """Proves all crates; says whether they are proved."""
-        while len(self.proved) < len(self.below):
-            self.begin_ready()
-            if not all([self.note(crate) for crate in self.ended()]):
-                processes.end_all()
-                return False
-        return True
+    def show_lines(self):
+        for line in self.lines[-SHOWN:]:
+            say(self.name, line)
 
 
-def show_log(name, path):
-    with open(path, encoding="utf-8", errors="replace") as log:
-        for line in log.readlines()[-40:]:
-            say(name, line.rstrip("\n"))
+def pass_gate(name, needed, top):
+    """Runs the gate over the copied crates; says whether they pass."""
+    progress = Progress(name, needed)
+    how = {"stdout": subprocess.PIPE, "stderr": subprocess.STDOUT, "encoding": "utf-8", "errors": "replace"}
+    process = processes.begin(["rt", "ci"], cwd=top, **how)
+    for line in process.stdout:
+        progress.note(line.rstrip("\n"))
+    process.wait()
+    processes.forget(process)
+    if process.returncode != 0:
+        progress.show_lines()
+    return process.returncode == 0
 
 
-def build_program(name, folder):
-    """Builds the proved program: a run without words says how it is called, and leaves it behind."""
-    log = os.path.join(folder, "run")
+def take_program(name, top):
+    """Puts the built program in its place; says whether there is one."""
+    built = os.path.join(top, "crates", name, "out", name)
+    if not os.access(built, os.X_OK):
+        say(name, "the program could not be built")
+        return False
     program = repository.program_file(name)
-    with contextlib.suppress(FileNotFoundError):
-        os.remove(program)
-    with open(log, "wb") as file:
-        where = repository.crate_folder(name)
-        processes.finish(processes.begin(["rt", "run"], cwd=where, stdout=file, stderr=subprocess.STDOUT))
-    if os.access(program, os.X_OK):
-        return True
-    show_log(name, log)
-    say(name, "the program could not be built")
-    return False
+    os.makedirs(os.path.dirname(program), exist_ok=True)
+    shutil.copy2(built, program + ".new")
+    os.replace(program + ".new", program)
+    return True
 
 
 def prove_and_build(name):
     sources = repository.sources_checksum(name)
+    needed = repository.needed_crates(name)
+    say(name, f"{len(needed)} crates are proved, the program last")
     with processes.folder() as folder:
-        turns = Turns(name, folder)
-        say(name, f"{len(turns.below)} crates are proved on {turns.processors} processors, then the program is built")
-        if not turns.run() or not build_program(name, folder):
+        top = os.path.join(folder, name)
+        copy_crates(needed, top)
+        if not pass_gate(name, needed, top) or not take_program(name, top):
             return 1
     if repository.sources_checksum(name) != sources:
         say(name, "sources changed meanwhile; build it again")

@@ -6,6 +6,8 @@
 //!   cut off or changed in one byte, and of an object for kernel types that are;
 //! - `changed-texts PLAN`, `changed-lines PLAN`: the text of a plan that is cut off or changed in one
 //!   byte, and for each byte the lines at which it is refused with each other value of it;
+//! - `library-example OBJECT [KERNEL_TYPES]`: what an object holds, and its plan, by the example of
+//!   the library's use;
 //! - `linkers OBJECT..`: linked programs beside those of the plain linker;
 //! - `matchings COUNT [counts]`: type relocations over random tables of types, beside the plain
 //!   definitions;
@@ -25,19 +27,24 @@ mod rewritten_tables;
 mod thousand_structs;
 
 use changed_plans::{ChangesError, print_changed_lines, print_changed_plans, print_changed_texts};
+use library_example::{ExampleError, print_object_and_plan};
 use measures::{ExerciseError, measure_matching, measure_object, measure_symbols, measure_types};
 use std::env;
 use std::env::Args;
+use std::fmt::Display;
 use std::process::ExitCode;
+
+/// Prints why an exercise ends early, and gives its status.
+fn failed<E: Display>(rt: &HostRuntime, error: &E, status: u8) -> ExitCode {
+    let _ = eprintln!(rt; "exercises: {error}");
+    ExitCode::from(status)
+}
 
 /// The status of an exercise that prints what it finds; its error is printed.
 fn status_of(rt: &HostRuntime, answer: Result<(), ExerciseError>) -> ExitCode {
     match answer {
         Ok(()) => ExitCode::SUCCESS,
-        Err(error) => {
-            let _ = eprintln!(rt; "exercises: {error}");
-            ExitCode::from(error.status())
-        }
+        Err(error) => failed(rt, &error, error.status()),
     }
 }
 
@@ -45,10 +52,15 @@ fn status_of(rt: &HostRuntime, answer: Result<(), ExerciseError>) -> ExitCode {
 fn status_of_changes(rt: &HostRuntime, answer: Result<(), ChangesError>) -> ExitCode {
     match answer {
         Ok(()) => ExitCode::SUCCESS,
-        Err(error) => {
-            let _ = eprintln!(rt; "exercises: {error}");
-            ExitCode::from(error.status())
-        }
+        Err(error) => failed(rt, &error, error.status()),
+    }
+}
+
+/// The status of the example of the library's use; its error is printed.
+fn status_of_example(rt: &HostRuntime, answer: Result<(), ExampleError>) -> ExitCode {
+    match answer {
+        Ok(()) => ExitCode::SUCCESS,
+        Err(error) => failed(rt, &error, 1),
     }
 }
 
@@ -60,6 +72,7 @@ fn run(rt: &HostRuntime, exercise: &str, words: &mut Args) -> ExitCode {
         "changed-plans" => status_of_changes(rt, print_changed_plans(rt, words)),
         "changed-texts" => status_of_changes(rt, print_changed_texts(rt, words)),
         "changed-lines" => status_of_changes(rt, print_changed_lines(rt, words)),
+        "library-example" => status_of_example(rt, print_object_and_plan(rt, words)),
         "linkers" => status_of(rt, linked_objects::run(rt, words)),
         "matchings" => status_of(rt, matchings::run(rt, words)),
         "refused-objects" => status_of(rt, relocated_objects::run(rt, words)),

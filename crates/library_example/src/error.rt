@@ -1,4 +1,4 @@
-//! Why the program ends early.
+//! Why the example ends early.
 
 use btf::BtfError;
 use ebpf_object::{EbpfRelocationError, ParseError};
@@ -8,9 +8,10 @@ use std::alloc::{AllocError, AllocFailed};
 use std::io;
 use thiserror::Error;
 
+/// Why the example ends early.
 #[derive(Debug, Drop, Error)]
-pub(crate) enum ExampleError {
-    #[error("usage: library_example OBJECT [KERNEL_TYPES]")]
+pub enum ExampleError {
+    #[error("usage: exercises library-example OBJECT [KERNEL_TYPES]")]
     Usage,
     #[error("{0}")]
     Io(#[from] io::Error),

@@ -1,7 +1,6 @@
 //! What a program does with the library, by its four names alone: `elf64` for the file,
 //! `ebpf_object` for what it holds, `btf` for types, and `load_plan` for what a kernel gets of it.
-//!
-//! `library_example OBJECT [KERNEL_TYPES]`
+//! The program of exercises prints it.
 #![tactic(auto)]
 
 ghost use Rattle.std.specs.Prelude.{◌≤◌, ◌^◌, length, IfOk};
@@ -14,13 +13,12 @@ mod relocating;
 use btf::{Btf, Endianness};
 use ebpf_object::Object;
 use elf64::ElfFile;
-use error::ExampleError;
+pub use error::ExampleError;
 use listing::{print_file, print_maps, print_programs, print_types};
 use planning::print_plan;
 use relocating::print_relocated;
 use std::env::Args;
-use std::process::ExitCode;
-use std::{env, fs};
+use std::fs;
 
 /// The file that a word names, if there is one more.
 fn next_file(rt: &HostRuntime, words: &mut Args) -> Result<Option<Vec<u8>>, ExampleError> {
@@ -103,27 +101,13 @@ fn print_file_and_object(
     print_all(rt, bytes, types)
 }
 
-/// Prints what the words after the program's name ask for.
-fn run_words(rt: &HostRuntime, words: &mut Args) -> Result<(), ExampleError> {
+/// Prints how much an object's file holds, its maps and programs, how long these are once they are
+/// linked, and the plan for a kernel. The words name the object's file and, where the kernel has
+/// types, their file.
+pub fn print_object_and_plan(rt: &HostRuntime, words: &mut Args) -> Result<(), ExampleError> {
     let Some(bytes) = next_file(rt, words)? else {
         return Err(ExampleError::Usage);
     };
     let types = next_file(rt, words)?;
     print_file_and_object(rt, &bytes, types.as_deref())
-}
-
-fn run(rt: &HostRuntime) -> Result<(), ExampleError> {
-    let mut words = env::args(rt)?;
-    let _program = words.next();
-    run_words(rt, &mut words)
-}
-
-fn main(rt: HostRuntime) -> ExitCode {
-    match run(&rt) {
-        Ok(()) => ExitCode::SUCCESS,
-        Err(error) => {
-            let _ = eprintln!(rt; "library_example: {error}");
-            ExitCode::from(1)
-        }
-    }
 }
