@@ -7,7 +7,7 @@ use Rattle.std.specs.List.{starts_with}
 use Rattle.std.specs.Option.{IsSomeAnd}
 use Rattle.btf_tables.specs.EssentialNames.{essential_name}
 use Rattle.first_bytes.specs.FirstBytes.{first_byte, is_marked}
-use Rattle.type_headers.specs.Beginnings.{HasName, MarksName, MarksShort, MayBegin, beginning, beginning_of, long_beginning, next_number, number_after}
+use Rattle.type_headers.specs.Beginnings.{BeginsAsOne, HasName, MarksName, MarksTwoBytes, MayBegin, beginning, beginning_of, long_beginning, next_number, number_after}
 
 equal : (a b : ℕ) → nat_eq a b ≡ true → a ≡ b
 equal a b is = grind (arith, nat_tests, is)
@@ -83,7 +83,7 @@ two_named name text a b bs is (inr e) =
     let second = first_of (drop 1 text) b bs (rest_of text a (b ∷ bs) (e ∙ is)) in
     rw (first, second) refl
 
-pub two_bytes : (name : List ℕ) (marks new : List Bool) (a b : ℕ) (bs : List ℕ) → name ≡ a ∷ b ∷ bs → ((other : ℕ) → is_marked new other ≡ (other == beginning_of a b || is_marked marks other)) → MarksShort name marks new
+pub two_bytes : (name : List ℕ) (marks new : List Bool) (a b : ℕ) (bs : List ℕ) → name ≡ a ∷ b ∷ bs → ((other : ℕ) → is_marked new other ≡ (other == beginning_of a b || is_marked marks other)) → MarksTwoBytes name marks new
 two_bytes name marks new a b bs is put = record {
   named = λ text has. here marks new (beginning_of a b) (beginning text) put (two_named name text a b bs is has);
   stay = λ number h. stays marks new (beginning_of a b) number put h;
@@ -100,7 +100,7 @@ one_named name text marks a is ends goes_on (inr e) =
     let first = first_of text a [] (e ∙ is) in
     second_by (λ second. is_marked marks (beginning_of (first_byte text) second) ≡ true) (drop 1 text) (rest_of text a [] (e ∙ is)) (rw first ends) (rw first goes_on)
 
-pub one_byte : (name : List ℕ) (marks between new : List Bool) (a : ℕ) → name ≡ a ∷ [] → ((other : ℕ) → is_marked between other ≡ (other == beginning_of a 0 || is_marked marks other)) → ((other : ℕ) → is_marked new other ≡ (other == beginning_of a 95 || is_marked between other)) → MarksShort name marks new
+pub one_byte : (name : List ℕ) (marks between new : List Bool) (a : ℕ) → name ≡ a ∷ [] → ((other : ℕ) → is_marked between other ≡ (other == beginning_of a 0 || is_marked marks other)) → ((other : ℕ) → is_marked new other ≡ (other == beginning_of a 95 || is_marked between other)) → MarksTwoBytes name marks new
 one_byte name marks between new a is nul flavour =
     let ends : is_marked new (beginning_of a 0) ≡ true = stays between new (beginning_of a 95) (beginning_of a 0) flavour (here marks between (beginning_of a 0) (beginning_of a 0) nul refl) in
     let goes_on : is_marked new (beginning_of a 95) ≡ true = here between new (beginning_of a 95) (beginning_of a 95) flavour refl in
@@ -113,7 +113,7 @@ none_named : (name text : List ℕ) (marks : List Bool) → name ≡ [] → is_m
 none_named name text marks is empty flavour (inl same) = ap (λ (t : List ℕ). is_marked marks (beginning t)) (same ∙ is) ∙ empty
 none_named name text marks is empty flavour (inr e) = unnamed marks text empty flavour (e ∙ is)
 
-pub no_byte : (name : List ℕ) (marks between new : List Bool) → name ≡ [] → ((other : ℕ) → is_marked between other ≡ (other == beginning_of 0 0 || is_marked marks other)) → ((other : ℕ) → is_marked new other ≡ (other == beginning_of 95 95 || is_marked between other)) → MarksShort name marks new
+pub no_byte : (name : List ℕ) (marks between new : List Bool) → name ≡ [] → ((other : ℕ) → is_marked between other ≡ (other == beginning_of 0 0 || is_marked marks other)) → ((other : ℕ) → is_marked new other ≡ (other == beginning_of 95 95 || is_marked between other)) → MarksTwoBytes name marks new
 no_byte name marks between new is empty flavour =
     let first : is_marked new (beginning_of 0 0) ≡ true = stays between new (beginning_of 95 95) (beginning_of 0 0) flavour (here marks between (beginning_of 0 0) (beginning_of 0 0) empty refl) in
     let second : is_marked new (beginning_of 95 95) ≡ true = here between new (beginning_of 95 95) (beginning_of 95 95) flavour refl in
@@ -148,27 +148,28 @@ stays_at : (old new : List Bool) (found : Option ℕ) → ((n : ℕ) → is_mark
 stays_at old new None grows has = has
 stays_at old new (Some n) grows has = grows n has
 
-long_on : (short old new : List Bool) (has_short : Bool) (text : List ℕ) → ((n : ℕ) → is_marked old n ≡ true → is_marked new n ≡ true) → MayBegin (record { short = short; long = old; has_short = has_short }) text → MayBegin (record { short = short; long = new; has_short = has_short }) text
-long_on short old new has_short text grows (inl is) = inl is
-long_on short old new has_short text grows (inr has) = inr (stays_at old new (long_beginning text) grows has)
+long_on : (pairs more short old new : List Bool) (has_short : Bool) (text : List ℕ) → ((n : ℕ) → is_marked old n ≡ true → is_marked new n ≡ true) → BeginsAsOne (record { pairs = pairs; short = short; long = old; has_short = has_short }) text → BeginsAsOne (record { pairs = more; short = short; long = new; has_short = has_short }) text
+long_on pairs more short old new has_short text grows (inl is) = inl is
+long_on pairs more short old new has_short text grows (inr has) = inr (stays_at old new (long_beginning text) grows has)
 
-short_on : (old new long : List Bool) (has_short : Bool) (text : List ℕ) → (is_marked old (beginning text) ≡ true → is_marked new (beginning text) ≡ true) → MayBegin (record { short = old; long = long; has_short = has_short }) text → MayBegin (record { short = new; long = long; has_short = true }) text
-short_on old new long has_short text grows (inl is) = inl (refl, grows is.1)
-short_on old new long has_short text grows (inr has) = inr has
+short_on : (pairs more old new long : List Bool) (has_short : Bool) (text : List ℕ) → (is_marked old (beginning text) ≡ true → is_marked new (beginning text) ≡ true) → BeginsAsOne (record { pairs = pairs; short = old; long = long; has_short = has_short }) text → BeginsAsOne (record { pairs = more; short = new; long = long; has_short = true }) text
+short_on pairs more old new long has_short text grows (inl is) = inl (refl, grows is.1)
+short_on pairs more old new long has_short text grows (inr has) = inr has
 
 -- a name of eight bytes or more
-pub marked_long : (name : List ℕ) (short long new_long : List Bool) (has_short : Bool) (number : ℕ) → Some number ≡ long_beginning name → ((other : ℕ) → is_marked new_long other ≡ (other == number || is_marked long other))
-    → MarksName name (record { short = short; long = long; has_short = has_short }) (record { short = short; long = new_long; has_short = has_short })
-marked_long name short long new_long has_short number is put = record {
-  named = λ text has. inr (marked_at new_long number (long_beginning text) (long_named name text number (sym is) has) (here long new_long number number put refl));
-  stay = λ text may. long_on short long new_long has_short text (λ n h. stays long new_long number n put h) may;
+pub marked_long : (name : List ℕ) (pairs more short long new_long : List Bool) (has_short : Bool) (number : ℕ) → MarksTwoBytes name pairs more → Some number ≡ long_beginning name → ((other : ℕ) → is_marked new_long other ≡ (other == number || is_marked long other))
+    → MarksName name (record { pairs = pairs; short = short; long = long; has_short = has_short }) (record { pairs = more; short = short; long = new_long; has_short = has_short })
+marked_long name pairs more short long new_long has_short number paired is put = record {
+  named = λ text has. (paired.named text has, inr (marked_at new_long number (long_beginning text) (long_named name text number (sym is) has) (here long new_long number number put refl)));
+  stay = λ text may. (paired.stay (beginning text) may.0, long_on pairs more short long new_long has_short text (λ n h. stays long new_long number n put h) may.1);
 }
 
 -- a shorter one
-pub marked_short : (name : List ℕ) (short long new_short : List Bool) (has_short : Bool) → MarksShort name short new_short → MarksName name (record { short = short; long = long; has_short = has_short }) (record { short = new_short; long = long; has_short = true })
-marked_short name short long new_short has_short marks = record {
-  named = λ text has. inl (refl, marks.named text has);
-  stay = λ text may. short_on short new_short long has_short text (marks.stay (beginning text)) may;
+pub marked_short : (name : List ℕ) (pairs more short long new_short : List Bool) (has_short : Bool) → MarksTwoBytes name pairs more → MarksTwoBytes name short new_short
+    → MarksName name (record { pairs = pairs; short = short; long = long; has_short = has_short }) (record { pairs = more; short = new_short; long = long; has_short = true })
+marked_short name pairs more short long new_short has_short paired marks = record {
+  named = λ text has. (paired.named text has, inl (refl, marks.named text has));
+  stay = λ text may. (paired.stay (beginning text) may.0, short_on pairs more short new_short long has_short text (marks.stay (beginning text)) may.1);
 }
 
 none_at : (marks : List Bool) (number : Option ℕ) → ((n : ℕ) → is_marked marks n ≡ false) → IsSomeAnd number (λ n. is_marked marks n ≡ true) → ⊥
@@ -176,6 +177,9 @@ none_at marks None none has = has
 none_at marks (Some n) none has = let both : true ≡ false = sym has ∙ none n in absurd cc
 
 -- nothing is marked
-pub none_begins : (short long : List Bool) (text : List ℕ) → ((n : ℕ) → is_marked long n ≡ false) → MayBegin (record { short = short; long = long; has_short = false }) text → ⊥
-none_begins short long text none (inl is) = let both : false ≡ true = is.0 in absurd cc
-none_begins short long text none (inr has) = none_at long (long_beginning text) none has
+none_as : (pairs short long : List Bool) (text : List ℕ) → ((n : ℕ) → is_marked long n ≡ false) → BeginsAsOne (record { pairs = pairs; short = short; long = long; has_short = false }) text → ⊥
+none_as pairs short long text none (inl is) = let both : false ≡ true = is.0 in absurd cc
+none_as pairs short long text none (inr has) = none_at long (long_beginning text) none has
+
+pub none_begins : (pairs short long : List Bool) (text : List ℕ) → ((n : ℕ) → is_marked long n ≡ false) → MayBegin (record { pairs = pairs; short = short; long = long; has_short = false }) text → ⊥
+none_begins pairs short long text none may = none_as pairs short long text none may.1

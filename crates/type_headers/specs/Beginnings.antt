@@ -26,17 +26,24 @@ number_after (suc count) number (b ∷ bs) = number_after count (next_number num
 abbrev pub long_beginning : List ℕ → Option ℕ
 long_beginning bytes = number_after 8 0 bytes
 
--- the numbers of names of eight bytes or more, and of shorter ones, if there are some, by two bytes
+-- the numbers of all names by two bytes, of those of eight bytes or more, and of shorter ones, if
+-- there are some, by two bytes
 pub record BeginningMarks : Type 0 where
+  pub pairs : List Bool
   pub short : List Bool
   pub long : List Bool
   pub has_short : Bool
 
+-- a text of one of the names that have fewer than eight bytes begins so, or of one that has more
+abbrev pub BeginsAsOne : BeginningMarks → List ℕ → Type 0
+BeginsAsOne marks text =
+    ((marks.has_short ≡ true) × (is_marked marks.short (beginning text) ≡ true))
+    ⊎ IsSomeAnd (long_beginning text) (λ number. is_marked marks.long number ≡ true)
+
 -- a text of one of the names begins so
 abbrev pub MayBegin : BeginningMarks → List ℕ → Type 0
 MayBegin marks text =
-    ((marks.has_short ≡ true) × (is_marked marks.short (beginning text) ≡ true))
-    ⊎ IsSomeAnd (long_beginning text) (λ number. is_marked marks.long number ≡ true)
+    (is_marked marks.pairs (beginning text) ≡ true) × BeginsAsOne marks text
 
 -- a text is a name, or that with a flavour
 abbrev pub HasName : List ℕ → List ℕ → Type 0
@@ -48,6 +55,6 @@ pub record MarksName (name : List ℕ) (old new : BeginningMarks) : Type 0 where
   pub stay : (text : List ℕ) → MayBegin old text → MayBegin new text
 
 -- by two bytes
-pub record MarksShort (name : List ℕ) (old new : List Bool) : Type 0 where
+pub record MarksTwoBytes (name : List ℕ) (old new : List Bool) : Type 0 where
   pub named : (text : List ℕ) → HasName name text → is_marked new (beginning text) ≡ true
   pub stay : (number : ℕ) → is_marked old number ≡ true → is_marked new number ≡ true

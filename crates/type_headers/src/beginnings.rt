@@ -3,7 +3,7 @@
 ghost use Rattle.std.specs.Prelude.{◌≡◌, ◌&&◌, ℕ, List, Some, drop, false};
 ghost use Rattle.first_bytes.specs.FirstBytes.{is_marked};
 ghost use Rattle.string_table.specs.Texts.{text_at};
-ghost use Rattle.type_headers.specs.Beginnings.{MarksName, MarksShort, MayBegin, beginning, beginning_of, long_beginning, next_number};
+ghost use Rattle.type_headers.specs.Beginnings.{MarksName, MarksTwoBytes, MayBegin, beginning, beginning_of, long_beginning, next_number};
 
 use first_bytes::MarkedBytes;
 use std::marker::Model;
@@ -57,8 +57,8 @@ fn long_beginning(bytes: &[u8]) -> Option<u8>
 /// Marks how a text of a name can begin: as the name does, a flavour or the NUL following where it
 /// has fewer than two bytes.
 #[tactic(auto, using(crate::proofs::MarkedNames::two_bytes, crate::proofs::MarkedNames::one_byte, crate::proofs::MarkedNames::no_byte))]
-fn mark_short(marks: &mut MarkedBytes, name: &str)
-    ensures { MarksShort name.now marks.old marks.new }
+fn mark_two_bytes(marks: &mut MarkedBytes, name: &str)
+    ensures { MarksTwoBytes name.now marks.old marks.new }
 {
     match name.as_bytes() {
         [first, second, ..] => marks.mark(beginning_of(*first, *second)),
@@ -73,10 +73,12 @@ fn mark_short(marks: &mut MarkedBytes, name: &str)
     }
 }
 
-/// How some names begin, with flavours or without: by a number of their first eight bytes, and of
-/// those that have fewer by one of the first two.
+/// How some names begin, with flavours or without: all by a number of their first two bytes, which
+/// tells most other texts apart, and by one of the first eight, or again of two where they have
+/// fewer.
 #[derive(Debug, Drop)]
 pub struct NameBeginnings {
+    pairs: MarkedBytes,
     short: MarkedBytes,
     long: MarkedBytes,
     /// Whether a name has fewer than eight bytes.
@@ -88,7 +90,8 @@ impl Model for NameBeginnings {
 
     ghost Value = { BeginningMarks };
 
-    ghost view = { λ b. record { short = b.short; long = b.long; has_short = b.has_short } };
+    ghost view = { λ b.
+        record { pairs = b.pairs; short = b.short; long = b.long; has_short = b.has_short } };
 }
 
 impl NameBeginnings {
@@ -98,6 +101,7 @@ impl NameBeginnings {
         ensures { (text : List ℕ) → MayBegin result text → ⊥ }
     {
         NameBeginnings {
+            pairs: MarkedBytes::new(),
             short: MarkedBytes::new(),
             long: MarkedBytes::new(),
             has_short: false,
@@ -109,10 +113,11 @@ impl NameBeginnings {
     pub fn mark(&mut self, name: &str)
         ensures { MarksName name.now self.old self.new }
     {
+        mark_two_bytes(&mut self.pairs, name);
         match long_beginning(name.as_bytes()) {
             Some(number) => self.long.mark(number),
             None => {
-                mark_short(&mut self.short, name);
+                mark_two_bytes(&mut self.short, name);
                 self.has_short = true;
             }
         }
@@ -127,7 +132,7 @@ impl NameBeginnings {
     }
 
     /// Whether these bytes may begin with a text of one of the names.
-    #[tactic(auto, using(crate::proofs::RawTexts::unmarked, crate::proofs::RawTexts::too_short))]
+    #[tactic(auto, using(crate::proofs::RawTexts::unpaired, crate::proofs::RawTexts::unmarked, crate::proofs::RawTexts::too_short))]
     pub(crate) fn may_begin(&self, bytes: &[u8]) -> bool
         ensures { (strings text : List ℕ) (offset : ℕ)
             → bytes.now ≡ drop offset strings
@@ -136,6 +141,9 @@ impl NameBeginnings {
             → MayBegin self.now text
             → ⊥ }
     {
+        if !self.pairs.contains(beginning(bytes)) {
+            return false;
+        }
         if self.may_be_short(bytes) {
             return true;
         }
