@@ -365,10 +365,12 @@ fn compare_round(
 ///
 /// Those of parsing the tables, which are made such that there is none, and `OutOfMemory`.
 pub fn compare_rounds(alloc: Global, rounds: u64) -> Result<Tally, BtfError> {
-    let texts = Texts::new(alloc)?;
+    let ascii = Texts::new(alloc, true)?;
+    let any = Texts::new(alloc, false)?;
     let mut tally = Tally::new(alloc);
     for round in 0..rounds {
-        compare_round(alloc, &texts, round, &mut tally)?;
+        let texts = if round % 8 < 4 { &ascii } else { &any };
+        compare_round(alloc, texts, round, &mut tally)?;
     }
     Ok(tally)
 }

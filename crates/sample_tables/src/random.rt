@@ -47,6 +47,9 @@ const SIZES: [u32; 12] = [4, 4, 4, 8, 8, 1, 2, 3, 16, 0, 32, 0x8000_0000];
 
 const LENGTHS: [u32; 6] = [1, 2, 3, 0, 0, 0x8000_0000];
 
+/// How many of the names most records have one of.
+const USUAL_NAMES: usize = 16;
+
 /// A table that is being made.
 #[derive(Drop)]
 struct Making<'d, 'x> {
@@ -64,7 +67,7 @@ impl<'d, 'x> Making<'d, 'x> {
     fn name(&mut self) -> u32 {
         let names = self.texts.names.as_slice();
         if self.dice.number(100) < 97 {
-            self.dice.one_of(&names[..names.len().min(12)])
+            self.dice.one_of(&names[..names.len().min(USUAL_NAMES)])
         } else {
             self.dice.one_of(names)
         }

@@ -3,8 +3,8 @@
 use std::alloc::{AllocError, Global};
 
 /// Names, some with flavours, some of them more often than others. The first ones are of what has
-/// none.
-const NAMES: [&[u8]; 15] = [
+/// none. Those that aren't ASCII are the last.
+const NAMES: [&[u8]; 19] = [
     b"",
     b"",
     b"a",
@@ -13,6 +13,10 @@ const NAMES: [&[u8]; 15] = [
     b"b",
     b"c",
     b"d",
+    b"abcdefgh",
+    b"abcdefgh",
+    b"abcdefgi",
+    b"abcdefgh___x",
     b"a___x",
     b"b___y",
     b"a___",
@@ -80,11 +84,18 @@ fn add(strings: &mut Vec<u8>, text: &[u8]) -> Result<u32, AllocError> {
     Ok(offset)
 }
 
-/// Adds texts, and answers where they stand.
-fn add_all(alloc: Global, strings: &mut Vec<u8>, texts: &[&[u8]]) -> Result<Vec<u32>, AllocError> {
+/// Adds texts, or those alone that are ASCII, and answers where they stand.
+fn add_all(
+    alloc: Global,
+    strings: &mut Vec<u8>,
+    texts: &[&[u8]],
+    are_ascii: bool,
+) -> Result<Vec<u32>, AllocError> {
     let mut offsets = Vec::new(alloc);
     for text in texts {
-        offsets.push(add(strings, text)?)?;
+        if !are_ascii || text.is_ascii() {
+            offsets.push(add(strings, text)?)?;
+        }
     }
     Ok(offsets)
 }
@@ -103,17 +114,19 @@ fn add_long(alloc: Global, strings: &mut Vec<u8>, names: &mut Vec<u32>) -> Resul
 }
 
 impl Texts {
-    pub fn new(alloc: Global) -> Result<Texts, AllocError> {
+    /// Texts of which some aren't UTF-8, or such as are ASCII alone: look-ups in a table whose strings
+    /// are ASCII read few of its names.
+    pub fn new(alloc: Global, are_ascii: bool) -> Result<Texts, AllocError> {
         let mut strings = Vec::new(alloc);
         strings.push(0)?;
-        let mut names = add_all(alloc, &mut strings, &NAMES)?;
+        let mut names = add_all(alloc, &mut strings, &NAMES, are_ascii)?;
         add_long(alloc, &mut strings, &mut names)?;
         names.push(u32::MAX)?;
         Ok(Texts {
-            whole: add_all(alloc, &mut strings, &WHOLE)?,
-            variants: add_all(alloc, &mut strings, &VARIANTS)?,
-            fields: add_all(alloc, &mut strings, &FIELDS)?,
-            any: add_all(alloc, &mut strings, &ANY)?,
+            whole: add_all(alloc, &mut strings, &WHOLE, are_ascii)?,
+            variants: add_all(alloc, &mut strings, &VARIANTS, are_ascii)?,
+            fields: add_all(alloc, &mut strings, &FIELDS, are_ascii)?,
+            any: add_all(alloc, &mut strings, &ANY, are_ascii)?,
             strings,
             names,
         })
