@@ -1,23 +1,25 @@
 -- What is known of structs and unions that hold nothing.
-use Rattle.std.proofs.Common.{◌≡◌, ℕ, zero, suc, ◌+◌, ◌<◌, ◌≤◌, Bool, true, false, cond, List, [], ◌∷◌, ◌++◌, length, None, Some, Ok, Option, refl, sym, ap, subst, ◌∙◌, arith}
+use Rattle.std.proofs.Common.{◌≡◌, ℕ, zero, suc, ◌+◌, ◌<◌, ◌≤◌, ◌⊎◌, inl, inr, Bool, true, false, cond, List, [], ◌∷◌, ◌++◌, length, None, Some, Ok, Option, Result, refl, sym, ap, subst, ◌∙◌, arith}
 use Rattle.std.proofs.lemmas.Bool.Decides.{nat_tests}
 use Rattle.std.proofs.lemmas.Grind.{common_steps}
 use Rattle.std.specs.Prelude.{◌==◌, ◌||◌, slice_get}
 use Rattle.std.specs.BTreeMap.{is_at}
 use Rattle.std.specs.Ordering.{nat_cmp}
+use Rattle.access_paths.specs.declared.error.AccessError.{AccessError}
 use Rattle.btf_records.specs.Fields.{members_of}
 use Rattle.btf_records.specs.declared.item.BtfMember.{BtfMember}
 use Rattle.btf_records.specs.declared.types.BtfType.{BtfType}
 use Rattle.btf_tables.specs.Tables.{Table, type_by_id}
 use Rattle.member_search.specs.EmptyTypes.{AreApart, HoldNothing, NotesOne, free, is_noted}
 use Rattle.member_search.specs.Looks.{Search, look_at}
-use Rattle.member_search.specs.Searches.{found_in, is_among, most_open}
-use Rattle.member_search.specs.Stacks.{AllPassed, IsPassed, IsSound, Passes, first_id, ids, inside, is_open, opened, or_noted}
+use Rattle.member_search.specs.Searches.{found_in, is_among, members_found, most_open}
+use Rattle.member_search.specs.Stacks.{AllPassed, ArePassed, AreSearched, Ends, IsPassed, IsSound, Passes, first_id, ids, inside, is_open, opened, or_noted}
 use Rattle.member_search.specs.declared.look.Look.TheVariants.{Inside}
+use Rattle.member_search.specs.declared.search.Found.{Found}
 use Rattle.member_search.specs.declared.turn.Frame.{Frame}
 use Rattle.member_search.proofs.Free.{among-kept, among-new, among-push, free-none, free-pop, free-push, length-push, not-twice}
 use Rattle.member_search.proofs.Nesting.{IsKnown, known-below}
-use Rattle.member_search.proofs.Passed.{Ends, passed-more, passed-next, passed-none}
+use Rattle.member_search.proofs.Passed.{passed-more, passed-next, passed-none}
 use Rattle.member_search.proofs.Rests.{after_next}
 use Rattle.member_search.proofs.Turns.{among-ids, ids-pushed}
 
@@ -98,6 +100,11 @@ few-none target = none-few (most_open target)
 
 -- ---- nothing is found
 
+by-members : (search : Search) (noted : List ℕ) (f : Frame) (t : BtfType) (go : ℕ → Option ℕ → Result (Option Found) AccessError) (depth : ℕ) (bits : Option ℕ) → ((k : ℕ) → is_noted noted k ≡ true → (b : Option ℕ) → go k b ≡ Ok None)
+    → ArePassed search (is_noted noted) f.next (members_of t) ⊎ AreSearched search (is_noted noted) (members_of t) → Ends search (slice_get (members_of t) f.next) → members_found go search f.type_id t depth bits 0 (members_of t) ≡ Ok None
+by-members search noted f t go depth bits h (inl are) ends = passed-none go search (is_noted noted) f.type_id t depth bits h f.next 0 (members_of t) are ends
+by-members search noted f t go depth bits h (inr are) ends = passed-none go search (is_noted noted) f.type_id t depth bits h are.index 0 (members_of t) are.passed are.ends
+
 -- in one whose members are all passed, where others hold nothing
 searched-none : (search : Search) (noted : List ℕ) (f : Frame) (t : BtfType) → HoldNothing search noted → is_noted noted f.type_id ≡ false → type_by_id search.target f.type_id ≡ Some t → IsPassed search (is_noted noted) f → Ends search (slice_get (members_of t) f.next)
     → (open_ids : List ℕ) → AreApart noted open_ids → is_among open_ids f.type_id ≡ false → (n : ℕ) → free (most_open search.target) open_ids ≤ n → (bits : Option ℕ) → found_in n search open_ids f.type_id bits ≡ Ok None
@@ -107,7 +114,7 @@ searched-none search noted f t nothing fresh known passed ends open_ids apart on
 searched-none search noted f t nothing fresh known passed ends open_ids apart once (suc n) le bits =
     let fewer = free-push (most_open search.target) open_ids f.type_id (known-below search.target f.type_id (record { found = t; is = known })) once in
     let inner = apart-push noted open_ids f.type_id apart fresh in
-    rw (once, known) (passed-none (found_in n search (open_ids ++ f.type_id ∷ [])) search (is_noted noted) f.type_id t (length (open_ids ++ f.type_id ∷ [])) bits (λ k is b. nothing.each k is (open_ids ++ f.type_id ∷ []) inner n (omega arith) b) f.next 0 (members_of t) (passed.members t known) ends)
+    rw (once, known) (by-members search noted f t (found_in n search (open_ids ++ f.type_id ∷ [])) (length (open_ids ++ f.type_id ∷ [])) bits (λ k is b. nothing.each k is (open_ids ++ f.type_id ∷ []) inner n (omega arith) b) (passed.members t known) ends)
 
 not-open : (noted open_ids : List ℕ) (id : ℕ) → AreApart noted open_ids → is_noted noted id ≡ true → is_among open_ids id ≡ false
 not-open noted open_ids id apart is = by (is_among open_ids id) refl where
@@ -179,7 +186,7 @@ sound-in search noted outer f t m id bits sound known here seen unnoted fresh th
       nothing = sound.nothing;
       apart = subst (λ (xs : List ℕ). AreApart noted (xs ++ id ∷ [])) (sym same) (apart-push noted (opened outer f) id sound.apart unnoted);
       few = subst (λ (xs : List ℕ). AreFew search.target (xs ++ id ∷ [])) (sym same) (few-push search.target (opened outer f) id sound.few (known-below search.target id there) once);
-      passed = record { members = λ u is. tt };
+      passed = record { members = λ u is. inl tt };
       around = around-push search noted outer (after_next f) id sound.around after;
     }
 
@@ -205,6 +212,6 @@ sound-first search root bits t known =
       nothing = record { each = λ id is open_ids apart n le b. absurd cc };
       apart = record { each = λ id e. refl };
       few = few-push search.target [] root (few-none search.target) (known-below search.target root (record { found = t; is = known })) refl;
-      passed = record { members = λ u is. tt };
+      passed = record { members = λ u is. inl tt };
       around = tt;
     }

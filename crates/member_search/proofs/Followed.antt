@@ -14,7 +14,7 @@ use Rattle.btf_tables.specs.Tables.{type_by_id}
 use Rattle.member_search.specs.EmptyTypes.{is_noted}
 use Rattle.member_search.specs.Looks.{Search, look_at}
 use Rattle.member_search.specs.Searches.{found_in, is_among, member_found, member_here, most_open, or_next}
-use Rattle.member_search.specs.Stacks.{IsFollowed, IsLeft, IsSound, IsSoundTurn, IsTooDeep, IsTurn, Passes, found_of, frames_of, inside, is_open, left_of, opened, rest_of, stack_value, work}
+use Rattle.member_search.specs.Stacks.{Ends, IsFollowed, IsLeft, IsSound, IsSoundTurn, IsTooDeep, IsTurn, Passes, found_of, frames_of, inside, is_open, left_of, opened, rest_of, stack_value, work}
 use Rattle.member_search.specs.declared.look.Look.{Look}
 use Rattle.member_search.specs.declared.look.Look.TheVariants.{GoOn, Here, Inside, NotHere}
 use Rattle.member_search.specs.declared.search.Found.{Found}
@@ -23,7 +23,6 @@ use Rattle.member_search.specs.declared.turn.Turn.{Turn}
 use Rattle.member_search.specs.declared.turn.Turn.TheVariants as turns
 use Rattle.member_search.proofs.EmptyTypes.{sound-first, sound-in, sound-left, sound-on}
 use Rattle.member_search.proofs.Nesting.{leads-inside}
-use Rattle.member_search.proofs.Passed.{Ends}
 use Rattle.member_search.proofs.Rests.{after_next, go_inside, next_here, rest_bad, rest_done, rest_here, rest_inside, rest_not_here, rest_on, rest_unknown}
 use Rattle.member_search.proofs.Turns.{among-ids, begun, found-deep, found-fresh, found-open, ids-pushed, length-opened, length-pushed, next-next, top-first, value-none}
 use Rattle.member_search.proofs.Work.{less-advanced, less-entered, less-popped, one_fewer_left}

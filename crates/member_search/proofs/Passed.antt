@@ -1,5 +1,5 @@
 -- Members that are passed.
-use Rattle.std.proofs.Common.{◌≡◌, ℕ, zero, suc, ◌+◌, Bool, true, List, [], ◌∷◌, None, Some, Ok, Err, Option, Result, refl, sym, subst, add-one}
+use Rattle.std.proofs.Common.{◌≡◌, ℕ, zero, suc, ◌+◌, ◌⊎◌, inl, inr, Bool, true, List, [], ◌∷◌, None, Some, Ok, Err, Option, Result, refl, sym, subst, add-one}
 use Rattle.std.specs.Prelude.{⊤, slice_get}
 use Rattle.access_paths.specs.Lookups.{and_then}
 use Rattle.access_paths.specs.declared.error.AccessError.{AccessError}
@@ -9,7 +9,7 @@ use Rattle.btf_records.specs.declared.types.BtfType.{BtfType}
 use Rattle.btf_tables.specs.Tables.{type_by_id}
 use Rattle.member_search.specs.Looks.{Search, look_at}
 use Rattle.member_search.specs.Searches.{by_look, member_here, members_found}
-use Rattle.member_search.specs.Stacks.{ArePassed, IsPassed, Passes}
+use Rattle.member_search.specs.Stacks.{ArePassed, AreSearched, Ends, IsPassed, Passes}
 use Rattle.member_search.specs.declared.look.Look.{Look}
 use Rattle.member_search.specs.declared.look.Look.TheVariants.{GoOn, Here, Inside, NotHere}
 use Rattle.member_search.specs.declared.search.Found.{Found}
@@ -32,8 +32,11 @@ passed-next search p f t m h known here pass =
     record {
       members = λ u is.
           let same : t ≡ u = cc in
-          of_record search p f.next t u same (one_more search p f.next (members_of t) m (h.members t known) here pass);
-    }
+          by u same (h.members t known);
+    } where
+      by : (u : BtfType) → t ≡ u → ArePassed search p f.next (members_of t) ⊎ AreSearched search p (members_of t) → ArePassed search p (f.next + 1) (members_of u) ⊎ AreSearched search p (members_of u)
+      by u same (inl are) = inl (of_record search p f.next t u same (one_more search p f.next (members_of t) m are here pass))
+      by u same (inr are) = inr (subst (λ (x : BtfType). AreSearched search p (members_of x)) same are)
 
 -- ---- more hold nothing
 
@@ -49,15 +52,16 @@ more_passed search p q h zero ms are = tt
 more_passed search p q h (suc n) [] are = tt
 more_passed search p q h (suc n) (m ∷ ms) are = (more_pass p q h (look_at search m) are.0, more_passed search p q h n ms are.1)
 
+pub searched-more : (search : Search) (p q : ℕ → Bool) (ms : List BtfMember) → ((k : ℕ) → p k ≡ true → q k ≡ true) → AreSearched search p ms → AreSearched search q ms
+searched-more search p q ms h are = record { index = are.index; passed = more_passed search p q h are.index ms are.passed; ends = are.ends }
+
 pub passed-more : (search : Search) (p q : ℕ → Bool) (f : Frame) → ((k : ℕ) → p k ≡ true → q k ≡ true) → IsPassed search p f → IsPassed search q f
-passed-more search p q f h is = record { members = λ t known. more_passed search p q h f.next (members_of t) (is.members t known) }
+passed-more search p q f h is = record { members = λ t known. by t (is.members t known) } where
+  by : (t : BtfType) → ArePassed search p f.next (members_of t) ⊎ AreSearched search p (members_of t) → ArePassed search q f.next (members_of t) ⊎ AreSearched search q (members_of t)
+  by t (inl are) = inl (more_passed search p q h f.next (members_of t) are)
+  by t (inr are) = inr (searched-more search p q (members_of t) h are)
 
 -- ---- all are passed
-
--- there are no more, or the next has the name and isn't the one
-abbrev pub Ends : Search → Option BtfMember → Type 0
-Ends search None = ⊤
-Ends search (Some m) = Ok NotHere ≡ look_at search m
 
 pass_on : (go : ℕ → Option ℕ → Result (Option Found) AccessError) (p : ℕ → Bool) (here : Found) (next : Result (Option Found) AccessError) → ((k : ℕ) → p k ≡ true → (b : Option ℕ) → go k b ≡ Ok None) → next ≡ Ok None → (r : Result Look AccessError) → Passes p r → and_then r (by_look go here next) ≡ Ok None
 pass_on go p here next h none (Ok GoOn) pass = none

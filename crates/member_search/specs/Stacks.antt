@@ -1,5 +1,5 @@
 -- A search by the structs and unions that are open, the innermost last.
-use Rattle.std.specs.Prelude.{◌≡◌, ℕ, zero, suc, ◌+◌, ◌<◌, ◌≤◌, ◌⊎◌, ⊤, true, false, ◌-◌, ◌*◌, ◌^◌, ◌==◌, ◌||◌, Bool, List, [], ◌∷◌, ◌++◌, drop, length, map, IfSome, Option, None, Some, Result, Ok}
+use Rattle.std.specs.Prelude.{◌≡◌, ℕ, zero, suc, ◌+◌, ◌<◌, ◌≤◌, ◌⊎◌, ⊤, true, false, ◌-◌, ◌*◌, ◌^◌, ◌==◌, ◌||◌, Bool, List, [], ◌∷◌, ◌++◌, drop, length, map, IfSome, Option, None, Some, Result, Ok, slice_get}
 use Rattle.std.specs.List.{list_any}
 use Rattle.std.specs.Option.{option_map_or}
 use Rattle.access_paths.specs.Lookups.{with_type}
@@ -155,10 +155,24 @@ ArePassed search holds_nothing (suc n) [] = ⊤
 ArePassed search holds_nothing (suc n) (m ∷ ms) =
     Passes holds_nothing (look_at search m) × ArePassed search holds_nothing n ms
 
+-- there are no more, or the next has the name and isn't the one
+abbrev pub Ends : Search → Option BtfMember → Type 0
+Ends search None = ⊤
+Ends search (Some m) = Ok NotHere ≡ look_at search m
+
+-- a search that comes to them ends after those that are passed
+pub record AreSearched (search : Search) (holds_nothing : ℕ → Bool) (members : List BtfMember)
+    : Type 0 where
+  pub index : ℕ
+  pub passed : ArePassed search holds_nothing index members
+  pub ends : Ends search (slice_get members index)
+
+-- those before the next are passed, or a search has ended before it
 pub record IsPassed (search : Search) (holds_nothing : ℕ → Bool) (f : Frame) : Type 0 where
   pub members : (t : BtfType)
       → type_by_id search.target f.type_id ≡ Some t
       → ArePassed search holds_nothing f.next (members_of t)
+      ⊎ AreSearched search holds_nothing (members_of t)
 
 -- besides those that are noted the one that is being searched
 abbrev pub or_noted : List ℕ → ℕ → ℕ → Bool
