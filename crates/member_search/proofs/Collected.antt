@@ -1,6 +1,11 @@
 -- Turns of a walk over all members.
-use Rattle.std.proofs.Common.{◌≡◌, ◌≢◌, ℕ, ◌<◌, inl, inr, Bool, true, false, List, [], ◌∷◌, ◌++◌, length, None, Some, Ok, Err, Option, Result, refl, sym, ap, subst, ◌∙◌, arith}
-use Rattle.std.specs.Prelude.{⊤, IfSome, IsSomeAnd, MatchResult, is_err, if◌then◌else◌, slice_get}
+use Rattle.std.proofs.Common.{◌≡◌, ◌≢◌, ℕ, ◌+◌, ◌<◌, ◌⊎◌, inl, inr, Bool, true, false, cond, List, [], ◌∷◌, ◌++◌, length, take, None, Some, Ok, Err, Option, Result, refl, sym, ap, subst, ◌∙◌, arith}
+use Rattle.std.proofs.lemmas.Bool.Decides.{nat_tests}
+use Rattle.std.proofs.lemmas.Grind.{common_steps}
+use Rattle.std.proofs.lemmas.List.{take_all}
+use Rattle.std.specs.BTreeMap.{is_at}
+use Rattle.std.specs.Ordering.{nat_cmp}
+use Rattle.std.specs.Prelude.{⊤, ◌==◌, ◌-◌, ◌||◌, IfSome, IsSomeAnd, MatchResult, is_err, if◌then◌else◌, slice_get, unwrap_or}
 use Rattle.std.specs.Result.{IfErr, IfOk, IsErrAnd}
 use Rattle.access_paths.specs.Lookups.{with_found}
 use Rattle.access_paths.specs.declared.error.AccessError.{AccessError}
@@ -8,116 +13,427 @@ use Rattle.access_paths.specs.declared.error.AccessError.TheVariants.{BtfError a
 use Rattle.btf_compatibility.specs.FieldCompatibility.{fields_compatible}
 use Rattle.btf_records.specs.Fields.{members_of}
 use Rattle.btf_records.specs.declared.error.BtfError.{BtfError}
-use Rattle.btf_records.specs.declared.error.BtfError.TheVariants.{OutOfMemory, UnknownBtfType}
+use Rattle.btf_records.specs.declared.error.BtfError.TheVariants.{InvalidStringOffset, OutOfMemory, UnknownBtfType}
 use Rattle.btf_records.specs.declared.item.BtfMember.{BtfMember}
 use Rattle.btf_records.specs.declared.types.BtfType.{BtfType}
 use Rattle.btf_tables.specs.Tables.{Table, type_by_id}
+use Rattle.string_table.specs.NameHashes.{name_hash}
 use Rattle.string_table.specs.Texts.{text_at}
-use Rattle.member_search.specs.Collecting.{EntersMore, EntersName, moved_frame, moved_stack, moved_turn, pass}
-use Rattle.member_search.specs.Indexes.{AreFirst, Decides, ForOthers, IsIndex, begun_at, end_value, first_of, moved}
-use Rattle.member_search.specs.Looks.{Search, look_at, searched}
+use Rattle.member_search.specs.Collecting.{AllFail, AnswersSo, IfNotCut, IsAfter, IsGoingOn, IsOver, IsPast, IsSearched, IsWalking, IsWalkTurn, IsWithin, WalksOn, moved_frame, moved_stack, moved_turn, walk_value}
+use Rattle.member_search.specs.EmptyTypes.{is_noted}
+use Rattle.member_search.specs.Indexes.{Answers, GivesOr, IsAnswered, IsIndex, begun_at, end_value, moved, value_after, value_over, value_past, verdict, verdict_of}
+use Rattle.member_search.specs.Looks.{Search, look_at, look_inside, searched}
+use Rattle.member_search.specs.Namesakes.{AreFresh, Enters, Namesakes, all_from, all_of, entered_after, entered_to, is_around, is_same_struct, last_from, last_of, namesakes_of}
 use Rattle.member_search.specs.Searches.{member_found}
-use Rattle.member_search.specs.Stacks.{IsFollowed, IsLeft, IsSound, IsSoundTurn, IsTooDeep, IsTurn, found_of, frames_of, inside, opened, stack_value, work}
+use Rattle.member_search.specs.Stacks.{ArePassed, AreSearched, Ends, IsFollowed, IsLeft, IsSound, IsSoundTurn, IsTooDeep, IsTurn, found_of, frames_of, inside, ids, opened, stack_value, work}
 use Rattle.member_search.specs.declared.look.Look.{Look}
 use Rattle.member_search.specs.declared.look.Look.TheVariants.{GoOn, Here, Inside, NotHere}
-use Rattle.member_search.specs.declared.member_index.FirstMember.{FirstMember}
 use Rattle.member_search.specs.declared.member_index.WalkEnd.{WalkEnd}
 use Rattle.member_search.specs.declared.member_index.WalkEnd.TheVariants as ends
+use Rattle.member_search.specs.declared.named_members.NamedMember.{NamedMember}
+use Rattle.member_search.specs.declared.named_members.NamedMembers.{NamedMembers}
 use Rattle.member_search.specs.declared.search.Found.{Found}
 use Rattle.member_search.specs.declared.turn.Frame.{Frame}
 use Rattle.member_search.specs.declared.turn.Turn.{Turn}
 use Rattle.member_search.specs.declared.turn.Turn.TheVariants as turns
-use Rattle.member_search.proofs.Entries.{Entries, entered_as, failed-look, first-more, none-before, nothing-more, other-look, own-look, stays, still-others}
+use Rattle.member_search.proofs.Entries.{answers-more, answers-push, goes-inside-or-on, look-nameless, look-other, look-own, look-unread}
 use Rattle.member_search.proofs.Followed.{IsNext, IsWholeTurn, begins, by-rest, done, ended, here_in, passed_on, refused-follow, refused-look, refused-unknown, same-here, turned, unknown-root}
 use Rattle.member_search.proofs.Moved.{deep-moved, followed-moved, here-moved, left-moved}
+use Rattle.member_search.proofs.Places.{get-last, not-past, not-within, past-kept, same-struct, within-in, within-left, within-on}
 use Rattle.member_search.proofs.Rests.{after_next, rest_here, rest_not_here}
-use Rattle.member_search.proofs.Turns.{value-none}
+use Rattle.member_search.proofs.Turns.{length-opened, value-none}
 use Rattle.member_search.proofs.Work.{less-advanced, less-entered, less-popped, one_fewer_left}
 
--- what the stack of a walk gives in a search, where the walk begins at these bits
-abbrev pub walk_value : List Frame → Frame → Search → Option ℕ → Result (Option Found) AccessError
-walk_value outer f s bits = stack_value s (moved_stack bits outer ++ moved_frame bits f ∷ [])
+pub is-empty : (text : List ℕ) (test : Bool) → test ≡ (length text == 0) → test ≡ true → length text ≡ 0
+is-empty text test is e = let zero_is : (length text == 0) ≡ true = sym is ∙ e in grind (arith, nat_tests)
 
-abbrev pub IsSoundWalk : List ℕ → List Frame → Frame → Search → Option ℕ → Type 0
-IsSoundWalk noted outer f s bits = IsSound s noted (moved_stack bits outer) (moved_frame bits f)
+pub not-empty : (text : List ℕ) (test : Bool) → test ≡ (length text == 0) → test ≡ false → length text ≢ 0
+not-empty text test is e none = let zero_is : (length text == 0) ≡ true = grind (arith, nat_tests) in let no : true ≡ false = sym zero_is ∙ (sym is ∙ e) in absurd cc
 
-abbrev pub IsWalkTurn : List Frame → Frame → Turn → List Frame → Search → Option ℕ → Type 0
-IsWalkTurn outer f turn new s bits = IsTurn s (moved_stack bits outer ++ moved_frame bits f ∷ []) (found_of (moved_turn bits turn)) (moved_stack bits new ++ frames_of (moved_turn bits turn))
+-- what listed members are made of
+abbrev pub entered_as : BtfMember → Found → NamedMember
+entered_as m here = record { name_offset = m.name_offset; found = here }
 
-abbrev pub IsSoundWalkTurn : Turn → List ℕ → List Frame → Search → Option ℕ → Type 0
-IsSoundWalkTurn turn noted new s bits = IsSoundTurn s (moved_turn bits turn) noted (moved_stack bits new)
+-- ---- one search
 
--- ---- a member that is the first of its name
+-- the innermost goes on, and the stack gives the same
+on : (s : Search) (bits : Option ℕ) (value : Result (Option Found) AccessError) (noted : List ℕ) (outer : List Frame) (f : Frame) (last : Option NamedMember) → IsGoingOn s bits value noted outer f last
+    → IsWholeTurn s (moved_stack bits outer) (moved_frame bits f) (turns.On (moved_frame bits (after_next f))) (moved_stack bits outer) noted → IsGoingOn s bits value noted outer (after_next f) last
+on s bits value noted outer f last h whole = record { sound = whole.1; place = by last h.place } where
+  same : walk_value outer f s bits ≡ walk_value outer (after_next f) s bits
+  same = sym (whole.0.same refl)
 
-by_comparison : (s : Search) (below : List Frame) (f : Frame) (t : BtfType) (m : BtfMember) (r : Result Bool BtfError) → IsNext s f t m → look_at s m ≡ with_found {T = Bool} {U = Look} r (λ yes. if yes then Ok Here else Ok NotHere) → Decides r (here_in below f t m) (stack_value s (below ++ f ∷ []))
-by_comparison s below f t m (Ok true) next look =
-    by-rest s below f _ (rest_here s (opened below f) f t m next.known next.here (sym look)) ∙ ap (λ (x : Found). Ok (Some x)) (same-here s below f t m)
-by_comparison s below f t m (Ok false) next look = λ alone. by-rest s below f _ (rest_not_here s (opened below f) f t m next.known next.here (sym look)) ∙ value-none s below (omega (arith, alone))
-by_comparison s below f t m (Err e) next look = refused-look s below f t m (TypeError e) next (sym look)
+  by : (o : Option NamedMember) → IsAfter s bits value noted outer f o → IsAfter s bits value noted outer (after_next f) o
+  by None gives = gives ∙ same
+  by (Some m) (inl h) = inl (within-on s bits value noted outer f m.found h)
+  by (Some m) (inr h) = inr (record { noted_so = h.noted_so; gives = h.gives ∙ same })
 
-pub more-first : (target : Table) (outer : List Frame) (f : Frame) (t : BtfType) (m : BtfMember) (here : Found) (text : List ℕ) (old new : Entries) → type_by_id target f.type_id ≡ Some t → Some m ≡ slice_get (members_of t) f.next → here ≡ here_in outer f t m → text_at target.strings m.name_offset ≡ Some text
-    → EntersName text (entered_as m here) old new → EntersMore target old new (walk_value outer f)
-more-first target outer f t m here text old new known next is there enters =
+-- another one is entered
+inside-on : (s : Search) (bits : Option ℕ) (value : Result (Option Found) AccessError) (noted : List ℕ) (outer : List Frame) (f g : Frame) (last : Option NamedMember) → IsGoingOn s bits value noted outer f last
+    → IsWholeTurn s (moved_stack bits outer) (moved_frame bits f) (turns.On (moved_frame bits g)) (moved_stack bits (outer ++ after_next f ∷ [])) noted → IsGoingOn s bits value noted (outer ++ after_next f ∷ []) g last
+inside-on s bits value noted outer f g last h whole = record { sound = whole.1; place = by last h.place } where
+  same : walk_value outer f s bits ≡ walk_value (outer ++ after_next f ∷ []) g s bits
+  same = sym (whole.0.same refl)
+
+  by : (o : Option NamedMember) → IsAfter s bits value noted outer f o → IsAfter s bits value noted (outer ++ after_next f ∷ []) g o
+  by None gives = gives ∙ same
+  by (Some m) (inl h) = inl (within-in s bits value noted outer f g m.found h)
+  by (Some m) (inr h) = inr (record { noted_so = h.noted_so; gives = h.gives ∙ same })
+
+-- what holds of a search after a turn
+abbrev pub GoesOnSo : Search → Option ℕ → Result (Option Found) AccessError → Option NamedMember → Turn → List Frame → List ℕ → Type 0
+GoesOnSo s bits value last (turns.Found found) rest after = ⊥
+GoesOnSo s bits value last (turns.On g) rest after = IsGoingOn s bits value after rest g last
+GoesOnSo s bits value last turns.Over rest after = value ≡ Ok None
+
+is_none : (fs : List Frame) → length fs ≡ 0 → fs ≡ []
+is_none [] e = refl
+is_none (f ∷ fs) e = absurd (omega (arith, e))
+
+-- the innermost has no more members
+left-on : (s : Search) (bits : Option ℕ) (value : Result (Option Found) AccessError) (before : List ℕ) (outer : List Frame) (f : Frame) (t : BtfType) (last : Option NamedMember) (turn : Turn) (rest : List Frame) (after : List ℕ) → IsGoingOn s bits value before outer f last
+    → type_by_id s.target f.type_id ≡ Some t → None ≡ slice_get (members_of t) f.next → IsLeft f.type_id outer before turn rest after → GoesOnSo s bits value last turn rest after
+left-on s bits value before outer f t last (turns.Found found) rest after h known none left = left
+left-on s bits value before outer f t last (turns.On g) rest after h known none left = record { sound = whole.1; place = by last h.place } where
+  whole : IsWholeTurn s (moved_stack bits outer) (moved_frame bits f) (turns.On (moved_frame bits g)) (moved_stack bits rest) after
+  whole = done s (moved_stack bits outer) (moved_frame bits f) t before (turns.On (moved_frame bits g)) (moved_stack bits rest) after h.sound known none (left-moved bits f.type_id outer before (turns.On g) rest after left)
+
+  same : walk_value outer f s bits ≡ walk_value rest g s bits
+  same = sym (whole.0.same refl)
+
+  by : (o : Option NamedMember) → IsAfter s bits value before outer f o → IsAfter s bits value after rest g o
+  by None gives = gives ∙ same
+  by (Some m) (inl w) = within-left s bits value before after rest g f m.found left.1 (subst (λ (fs : List Frame). IsWithin s bits value before fs f m.found) left.0 w)
+  by (Some m) (inr p) = inr (record { noted_so = past-kept before after f.type_id m.found left.1 p.noted_so; gives = p.gives ∙ same })
+left-on s bits value before outer f t last turns.Over rest after h known none left = by last h.place where
+  whole : IsWholeTurn s (moved_stack bits outer) (moved_frame bits f) turns.Over (moved_stack bits rest) after
+  whole = done s (moved_stack bits outer) (moved_frame bits f) t before turns.Over (moved_stack bits rest) after h.sound known none (left-moved bits f.type_id outer before turns.Over rest after left)
+
+  over : value ≡ walk_value outer f s bits → value ≡ Ok None
+  over gives = ended s value (moved_stack bits outer ++ moved_frame bits f ∷ []) turns.Over (moved_stack bits rest) after refl whole.0 whole.1 (sym gives)
+
+  by : (o : Option NamedMember) → IsAfter s bits value before outer f o → value ≡ Ok None
+  by None gives = over gives
+  by (Some m) (inl w) =
+      let none_around : take w.around outer ≡ [] = subst (λ (fs : List Frame). take w.around fs ≡ []) (sym (is_none outer left.0)) (take_all w.around [] (omega arith)) in
+      w.gives ∙ (ap (λ (fs : List Frame). stack_value s (moved_stack bits fs)) none_around ∙ value-none s [] refl)
+  by (Some m) (inr p) = over p.gives
+
+-- the next member has no name
+nameless-on : (s : Search) (bits : Option ℕ) (value : Result (Option Found) AccessError) (before : List ℕ) (outer : List Frame) (f : Frame) (t : BtfType) (m : BtfMember) (last : Option NamedMember) (seen : Look) (here : Found) (turn : Turn) (rest : List Frame) (after : List ℕ) → IsGoingOn s bits value before outer f last
+    → IsNext s f t m → Ok seen ≡ look_at s m → Ok seen ≡ look_inside s.target m → here ≡ here_in outer f t m → IsFollowed s.target seen here (after_next f) outer before turn rest after → GoesOnSo s bits value last turn rest after
+nameless-on s bits value before outer f t m last GoOn here turn rest after h next look in_it is followed =
+    rw (followed.0, followed.1, followed.2) (on s bits value before outer f last h
+    (turned s (moved_stack bits outer) (moved_frame bits f) t m GoOn (moved bits here) before (turns.On (moved_frame bits (after_next f))) (moved_stack bits outer) before h.sound (record { known = next.known; here = next.here }) look (here-moved bits outer f t m here is) (refl, refl, refl)))
+nameless-on s bits value before outer f t m last NotHere here turn rest after h next look in_it is followed = absurd (goes-inside-or-on s.target m NotHere in_it)
+nameless-on s bits value before outer f t m last Here here turn rest after h next look in_it is followed = absurd (goes-inside-or-on s.target m Here in_it)
+nameless-on s bits value before outer f t m last (Inside id) here turn rest after h next look in_it is (inl followed) =
+    rw (followed.1.0, followed.1.1, followed.1.2) (on s bits value before outer f last h
+    (turned s (moved_stack bits outer) (moved_frame bits f) t m (Inside id) (moved bits here) before (turns.On (moved_frame bits (after_next f))) (moved_stack bits outer) before h.sound (record { known = next.known; here = next.here }) look (here-moved bits outer f t m here is) (inl (followed.0, (refl, refl, refl)))))
+nameless-on s bits value before outer f t m last (Inside id) here turn rest after h next look in_it is (inr followed) =
+    let whole = turned s (moved_stack bits outer) (moved_frame bits f) t m (Inside id) (moved bits here) before (moved_turn bits turn) (moved_stack bits rest) after h.sound (record { known = next.known; here = next.here }) look (here-moved bits outer f t m here is) (followed-moved bits s.target (Inside id) here (after_next f) outer before turn rest after (inr followed)) in
+    entered-so turn rest after followed.0 followed.1 followed.2 whole where
+      entered-so : (turn : Turn) (rest : List Frame) (after : List ℕ) → turn ≡ turns.On (inside id here.bits) → rest ≡ outer ++ after_next f ∷ [] → after ≡ before → IsWholeTurn s (moved_stack bits outer) (moved_frame bits f) (moved_turn bits turn) (moved_stack bits rest) after → GoesOnSo s bits value last turn rest after
+      entered-so turn rest after a b c whole =
+          let whole_in : IsWholeTurn s (moved_stack bits outer) (moved_frame bits f) (turns.On (moved_frame bits (inside id here.bits))) (moved_stack bits (outer ++ after_next f ∷ [])) before = rw (a, b, c) at whole in
+          rw (a, b, c) (inside-on s bits value before outer f (inside id here.bits) last h whole_in)
+
+-- ---- a member that has a name
+
+-- one of another hash
+other-on : (s : Search) (bits : Option ℕ) (value : Result (Option Found) AccessError) (noted : List ℕ) (outer : List Frame) (f : Frame) (t : BtfType) (m : BtfMember) (last : Option NamedMember) → IsGoingOn s bits value noted outer f last → IsNext s f t m → look_at s m ≡ Ok GoOn → IsGoingOn s bits value noted outer (after_next f) last
+other-on s bits value noted outer f t m last h next look =
+    on s bits value noted outer f last h
+    (turned s (moved_stack bits outer) (moved_frame bits f) t m GoOn (here_in (moved_stack bits outer) (moved_frame bits f) t m) noted (turns.On (moved_frame bits (after_next f))) (moved_stack bits outer) noted h.sound (record { known = next.known; here = next.here }) (sym look) refl (refl, refl, refl))
+
+-- the innermost goes on where a search has ended in it
+searched-on : (s : Search) (noted : List ℕ) (outer : List Frame) (f : Frame) → IsSound s noted outer f → IsSearched s (is_noted noted) f.type_id → IsSound s noted outer (after_next f)
+searched-on s noted outer f sound ended_in = record { nothing = sound.nothing; apart = sound.apart; few = sound.few; passed = record { members = λ t known. inr (ended_in.members t known) }; around = sound.around }
+
+-- a search that finds it incompatible ends there
+ended-in : (s : Search) (noted : List ℕ) (outer : List Frame) (f : Frame) (t : BtfType) (m : BtfMember) → IsSound s noted outer f → IsNext s f t m → look_at s m ≡ Ok NotHere → IsSearched s (is_noted noted) f.type_id
+ended-in s noted outer f t m sound next look = record {
+  members = λ u is.
+      let same : t ≡ u = cc in
+      by u (sound.passed.members u is) (subst (λ (x : BtfType). Ends s (slice_get (members_of x) f.next)) same (subst (Ends s) next.here (sym look)));
+} where
+  by : (u : BtfType) → ArePassed s (is_noted noted) f.next (members_of u) ⊎ AreSearched s (is_noted noted) (members_of u) → Ends s (slice_get (members_of u) f.next) → AreSearched s (is_noted noted) (members_of u)
+  by u (inl are) last = record { index = f.next; passed = are; ends = last }
+  by u (inr are) last = are
+
+left-here : (s : Search) (bits : Option ℕ) (value : Result (Option Found) AccessError) (noted : List ℕ) (outer : List Frame) (f : Frame) (t : BtfType) (m : BtfMember) → IsSound s noted (moved_stack bits outer) (moved_frame bits f) → value ≡ stack_value s (moved_stack bits outer) → IsNext s f t m → look_at s m ≡ Ok NotHere
+    → IsGoingOn s bits value noted outer (after_next f) (Some (entered_as m (here_in outer f t m)))
+left-here s bits value noted outer f t m sound gives next look =
+    let ended = ended-in s noted (moved_stack bits outer) (moved_frame bits f) t m sound (record { known = next.known; here = next.here }) look in
     record {
-      stay = λ name x before. stays text (entered_as m here) old new name x enters before;
-      first = λ local id name bits x none after own.
+      sound = searched-on s noted (moved_stack bits outer) (moved_frame bits f) sound ended;
+      place = inl (record {
+        around = length outer;
+        parts = refl;
+        here = subst (λ (k : ℕ). slice_get (opened outer f) k ≡ Some f.type_id) len (get-last (ids outer) f.type_id);
+        gives = gives ∙ ap (λ (fs : List Frame). stack_value s (moved_stack bits fs)) (sym (take_all (length outer) outer (omega arith)));
+        left = ended;
+      });
+    } where
+      len : length (ids outer) ≡ length outer
+      len = let n = length-opened outer f in let k : length (ids outer ++ f.type_id ∷ []) ≡ length (ids outer) + 1 = grind (arith, common_steps) in omega (arith, n, k)
+
+-- a search that comes to it compares it
+compared-here : (s : Search) (bits : Option ℕ) (value : Result (Option Found) AccessError) (noted : List ℕ) (outer : List Frame) (f : Frame) (t : BtfType) (m : BtfMember) (r : Result Bool BtfError) → IsSound s noted (moved_stack bits outer) (moved_frame bits f) → value ≡ walk_value outer f s bits → IsNext s f t m
+    → look_at s m ≡ with_found {T = Bool} {U = Look} r (λ yes. if yes then Ok Here else Ok NotHere) → GivesOr (verdict_of r (moved bits (here_in outer f t m))) value (IsGoingOn s bits value noted outer (after_next f) (Some (entered_as m (here_in outer f t m))))
+compared-here s bits value noted outer f t m (Ok true) sound gives next look =
+    gives ∙ (by-rest s (moved_stack bits outer) (moved_frame bits f) _ (rest_here s (opened (moved_stack bits outer) (moved_frame bits f)) (moved_frame bits f) t m next.known next.here (sym look))
+    ∙ ap (λ (x : Found). Ok (Some x)) (same-here s (moved_stack bits outer) (moved_frame bits f) t m ∙ sym (here-moved bits outer f t m (here_in outer f t m) refl)))
+compared-here s bits value noted outer f t m (Ok false) sound gives next look = by (length outer + 1 == 1) refl where
+  around : value ≡ stack_value s (moved_stack bits outer)
+  around = gives ∙ by-rest s (moved_stack bits outer) (moved_frame bits f) _ (rest_not_here s (opened (moved_stack bits outer) (moved_frame bits f)) (moved_frame bits f) t m next.known next.here (sym look))
+
+  alone : (length outer + 1 == 1) ≡ true → stack_value s (moved_stack bits outer) ≡ Ok None
+  alone e =
+      let none : length outer ≡ 0 = grind (arith, nat_tests) in
+      ap (λ (fs : List Frame). stack_value s (moved_stack bits fs)) (is_none outer none) ∙ value-none s [] refl
+
+  by : (test : Bool) → (length outer + 1 == 1) ≡ test → GivesOr (if test then Some (Ok None) else None) value (IsGoingOn s bits value noted outer (after_next f) (Some (entered_as m (here_in outer f t m))))
+  by true e = around ∙ alone e
+  by false e = left-here s bits value noted outer f t m sound around next look
+compared-here s bits value noted outer f t m (Err e) sound gives next look = gives ∙ refused-look s (moved_stack bits outer) (moved_frame bits f) t m (TypeError e) (record { known = next.known; here = next.here }) (sym look)
+
+-- it is listed
+pub record IsNamed (s : Search) (outer : List Frame) (f : Frame) (t : BtfType) (m : BtfMember) (here : Found) (text : List ℕ) : Type 0 where
+  pub next : IsNext s f t m
+  pub reads : text_at s.target.strings m.name_offset ≡ Some text
+  pub some : length text ≢ 0
+  pub is : here ≡ here_in outer f t m
+
+compared : (s : Search) (bits : Option ℕ) (value : Result (Option Found) AccessError) (noted : List ℕ) (outer : List Frame) (f : Frame) (t : BtfType) (m : BtfMember) (here : Found) (text : List ℕ) → IsNamed s outer f t m here text → IsSound s noted (moved_stack bits outer) (moved_frame bits f) → value ≡ walk_value outer f s bits
+    → text_at s.target.strings m.name_offset ≡ Some s.name → GivesOr (verdict s bits (entered_as m here)) value (IsGoingOn s bits value noted outer (after_next f) (Some (entered_as m here)))
+compared s bits value noted outer f t m here text named sound gives own =
+    subst (λ (h : Found). GivesOr (verdict s bits (entered_as m h)) value (IsGoingOn s bits value noted outer (after_next f) (Some (entered_as m h)))) (sym named.is)
+    (compared-here s bits value noted outer f t m (fields_compatible s.local s.type_id s.target m.btf_type) sound gives named.next (look-own s m text named.reads named.some own))
+
+-- in the struct or union of the one listed last, a search has ended
+same-on : (s : Search) (bits : Option ℕ) (value : Result (Option Found) AccessError) (noted : List ℕ) (outer : List Frame) (f : Frame) (t : BtfType) (m : BtfMember) (here : Found) (text : List ℕ) (last : NamedMember) → IsNamed s outer f t m here text → is_same_struct last.found here ≡ true
+    → IsGoingOn s bits value noted outer f (Some last) → IsGoingOn s bits value noted outer (after_next f) (Some last)
+same-on s bits value noted outer f t m here text last named test h = by h.place where
+  id_is : last.found.place.type_id ≡ f.type_id
+  id_is = (same-struct last.found here test).1 ∙ ap (λ (x : Found). x.place.type_id) named.is
+
+  by : IsWithin s bits value noted outer f last.found ⊎ IsPast s bits value noted outer f last.found → IsGoingOn s bits value noted outer (after_next f) (Some last)
+  by (inl w) = record {
+    sound = searched-on s noted (moved_stack bits outer) (moved_frame bits f) h.sound (subst (IsSearched s (is_noted noted)) id_is w.left);
+    place = inl (within-on s bits value noted outer f last.found w);
+  }
+  by (inr p) = absurd (not-past noted (moved_stack bits outer) (moved_frame bits f) last.found.place.type_id h.sound.apart id_is p.noted_so)
+
+-- where it is neither in that nor in one inside of it, the search comes to it
+pushed-on : (s : Search) (bits : Option ℕ) (value : Result (Option Found) AccessError) (noted : List ℕ) (outer : List Frame) (f : Frame) (t : BtfType) (m : BtfMember) (here : Found) (text : List ℕ) (last : NamedMember) → IsNamed s outer f t m here text → is_same_struct last.found here ≡ false → is_around outer last.found ≡ false
+    → IsGoingOn s bits value noted outer f (Some last) → Answers s bits value (entered_as m here ∷ []) (IsGoingOn s bits value noted outer (after_next f) (Some (entered_as m here)))
+pushed-on s bits value noted outer f t m here text last named apart not_around h = by h.place where
+  by : IsWithin s bits value noted outer f last.found ⊎ IsPast s bits value noted outer f last.found → Answers s bits value (entered_as m here ∷ []) (IsGoingOn s bits value noted outer (after_next f) (Some (entered_as m here)))
+  by (inl w) = absurd (not-within s bits value noted outer f last.found here (ap (λ (x : Found). x.parts) named.is) (ap (λ (x : Found). x.place.type_id) named.is) apart not_around w)
+  by (inr p) = λ own. compared s bits value noted outer f t m here text named h.sound p.gives own
+
+last-pushed : (x m : NamedMember) (later : List NamedMember) → unwrap_or (slice_get (later ++ m ∷ []) (length (later ++ m ∷ []) - 1)) x ≡ m
+last-pushed x m later =
+    let len : length (later ++ m ∷ []) - 1 ≡ length later = grind (arith, common_steps) in
+    rw len (ap (λ (o : Option NamedMember). unwrap_or o x) (get-last later m))
+
+abbrev AnswersOn : Search → Option ℕ → Result (Option Found) AccessError → List ℕ → List Frame → Frame → Namesakes → Type 0
+AnswersOn s bits value noted outer f known = AnswersSo s bits value known (IsGoingOn s bits value noted outer f (last_of known))
+
+-- the first of its hash
+first-on : (s : Search) (bits : Option ℕ) (value : Result (Option Found) AccessError) (noted : List ℕ) (outer : List Frame) (f : Frame) (t : BtfType) (m : BtfMember) (here : Found) (text : List ℕ) (later : List NamedMember) (is_cut : Bool) → IsNamed s outer f t m here text → later ≡ []
+    → IsGoingOn s bits value noted outer f None → AnswersOn s bits value noted outer (after_next f) (record { first = Some (entered_as m here); later = later; is_cut = is_cut })
+first-on s bits value noted outer f t m here text later is_cut named none h =
+    subst (λ (ms : List NamedMember). AnswersOn s bits value noted outer (after_next f) (record { first = Some (entered_as m here); later = ms; is_cut = is_cut })) (sym none)
+    (λ own. answers-given (verdict s bits (entered_as m here)) (compared s bits value noted outer f t m here text named h.sound h.place own)) where
+      answers-given : (o : Option (Result (Option Found) AccessError)) → GivesOr o value (IsGoingOn s bits value noted outer (after_next f) (Some (entered_as m here))) → GivesOr o value (is_cut ≡ false → IsGoingOn s bits value noted outer (after_next f) (Some (entered_as m here)))
+      answers-given None a = λ _. a
+      answers-given (Some answer) a = a
+
+later-on : (s : Search) (bits : Option ℕ) (value : Result (Option Found) AccessError) (noted : List ℕ) (outer : List Frame) (f : Frame) (t : BtfType) (m : BtfMember) (here : Found) (text : List ℕ) (first : NamedMember) (later : List NamedMember) (is_cut : Bool) → IsNamed s outer f t m here text
+    → AnswersOn s bits value noted outer f (record { first = Some first; later = later; is_cut = is_cut }) → AnswersOn s bits value noted outer (after_next f) (entered_after outer (entered_as m here) (record { first = Some first; later = later; is_cut = is_cut }) (Some (unwrap_or (slice_get later (length later - 1)) first)))
+later-on s bits value noted outer f t m here text first later is_cut named h = decided is_cut (is_same_struct last.found here) refl refl (is_around outer last.found) refl where
+  last : NamedMember
+  last = unwrap_or (slice_get later (length later - 1)) first
+
+  known : Namesakes
+  known = record { first = Some first; later = later; is_cut = is_cut }
+
+  decided : (cut same : Bool) → is_cut ≡ cut → is_same_struct last.found here ≡ same → (around : Bool) → is_around outer last.found ≡ around
+      → AnswersOn s bits value noted outer (after_next f) (if cut || same then known else if around then record known { is_cut = true } else record known { later = later ++ entered_as m here ∷ [] })
+  decided true same cut_is same_is around around_is = answers-more s bits value (first ∷ later) _ _ (λ go not_cut. absurd (let no : true ≡ false = sym cut_is ∙ not_cut in cc)) h
+  decided false true cut_is same_is around around_is = answers-more s bits value (first ∷ later) _ _ (λ go not_cut. same-on s bits value noted outer f t m here text last named same_is (go not_cut)) h
+  decided false false cut_is same_is true around_is = answers-more s bits value (first ∷ later) _ _ (λ go not_cut. absurd (let no : true ≡ false = not_cut in cc)) h
+  decided false false cut_is same_is false around_is =
+      subst (λ (x : NamedMember). Answers s bits value (first ∷ (later ++ entered_as m here ∷ [])) (is_cut ≡ false → IsGoingOn s bits value noted outer (after_next f) (Some x))) (sym (last-pushed first (entered_as m here) later))
+      (answers-push s bits value (first ∷ later) (entered_as m here) _ _ (λ go own. not-cut (verdict s bits (entered_as m here)) (pushed-on s bits value noted outer f t m here text last named same_is around_is (go cut_is) own)) h)
+    where
+      not-cut : (o : Option (Result (Option Found) AccessError)) → GivesOr o value (IsGoingOn s bits value noted outer (after_next f) (Some (entered_as m here))) → GivesOr o value (is_cut ≡ false → IsGoingOn s bits value noted outer (after_next f) (Some (entered_as m here)))
+      not-cut None a = λ _. a
+      not-cut (Some answer) a = a
+
+own-on : (s : Search) (bits : Option ℕ) (value : Result (Option Found) AccessError) (noted : List ℕ) (outer : List Frame) (f : Frame) (t : BtfType) (m : BtfMember) (here : Found) (text : List ℕ) (first : Option NamedMember) (later : List NamedMember) (is_cut : Bool) → IsNamed s outer f t m here text → (first ≡ None → later ≡ [])
+    → AnswersOn s bits value noted outer f (record { first = first; later = later; is_cut = is_cut }) → AnswersOn s bits value noted outer (after_next f) (entered_to outer (entered_as m here) (record { first = first; later = later; is_cut = is_cut }))
+own-on s bits value noted outer f t m here text None later is_cut named fresh h = first-on s bits value noted outer f t m here text later is_cut named (fresh refl) h
+own-on s bits value noted outer f t m here text (Some first) later is_cut named fresh h = later-on s bits value noted outer f t m here text first later is_cut named h
+
+rest-more : (o : Option NamedMember) (is_cut : Bool) (P Q : Type 0) → (P → Q) → IfNotCut o is_cut P → IfNotCut o is_cut Q
+rest-more None is_cut P Q h a = h a
+rest-more (Some first) is_cut P Q h a = λ not_cut. h (a not_cut)
+
+so-more : (s : Search) (bits : Option ℕ) (value : Result (Option Found) AccessError) (known : Namesakes) (P Q : Type 0) → (P → Q) → AnswersSo s bits value known P → AnswersSo s bits value known Q
+so-more s bits value known P Q h a = answers-more s bits value (all_of known) _ _ (rest-more known.first known.is_cut P Q h) a
+
+-- ---- all searches
+
+same_hash : (hash other : ℕ) → is_at (nat_cmp hash) other ≡ true → other ≡ hash
+same_hash hash other is = grind (arith, common_steps, nat_tests, is)
+
+at_self : (hash : ℕ) → is_at (nat_cmp hash) hash ≡ true
+at_self hash = grind (arith, common_steps, nat_tests)
+
+other-hash : (hash other : ℕ) → is_at (nat_cmp hash) other ≡ false → hash ≢ other
+other-hash hash other is same = let there : is_at (nat_cmp hash) other ≡ true = subst (λ (k : ℕ). is_at (nat_cmp hash) k ≡ true) same (at_self hash) in let no : true ≡ false = sym there ∙ is in absurd cc
+
+abbrev chosen : Bool → Bool → Namesakes → Namesakes → Namesakes → Namesakes
+chosen p q a b c = if p then a else if q then b else c
+
+first-there : (outer : List Frame) (m : NamedMember) (first : Option NamedMember) (later : List NamedMember) (is_cut : Bool) → (entered_to outer m (record { first = first; later = later; is_cut = is_cut })).first ≡ None → ⊥
+first-there outer m None later is_cut e = let no : Some m ≡ None = e in absurd cc
+first-there outer m (Some first) later is_cut e = by (is_cut || is_same_struct last.found m.found) (is_around outer last.found) e where
+  last : NamedMember
+  last = unwrap_or (slice_get later (length later - 1)) first
+
+  by : (p q : Bool) → (chosen p q (record { first = Some first; later = later; is_cut = is_cut }) (record { first = Some first; later = later; is_cut = true }) (record { first = Some first; later = later ++ m ∷ []; is_cut = is_cut })).first ≡ None → ⊥
+  by true q e = let no : Some first ≡ None = e in absurd cc
+  by false true e = let no : Some first ≡ None = e in absurd cc
+  by false false e = let no : Some first ≡ None = e in absurd cc
+
+-- a member that has a name
+pub walked-named : (target : Table) (value : Search → Option ℕ → Result (Option Found) AccessError) (noted : List ℕ) (outer : List Frame) (f : Frame) (t : BtfType) (m : BtfMember) (here : Found) (text : List ℕ) (old new : NamedMembers) → IsWalking target value noted outer f old
+    → type_by_id target f.type_id ≡ Some t → Some m ≡ slice_get (members_of t) f.next → here ≡ here_in outer f t m → text_at target.strings m.name_offset ≡ Some text → length text ≢ 0 → Enters outer (name_hash text) (entered_as m here) old new
+    → IsWalking target value noted outer (after_next f) new
+walked-named target value noted outer f t m here text old new walking known next is there some enters =
+    record {
+      fresh = λ hash. subst (λ (k : Namesakes). k.first ≡ None → k.later ≡ []) (sym (enters.each hash)) (fresh hash (is_at (nat_cmp (name_hash text)) hash));
+      each = λ local id name bits.
           let s = searched local id name target in
-          let look = own-look local id name target m here text old new x there enters none after own in
-          let at_member : Decides (fields_compatible local id target m.btf_type) (moved bits here) (walk_value outer f s bits) =
-          subst (λ (h : Found). Decides (fields_compatible local id target m.btf_type) h (walk_value outer f s bits)) (sym (here-moved bits outer f t m here is))
-          (by_comparison s (moved_stack bits outer) (moved_frame bits f) t m (fields_compatible local id target m.btf_type) (record { known = known; here = next }) look.1) in
-          let at_here : Decides (fields_compatible local id target here.type_id) (moved bits here) (walk_value outer f s bits) =
-          subst (λ (n : ℕ). Decides (fields_compatible local id target n) (moved bits here) (walk_value outer f s bits)) (sym (ap (λ (h : Found). h.type_id) is)) at_member in
-          subst (λ (y : FirstMember). Decides (fields_compatible local id target y.found.type_id) (moved bits y.found) (walk_value outer f s bits)) (sym look.0) at_here;
-    }
+          subst (AnswersOn s bits (value s bits) noted outer (after_next f)) (sym (enters.each (name_hash name))) (by local id name bits (is_at (nat_cmp (name_hash text)) (name_hash name)) refl);
+    } where
+      fresh : (hash : ℕ) (test : Bool) → (cond test (entered_to outer (entered_as m here) (namesakes_of old hash)) (namesakes_of old hash)).first ≡ None → (cond test (entered_to outer (entered_as m here) (namesakes_of old hash)) (namesakes_of old hash)).later ≡ []
+      fresh hash true e = absurd (first-there outer (entered_as m here) (namesakes_of old hash).first (namesakes_of old hash).later (namesakes_of old hash).is_cut e)
+      fresh hash false e = walking.fresh hash e
 
--- ---- turns
+      by : (local : Table) (id : ℕ) (name : List ℕ) (bits : Option ℕ) (test : Bool) → is_at (nat_cmp (name_hash text)) (name_hash name) ≡ test
+          → AnswersOn (searched local id name target) bits (value (searched local id name target) bits) noted outer (after_next f) (cond test (entered_to outer (entered_as m here) (namesakes_of old (name_hash name))) (namesakes_of old (name_hash name)))
+      by local id name bits true e =
+          let k = namesakes_of old (name_hash name) in
+          own-on (searched local id name target) bits (value (searched local id name target) bits) noted outer f t m here text k.first k.later k.is_cut (record { next = record { known = known; here = next }; reads = there; some = some; is = is }) (walking.fresh (name_hash name)) (walking.each local id name bits)
+      by local id name bits false e =
+          let s = searched local id name target in
+          so-more s bits (value s bits) (namesakes_of old (name_hash name)) _ _
+          (λ go. other-on s bits (value s bits) noted outer f t m (last_of (namesakes_of old (name_hash name))) go (record { known = known; here = next }) (look-other s m text there some (other-hash (name_hash text) (name_hash name) e)))
+          (walking.each local id name bits)
 
-pub walked : (target : Table) (outer : List Frame) (f : Frame) (t : BtfType) (m : BtfMember) (seen : Look) (here : Found) (before : List ℕ) (turn : Turn) (rest : List Frame) (after : List ℕ) (text : List ℕ) (old new : Entries) → ForOthers target old (IsSoundWalk before outer f)
-    → type_by_id target f.type_id ≡ Some t → Some m ≡ slice_get (members_of t) f.next → here ≡ here_in outer f t m → text_at target.strings m.name_offset ≡ Some text → EntersName text (entered_as m here) old new → Ok seen ≡ pass target m
-    → IsFollowed target seen here (after_next f) outer before turn rest after → ForOthers target new (λ s bits. IsWholeTurn s (moved_stack bits outer) (moved_frame bits f) (moved_turn bits turn) (moved_stack bits rest) after)
-walked target outer f t m seen here before turn rest after text old new sound known next is there enters look h =
+-- what is listed stays, and each search goes on
+stays-so : (target : Table) (value : Search → Option ℕ → Result (Option Found) AccessError) (noted : List ℕ) (outer : List Frame) (f : Frame) (named : NamedMembers) (turn : Turn) (rest : List Frame) (after : List ℕ) → IsWalking target value noted outer f named → found_of turn ≡ None
+    → ((local : Table) (id : ℕ) (name : List ℕ) (bits : Option ℕ) (last : Option NamedMember) → IsGoingOn (searched local id name target) bits (value (searched local id name target) bits) noted outer f last → GoesOnSo (searched local id name target) bits (value (searched local id name target) bits) last turn rest after)
+    → IsWalkTurn target value turn after rest named
+stays-so target value noted outer f named (turns.Found found) rest after walking none go = absurd cc
+stays-so target value noted outer f named (turns.On g) rest after walking none go = record {
+  fresh = walking.fresh;
+  each = λ local id name bits. so-more (searched local id name target) bits (value (searched local id name target) bits) (namesakes_of named (name_hash name)) _ _ (go local id name bits (last_of (namesakes_of named (name_hash name)))) (walking.each local id name bits);
+}
+stays-so target value noted outer f named turns.Over rest after walking none go = record {
+  each = λ local id name bits. so-more (searched local id name target) bits (value (searched local id name target) bits) (namesakes_of named (name_hash name)) _ _ (go local id name bits (last_of (namesakes_of named (name_hash name)))) (walking.each local id name bits);
+}
+
+none-left : (id : ℕ) (outer : List Frame) (before : List ℕ) (turn : Turn) (rest : List Frame) (after : List ℕ) → IsLeft id outer before turn rest after → found_of turn ≡ None
+none-left id outer before (turns.Found found) rest after h = absurd h
+none-left id outer before (turns.On g) rest after h = refl
+none-left id outer before turns.Over rest after h = refl
+
+none-followed : (target : Table) (m : BtfMember) (seen : Look) (here : Found) (f : Frame) (outer : List Frame) (before : List ℕ) (turn : Turn) (rest : List Frame) (after : List ℕ) → Ok seen ≡ look_inside target m → IsFollowed target seen here f outer before turn rest after → found_of turn ≡ None
+none-followed target m GoOn here f outer before turn rest after look h = ap found_of h.0
+none-followed target m NotHere here f outer before turn rest after look h = absurd (goes-inside-or-on target m NotHere look)
+none-followed target m Here here f outer before turn rest after look h = absurd (goes-inside-or-on target m Here look)
+none-followed target m (Inside id) here f outer before turn rest after look (inl h) = ap found_of h.1.0
+none-followed target m (Inside id) here f outer before turn rest after look (inr h) = ap found_of h.0
+
+pub walks-left : (target : Table) (noted : List ℕ) (outer : List Frame) (f : Frame) (t : BtfType) (named : NamedMembers) (turn : Turn) (rest : List Frame) (after : List ℕ) → type_by_id target f.type_id ≡ Some t → None ≡ slice_get (members_of t) f.next → IsLeft f.type_id outer noted turn rest after
+    → WalksOn target noted outer f named after rest named turn
+walks-left target noted outer f t named turn rest after known none left =
     record {
-      each = λ local id name bits none.
-          turned (searched local id name target) (moved_stack bits outer) (moved_frame bits f) t m seen (moved bits here) before (moved_turn bits turn) (moved_stack bits rest) after
-          (sound.each local id name bits (none-before text (entered_as m here) old new name enters none)) (record { known = known; here = next })
-          (other-look local id name target m seen text (entered_as m here) old new there enters look none)
-          (here-moved bits outer f t m here is) (followed-moved bits target seen here (after_next f) outer before turn rest after h);
+      each = λ value walking.
+          stays-so target value noted outer f named turn rest after walking (none-left f.type_id outer noted turn rest after left)
+          (λ local id name bits last go. left-on (searched local id name target) bits (value (searched local id name target) bits) noted outer f t last turn rest after go known none left);
     }
 
-pub walk_left : (target : Table) (outer : List Frame) (f : Frame) (t : BtfType) (before : List ℕ) (turn : Turn) (rest : List Frame) (after : List ℕ) (old new : Entries) → ForOthers target old (IsSoundWalk before outer f) → type_by_id target f.type_id ≡ Some t → None ≡ slice_get (members_of t) f.next
-    → IsLeft f.type_id outer before turn rest after → new ≡ old → ForOthers target new (λ s bits. IsWholeTurn s (moved_stack bits outer) (moved_frame bits f) (moved_turn bits turn) (moved_stack bits rest) after)
-walk_left target outer f t before turn rest after old new sound known none h same =
+-- the next member, which was looked at
+pub record IsSeen (target : Table) (outer : List Frame) (f : Frame) (t : BtfType) (m : BtfMember) (here : Found) (text : List ℕ) : Type 0 where
+  pub known : type_by_id target f.type_id ≡ Some t
+  pub next : Some m ≡ slice_get (members_of t) f.next
+  pub is : here ≡ here_in outer f t m
+  pub reads : text_at target.strings m.name_offset ≡ Some text
+
+walks-nameless : (target : Table) (noted : List ℕ) (outer : List Frame) (f : Frame) (t : BtfType) (m : BtfMember) (here : Found) (text : List ℕ) (named : NamedMembers) (seen : Look) (turn : Turn) (rest : List Frame) (after : List ℕ) → IsSeen target outer f t m here text → length text ≡ 0 → Ok seen ≡ look_inside target m
+    → IsFollowed target seen here (after_next f) outer noted turn rest after → WalksOn target noted outer f named after rest named turn
+walks-nameless target noted outer f t m here text named seen turn rest after at_m empty look followed =
     record {
-      each = λ local id name bits other.
-          done (searched local id name target) (moved_stack bits outer) (moved_frame bits f) t before (moved_turn bits turn) (moved_stack bits rest) after
-          (sound.each local id name bits (ap (λ (es : Entries). first_of es name) (sym same) ∙ other)) known none (left-moved bits f.type_id outer before turn rest after h);
+      each = λ value walking.
+          stays-so target value noted outer f named turn rest after walking (none-followed target m seen here (after_next f) outer noted turn rest after look followed)
+          (λ local id name bits last go.
+          let s = searched local id name target in
+          nameless-on s bits (value s bits) noted outer f t m last seen here turn rest after go (record { known = at_m.known; here = at_m.next }) (look ∙ sym (look-nameless s m text at_m.reads empty)) look at_m.is followed);
     }
 
-pub turns_of : (target : Table) (new : Entries) (outer : List Frame) (f : Frame) (turn : Turn) (rest : List Frame) (after : List ℕ) → ForOthers target new (λ s bits. IsWholeTurn s (moved_stack bits outer) (moved_frame bits f) (moved_turn bits turn) (moved_stack bits rest) after)
-    → ForOthers target new (IsWalkTurn outer f turn rest)
-turns_of target new outer f turn rest after whole = record { each = λ local id name bits none. (whole.each local id name bits none).0 }
+pub walks-nameless-ok : (r : Result Turn AccessError) (target : Table) (noted : List ℕ) (outer : List Frame) (f : Frame) (t : BtfType) (m : BtfMember) (here : Found) (text : List ℕ) (named : NamedMembers) (seen : Look) (rest : List Frame) (after : List ℕ) → IsSeen target outer f t m here text → length text ≡ 0 → Ok seen ≡ look_inside target m
+    → IfOk r (λ turn. IsFollowed target seen here (after_next f) outer noted turn rest after) → IfOk r (λ turn. WalksOn target noted outer f named after rest named turn)
+walks-nameless-ok (Err e) target noted outer f t m here text named seen rest after at_m empty look followed = tt
+walks-nameless-ok (Ok turn) target noted outer f t m here text named seen rest after at_m empty look followed = walks-nameless target noted outer f t m here text named seen turn rest after at_m empty look followed
 
-pub sound_of : (target : Table) (new : Entries) (outer : List Frame) (f : Frame) (turn : Turn) (rest : List Frame) (after : List ℕ) → ForOthers target new (λ s bits. IsWholeTurn s (moved_stack bits outer) (moved_frame bits f) (moved_turn bits turn) (moved_stack bits rest) after)
-    → ForOthers target new (IsSoundWalkTurn turn after rest)
-sound_of target new outer f turn rest after whole = record { each = λ local id name bits none. (whole.each local id name bits none).1 }
+pub walks-named : (target : Table) (noted : List ℕ) (outer : List Frame) (f : Frame) (t : BtfType) (m : BtfMember) (here : Found) (text : List ℕ) (old new : NamedMembers) → IsSeen target outer f t m here text → length text ≢ 0 → Enters outer (name_hash text) (entered_as m here) old new
+    → WalksOn target noted outer f old noted outer new (turns.On (after_next f))
+walks-named target noted outer f t m here text old new at_m some enters =
+    record { each = λ value walking. walked-named target value noted outer f t m here text old new walking at_m.known at_m.next at_m.is at_m.reads some enters }
+
+pub entered-so : (outer slice : List Frame) (hash : ℕ) (text : List ℕ) (m : NamedMember) (old new : NamedMembers) → slice ≡ outer → hash ≡ name_hash text → Enters slice hash m old new → Enters outer (name_hash text) m old new
+entered-so outer slice hash text m old new same is enters = subst (λ (h : ℕ). Enters outer h m old new) is (subst (λ (fs : List Frame). Enters fs hash m old new) same enters)
 
 -- ---- refusals
 
-pub walk-unknown : (target : Table) (new : Entries) (outer : List Frame) (f : Frame) → type_by_id target f.type_id ≡ None → ForOthers target new (λ s bits. walk_value outer f s bits ≡ Err (TypeError (UnknownBtfType f.type_id)))
-walk-unknown target new outer f none = record { each = λ local id name bits other. refused-unknown (searched local id name target) (moved_stack bits outer) (moved_frame bits f) none }
+fails-unknown : (target : Table) (outer : List Frame) (f : Frame) → type_by_id target f.type_id ≡ None → AllFail target outer f (TypeError (UnknownBtfType f.type_id))
+fails-unknown target outer f none = record { each = λ local id name bits. refused-unknown (searched local id name target) (moved_stack bits outer) (moved_frame bits f) none }
 
-pub walk-failed : (target : Table) (new : Entries) (outer : List Frame) (f : Frame) (t : BtfType) (m : BtfMember) (e : AccessError) → type_by_id target f.type_id ≡ Some t → Some m ≡ slice_get (members_of t) f.next → Err e ≡ pass target m → ForOthers target new (λ s bits. walk_value outer f s bits ≡ Err e)
-walk-failed target new outer f t m e known next failed =
-    record { each = λ local id name bits other. refused-look (searched local id name target) (moved_stack bits outer) (moved_frame bits f) t m e (record { known = known; here = next }) (failed-look local id name target m e failed) }
+fails-look : (target : Table) (outer : List Frame) (f : Frame) (t : BtfType) (m : BtfMember) (e : AccessError) → type_by_id target f.type_id ≡ Some t → Some m ≡ slice_get (members_of t) f.next → ((s : Search) → s.target ≡ target → look_at s m ≡ Err e) → AllFail target outer f e
+fails-look target outer f t m e known next failed =
+    record { each = λ local id name bits. refused-look (searched local id name target) (moved_stack bits outer) (moved_frame bits f) t m e (record { known = known; here = next }) (sym (failed (searched local id name target) refl)) }
 
-pub walk-deep : (target : Table) (outer : List Frame) (f : Frame) (t : BtfType) (m : BtfMember) (seen : Look) (here : Found) (text : List ℕ) (old new : Entries) (e : AccessError) → type_by_id target f.type_id ≡ Some t → Some m ≡ slice_get (members_of t) f.next → text_at target.strings m.name_offset ≡ Some text
-    → EntersName text (entered_as m here) old new → Ok seen ≡ pass target m → IsTooDeep target seen (outer ++ after_next f ∷ []) e → ForOthers target new (λ s bits. walk_value outer f s bits ≡ Err e)
-walk-deep target outer f t m seen here text old new e known next there enters look deep =
+pub unknown-err : {T : Type 0} (r : Result T AccessError) (target : Table) (outer : List Frame) (f : Frame) (e : BtfError) → e ≡ UnknownBtfType f.type_id → type_by_id target f.type_id ≡ None → IsErrAnd r (λ g. g ≡ TypeError e) → IfErr r (λ g. g ≢ TypeError OutOfMemory → AllFail target outer f g)
+unknown-err r target outer f e is none here =
+    passed_on r (TypeError e) (λ g. g ≢ TypeError OutOfMemory → AllFail target outer f g) here (λ _. subst (λ (x : BtfError). AllFail target outer f (TypeError x)) (sym is) (fails-unknown target outer f none))
+
+pub unread-err : {T : Type 0} (r : Result T AccessError) (target : Table) (outer : List Frame) (f : Frame) (t : BtfType) (m : BtfMember) (e : BtfError) → type_by_id target f.type_id ≡ Some t → Some m ≡ slice_get (members_of t) f.next → e ≡ InvalidStringOffset m.name_offset → text_at target.strings m.name_offset ≡ None → IsErrAnd r (λ g. g ≡ TypeError e)
+    → IfErr r (λ g. g ≢ TypeError OutOfMemory → AllFail target outer f g)
+unread-err r target outer f t m e known next is none here =
+    passed_on r (TypeError e) (λ g. g ≢ TypeError OutOfMemory → AllFail target outer f g) here
+    (λ _. fails-look target outer f t m (TypeError e) known next (λ s same. look-unread s m e is (ap (λ (table : Table). text_at table.strings m.name_offset) same ∙ none)))
+
+pub inside-err : {T : Type 0} (r : Result T AccessError) (target : Table) (outer : List Frame) (f : Frame) (t : BtfType) (m : BtfMember) (here : Found) (text : List ℕ) (e : AccessError) → IsSeen target outer f t m here text → length text ≡ 0 → Err e ≡ look_inside target m → IsErrAnd r (λ g. g ≡ e)
+    → IfErr r (λ g. g ≢ TypeError OutOfMemory → AllFail target outer f g)
+inside-err r target outer f t m here text e at_m empty look is =
+    passed_on r e (λ g. g ≢ TypeError OutOfMemory → AllFail target outer f g) is
+    (λ _. fails-look target outer f t m e at_m.known at_m.next (λ s same. look-nameless s m text (ap (λ (table : Table). text_at table.strings m.name_offset) same ∙ at_m.reads) empty ∙ (ap (λ (table : Table). look_inside table m) same ∙ sym look)))
+
+pub deep-err : (r : Result Turn AccessError) (target : Table) (outer : List Frame) (f : Frame) (t : BtfType) (m : BtfMember) (here : Found) (text : List ℕ) (seen : Look) → IsSeen target outer f t m here text → length text ≡ 0 → Ok seen ≡ look_inside target m
+    → IfErr r (λ e. e ≢ TypeError OutOfMemory → IsTooDeep target seen (outer ++ after_next f ∷ []) e) → IfErr r (λ e. e ≢ TypeError OutOfMemory → AllFail target outer f e)
+deep-err (Ok turn) target outer f t m here text seen at_m empty look deep = tt
+deep-err (Err e) target outer f t m here text seen at_m empty look deep = λ other.
     record {
-      each = λ local id name bits none.
-          refused-follow (searched local id name target) (moved_stack bits outer) (moved_frame bits f) t m seen e (record { known = known; here = next })
-          (other-look local id name target m seen text (entered_as m here) old new there enters look none) (deep-moved bits target seen outer (after_next f) e deep);
+      each = λ local id name bits.
+          let s = searched local id name target in
+          refused-follow s (moved_stack bits outer) (moved_frame bits f) t m seen e (record { known = at_m.known; here = at_m.next }) (look ∙ sym (look-nameless s m text at_m.reads empty)) (deep-moved bits target seen outer (after_next f) e (deep other));
     }
 
 -- ---- less work
@@ -131,7 +447,7 @@ left-less target id outer f before turns.Over rest after h = subst (λ (b : List
   empty [] (r ∷ rs) a b = absurd (omega (arith, b))
   empty (o ∷ os) rs a b = absurd (omega (arith, a))
 
-pub followed-less : (target : Table) (outer : List Frame) (f : Frame) (t : BtfType) (m : BtfMember) (seen : Look) (here : Found) (before : List ℕ) (turn : Turn) (rest : List Frame) (after : List ℕ) → type_by_id target f.type_id ≡ Some t → Some m ≡ slice_get (members_of t) f.next
+followed-less : (target : Table) (outer : List Frame) (f : Frame) (t : BtfType) (m : BtfMember) (seen : Look) (here : Found) (before : List ℕ) (turn : Turn) (rest : List Frame) (after : List ℕ) → type_by_id target f.type_id ≡ Some t → Some m ≡ slice_get (members_of t) f.next
     → IsFollowed target seen here (after_next f) outer before turn rest after → found_of turn ≡ None → work target (rest ++ frames_of turn) < work target (outer ++ f ∷ [])
 followed-less target outer f t m GoOn here before turn rest after known next h none = rw (h.0, h.1) (less-advanced target outer f (one_fewer_left target f t m known next))
 followed-less target outer f t m NotHere here before turn rest after known next h none = left-less target f.type_id outer f before turn rest after h
@@ -139,160 +455,100 @@ followed-less target outer f t m Here here before turn rest after known next h n
 followed-less target outer f t m (Inside id) here before turn rest after known next (inl h) none = rw (h.1.0, h.1.1) (less-advanced target outer f (one_fewer_left target f t m known next))
 followed-less target outer f t m (Inside id) here before turn rest after known next (inr h) none = rw (h.0, h.1) (less-entered target outer f (inside id here.bits) h.5 (one_fewer_left target f t m known next) h.6)
 
--- ---- the parts of a turn
-
--- the next member was looked at and entered
-pub record IsSeen (target : Table) (outer : List Frame) (f : Frame) (t : BtfType) (m : BtfMember) (seen : Look) (here : Found) (old new : Entries) : Type 0 where
-  pub known : type_by_id target f.type_id ≡ Some t
-  pub next : Some m ≡ slice_get (members_of t) f.next
-  pub is : here ≡ here_in outer f t m
-  pub enters : IsSomeAnd (text_at target.strings m.name_offset) (λ text. EntersName text (entered_as m here) old new)
-  pub look : Ok seen ≡ pass target m
-
-text_in : (P : List ℕ → Type 0) (o : Option (List ℕ)) → IsSomeAnd o P → (text : List ℕ) × (o ≡ Some text) × P text
-text_in P None h = absurd h
-text_in P (Some text) h = (text, refl, h)
-
-whole : (target : Table) (outer : List Frame) (f : Frame) (t : BtfType) (m : BtfMember) (seen : Look) (here : Found) (before : List ℕ) (turn : Turn) (rest : List Frame) (after : List ℕ) (old new : Entries) → ForOthers target old (IsSoundWalk before outer f) → IsSeen target outer f t m seen here old new
-    → IsFollowed target seen here (after_next f) outer before turn rest after → ForOthers target new (λ s bits. IsWholeTurn s (moved_stack bits outer) (moved_frame bits f) (moved_turn bits turn) (moved_stack bits rest) after)
-whole target outer f t m seen here before turn rest after old new sound at_m h =
-    let text = text_in (λ text. EntersName text (entered_as m here) old new) (text_at target.strings m.name_offset) at_m.enters in
-    walked target outer f t m seen here before turn rest after text.0 old new sound at_m.known at_m.next at_m.is text.1 text.2 at_m.look h
-
-pub seen-more : (target : Table) (outer : List Frame) (f : Frame) (t : BtfType) (m : BtfMember) (seen : Look) (here : Found) (old new : Entries) → IsSeen target outer f t m seen here old new → EntersMore target old new (walk_value outer f)
-seen-more target outer f t m seen here old new at_m =
-    let text = text_in (λ text. EntersName text (entered_as m here) old new) (text_at target.strings m.name_offset) at_m.enters in
-    more-first target outer f t m here text.0 old new at_m.known at_m.next at_m.is text.1 text.2
-
-pub seen-more-ok : {T : Type 0} (r : Result T AccessError) (target : Table) (outer : List Frame) (f : Frame) (t : BtfType) (m : BtfMember) (seen : Look) (here : Found) (old new : Entries) → IsSeen target outer f t m seen here old new → IfOk r (λ _. EntersMore target old new (walk_value outer f))
-seen-more-ok (Err e) target outer f t m seen here old new at_m = tt
-seen-more-ok (Ok x) target outer f t m seen here old new at_m = seen-more target outer f t m seen here old new at_m
-
-pub seen-more-err : {T : Type 0} (r : Result T AccessError) (target : Table) (outer : List Frame) (f : Frame) (t : BtfType) (m : BtfMember) (seen : Look) (here : Found) (old new : Entries) → IsSeen target outer f t m seen here old new → IfErr r (λ e. e ≢ TypeError OutOfMemory → EntersMore target old new (walk_value outer f))
-seen-more-err (Ok x) target outer f t m seen here old new at_m = tt
-seen-more-err (Err e) target outer f t m seen here old new at_m = λ _. seen-more target outer f t m seen here old new at_m
-
-pub seen-turn : (target : Table) (outer : List Frame) (f : Frame) (t : BtfType) (m : BtfMember) (seen : Look) (here : Found) (before : List ℕ) (r : Result Turn AccessError) (rest : List Frame) (after : List ℕ) (old new : Entries) → ForOthers target old (IsSoundWalk before outer f) → IsSeen target outer f t m seen here old new
-    → IfOk r (λ turn. IsFollowed target seen here (after_next f) outer before turn rest after) → IfOk r (λ turn. ForOthers target new (IsWalkTurn outer f turn rest))
-seen-turn target outer f t m seen here before (Err e) rest after old new sound at_m h = tt
-seen-turn target outer f t m seen here before (Ok turn) rest after old new sound at_m h = turns_of target new outer f turn rest after (whole target outer f t m seen here before turn rest after old new sound at_m h)
-
-pub seen-sound : (target : Table) (outer : List Frame) (f : Frame) (t : BtfType) (m : BtfMember) (seen : Look) (here : Found) (before : List ℕ) (r : Result Turn AccessError) (rest : List Frame) (after : List ℕ) (old new : Entries) → ForOthers target old (IsSoundWalk before outer f) → IsSeen target outer f t m seen here old new
-    → IfOk r (λ turn. IsFollowed target seen here (after_next f) outer before turn rest after) → IfOk r (λ turn. ForOthers target new (IsSoundWalkTurn turn after rest))
-seen-sound target outer f t m seen here before (Err e) rest after old new sound at_m h = tt
-seen-sound target outer f t m seen here before (Ok turn) rest after old new sound at_m h = sound_of target new outer f turn rest after (whole target outer f t m seen here before turn rest after old new sound at_m h)
-
-pub seen-less : (target : Table) (outer : List Frame) (f : Frame) (t : BtfType) (m : BtfMember) (seen : Look) (here : Found) (before : List ℕ) (r : Result Turn AccessError) (rest : List Frame) (after : List ℕ) (old new : Entries) → IsSeen target outer f t m seen here old new
+pub followed-less-ok : (target : Table) (outer : List Frame) (f : Frame) (t : BtfType) (m : BtfMember) (seen : Look) (here : Found) (before : List ℕ) (r : Result Turn AccessError) (rest : List Frame) (after : List ℕ) → type_by_id target f.type_id ≡ Some t → Some m ≡ slice_get (members_of t) f.next
     → IfOk r (λ turn. IsFollowed target seen here (after_next f) outer before turn rest after) → IfOk r (λ turn. found_of turn ≡ None → work target (rest ++ frames_of turn) < work target (outer ++ f ∷ []))
-seen-less target outer f t m seen here before (Err e) rest after old new at_m h = tt
-seen-less target outer f t m seen here before (Ok turn) rest after old new at_m h = followed-less target outer f t m seen here before turn rest after at_m.known at_m.next h
+followed-less-ok target outer f t m seen here before (Err e) rest after known next h = tt
+followed-less-ok target outer f t m seen here before (Ok turn) rest after known next h = followed-less target outer f t m seen here before turn rest after known next h
 
-pub seen-deep : (target : Table) (outer : List Frame) (f : Frame) (t : BtfType) (m : BtfMember) (seen : Look) (here : Found) (r : Result Turn AccessError) (old new : Entries) → IsSeen target outer f t m seen here old new
-    → IfErr r (λ e. e ≢ TypeError OutOfMemory → IsTooDeep target seen (outer ++ after_next f ∷ []) e) → IfErr r (λ e. e ≢ TypeError OutOfMemory → ForOthers target new (λ s bits. walk_value outer f s bits ≡ Err e))
-seen-deep target outer f t m seen here (Ok turn) old new at_m h = tt
-seen-deep target outer f t m seen here (Err e) old new at_m h =
-    let text = text_in (λ text. EntersName text (entered_as m here) old new) (text_at target.strings m.name_offset) at_m.enters in
-    λ other. walk-deep target outer f t m seen here text.0 old new e at_m.known at_m.next text.1 text.2 at_m.look (h other)
-
-pub unknown-err : {T : Type 0} (r : Result T AccessError) (target : Table) (new : Entries) (outer : List Frame) (f : Frame) (e : BtfError) → e ≡ UnknownBtfType f.type_id → type_by_id target f.type_id ≡ None → IsErrAnd r (λ g. g ≡ TypeError e)
-    → IfErr r (λ g. g ≢ TypeError OutOfMemory → ForOthers target new (λ s bits. walk_value outer f s bits ≡ Err g))
-unknown-err r target new outer f e is none here =
-    passed_on r (TypeError e) (λ g. g ≢ TypeError OutOfMemory → ForOthers target new (λ s bits. walk_value outer f s bits ≡ Err g)) here
-    (λ _. subst (λ (x : BtfError). ForOthers target new (λ s bits. walk_value outer f s bits ≡ Err (TypeError x))) (sym is) (walk-unknown target new outer f none))
-
-pub failed-err : {T : Type 0} (r : Result T AccessError) (target : Table) (old new : Entries) (outer : List Frame) (f : Frame) (t : BtfType) (m : BtfMember) (e : AccessError) → type_by_id target f.type_id ≡ Some t → Some m ≡ slice_get (members_of t) f.next
-    → (e ≢ TypeError OutOfMemory → (Err e ≡ pass target m) × (new ≡ old)) → IsErrAnd r (λ g. g ≡ e) → IfErr r (λ g. g ≢ TypeError OutOfMemory → ForOthers target new (λ s bits. walk_value outer f s bits ≡ Err g))
-failed-err r target old new outer f t m e known next failed here =
-    passed_on r e (λ g. g ≢ TypeError OutOfMemory → ForOthers target new (λ s bits. walk_value outer f s bits ≡ Err g)) here (λ other. walk-failed target new outer f t m e known next (failed other).0)
-
-pub failed-more : {T : Type 0} (r : Result T AccessError) (target : Table) (old new : Entries) (outer : List Frame) (f : Frame) (m : BtfMember) (e : AccessError) → (e ≢ TypeError OutOfMemory → (Err e ≡ pass target m) × (new ≡ old)) → IsErrAnd r (λ g. g ≡ e)
-    → IfErr r (λ g. g ≢ TypeError OutOfMemory → EntersMore target old new (walk_value outer f))
-failed-more r target old new outer f m e failed here = passed_on r e (λ g. g ≢ TypeError OutOfMemory → EntersMore target old new (walk_value outer f)) here (λ other. nothing-more target old new (walk_value outer f) (failed other).1)
-
--- nothing was entered
-pub same-more-err : {T : Type 0} (r : Result T AccessError) (target : Table) (old : Entries) (outer : List Frame) (f : Frame) → IfErr r (λ g. g ≢ TypeError OutOfMemory → EntersMore target old old (walk_value outer f))
-same-more-err (Ok x) target old outer f = tt
-same-more-err (Err e) target old outer f = λ _. nothing-more target old old (walk_value outer f) refl
+pub named-less : (target : Table) (outer : List Frame) (f : Frame) (t : BtfType) (m : BtfMember) → type_by_id target f.type_id ≡ Some t → Some m ≡ slice_get (members_of t) f.next → work target (outer ++ after_next f ∷ []) < work target (outer ++ f ∷ [])
+named-less target outer f t m known next = less-advanced target outer f (one_fewer_left target f t m known next)
 
 -- ---- the walk
 
-pub record IsWalking (target : Table) (root : ℕ) (noted : List ℕ) (outer : List Frame) (f : Frame) (entries : Entries) : Type 0 where
-  pub first : AreFirst target entries (λ s bits. member_found s root (begun_at bits))
-  pub same : ForOthers target entries (λ s bits. walk_value outer f s bits ≡ member_found s root (begun_at bits))
-  pub sound : ForOthers target entries (IsSoundWalk noted outer f)
+-- what searches give in the struct or union
+abbrev pub value_in : ℕ → Search → Option ℕ → Result (Option Found) AccessError
+value_in root s bits = member_found s root (begun_at bits)
 
-walk_begins : (target : Table) (root : ℕ) (t : BtfType) (noted : List ℕ) (outer : List Frame) (f : Frame) (entries : Entries) → type_by_id target root ≡ Some t → outer ≡ [] → noted ≡ [] → f ≡ inside root (Some 0) → entries ≡ [] → IsWalking target root noted outer f entries
-walk_begins target root t noted outer f entries known none nothing is empty =
-    rw (none, nothing, is, empty) (record {
-      first = record { each = λ local id name bits m there text. absurd cc };
-      same = record { each = λ local id name bits other. (begins (searched local id name target) root (begun_at bits) t [] [] (inside root (begun_at bits)) refl refl refl known).same };
-      sound = record { each = λ local id name bits other. (begins (searched local id name target) root (begun_at bits) t [] [] (inside root (begun_at bits)) refl refl refl known).sound };
-    })
+fresh-answers : (s : Search) (bits : Option ℕ) (value : Result (Option Found) AccessError) (known : Namesakes) (P : Type 0) → known ≡ record { first = None; later = []; is_cut = false } → P → AnswersSo s bits value known P
+fresh-answers s bits value known P is h = subst (λ (k : Namesakes). AnswersSo s bits value k P) (sym is) h
 
-pub walk_starts : (target : Table) (root : ℕ) (noted : List ℕ) (outer : List Frame) (f : Frame) (entries : Entries) → IsSomeAnd (type_by_id target root) (λ _. ⊤) → outer ≡ [] → noted ≡ [] → f ≡ inside root (Some 0) → entries ≡ [] → IsWalking target root noted outer f entries
-walk_starts target root noted outer f entries known none nothing is empty = by (type_by_id target root) refl known where
-  by : (o : Option BtfType) → type_by_id target root ≡ o → IsSomeAnd o (λ _. ⊤) → IsWalking target root noted outer f entries
+walk_begins : (target : Table) (root : ℕ) (t : BtfType) (named : NamedMembers) → type_by_id target root ≡ Some t → AreFresh named → IsWalking target (value_in root) [] [] (inside root (Some 0)) named
+walk_begins target root t named known none = record {
+  fresh = λ hash first. ap (λ (k : Namesakes). k.later) (none.each hash);
+  each = λ local id name bits.
+      let s = searched local id name target in
+      let is = none.each (name_hash name) in
+      let first = begins s root (begun_at bits) t [] [] (inside root (begun_at bits)) refl refl refl known in
+      fresh-answers s bits (value_in root s bits) (namesakes_of named (name_hash name)) _ is
+      (subst (IsGoingOn s bits (value_in root s bits) [] [] (inside root (Some 0))) (sym (ap last_of is)) (record { sound = first.sound; place = sym first.same }));
+}
+
+pub walk_starts : (target : Table) (root : ℕ) (noted : List ℕ) (outer : List Frame) (f : Frame) (named : NamedMembers) → IsSomeAnd (type_by_id target root) (λ _. ⊤) → outer ≡ [] → noted ≡ [] → f ≡ inside root (Some 0) → AreFresh named → IsWalking target (value_in root) noted outer f named
+walk_starts target root noted outer f named known none nothing is fresh = by (type_by_id target root) refl known where
+  by : (o : Option BtfType) → type_by_id target root ≡ o → IsSomeAnd o (λ _. ⊤) → IsWalking target (value_in root) noted outer f named
   by None e h = absurd h
-  by (Some t) e h = walk_begins target root t noted outer f entries e none nothing is empty
+  by (Some t) e h = rw (none, nothing, is) (walk_begins target root t named e fresh)
 
-pub walk_on : (target : Table) (root : ℕ) (noted : List ℕ) (outer : List Frame) (f : Frame) (old : Entries) (turn : Turn) (g : Frame) (rest : List Frame) (after : List ℕ) (new : Entries) → IsWalking target root noted outer f old → EntersMore target old new (walk_value outer f) → turn ≡ turns.On g
-    → ForOthers target new (IsWalkTurn outer f turn rest) → ForOthers target new (IsSoundWalkTurn turn after rest) → IsWalking target root after rest g new
-walk_on target root noted outer f old turn g rest after new walking more is turned_so sound =
-    let turned_on = subst (λ (x : Turn). ForOthers target new (IsWalkTurn outer f x rest)) is turned_so in
-    let sound_on = subst (λ (x : Turn). ForOthers target new (IsSoundWalkTurn x after rest)) is sound in
-    record {
-      first = first-more target old new (walk_value outer f) (λ s bits. member_found s root (begun_at bits)) walking.first walking.same more;
-      same = record { each = λ local id name bits none. (turned_on.each local id name bits none).same refl ∙ walking.same.each local id name bits (still-others target old new (walk_value outer f) name more none) };
-      sound = record { each = λ local id name bits none. sound_on.each local id name bits none };
-    }
+pub walk_on : (target : Table) (root : ℕ) (noted : List ℕ) (outer : List Frame) (f : Frame) (old new : NamedMembers) (turn : Turn) (g : Frame) (rest : List Frame) (after : List ℕ) → IsWalking target (value_in root) noted outer f old → turn ≡ turns.On g → WalksOn target noted outer f old after rest new turn → IsWalking target (value_in root) after rest g new
+walk_on target root noted outer f old new turn g rest after walking is walks = subst (λ (x : Turn). IsWalkTurn target (value_in root) x after rest new) is (walks.each (value_in root) walking)
 
-pub walk_over : (target : Table) (root : ℕ) (noted : List ℕ) (outer : List Frame) (f : Frame) (old : Entries) (turn : Turn) (rest : List Frame) (after : List ℕ) (new : Entries) → IsWalking target root noted outer f old → EntersMore target old new (walk_value outer f)
-    → turn ≡ turns.Over → ForOthers target new (IsWalkTurn outer f turn rest) → ForOthers target new (IsSoundWalkTurn turn after rest) → IsIndex target root new ends.Over
-walk_over target root noted outer f old turn rest after new walking more is turned_so sound =
-    record {
-      first = first-more target old new (walk_value outer f) (λ s bits. member_found s root (begun_at bits)) walking.first walking.same more;
-      others = record {
-        each = λ local id name bits none.
-            ended (searched local id name target) (member_found (searched local id name target) root (begun_at bits)) (moved_stack bits outer ++ moved_frame bits f ∷ []) (moved_turn bits turn) (moved_stack bits rest) after (ap (moved_turn bits) is)
-            (turned_so.each local id name bits none) (sound.each local id name bits none) (walking.same.each local id name bits (still-others target old new (walk_value outer f) name more none));
-      };
-    }
+pub walk_not_found : (target : Table) (root : ℕ) (noted : List ℕ) (outer : List Frame) (f : Frame) (old new : NamedMembers) (turn : Turn) (found : Found) (rest : List Frame) (after : List ℕ) → IsWalking target (value_in root) noted outer f old → turn ≡ turns.Found found → WalksOn target noted outer f old after rest new turn → ⊥
+walk_not_found target root noted outer f old new turn found rest after walking is walks = subst (λ (x : Turn). IsWalkTurn target (value_in root) x after rest new) is (walks.each (value_in root) walking)
 
--- an end that says nothing of the others
-pub walk_unkept : (target : Table) (root : ℕ) (noted : List ℕ) (outer : List Frame) (f : Frame) (old new : Entries) → IsWalking target root noted outer f old → EntersMore target old new (walk_value outer f) → IsIndex target root new ends.NotKept
-walk_unkept target root noted outer f old new walking more =
+over-so : (value : Result (Option Found) AccessError) (first : Option NamedMember) (is_cut : Bool) → IfNotCut first is_cut (value ≡ Ok None) → IfSome (value_after first is_cut ends.Over) (λ answer. value ≡ answer)
+over-so value None is_cut h = h
+over-so value (Some first) true h = tt
+over-so value (Some first) false h = h refl
+
+pub walk_over : (target : Table) (root : ℕ) (noted : List ℕ) (outer : List Frame) (f : Frame) (old new : NamedMembers) (turn : Turn) (rest : List Frame) (after : List ℕ) → IsWalking target (value_in root) noted outer f old → turn ≡ turns.Over → WalksOn target noted outer f old after rest new turn → IsIndex target root new ends.Over
+walk_over target root noted outer f old new turn rest after walking is walks =
+    let over : IsOver target (value_in root) new = subst (λ (x : Turn). IsWalkTurn target (value_in root) x after rest new) is (walks.each (value_in root) walking) in
     record {
-      first = first-more target old new (walk_value outer f) (λ s bits. member_found s root (begun_at bits)) walking.first walking.same more;
-      others = record { each = λ local id name bits none. tt };
+      each = λ local id name bits.
+          let s = searched local id name target in
+          let known = namesakes_of new (name_hash name) in
+          answers-more s bits (value_in root s bits) (all_of known) _ _ (over-so (value_in root s bits) known.first known.is_cut) (over.each local id name bits);
     }
 
 end-by : (o : Option (Result (Option Found) AccessError)) (e : AccessError) (value : Result (Option Found) AccessError) → IfSome o (λ v. v ≡ Err e) → value ≡ Err e → IfSome o (λ v. value ≡ v)
 end-by None e value h is = tt
 end-by (Some v) e value h is = is ∙ sym h
 
-pub walk_fails : (target : Table) (root : ℕ) (noted : List ℕ) (outer : List Frame) (f : Frame) (old new : Entries) (e : AccessError) (walk_end : WalkEnd) → IsWalking target root noted outer f old → EntersMore target old new (walk_value outer f) → ForOthers target new (λ s bits. walk_value outer f s bits ≡ Err e)
-    → IfSome (end_value walk_end) (λ v. v ≡ Err e) → IsIndex target root new walk_end
-walk_fails target root noted outer f old new e walk_end walking more failed ends_so =
-    record {
-      first = first-more target old new (walk_value outer f) (λ s bits. member_found s root (begun_at bits)) walking.first walking.same more;
-      others = record {
-        each = λ local id name bits none.
-            end-by (end_value walk_end) e (member_found (searched local id name target) root (begun_at bits)) ends_so
-            (sym (walking.same.each local id name bits (still-others target old new (walk_value outer f) name more none)) ∙ failed.each local id name bits none);
-      };
-    }
+not-over : (walk_end : WalkEnd) (e : AccessError) (value : Result (Option Found) AccessError) → IfSome (end_value walk_end) (λ v. v ≡ Err e) → IfSome (value_over walk_end) (λ v. value ≡ v)
+not-over ends.Over e value h = absurd (let no : Ok None ≡ Err e = h in cc)
+not-over ends.NestedTooDeep e value h = tt
+not-over (ends.UnreadableName offset) e value h = tt
+not-over (ends.UnknownType id) e value h = tt
+not-over (ends.LongChain id) e value h = tt
+not-over ends.NotKept e value h = tt
 
-pub unknown_index : (target : Table) (root : ℕ) (entries : Entries) → type_by_id target root ≡ None → entries ≡ [] → IsIndex target root entries (ends.UnknownType root)
-unknown_index target root entries none empty =
-    rw empty (record {
-      first = record { each = λ local id name bits m there text. absurd cc };
-      others = record { each = λ local id name bits other. unknown-root (searched local id name target) root (begun_at bits) none };
+failed-so : (s : Search) (bits : Option ℕ) (value : Result (Option Found) AccessError) (noted : List ℕ) (outer : List Frame) (f : Frame) (first : Option NamedMember) (later : List NamedMember) (is_cut : Bool) (walk_end : WalkEnd) (e : AccessError) → IfSome (end_value walk_end) (λ v. v ≡ Err e) → walk_value outer f s bits ≡ Err e
+    → IfNotCut first is_cut (IsGoingOn s bits value noted outer f (last_from first later)) → IfSome (value_after first is_cut walk_end) (λ answer. value ≡ answer)
+failed-so s bits value noted outer f None later is_cut walk_end e ends_so failed go = end-by (end_value walk_end) e value ends_so (go.place ∙ failed)
+failed-so s bits value noted outer f (Some first) later true walk_end e ends_so failed go = tt
+failed-so s bits value noted outer f (Some first) later false walk_end e ends_so failed go = not-over walk_end e value ends_so
+
+walk_fails : (target : Table) (root : ℕ) (noted : List ℕ) (outer : List Frame) (f : Frame) (old new : NamedMembers) (e : AccessError) (walk_end : WalkEnd) → IsWalking target (value_in root) noted outer f old → new ≡ old → AllFail target outer f e → IfSome (end_value walk_end) (λ v. v ≡ Err e) → IsIndex target root new walk_end
+walk_fails target root noted outer f old new e walk_end walking same failed ends_so =
+    subst (λ (n : NamedMembers). IsIndex target root n walk_end) (sym same) (record {
+      each = λ local id name bits.
+          let s = searched local id name target in
+          let known = namesakes_of old (name_hash name) in
+          answers-more s bits (value_in root s bits) (all_of known) _ _ (failed-so s bits (value_in root s bits) noted outer f known.first known.later known.is_cut walk_end e ends_so (failed.each local id name bits)) (walking.each local id name bits);
     })
 
-pub walk_failed : {E : Type 0} (r : Result WalkEnd E) (target : Table) (root : ℕ) (noted : List ℕ) (outer : List Frame) (f : Frame) (old new : Entries) (e : AccessError) → IsWalking target root noted outer f old → (e ≢ TypeError OutOfMemory → EntersMore target old new (walk_value outer f))
-    → (e ≢ TypeError OutOfMemory → ForOthers target new (λ s bits. walk_value outer f s bits ≡ Err e)) → IfOk r (λ _. e ≢ TypeError OutOfMemory) → IfOk r (λ walk_end. IfSome (end_value walk_end) (λ v. v ≡ Err e)) → IfOk r (λ walk_end. IsIndex target root new walk_end)
-walk_failed (Err x) target root noted outer f old new e walking more failed other ends_so = tt
-walk_failed (Ok walk_end) target root noted outer f old new e walking more failed other ends_so = walk_fails target root noted outer f old new e walk_end walking (more other) (failed other) ends_so
+pub walk_failed : {E : Type 0} (r : Result WalkEnd E) (target : Table) (root : ℕ) (noted : List ℕ) (outer : List Frame) (f : Frame) (old new : NamedMembers) (e : AccessError) → IsWalking target (value_in root) noted outer f old → (e ≢ TypeError OutOfMemory → new ≡ old) → (e ≢ TypeError OutOfMemory → AllFail target outer f e)
+    → IfOk r (λ _. e ≢ TypeError OutOfMemory) → IfOk r (λ walk_end. IfSome (end_value walk_end) (λ v. v ≡ Err e)) → IfOk r (λ walk_end. IsIndex target root new walk_end)
+walk_failed (Err x) target root noted outer f old new e walking same failed other ends_so = tt
+walk_failed (Ok walk_end) target root noted outer f old new e walking same failed other ends_so = walk_fails target root noted outer f old new e walk_end walking (same other) (failed other) ends_so
+
+pub unknown_index : (target : Table) (root : ℕ) (named : NamedMembers) → type_by_id target root ≡ None → AreFresh named → IsIndex target root named (ends.UnknownType root)
+unknown_index target root named none fresh =
+    record {
+      each = λ local id name bits.
+          let s = searched local id name target in
+          subst (λ (k : Namesakes). IsAnswered s bits (value_in root s bits) k (ends.UnknownType root)) (sym (fresh.each (name_hash name))) (unknown-root s root (begun_at bits) none);
+    }
 
 pub where_refused : {T E : Type 0} (r : Result T E) (A : T → Type 0) (B : E → Type 0) (Q : Type 0) → MatchResult r A B → is_err r ≡ true → ((e : E) → B e → Q) → Q
 where_refused (Ok x) A B Q h is go = absurd cc

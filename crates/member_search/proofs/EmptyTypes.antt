@@ -41,10 +41,10 @@ or_else : (b c : Bool) → cond b true c ≡ false → c ≡ false
 or_else true c e = absurd cc
 or_else false c e = e
 
-noted-self : (before after : List ℕ) (id : ℕ) → NotesOne before after id → is_noted after id ≡ true
+pub noted-self : (before after : List ℕ) (id : ℕ) → NotesOne before after id → is_noted after id ≡ true
 noted-self before after id h = h.each id ∙ rw (self id) refl
 
-noted-kept : (before after : List ℕ) (id k : ℕ) → NotesOne before after id → is_noted before k ≡ true → is_noted after k ≡ true
+pub noted-kept : (before after : List ℕ) (id k : ℕ) → NotesOne before after id → is_noted before k ≡ true → is_noted after k ≡ true
 noted-kept before after id k h e = h.each k ∙ by (k == id) (is_noted before k) e where
   by : (b c : Bool) → c ≡ true → cond b true c ≡ true
   by true c e = refl

@@ -9,6 +9,7 @@ pub mod Members
 pub mod Moved
 pub mod Nesting
 pub mod Passed
+pub mod Places
 pub mod Rests
 pub mod SearchesAlike
 pub mod Skipped

@@ -14,11 +14,13 @@ use Rattle.btf_records.specs.declared.error.BtfError.{BtfError}
 use Rattle.btf_records.specs.declared.item.BtfMember.{BtfMember}
 use Rattle.btf_records.specs.declared.types.BtfType.{BtfType}
 use Rattle.btf_tables.specs.Tables.{Table, type_by_id}
+use Rattle.string_table.specs.NameHashes.{name_hash}
 use Rattle.string_table.specs.Texts.{text_at}
 use Rattle.member_search.specs.EmptyTypes.{is_noted}
-use Rattle.member_search.specs.Indexes.{IsIndex, begun_at, end_value, first_of}
+use Rattle.member_search.specs.Indexes.{IsAnswered, IsIndex, begun_at, end_value}
 use Rattle.member_search.specs.Looks.{look_at_type, look_by_name, look_inside, searched}
 use Rattle.member_search.specs.MemberTypes.{AreListed, AreMemberTypes, AreUnlike, FindsNothing, HasAllTypes, IsListed, IsListedAs, IsWalkedOver, LeadsToKnown, types_of_name}
+use Rattle.member_search.specs.Namesakes.{first_at, namesakes_of}
 use Rattle.member_search.specs.Searches.{by_look, found_in, is_among, member_found, member_here, members_found, or_next}
 use Rattle.member_search.specs.declared.look.Look.{Look}
 use Rattle.member_search.specs.declared.look.Look.TheVariants.{GoOn, Here, Inside, NotHere}
@@ -27,6 +29,7 @@ use Rattle.member_search.specs.declared.member_index.WalkEnd.{WalkEnd}
 use Rattle.member_search.specs.declared.member_index.WalkEnd.TheVariants as ends_of
 use Rattle.member_search.specs.declared.member_types.MemberTypes.{MemberTypes}
 use Rattle.member_search.specs.declared.search.Found.{Found}
+use Rattle.member_search.proofs.Answered.{unlisted}
 
 abbrev Finds : Type 0
 Finds = ℕ → Option ℕ → Result (Option Found) AccessError
@@ -114,10 +117,12 @@ not_there None found is absent = refl
 not_there (Some x) true is absent = absurd cc
 not_there (Some x) false is absent = absurd cc
 
-pub walked_over : (target : Table) (root : ℕ) (i : MemberIndex) → IsIndex target root i.by_hash.entries i.walk_end → i.walk_end ≡ ends_of.Over → first_of i.by_hash.entries [] ≡ None → IsWalkedOver target root
+pub walked_over : (target : Table) (root : ℕ) (i : MemberIndex) → IsIndex target root i.named i.walk_end → i.walk_end ≡ ends_of.Over → first_at i.named (name_hash []) ≡ None → IsWalkedOver target root
 walked_over target root i index over none = record {
   each = λ local id. record {
-    each = λ bits. subst (λ (end : WalkEnd). IfSome (end_value end) (λ value. member_found (searched local id [] target) root (begun_at bits) ≡ value)) over (index.others.each local id [] bits none);
+    each = λ bits.
+        subst (λ (end : WalkEnd). IfSome (end_value end) (λ value. member_found (searched local id [] target) root (begun_at bits) ≡ value)) over
+        (unlisted (searched local id [] target) bits (member_found (searched local id [] target) root (begun_at bits)) (namesakes_of i.named (name_hash [])) i.walk_end none (index.each local id [] bits));
   };
 }
 

@@ -1,48 +1,21 @@
--- A walk over all members of a struct or union, at which the first of each name is entered in an
--- index.
-use Rattle.std.specs.Prelude.{◌≡◌, ℕ, List, [], ◌∷◌, cond, map, Option, None, Some, Result, Ok}
-use Rattle.std.specs.BTreeMap.{is_at}
-use Rattle.std.specs.Ordering.{nat_cmp}
-use Rattle.access_paths.specs.Lookups.{with_text}
+-- A walk over all members of a struct or union, at which those that have names are listed.
+use Rattle.std.specs.Prelude.{◌≡◌, ◌+◌, ◌++◌, ◌⊎◌, ℕ, Bool, true, false, List, [], ◌∷◌, map, take, Option, None, Some, Result, Ok, Err, slice_get}
 use Rattle.access_paths.specs.declared.error.AccessError.{AccessError}
-use Rattle.btf_compatibility.specs.FieldCompatibility.{fields_compatible}
-use Rattle.btf_records.specs.declared.item.BtfMember.{BtfMember}
-use Rattle.btf_tables.specs.Tables.{Table}
+use Rattle.btf_records.specs.Fields.{members_of}
+use Rattle.btf_records.specs.declared.types.BtfType.{BtfType}
+use Rattle.btf_tables.specs.Tables.{Table, type_by_id}
 use Rattle.string_table.specs.NameHashes.{name_hash}
-use Rattle.string_table.specs.Texts.{text_at}
-use Rattle.member_search.specs.Indexes.{Decides, entry_of, first_of, moved, rebased}
-use Rattle.member_search.specs.Looks.{Search, look_inside, searched}
-use Rattle.member_search.specs.declared.look.Look.{Look}
-use Rattle.member_search.specs.declared.look.Look.TheVariants.{GoOn}
-use Rattle.member_search.specs.declared.member_index.FirstMember.{FirstMember}
+use Rattle.member_search.specs.EmptyTypes.{is_noted}
+use Rattle.member_search.specs.Indexes.{Answers, moved, rebased}
+use Rattle.member_search.specs.Looks.{Search, searched}
+use Rattle.member_search.specs.Namesakes.{Namesakes, all_of, last_of, namesakes_of}
+use Rattle.member_search.specs.Stacks.{AreSearched, IsSound, opened, stack_value}
+use Rattle.member_search.specs.declared.named_members.NamedMember.{NamedMember}
+use Rattle.member_search.specs.declared.named_members.NamedMembers.{NamedMembers}
 use Rattle.member_search.specs.declared.search.Found.{Found}
 use Rattle.member_search.specs.declared.turn.Frame.{Frame}
 use Rattle.member_search.specs.declared.turn.Turn.{Turn}
 use Rattle.member_search.specs.declared.turn.Turn.TheVariants as turns
-
--- a walk passes all members that have names
-abbrev pub pass_by_name : Table → BtfMember → List ℕ → Result Look AccessError
-pass_by_name target m [] = look_inside target m
-pass_by_name target m (b ∷ bs) = Ok GoOn
-
-abbrev pub pass : Table → BtfMember → Result Look AccessError
-pass target m = with_text target m.name_offset (pass_by_name target m)
-
--- the first of a hash stays
-pub record EntersFirst (hash : ℕ) (m : FirstMember) (old new : List (ℕ × FirstMember))
-    : Type 0 where
-  pub known : (first : FirstMember) → entry_of old hash ≡ Some first → new ≡ old
-  pub added : entry_of old hash ≡ None
-      → (other : ℕ)
-      → entry_of new other ≡ cond (is_at (nat_cmp hash) other) (Some m) (entry_of old other)
-
-abbrev pub EntersName : List ℕ
-    → FirstMember
-    → List (ℕ × FirstMember)
-    → List (ℕ × FirstMember)
-    → Type 0
-EntersName [] m old new = new ≡ old
-EntersName (b ∷ bs) m old new = EntersFirst (name_hash (b ∷ bs)) m old new
 
 -- where the struct or union in which the walk begins at its first bit begins at these
 abbrev pub moved_frame : Option ℕ → Frame → Frame
@@ -56,15 +29,101 @@ moved_turn bits (turns.Found found) = turns.Found (moved bits found)
 moved_turn bits (turns.On f) = turns.On (moved_frame bits f)
 moved_turn bits turns.Over = turns.Over
 
--- entries that are there stay, and new ones are the first members of their names, where searches
--- give these values
-pub record EntersMore (target : Table) (old new : List (ℕ × FirstMember))
-    (value : Search → Option ℕ → Result (Option Found) AccessError) : Type 0 where
-  pub stay : (name : List ℕ) (m : FirstMember)
-      → first_of old name ≡ Some m
-      → first_of new name ≡ Some m
-  pub first : (local : Table) (id : ℕ) (name : List ℕ) (bits : Option ℕ) (m : FirstMember)
-      → first_of old name ≡ None → first_of new name ≡ Some m
-      → text_at target.strings m.name_offset ≡ Some name
-      → Decides (fields_compatible local id target m.found.type_id) (moved bits m.found)
+-- what the stack of a walk gives in a search
+abbrev pub walk_value : List Frame → Frame → Search → Option ℕ → Result (Option Found) AccessError
+walk_value outer f s bits = stack_value s (moved_stack bits outer ++ moved_frame bits f ∷ [])
+
+-- a search ends in the struct or union of this id, and has found nothing
+pub record IsSearched (s : Search) (holds_nothing : ℕ → Bool) (id : ℕ) : Type 0 where
+  pub members : (t : BtfType)
+      → type_by_id s.target id ≡ Some t
+      → AreSearched s holds_nothing (members_of t)
+
+-- the walk is in the struct or union of a member which a search has left there: it goes on in those
+-- around that
+pub record IsWithin (s : Search) (bits : Option ℕ) (value : Result (Option Found) AccessError)
+    (noted : List ℕ) (outer : List Frame) (f : Frame) (last : Found) : Type 0 where
+  pub around : ℕ
+  pub parts : last.parts ≡ around + 1
+  pub here : slice_get (opened outer f) around ≡ Some last.place.type_id
+  pub gives : value ≡ stack_value s (moved_stack bits (take around outer))
+  pub left : IsSearched s (is_noted noted) last.place.type_id
+
+-- or has left it too
+pub record IsPast (s : Search) (bits : Option ℕ) (value : Result (Option Found) AccessError)
+    (noted : List ℕ) (outer : List Frame) (f : Frame) (last : Found) : Type 0 where
+  pub noted_so : is_noted noted last.place.type_id ≡ true
+  pub gives : value ≡ walk_value outer f s bits
+
+-- a search has found the listed members to be incompatible
+abbrev pub IsAfter : Search
+    → Option ℕ
+    → Result (Option Found) AccessError
+    → List ℕ
+    → List Frame
+    → Frame
+    → Option NamedMember
+    → Type 0
+IsAfter s bits value noted outer f None = value ≡ walk_value outer f s bits
+IsAfter s bits value noted outer f (Some m) =
+    IsWithin s bits value noted outer f m.found ⊎ IsPast s bits value noted outer f m.found
+
+pub record IsGoingOn (s : Search) (bits : Option ℕ) (value : Result (Option Found) AccessError)
+    (noted : List ℕ) (outer : List Frame) (f : Frame) (last : Option NamedMember) : Type 0 where
+  pub sound : IsSound s noted (moved_stack bits outer) (moved_frame bits f)
+  pub place : IsAfter s bits value noted outer f last
+
+-- what holds after the listed members, if they aren't cut
+abbrev pub IfNotCut : Option NamedMember → Bool → Type 0 → Type 0
+IfNotCut None is_cut Rest = Rest
+IfNotCut (Some first) is_cut Rest = is_cut ≡ false → Rest
+
+abbrev pub AnswersSo : Search → Option ℕ → Result (Option Found) AccessError → Namesakes → Type 0 → Type 0
+AnswersSo s bits value known Rest =
+    Answers s bits value (all_of known) (IfNotCut known.first known.is_cut Rest)
+
+-- what holds between turns of a walk, where searches give these values in all
+pub record IsWalking (target : Table) (value : Search → Option ℕ → Result (Option Found) AccessError)
+    (noted : List ℕ) (outer : List Frame) (f : Frame) (named : NamedMembers) : Type 0 where
+  pub fresh : (hash : ℕ) → (namesakes_of named hash).first ≡ None
+      → (namesakes_of named hash).later ≡ []
+  pub each : (local : Table) (id : ℕ) (name : List ℕ) (bits : Option ℕ)
+      → AnswersSo (searched local id name target) bits
       (value (searched local id name target) bits)
+      (namesakes_of named (name_hash name))
+      (IsGoingOn (searched local id name target) bits
+      (value (searched local id name target) bits)
+      noted outer f (last_of (namesakes_of named (name_hash name))))
+
+-- after the last one
+pub record IsOver (target : Table) (value : Search → Option ℕ → Result (Option Found) AccessError)
+    (named : NamedMembers) : Type 0 where
+  pub each : (local : Table) (id : ℕ) (name : List ℕ) (bits : Option ℕ)
+      → AnswersSo (searched local id name target) bits
+      (value (searched local id name target) bits)
+      (namesakes_of named (name_hash name))
+      (value (searched local id name target) bits ≡ Ok None)
+
+abbrev pub IsWalkTurn : Table
+    → (Search → Option ℕ → Result (Option Found) AccessError)
+    → Turn
+    → List ℕ
+    → List Frame
+    → NamedMembers
+    → Type 0
+IsWalkTurn target value (turns.Found found) noted outer named = ⊥
+IsWalkTurn target value (turns.On f) noted outer named = IsWalking target value noted outer f named
+IsWalkTurn target value turns.Over noted outer named = IsOver target value named
+
+-- what a turn of a walk makes of what held before
+pub record WalksOn (target : Table) (noted : List ℕ) (outer : List Frame) (f : Frame)
+    (named : NamedMembers) (after : List ℕ) (around : List Frame) (listed : NamedMembers)
+    (turn : Turn) : Type 0 where
+  pub each : (value : Search → Option ℕ → Result (Option Found) AccessError)
+      → IsWalking target value noted outer f named
+      → IsWalkTurn target value turn after around listed
+
+-- each search fails that comes to here
+pub record AllFail (target : Table) (outer : List Frame) (f : Frame) (e : AccessError) : Type 0 where
+  pub each : (local : Table) (id : ℕ) (name : List ℕ) (bits : Option ℕ)
+      → walk_value outer f (searched local id name target) bits ≡ Err e

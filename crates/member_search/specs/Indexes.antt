@@ -1,9 +1,6 @@
 -- An index of the members of a struct or union by hashes of their names, and of those of members
 -- without names.
-use Rattle.std.specs.Prelude.{◌≡◌, ℕ, Bool, true, false, List, Option, None, Some, IfSome, Result, Ok, Err}
-use Rattle.std.specs.BTreeMap.{is_at}
-use Rattle.std.specs.Map.{lookup}
-use Rattle.std.specs.Ordering.{nat_cmp}
+use Rattle.std.specs.Prelude.{◌≡◌, ◌==◌, ℕ, Bool, true, false, List, [], ◌∷◌, Option, None, Some, IfSome, Result, Ok, Err, if◌then◌else◌}
 use Rattle.access_paths.specs.FieldPaths.{bits_after}
 use Rattle.access_paths.specs.declared.error.AccessError.{AccessError}
 use Rattle.access_paths.specs.declared.error.AccessError.TheVariants.{BtfError as TypeError, MaximumNestingLevelReached}
@@ -14,19 +11,13 @@ use Rattle.btf_tables.specs.Tables.{Table}
 use Rattle.string_table.specs.NameHashes.{name_hash}
 use Rattle.string_table.specs.Texts.{text_at}
 use Rattle.member_search.specs.Looks.{Search, searched}
+use Rattle.member_search.specs.Namesakes.{Namesakes, all_of, namesakes_of}
 use Rattle.member_search.specs.Searches.{member_found}
-use Rattle.member_search.specs.declared.member_index.FirstMember.{FirstMember}
 use Rattle.member_search.specs.declared.member_index.WalkEnd.{WalkEnd}
 use Rattle.member_search.specs.declared.member_index.WalkEnd.TheVariants as ends
+use Rattle.member_search.specs.declared.named_members.NamedMember.{NamedMember}
+use Rattle.member_search.specs.declared.named_members.NamedMembers.{NamedMembers}
 use Rattle.member_search.specs.declared.search.Found.{Found}
-
--- the first member of a hash
-abbrev pub entry_of : List (ℕ × FirstMember) → ℕ → Option FirstMember
-entry_of entries hash = lookup (is_at (nat_cmp hash)) entries
-
--- the first member of the hash of a name
-abbrev pub first_of : List (ℕ × FirstMember) → List ℕ → Option FirstMember
-first_of entries name = entry_of entries (name_hash name)
 
 -- bits that lie after the first one of a struct or union, where that begins at these
 abbrev pub rebased : Option ℕ → Option ℕ → Option ℕ
@@ -39,28 +30,32 @@ moved bits found = record found { bits = rebased bits found.bits }
 abbrev pub begun_at : Option ℕ → Option ℕ
 begun_at bits = rebased bits (Some 0)
 
--- what holds for each search for a name whose hash isn't there, where the struct or union begins at
--- any bits
-pub record ForOthers (target : Table) (entries : List (ℕ × FirstMember))
-    (Holds : Search → Option ℕ → Type 0) : Type 0 where
-  pub each : (local : Table) (id : ℕ) (name : List ℕ) (bits : Option ℕ)
-      → first_of entries name ≡ None
-      → Holds (searched local id name target) bits
+-- what a member of the name answers, by the comparison with its type: inside of a member without a
+-- name, one that isn't compatible doesn't decide
+abbrev pub verdict_of : Result Bool BtfError → Found → Option (Result (Option Found) AccessError)
+verdict_of (Ok true) found = Some (Ok (Some found))
+verdict_of (Ok false) found = if found.parts == 1 then Some (Ok None) else None
+verdict_of (Err e) found = Some (Err (TypeError e))
 
--- what the first member of a name makes of a search, by the comparison with its type: inside of a
--- member without a name, one that isn't compatible doesn't decide
-abbrev pub Decides : Result Bool BtfError → Found → Result (Option Found) AccessError → Type 0
-Decides (Ok true) found value = value ≡ Ok (Some found)
-Decides (Ok false) found value = found.parts ≡ 1 → value ≡ Ok None
-Decides (Err e) found value = value ≡ Err (TypeError e)
+abbrev pub verdict : Search → Option ℕ → NamedMember → Option (Result (Option Found) AccessError)
+verdict s bits m =
+    verdict_of (fields_compatible s.local s.type_id s.target m.found.type_id) (moved bits m.found)
 
--- the entries are the first members of their names, where searches give these values
-pub record AreFirst (target : Table) (entries : List (ℕ × FirstMember))
-    (value : Search → Option ℕ → Result (Option Found) AccessError) : Type 0 where
-  pub each : (local : Table) (id : ℕ) (name : List ℕ) (bits : Option ℕ) (m : FirstMember)
-      → first_of entries name ≡ Some m → text_at target.strings m.name_offset ≡ Some name
-      → Decides (fields_compatible local id target m.found.type_id) (moved bits m.found)
-      (value (searched local id name target) bits)
+-- a search gives this answer, or else the rest holds
+abbrev pub GivesOr : Option (Result (Option Found) AccessError)
+    → Result (Option Found) AccessError
+    → Type 0
+    → Type 0
+GivesOr (Some answer) value Rest = value ≡ answer
+GivesOr None value Rest = Rest
+
+-- what a search gives whose name the members have, in order: the first that answers decides. Where
+-- none does, the rest holds, and where one has another name, nothing is said
+abbrev pub Answers : Search → Option ℕ → Result (Option Found) AccessError → List NamedMember → Type 0 → Type 0
+Answers s bits value [] Rest = Rest
+Answers s bits value (m ∷ ms) Rest =
+    text_at s.target.strings m.name_offset ≡ Some s.name
+    → GivesOr (verdict s bits m) value (Answers s bits value ms Rest)
 
 -- what a search gives that comes to the end; where that isn't kept, nothing is said
 abbrev pub end_value : WalkEnd → Option (Result (Option Found) AccessError)
@@ -71,9 +66,30 @@ end_value (ends.UnknownType id) = Some (Err (TypeError (UnknownBtfType id)))
 end_value (ends.LongChain id) = Some (Err (TypeError (MaximumTypeDepthReached id)))
 end_value ends.NotKept = None
 
--- an index of the members of the struct or union of this id
-pub record IsIndex (target : Table) (root : ℕ) (entries : List (ℕ × FirstMember))
-    (walk_end : WalkEnd) : Type 0 where
-  pub first : AreFirst target entries (λ s bits. member_found s root (begun_at bits))
-  pub others : ForOthers target entries (λ s bits.
-      IfSome (end_value walk_end) (λ value. member_found s root (begun_at bits) ≡ value))
+-- what one gives that finds all listed members to be incompatible. It left structs and unions after
+-- them, so that it gives what the walk does only where that is nothing
+abbrev pub value_over : WalkEnd → Option (Result (Option Found) AccessError)
+value_over ends.Over = Some (Ok None)
+value_over _ = None
+
+abbrev pub value_past : Bool → WalkEnd → Option (Result (Option Found) AccessError)
+value_past true walk_end = None
+value_past false walk_end = value_over walk_end
+
+abbrev pub value_after : Option NamedMember → Bool → WalkEnd → Option (Result (Option Found) AccessError)
+value_after None is_cut walk_end = end_value walk_end
+value_after (Some first) is_cut walk_end = value_past is_cut walk_end
+
+-- an index answers a search for a name by the members of its hash
+abbrev pub IsAnswered : Search → Option ℕ → Result (Option Found) AccessError → Namesakes → WalkEnd → Type 0
+IsAnswered s bits value known walk_end =
+    Answers s bits value (all_of known)
+    (IfSome (value_after known.first known.is_cut walk_end) (λ answer. value ≡ answer))
+
+-- an index of the members of the struct or union of this id, where that begins at any bits
+pub record IsIndex (target : Table) (root : ℕ) (named : NamedMembers) (walk_end : WalkEnd)
+    : Type 0 where
+  pub each : (local : Table) (id : ℕ) (name : List ℕ) (bits : Option ℕ)
+      → IsAnswered (searched local id name target) bits
+      (member_found (searched local id name target) root (begun_at bits))
+      (namesakes_of named (name_hash name)) walk_end

@@ -5,6 +5,7 @@ pub mod Indexes
 pub mod Laws
 pub mod Looks
 pub mod MemberTypes
+pub mod Namesakes
 pub mod OwnNames
 pub mod Searches
 pub mod Stacks

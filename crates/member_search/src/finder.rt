@@ -5,14 +5,14 @@ ghost use Rattle.access_paths.specs.declared.error.AccessError.TheVariants.{BtfE
 ghost use Rattle.btf_records.specs.declared.error.BtfError.TheVariants.{OutOfMemory};
 ghost use Rattle.member_search.specs.Looks.{searched};
 ghost use Rattle.member_search.specs.Searches.{member_found};
-ghost use Rattle.btf_compatibility.specs.FieldCompatibility.{fields_compatible};
 ghost use Rattle.string_table.specs.Texts.{text_at};
-ghost use Rattle.member_search.specs.Finders.{DecidesAs};
-ghost use Rattle.member_search.specs.Indexes.{begun_at, moved};
+ghost use Rattle.member_search.specs.Finders.{AnswersAs};
+ghost use Rattle.member_search.specs.Indexes.{begun_at, end_value, moved, verdict};
 ghost use Rattle.member_search.specs.MemberTypes.{FindsNothing, IsWalkedOver};
 
-use crate::member_index::{FirstMember, MemberIndex, WalkEnd};
+use crate::member_index::{MemberIndex, WalkEnd};
 use crate::member_types::MemberTypes;
+use crate::named_members::NamedMember;
 use crate::own_names::OwnNames;
 use crate::search::Found;
 use access_paths::{AccessError, bits_after};
@@ -126,36 +126,57 @@ impl<'t> MemberFinder<'t> {
             return Ok(());
         }
         let index = MemberIndex::collect(self.target, root)?;
-        self.indexed = self.indexed.saturating_add(index.by_hash.len());
+        self.indexed = self.indexed.saturating_add(index.named.len());
         self.indexes.insert(root, index)?;
         Ok(())
     }
 
-    /// What the first member of a hash answers, if that is the one of this name and decides.
-    fn answer_of(
+    /// What a listed member answers, if that is one of this name; `None` inside where it doesn't
+    /// decide.
+    fn verdict(
         &self,
         local: &Btf<'t>,
         type_id: u32,
         name: &str,
-        first: FirstMember,
+        member: NamedMember,
         bits: Option<u32>,
-    ) -> Option<Result<Option<Found>, AccessError>>
+    ) -> Option<Option<Result<Option<Found>, AccessError>>>
         ensures text { IfSome result (λ _.
-            text_at self.now.strings first.name_offset ≡ Some name.now) }
-        ensures decided { IfSome result
-            (DecidesAs (fields_compatible local.now type_id self.now first.found.type_id)
-            (moved bits first.found)) }
+            text_at self.now.strings member.name_offset ≡ Some name.now) }
+        ensures verdict { IfSome result (λ answer.
+            verdict (searched local.now type_id name.now self.now) bits member ≡ answer) }
     {
-        match self.target.string_at(first.name_offset) {
+        match self.target.string_at(member.name_offset) {
             Ok(text) if text == name => {}
             _ => return None,
         }
-        match fields_are_compatible(local, type_id, self.target, first.found.type_id) {
-            Ok(true) => Some(Ok(Some(moved(first.found, bits)))),
-            Ok(false) if first.found.parts == 1 => Some(Ok(None)),
-            Ok(false) => None,
-            Err(error) => Some(Err(AccessError::BtfError(error))),
+        match fields_are_compatible(local, type_id, self.target, member.found.type_id) {
+            Ok(true) => Some(Some(Ok(Some(moved(member.found, bits))))),
+            Ok(false) if member.found.parts == 1 => Some(Some(Ok(None))),
+            Ok(false) => Some(None),
+            Err(error) => Some(Some(Err(AccessError::BtfError(error)))),
         }
+    }
+
+    /// What members of a hash after the first answer, if they decide, and else the end of the walk.
+    fn later_answer(
+        &self,
+        local: &Btf<'t>,
+        type_id: u32,
+        name: &str,
+        later: &[NamedMember],
+        end: WalkEnd,
+        bits: Option<u32>,
+    ) -> Option<Result<Option<Found>, AccessError>>
+        ensures { AnswersAs (searched local.now type_id name.now self.now) bits later.now
+            (end_value end) result }
+    {
+        for member in later {
+            if let Some(answer) = self.verdict(local, type_id, name, *member, bits)? {
+                return Some(answer);
+            }
+        }
+        end.value()
     }
 
     /// What the index of a struct or union answers, if it has one that decides.
@@ -172,9 +193,17 @@ impl<'t> MemberFinder<'t> {
     {
         let index = self.indexes.get(&root)?;
         let bits = begun_at(bits);
-        match index.by_hash.get(&name_hash(name)) {
-            Some(first) => self.answer_of(local, type_id, name, *first, bits),
-            None => index.walk_end.value(),
+        let hash = name_hash(name);
+        let Some(first) = index.named.first.get(&hash) else {
+            return index.walk_end.value();
+        };
+        if let Some(answer) = self.verdict(local, type_id, name, *first, bits)? {
+            return Some(answer);
+        }
+        let end = index.end_past(hash);
+        match index.named.later.get(&hash) {
+            Some(later) => self.later_answer(local, type_id, name, later.as_slice(), end, bits),
+            None => end.value(),
         }
     }
 
@@ -187,7 +216,7 @@ impl<'t> MemberFinder<'t> {
             return false;
         };
         match index.walk_end {
-            WalkEnd::Over => !index.by_hash.contains_key(&name_hash("")),
+            WalkEnd::Over => !index.named.first.contains_key(&name_hash("")),
             _ => false,
         }
     }

@@ -9,6 +9,7 @@ mod laws;
 mod look;
 mod member_index;
 mod member_types;
+mod named_members;
 mod own_names;
 mod search;
 mod turn;

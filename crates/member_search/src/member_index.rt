@@ -1,24 +1,16 @@
 //! An index of the members of a struct or union by hashes of their names.
 
-ghost use Rattle.std.specs.Prelude.{◌≡◌, ◌≢◌, IfOk, IfSome, OnOk, Err};
+ghost use Rattle.std.specs.Prelude.{◌≡◌, ◌≢◌, IfOk, IfSome, Err};
 ghost use Rattle.access_paths.specs.declared.error.AccessError.TheVariants.{BtfError as TypeError};
 ghost use Rattle.btf_records.specs.declared.error.BtfError.TheVariants.{OutOfMemory};
-ghost use Rattle.member_search.specs.Collecting.{EntersFirst};
-ghost use Rattle.member_search.specs.Indexes.{end_value};
+ghost use Rattle.member_search.specs.Indexes.{end_value, value_past};
+ghost use Rattle.member_search.specs.Namesakes.{is_cut_at};
 
+use crate::named_members::NamedMembers;
 use crate::search::Found;
 use access_paths::AccessError;
 use btf_records::BtfError;
 use std::alloc::AllocError;
-use std::collections::BTreeMap;
-
-/// The first member of a hash in a struct or union that begins at bit 0.
-#[derive(Clone, Copy, Debug)]
-pub(crate) struct FirstMember {
-    /// Where its name stands in the strings.
-    pub(crate) name_offset: u32,
-    pub(crate) found: Found,
-}
 
 /// How a walk over all members ends.
 #[derive(Clone, Copy, Debug)]
@@ -37,26 +29,24 @@ pub(crate) enum WalkEnd {
     NotKept,
 }
 
-/// The first members of their hashes in a struct or union, and how the walk over it ended.
+/// The members that have names in a struct or union, and how the walk over it ended.
 #[derive(Debug, Drop)]
 pub(crate) struct MemberIndex {
-    pub(crate) by_hash: BTreeMap<u64, FirstMember>,
+    pub(crate) named: NamedMembers,
     pub(crate) walk_end: WalkEnd,
 }
 
-/// Enters a member, if there is none of its hash.
-pub(crate) fn enter_first(
-    by_hash: &mut BTreeMap<u64, FirstMember>,
-    hash: u64,
-    member: FirstMember,
-) -> Result<(), AllocError>
-    ensures { OnOk result (EntersFirst hash member by_hash.old.entries by_hash.new.entries) }
-{
-    if by_hash.contains_key(&hash) {
-        return Ok(());
+impl MemberIndex {
+    /// How a walk ends for a search that has found all listed members of a hash to be incompatible.
+    /// It has left structs and unions after them, in which the walk may have failed.
+    pub(crate) fn end_past(&self, hash: u64) -> WalkEnd
+        ensures { end_value result ≡ value_past (is_cut_at self.now.named hash) self.now.walk_end }
+    {
+        match self.walk_end {
+            WalkEnd::Over if !self.named.cut.contains(&hash) => WalkEnd::Over,
+            _ => WalkEnd::NotKept,
+        }
     }
-    by_hash.insert(hash, member)?;
-    Ok(())
 }
 
 /// The end of a walk that fails with an error.

@@ -1,105 +1,74 @@
 use Rattle.std.proofs.Common.{◌≡◌, ◌+◌, length, arith, refl}
 use Rattle.std.proofs.lemmas.Grind.{common_steps}
-use Rattle.member_search.proofs.Collected.{IsSeen, failed-err, failed-more, left-less, same-more-err, seen-deep, seen-less, seen-more-err, seen-more-ok, seen-sound, seen-turn, sound_of, turns_of, unknown-err, walk_left}
+use Rattle.member_search.proofs.Collected.{IsSeen, deep-err, entered-so, followed-less-ok, inside-err, is-empty, left-less, named-less, not-empty, unknown-err, unread-err, walks-left, walks-named, walks-nameless-ok}
 use Rattle.member_search.proofs.Followed.{same-member}
 use Rattle.member_search.proofs.collect.collecting_turn.Goals as goal
 
-pub returns-in_err-t-clause-refused_more : goal.returns-in_err-t-clause-refused_more
-returns-in_err-t-clause-refused_more c = same-more-err _ c.args.target.now c.args.by_hash.now.entries c.args.memory.now.outer.items c.args.frame
-
 pub returns-in_err-t-clause-refused : goal.returns-in_err-t-clause-refused
-returns-in_err-t-clause-refused c =
-    unknown-err _ c.args.target.now c.args.by_hash.now.entries c.args.memory.now.outer.items c.args.frame c.in_err-t.field-0.0 c.in_err-t.ensures.0 c.in_err-t.ensures.1 c.from_residual.ensures.1
+returns-in_err-t-clause-refused c = unknown-err _ c.args.target.now c.args.memory.now.outer.items c.args.frame c.in_err-t.field-0.0 c.in_err-t.ensures.0 c.in_err-t.ensures.1 c.from_residual.ensures.1
 
-pub returns-in_default-clause-turn : goal.returns-in_default-clause-turn
-returns-in_default-clause-turn c =
-    turns_of c.args.target.now _ c.args.memory.now.outer.items c.args.frame c.in_ok-turn.turn _ _
-    (walk_left c.args.target.now c.args.memory.now.outer.items c.args.frame c.in_ok-t.t c.args.memory.now.nothing c.in_ok-turn.turn _ _ _ _ c.requires c.in_ok-t.ensures c.in_default.ensures.value c.in_ok-turn.ensures refl)
-
-pub returns-in_default-clause-sound : goal.returns-in_default-clause-sound
-returns-in_default-clause-sound c =
-    sound_of c.args.target.now _ c.args.memory.now.outer.items c.args.frame c.in_ok-turn.turn _ _
-    (walk_left c.args.target.now c.args.memory.now.outer.items c.args.frame c.in_ok-t.t c.args.memory.now.nothing c.in_ok-turn.turn _ _ _ _ c.requires c.in_ok-t.ensures c.in_default.ensures.value c.in_ok-turn.ensures refl)
+pub returns-in_default-clause-walks : goal.returns-in_default-clause-walks
+returns-in_default-clause-walks c = walks-left c.args.target.now c.args.memory.now.nothing c.args.memory.now.outer.items c.args.frame c.in_ok-t.t c.args.named.now c.in_ok-turn.turn _ _ c.in_ok-t.ensures c.in_default.ensures.value c.in_ok-turn.ensures
 
 pub returns-in_default-clause-smaller : goal.returns-in_default-clause-smaller
 returns-in_default-clause-smaller c = λ _. left-less c.args.target.now c.args.frame.type_id c.args.memory.now.outer.items c.args.frame c.args.memory.now.nothing c.in_ok-turn.turn _ _ c.in_ok-turn.ensures
 
-pub returns-in_err-seen-clause-refused_more : goal.returns-in_err-seen-clause-refused_more
-returns-in_err-seen-clause-refused_more c =
-    failed-more _ c.args.target.now c.args.by_hash.now.entries _ c.args.memory.now.outer.items c.args.frame c.in-Some.member c.in_err-seen.field-0.0 c.in_err-seen.ensures.refused c.from_residual-in_err-seen.ensures.1
+pub returns-in_err-name-clause-refused : goal.returns-in_err-name-clause-refused
+returns-in_err-name-clause-refused c =
+    unread-err _ c.args.target.now c.args.memory.now.outer.items c.args.frame c.in_ok-t.t c.in-Some.member c.in_err-name.field-0.0 c.in_ok-t.ensures c.in-Some.ensures.value c.in_err-name.ensures.0 c.in_err-name.ensures.1 c.from_residual-in_err-name.ensures.1
 
 pub returns-in_err-seen-clause-refused : goal.returns-in_err-seen-clause-refused
 returns-in_err-seen-clause-refused c =
-    failed-err _ c.args.target.now c.args.by_hash.now.entries _ c.args.memory.now.outer.items c.args.frame c.in_ok-t.t c.in-Some.member c.in_err-seen.field-0.0 c.in_ok-t.ensures c.in-Some.ensures.value c.in_err-seen.ensures.refused c.from_residual-in_err-seen.ensures.1
-
-pub returns-clause-more : goal.returns-clause-more
-returns-clause-more c =
     let depth : c.len.result + 1 ≡ length c.args.memory.now.outer.items + 1 = grind (arith, common_steps, c.len.ensures) in
-    let seen : IsSeen c.args.target.now c.args.memory.now.outer.items c.args.frame c.in_ok-t.t c.in-Some.member c.in_ok-seen.seen _ c.args.by_hash.now.entries _ = record {
+    let at_m : IsSeen c.args.target.now c.args.memory.now.outer.items c.args.frame c.in_ok-t.t c.in-Some.member c.member_here-here.result c.in_ok-name.name.now = record {
       known = c.in_ok-t.ensures;
       next = c.in-Some.ensures.value;
       is = same-member c.args.memory.now.outer.items c.args.frame c.in_ok-t.t c.in-Some.member _ _ c.member_here-here.ensures depth;
-      enters = c.in_ok-seen.ensures.entered;
-      look = c.in_ok-seen.ensures.seen;
+      reads = c.in_ok-name.ensures;
     } in
-    seen-more-ok _ c.args.target.now c.args.memory.now.outer.items c.args.frame c.in_ok-t.t c.in-Some.member c.in_ok-seen.seen _ _ _ seen
+    let empty = is-empty c.in_ok-name.name.now c.is_empty.result c.is_empty.ensures c.if-is_empty.true in
+    inside-err _ c.args.target.now c.args.memory.now.outer.items c.args.frame c.in_ok-t.t c.in-Some.member c.member_here-here.result c.in_ok-name.name.now c.in_err-seen.field-0.0 at_m empty c.in_err-seen.ensures.value c.from_residual-in_err-seen.ensures.1
 
-pub returns-clause-refused_more : goal.returns-clause-refused_more
-returns-clause-refused_more c =
+pub returns-then-is_empty-clause-walks : goal.returns-then-is_empty-clause-walks
+returns-then-is_empty-clause-walks c =
     let depth : c.len.result + 1 ≡ length c.args.memory.now.outer.items + 1 = grind (arith, common_steps, c.len.ensures) in
-    let seen : IsSeen c.args.target.now c.args.memory.now.outer.items c.args.frame c.in_ok-t.t c.in-Some.member c.in_ok-seen.seen _ c.args.by_hash.now.entries _ = record {
+    let at_m : IsSeen c.args.target.now c.args.memory.now.outer.items c.args.frame c.in_ok-t.t c.in-Some.member c.member_here-here.result c.in_ok-name.name.now = record {
       known = c.in_ok-t.ensures;
       next = c.in-Some.ensures.value;
       is = same-member c.args.memory.now.outer.items c.args.frame c.in_ok-t.t c.in-Some.member _ _ c.member_here-here.ensures depth;
-      enters = c.in_ok-seen.ensures.entered;
-      look = c.in_ok-seen.ensures.seen;
+      reads = c.in_ok-name.ensures;
     } in
-    seen-more-err _ c.args.target.now c.args.memory.now.outer.items c.args.frame c.in_ok-t.t c.in-Some.member c.in_ok-seen.seen _ _ _ seen
+    let empty = is-empty c.in_ok-name.name.now c.is_empty.result c.is_empty.ensures c.if-is_empty.true in
+    walks-nameless-ok _ c.args.target.now c.args.memory.now.nothing c.args.memory.now.outer.items c.args.frame c.in_ok-t.t c.in-Some.member c.member_here-here.result c.in_ok-name.name.now c.args.named.now c.in_ok-seen.seen _ _ at_m empty c.in_ok-seen.ensures.value c.follow.ensures.over
 
-pub returns-clause-turn : goal.returns-clause-turn
-returns-clause-turn c =
+pub returns-then-is_empty-clause-smaller : goal.returns-then-is_empty-clause-smaller
+returns-then-is_empty-clause-smaller c =
+    followed-less-ok c.args.target.now c.args.memory.now.outer.items c.args.frame c.in_ok-t.t c.in-Some.member c.in_ok-seen.seen _ c.args.memory.now.nothing _ _ _ c.in_ok-t.ensures c.in-Some.ensures.value c.follow.ensures.over
+
+pub returns-then-is_empty-clause-refused : goal.returns-then-is_empty-clause-refused
+returns-then-is_empty-clause-refused c =
     let depth : c.len.result + 1 ≡ length c.args.memory.now.outer.items + 1 = grind (arith, common_steps, c.len.ensures) in
-    let seen : IsSeen c.args.target.now c.args.memory.now.outer.items c.args.frame c.in_ok-t.t c.in-Some.member c.in_ok-seen.seen _ c.args.by_hash.now.entries _ = record {
+    let at_m : IsSeen c.args.target.now c.args.memory.now.outer.items c.args.frame c.in_ok-t.t c.in-Some.member c.member_here-here.result c.in_ok-name.name.now = record {
       known = c.in_ok-t.ensures;
       next = c.in-Some.ensures.value;
       is = same-member c.args.memory.now.outer.items c.args.frame c.in_ok-t.t c.in-Some.member _ _ c.member_here-here.ensures depth;
-      enters = c.in_ok-seen.ensures.entered;
-      look = c.in_ok-seen.ensures.seen;
+      reads = c.in_ok-name.ensures;
     } in
-    seen-turn c.args.target.now c.args.memory.now.outer.items c.args.frame c.in_ok-t.t c.in-Some.member c.in_ok-seen.seen _ c.args.memory.now.nothing _ _ _ _ _ c.requires seen c.follow.ensures.over
+    let empty = is-empty c.in_ok-name.name.now c.is_empty.result c.is_empty.ensures c.if-is_empty.true in
+    deep-err _ c.args.target.now c.args.memory.now.outer.items c.args.frame c.in_ok-t.t c.in-Some.member c.member_here-here.result c.in_ok-name.name.now c.in_ok-seen.seen at_m empty c.in_ok-seen.ensures.value c.follow.ensures.refused
 
-pub returns-clause-sound : goal.returns-clause-sound
-returns-clause-sound c =
+pub returns-clause-walks : goal.returns-clause-walks
+returns-clause-walks c =
     let depth : c.len.result + 1 ≡ length c.args.memory.now.outer.items + 1 = grind (arith, common_steps, c.len.ensures) in
-    let seen : IsSeen c.args.target.now c.args.memory.now.outer.items c.args.frame c.in_ok-t.t c.in-Some.member c.in_ok-seen.seen _ c.args.by_hash.now.entries _ = record {
+    let at_m : IsSeen c.args.target.now c.args.memory.now.outer.items c.args.frame c.in_ok-t.t c.in-Some.member c.member_here-here.result c.in_ok-name.name.now = record {
       known = c.in_ok-t.ensures;
       next = c.in-Some.ensures.value;
       is = same-member c.args.memory.now.outer.items c.args.frame c.in_ok-t.t c.in-Some.member _ _ c.member_here-here.ensures depth;
-      enters = c.in_ok-seen.ensures.entered;
-      look = c.in_ok-seen.ensures.seen;
+      reads = c.in_ok-name.ensures;
     } in
-    seen-sound c.args.target.now c.args.memory.now.outer.items c.args.frame c.in_ok-t.t c.in-Some.member c.in_ok-seen.seen _ c.args.memory.now.nothing _ _ _ _ _ c.requires seen c.follow.ensures.over
+    let some = not-empty c.in_ok-name.name.now c.is_empty.result c.is_empty.ensures c.if-is_empty.false in
+    walks-named c.args.target.now c.args.memory.now.nothing c.args.memory.now.outer.items c.args.frame c.in_ok-t.t c.in-Some.member c.member_here-here.result c.in_ok-name.name.now c.args.named.now _ at_m some
+    (entered-so c.args.memory.now.outer.items c.as_slice.result.now c.name_hash.result c.in_ok-name.name.now _ c.args.named.now _ c.as_slice.ensures.value c.name_hash.ensures c.in_ok-enter.ensures)
 
 pub returns-clause-smaller : goal.returns-clause-smaller
-returns-clause-smaller c =
-    let depth : c.len.result + 1 ≡ length c.args.memory.now.outer.items + 1 = grind (arith, common_steps, c.len.ensures) in
-    let seen : IsSeen c.args.target.now c.args.memory.now.outer.items c.args.frame c.in_ok-t.t c.in-Some.member c.in_ok-seen.seen _ c.args.by_hash.now.entries _ = record {
-      known = c.in_ok-t.ensures;
-      next = c.in-Some.ensures.value;
-      is = same-member c.args.memory.now.outer.items c.args.frame c.in_ok-t.t c.in-Some.member _ _ c.member_here-here.ensures depth;
-      enters = c.in_ok-seen.ensures.entered;
-      look = c.in_ok-seen.ensures.seen;
-    } in
-    seen-less c.args.target.now c.args.memory.now.outer.items c.args.frame c.in_ok-t.t c.in-Some.member c.in_ok-seen.seen _ c.args.memory.now.nothing _ _ _ _ _ seen c.follow.ensures.over
-
-pub returns-clause-refused : goal.returns-clause-refused
-returns-clause-refused c =
-    let depth : c.len.result + 1 ≡ length c.args.memory.now.outer.items + 1 = grind (arith, common_steps, c.len.ensures) in
-    let seen : IsSeen c.args.target.now c.args.memory.now.outer.items c.args.frame c.in_ok-t.t c.in-Some.member c.in_ok-seen.seen _ c.args.by_hash.now.entries _ = record {
-      known = c.in_ok-t.ensures;
-      next = c.in-Some.ensures.value;
-      is = same-member c.args.memory.now.outer.items c.args.frame c.in_ok-t.t c.in-Some.member _ _ c.member_here-here.ensures depth;
-      enters = c.in_ok-seen.ensures.entered;
-      look = c.in_ok-seen.ensures.seen;
-    } in
-    seen-deep c.args.target.now c.args.memory.now.outer.items c.args.frame c.in_ok-t.t c.in-Some.member c.in_ok-seen.seen _ _ _ _ seen c.follow.ensures.refused
+returns-clause-smaller c = λ _. named-less c.args.target.now c.args.memory.now.outer.items c.args.frame c.in_ok-t.t c.in-Some.member c.in_ok-t.ensures c.in-Some.ensures.value
