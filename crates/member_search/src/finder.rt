@@ -33,6 +33,10 @@ const MOST_INDEXED: usize = 1_000_000;
 /// A type that is listed takes the memory of as many members of an index.
 const LISTED: usize = 4;
 
+/// No more members of a name than this are compared one after the other before the types of all are
+/// listed, which may have few.
+const FEW: usize = 32;
+
 /// Searches for members in the structs and unions of one table. The members of one that is searched
 /// often are indexed; where that doesn't decide, their types are listed.
 #[derive(Debug, Drop)]
@@ -179,7 +183,8 @@ impl<'t> MemberFinder<'t> {
         end.value()
     }
 
-    /// What the index of a struct or union answers, if it has one that decides.
+    /// What the index of a struct or union answers, if it has one that decides, and no more than
+    /// `most` members after the first have to be compared.
     fn answer(
         &self,
         local: &Btf<'t>,
@@ -187,6 +192,7 @@ impl<'t> MemberFinder<'t> {
         name: &str,
         root: u32,
         bits: Option<u32>,
+        most: usize,
     ) -> Option<Result<Option<Found>, AccessError>>
         ensures { IfSome result (λ answer.
             member_found (searched local.now type_id name.now self.now) root bits ≡ answer) }
@@ -202,6 +208,7 @@ impl<'t> MemberFinder<'t> {
         }
         let end = index.end_past(hash);
         match index.named.later.get(&hash) {
+            Some(later) if later.len() > most => None,
             Some(later) => self.later_answer(local, type_id, name, later.as_slice(), end, bits),
             None => end.value(),
         }
@@ -279,11 +286,14 @@ impl<'t> MemberFinder<'t> {
     {
         self.count_search(root)?;
         let bits = begun_at(bits);
-        if let Some(answer) = self.answer(local, type_id, name, root, bits) {
+        if let Some(answer) = self.answer(local, type_id, name, root, bits, FEW) {
             return answer;
         }
         if self.are_unlike(local, type_id, name, root)? {
             return Ok(None);
+        }
+        if let Some(answer) = self.answer(local, type_id, name, root, bits, usize::MAX) {
+            return answer;
         }
         self.names.find(local, type_id, name, root, bits)
     }

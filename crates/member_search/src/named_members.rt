@@ -8,6 +8,9 @@ use crate::turn::Frame;
 use std::alloc::{AllocError, Global};
 use std::collections::{BTreeMap, BTreeSet};
 
+/// One of the later members of a hash may take the memory of as many first ones.
+const LATER: usize = 4;
+
 /// A member that has a name, in a struct or union that begins at bit 0.
 #[derive(Clone, Copy, Debug)]
 pub(crate) struct NamedMember {
@@ -25,7 +28,7 @@ pub(crate) struct NamedMembers {
     pub(crate) later: BTreeMap<u64, Vec<NamedMember>>,
     /// The hashes of which not all such members are known.
     pub(crate) cut: BTreeSet<u64>,
-    /// How many members are listed.
+    /// How many first members would take as much memory.
     count: usize,
 }
 
@@ -60,7 +63,7 @@ impl NamedMembers {
         }
     }
 
-    /// How many members are listed.
+    /// How many members are listed; one that isn't the first of its hash counts for several.
     pub(crate) fn len(&self) -> usize {
         self.count
     }
@@ -83,7 +86,7 @@ impl NamedMembers {
         ensures { OnOk result (AddsLater hash member self.old self.new) }
     {
         self.later.entry(hash)?.or_default().push(member)?;
-        self.count = self.count.saturating_add(1);
+        self.count = self.count.saturating_add(LATER);
         Ok(())
     }
 

@@ -33,8 +33,8 @@ returns-in-Some-2 c =
     at_bits s c.args.root c.args.bits begun (Some c.in-Some-2.answer) c.begun_at-bits.ensures.value c.begun_at-bits.ensures.same
     (first_gives s begun value known i.walk_end c.in-Some.first.now (Some c.in-Some-2.answer) answered (sym c.in-Some.ensures.value) c.in_ok-answer.ensures.text (c.in_ok-answer.ensures.verdict ∙ c.in-Some-2.is))
 
-pub returns-in-Some-get : goal.returns-in-Some-get
-returns-in-Some-get c =
+pub returns-in-Some-2-get : goal.returns-in-Some-2-get
+returns-in-Some-2-get c =
     let target = c.args.self.now in
     let i = c.in_ok-index.index.now in
     let s = searched c.args.local.now c.args.type_id c.args.name.now target in
