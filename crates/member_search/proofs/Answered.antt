@@ -1,14 +1,13 @@
 -- What indexes answer.
-use Rattle.std.proofs.Common.{◌≡◌, ℕ, suc, ◌+◌, ◌≤◌, Bool, true, false, cond, List, [], ◌∷◌, drop, length, None, Some, Option, Result, refl, sym, ap, subst, ◌∙◌, arith, add-one}
+use Rattle.std.proofs.Common.{◌≡◌, ℕ, Bool, true, false, cond, List, [], ◌∷◌, drop, None, Some, Option, Result, refl, sym, ap, subst, ◌∙◌, arith}
 use Rattle.std.proofs.lemmas.Bool.Decides.{nat_tests}
 use Rattle.std.proofs.lemmas.Grind.{common_steps}
-use Rattle.std.proofs.lemmas.List.{drop_all}
 use Rattle.std.specs.BTreeMap.{is_at}
 use Rattle.std.specs.Map.{lookup}
 use Rattle.std.specs.Ordering.{nat_cmp}
 use Rattle.std.specs.declared.alloc.Global.{Global}
 use Rattle.std.specs.Option.{option_map_or}
-use Rattle.std.specs.Prelude.{IfSome, Vec, slice_get}
+use Rattle.std.specs.Prelude.{IfSome, Vec}
 use Rattle.string_table.specs.NameHashes.{name_hash}
 use Rattle.string_table.specs.Texts.{text_at}
 use Rattle.access_paths.specs.declared.error.AccessError.{AccessError}
@@ -23,7 +22,6 @@ use Rattle.member_search.specs.declared.member_index.WalkEnd.{WalkEnd}
 use Rattle.member_search.specs.declared.named_members.NamedMember.{NamedMember}
 use Rattle.member_search.specs.declared.named_members.NamedMembers.{NamedMembers}
 use Rattle.member_search.specs.declared.search.Found.{Found}
-use Rattle.member_search.proofs.Rests.{drop-at}
 
 pub no_indexes : (target : Table) → AreIndexes target []
 no_indexes target = record { each = λ root. tt }
@@ -55,36 +53,8 @@ index_known target there indexes root i are same is =
 pub record LeavesLater (s : Search) (bits : Option ℕ) (members : List NamedMember) (index : ℕ) (end : Option (Result (Option Found) AccessError)) : Type 0 where
   pub each : (value : Result (Option Found) AccessError) → Answers s bits value members (IfSome end (λ v. value ≡ v)) → Answers s bits value (drop index members) (IfSome end (λ v. value ≡ v))
 
-pub all_later : (s : Search) (bits : Option ℕ) (members : List NamedMember) (end : Option (Result (Option Found) AccessError)) → LeavesLater s bits members 0 end
-all_later s bits members end = record { each = λ value a. a }
-
 given : (s : Search) (bits : Option ℕ) (m : NamedMember) (ms : List NamedMember) (value : Result (Option Found) AccessError) (P : Type 0) (o : Option (Result (Option Found) AccessError)) → text_at s.target.strings m.name_offset ≡ Some s.name → verdict s bits m ≡ o → Answers s bits value (m ∷ ms) P → GivesOr o value (Answers s bits value ms P)
 given s bits m ms value P o text is a = subst (λ (x : Option (Result (Option Found) AccessError)). GivesOr x value (Answers s bits value ms P)) is (a text)
-
-pub one_later : (s : Search) (bits : Option ℕ) (members : List NamedMember) (index : ℕ) (m : NamedMember) (end : Option (Result (Option Found) AccessError)) → LeavesLater s bits members index end → slice_get members index ≡ Some m → text_at s.target.strings m.name_offset ≡ Some s.name → verdict s bits m ≡ None → LeavesLater s bits members (index + 1) end
-one_later s bits members index m end leaves here text none =
-    record {
-      each = λ value a.
-          let now = leaves.each value a in
-          let split : Answers s bits value (m ∷ drop (suc index) members) (IfSome end (λ v. value ≡ v)) = subst (λ (ms : List NamedMember). Answers s bits value ms (IfSome end (λ v. value ≡ v))) (drop-at members index m (sym here)) now in
-          rw add-one (given s bits m (drop (suc index) members) value _ None text none split);
-    }
-
-pub one_answers : (s : Search) (bits : Option ℕ) (members : List NamedMember) (index : ℕ) (m : NamedMember) (end : Option (Result (Option Found) AccessError)) (answer : Result (Option Found) AccessError) → LeavesLater s bits members index end → slice_get members index ≡ Some m → text_at s.target.strings m.name_offset ≡ Some s.name → verdict s bits m ≡ Some answer
-    → AnswersAs s bits members end (Some answer)
-one_answers s bits members index m end answer leaves here text is =
-    record {
-      each = λ value a.
-          let split : Answers s bits value (m ∷ drop (suc index) members) (IfSome end (λ v. value ≡ v)) = subst (λ (ms : List NamedMember). Answers s bits value ms (IfSome end (λ v. value ≡ v))) (drop-at members index m (sym here)) (leaves.each value a) in
-          given s bits m (drop (suc index) members) value _ (Some answer) text is split;
-    }
-
--- none decides
-pub none_answers : (s : Search) (bits : Option ℕ) (members : List NamedMember) (index : ℕ) (end : Option (Result (Option Found) AccessError)) → LeavesLater s bits members index end → length members ≤ index → AnswersAs s bits members end end
-none_answers s bits members index end leaves past = record { each = λ value a. subst (λ (ms : List NamedMember). Answers s bits value ms (IfSome end (λ v. value ≡ v))) (drop_all index members past) (leaves.each value a) }
-
-pub none_known : (s : Search) (bits : Option ℕ) (members : List NamedMember) (end : Option (Result (Option Found) AccessError)) → AnswersAs s bits members end None
-none_known s bits members end = record { each = λ value a. tt }
 
 -- ---- the first, and the others
 

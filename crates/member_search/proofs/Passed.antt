@@ -1,6 +1,6 @@
 -- Members that are passed.
 use Rattle.std.proofs.Common.{◌≡◌, ℕ, zero, suc, ◌+◌, ◌⊎◌, inl, inr, Bool, true, List, [], ◌∷◌, None, Some, Ok, Err, Option, Result, refl, sym, subst, add-one}
-use Rattle.std.specs.Prelude.{⊤, slice_get}
+use Rattle.std.specs.Prelude.{slice_get}
 use Rattle.access_paths.specs.Lookups.{and_then}
 use Rattle.access_paths.specs.declared.error.AccessError.{AccessError}
 use Rattle.btf_records.specs.Fields.{members_of}

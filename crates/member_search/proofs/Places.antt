@@ -1,5 +1,5 @@
 -- Where a walk is, to a member that a search has found to be incompatible.
-use Rattle.std.proofs.Common.{◌≡◌, ◌≢◌, ℕ, zero, suc, ◌+◌, ◌-◌, ◌<◌, ◌≤◌, ◌⊎◌, inl, inr, Bool, true, false, List, [], ◌∷◌, ◌++◌, length, take, map, None, Some, Ok, Err, Option, Result, refl, sym, ap, subst, ◌∙◌, arith}
+use Rattle.std.proofs.Common.{◌≡◌, ℕ, zero, suc, ◌+◌, ◌-◌, ◌<◌, ◌⊎◌, inl, inr, Bool, true, false, List, [], ◌∷◌, ◌++◌, length, take, None, Some, Option, Result, refl, sym, ap, subst, ◌∙◌, arith}
 use Rattle.std.proofs.lemmas.Bool.Decides.{nat_tests}
 use Rattle.std.proofs.lemmas.Grind.{common_steps}
 use Rattle.std.proofs.lemmas.List.{take-append-le, take_all}
@@ -8,14 +8,11 @@ use Rattle.std.specs.Prelude.{◌==◌, ◌&&◌, slice_get}
 use Rattle.std.specs.Option.{option_map, option_map_or}
 use Rattle.access_paths.specs.declared.error.AccessError.{AccessError}
 use Rattle.btf_records.specs.Fields.{members_of}
-use Rattle.btf_records.specs.declared.types.BtfType.{BtfType}
-use Rattle.btf_tables.specs.Tables.{type_by_id}
-use Rattle.member_search.specs.Collecting.{IsAfter, IsPast, IsSearched, IsWithin, moved_frame, moved_stack, walk_value}
+use Rattle.member_search.specs.Collecting.{IsPast, IsSearched, IsWithin, moved_stack}
 use Rattle.member_search.specs.EmptyTypes.{AreApart, NotesOne, is_noted}
 use Rattle.member_search.specs.Looks.{Search}
 use Rattle.member_search.specs.Namesakes.{is_around, is_same_struct}
 use Rattle.member_search.specs.Stacks.{ids, opened, stack_value}
-use Rattle.member_search.specs.declared.named_members.NamedMember.{NamedMember}
 use Rattle.member_search.specs.declared.search.Found.{Found}
 use Rattle.member_search.specs.declared.turn.Frame.{Frame}
 use Rattle.member_search.proofs.EmptyTypes.{noted-kept, noted-self}

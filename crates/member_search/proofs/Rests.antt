@@ -21,7 +21,7 @@ drop-past [] (suc n) e = refl
 drop-past (x ∷ xs) zero e = absurd cc
 drop-past (x ∷ xs) (suc n) e = drop-past xs n e
 
-pub drop-at : {A : Type 0} (xs : List A) (n : ℕ) (x : A) → Some x ≡ slice_get xs n → drop n xs ≡ x ∷ drop (suc n) xs
+drop-at : {A : Type 0} (xs : List A) (n : ℕ) (x : A) → Some x ≡ slice_get xs n → drop n xs ≡ x ∷ drop (suc n) xs
 drop-at [] n x e = absurd cc
 drop-at (y ∷ xs) zero x e = let same : x ≡ y = cc in rw same refl
 drop-at (y ∷ xs) (suc n) x e = drop-at xs n x e

@@ -17,7 +17,7 @@ use Rattle.btf_tables.specs.Tables.{Table, type_by_id}
 use Rattle.string_table.specs.NameHashes.{name_hash}
 use Rattle.string_table.specs.Texts.{text_at}
 use Rattle.member_search.specs.EmptyTypes.{is_noted}
-use Rattle.member_search.specs.Indexes.{IsAnswered, IsIndex, begun_at, end_value}
+use Rattle.member_search.specs.Indexes.{IsIndex, begun_at, end_value}
 use Rattle.member_search.specs.Looks.{look_at_type, look_by_name, look_inside, searched}
 use Rattle.member_search.specs.MemberTypes.{AreListed, AreMemberTypes, AreUnlike, FindsNothing, HasAllTypes, IsListed, IsListedAs, IsWalkedOver, LeadsToKnown, types_of_name}
 use Rattle.member_search.specs.Namesakes.{first_at, namesakes_of}

@@ -1,4 +1,4 @@
-use Rattle.std.proofs.Common.{◌≡◌, ◌+◌, length, arith, refl}
+use Rattle.std.proofs.Common.{◌≡◌, ◌+◌, length, arith}
 use Rattle.std.proofs.lemmas.Grind.{common_steps}
 use Rattle.member_search.proofs.Collected.{IsSeen, deep-err, entered-so, followed-less-ok, inside-err, is-empty, left-less, named-less, not-empty, unknown-err, unread-err, walks-left, walks-named, walks-nameless-ok}
 use Rattle.member_search.proofs.Followed.{same-member}

@@ -1,4 +1,4 @@
-use Rattle.std.proofs.Common.{◌≡◌, None, Some, sym, ap, ◌∙◌, refl}
+use Rattle.std.proofs.Common.{◌≡◌, None, Some, sym, ◌∙◌}
 use Rattle.std.specs.Prelude.{IfSome}
 use Rattle.member_search.specs.Indexes.{Answers, begun_at, value_past}
 use Rattle.member_search.specs.Looks.{searched}
