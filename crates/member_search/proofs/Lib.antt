@@ -2,6 +2,7 @@ pub mod Answered
 pub mod Collected
 pub mod EmptyTypes
 pub mod Entries
+pub mod FirstBytes
 pub mod Followed
 pub mod Free
 pub mod Listed

@@ -1,6 +1,6 @@
 -- What one member of a struct or union says in a search for a member (`bpf_core_match_member`,
 -- tools/lib/bpf/relo_core.c).
-use Rattle.std.specs.Prelude.{ℕ, ⊤, Bool, false, true, nat_eq, List, [], ◌∷◌, Result, Ok, if◌then◌else◌}
+use Rattle.std.specs.Prelude.{◌≡◌, ℕ, ⊤, Bool, false, true, nat_eq, List, [], ◌∷◌, Result, Ok, if◌then◌else◌}
 use Rattle.std.specs.Cmp.Lexicographic.{pointwise}
 use Rattle.std.specs.Option.{IsSomeAnd}
 use Rattle.access_paths.specs.Lookups.{with_found, with_text, with_type}
@@ -51,6 +51,11 @@ look_by_name search m (b ∷ bs) =
 
 abbrev pub look_at : Search → BtfMember → Result Look AccessError
 look_at search m = with_text search.target m.name_offset (look_by_name search m)
+
+-- a text isn't empty, and isn't the name
+abbrev pub IsOther : List ℕ → List ℕ → Type 0
+IsOther name [] = ⊥
+IsOther name (b ∷ bs) = pointwise nat_eq (b ∷ bs) name ≡ false
 
 -- a look leads inside types that are there
 abbrev pub LeadsInside : Table → Look → Type 0

@@ -1,7 +1,10 @@
 //! What one member says.
 
-ghost use Rattle.std.specs.Prelude.{◌≡◌, IfOk};
-ghost use Rattle.member_search.specs.Looks.{LeadsInside, is_composite, look_at, look_at_type, look_inside, searched};
+ghost use Rattle.std.specs.Prelude.{◌≡◌, ◌∷◌, ℕ, List, IfOk, false, nat_eq, true};
+ghost use Rattle.std.specs.Cmp.Lexicographic.{pointwise};
+ghost use Rattle.std.specs.Option.{IsSomeAnd};
+ghost use Rattle.string_table.specs.Texts.{text_at};
+ghost use Rattle.member_search.specs.Looks.{IsOther, LeadsInside, is_composite, look_at, look_at_type, look_inside, searched};
 
 use access_paths::AccessError;
 use btf_compatibility::fields_are_compatible;
@@ -59,10 +62,40 @@ fn look_at_type<'t>(
     }
 }
 
+/// Whether a text that begins with this byte is neither empty nor this name.
+#[tactic(auto, using(crate::proofs::FirstBytes::first_apart))]
+fn begins_another(first: u8, name: &str) -> bool
+    ensures some { result ≡ true → nat_eq first 0 ≡ false }
+    ensures other { result ≡ true
+        → (rest : List ℕ)
+        → pointwise nat_eq (first ∷ rest) name.now ≡ false }
+{
+    match name.as_bytes() {
+        [wanted, ..] => first != 0 && first != *wanted,
+        [] => first != 0,
+    }
+}
+
+/// Whether the name at an offset is known to be another one, by its first byte.
+#[tactic(auto, using(crate::proofs::FirstBytes::told_apart))]
+fn is_another(target: &Btf<'_>, name: &str, offset: u32) -> bool
+    ensures { result ≡ true → IsSomeAnd (text_at target.now.strings offset) (IsOther name.now) }
+{
+    let strings = target.strings();
+    if !strings.are_texts() {
+        return false;
+    }
+    match strings.as_slice().get(offset as usize) {
+        Some(first) => begins_another(*first, name),
+        None => false,
+    }
+}
+
 /// Whether a member of a target type is the one of this name that is compatible with the local type
 /// of this id.
 ///
 /// `BtfError` where its name or its type can't be looked up, or types can't be compared.
+#[tactic(auto, using(crate::proofs::FirstBytes::look_on))]
 pub(crate) fn look_at<'t>(
     local: &Btf<'t>,
     type_id: u32,
@@ -73,6 +106,9 @@ pub(crate) fn look_at<'t>(
     ensures value { result ≡ look_at (searched local.now type_id name.now target.now) member }
     ensures inside { IfOk result (LeadsInside target.now) }
 {
+    if is_another(target, name, member.name_offset) {
+        return Ok(Look::GoOn);
+    }
     let member_name = target.string_at(member.name_offset)?;
     if member_name.is_empty() {
         return look_inside(target, member);
