@@ -5,6 +5,7 @@ pub mod Entries
 pub mod FirstBytes
 pub mod Followed
 pub mod Free
+pub mod Incompatible
 pub mod Listed
 pub mod Members
 pub mod Moved
@@ -15,5 +16,4 @@ pub mod Rests
 pub mod SearchesAlike
 pub mod Skipped
 pub mod Turns
-pub mod Unlike
 pub mod Work

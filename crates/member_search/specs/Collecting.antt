@@ -78,7 +78,12 @@ abbrev pub IfNotCut : Option NamedMember → Bool → Type 0 → Type 0
 IfNotCut None is_cut Rest = Rest
 IfNotCut (Some first) is_cut Rest = is_cut ≡ false → Rest
 
-abbrev pub AnswersSo : Search → Option ℕ → Result (Option Found) AccessError → Namesakes → Type 0 → Type 0
+abbrev pub AnswersSo : Search
+    → Option ℕ
+    → Result (Option Found) AccessError
+    → Namesakes
+    → Type 0
+    → Type 0
 AnswersSo s bits value known Rest =
     Answers s bits value (all_of known) (IfNotCut known.first known.is_cut Rest)
 

@@ -51,7 +51,12 @@ GivesOr None value Rest = Rest
 
 -- what a search gives whose name the members have, in order: the first that answers decides. Where
 -- none does, the rest holds, and where one has another name, nothing is said
-abbrev pub Answers : Search → Option ℕ → Result (Option Found) AccessError → List NamedMember → Type 0 → Type 0
+abbrev pub Answers : Search
+    → Option ℕ
+    → Result (Option Found) AccessError
+    → List NamedMember
+    → Type 0
+    → Type 0
 Answers s bits value [] Rest = Rest
 Answers s bits value (m ∷ ms) Rest =
     text_at s.target.strings m.name_offset ≡ Some s.name
@@ -76,12 +81,20 @@ abbrev pub value_past : Bool → WalkEnd → Option (Result (Option Found) Acces
 value_past true walk_end = None
 value_past false walk_end = value_over walk_end
 
-abbrev pub value_after : Option NamedMember → Bool → WalkEnd → Option (Result (Option Found) AccessError)
+abbrev pub value_after : Option NamedMember
+    → Bool
+    → WalkEnd
+    → Option (Result (Option Found) AccessError)
 value_after None is_cut walk_end = end_value walk_end
 value_after (Some first) is_cut walk_end = value_past is_cut walk_end
 
 -- an index answers a search for a name by the members of its hash
-abbrev pub IsAnswered : Search → Option ℕ → Result (Option Found) AccessError → Namesakes → WalkEnd → Type 0
+abbrev pub IsAnswered : Search
+    → Option ℕ
+    → Result (Option Found) AccessError
+    → Namesakes
+    → WalkEnd
+    → Type 0
 IsAnswered s bits value known walk_end =
     Answers s bits value (all_of known)
     (IfSome (value_after known.first known.is_cut walk_end) (λ answer. value ≡ answer))

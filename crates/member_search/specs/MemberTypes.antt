@@ -88,7 +88,7 @@ pub record AreMemberTypes (target : Table) (kept : List (ℕ × MemberTypes)) : 
   pub each : (root : ℕ) → IfSome (lookup (is_at (nat_cmp root)) kept) (HasAllTypes target root)
 
 -- none of these types is compatible with a local one
-pub record AreUnlike (local : Table) (id : ℕ) (target : Table) (types : List ℕ) : Type 0 where
+pub record AreIncompatible (local : Table) (id : ℕ) (target : Table) (types : List ℕ) : Type 0 where
   pub each : (k : ℕ) → is_noted types k ≡ true → fields_compatible local id target k ≡ Ok false
 
 -- a search finds nothing, wherever the struct or union begins

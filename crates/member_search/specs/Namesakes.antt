@@ -20,7 +20,8 @@ abbrev pub first_at : NamedMembers → ℕ → Option NamedMember
 first_at named hash = lookup (is_at (nat_cmp hash)) named.first.entries
 
 abbrev pub later_at : NamedMembers → ℕ → List NamedMember
-later_at named hash = option_map_or (λ ms. ms.items) (lookup (is_at (nat_cmp hash)) named.later.entries) []
+later_at named hash =
+    option_map_or (λ ms. ms.items) (lookup (is_at (nat_cmp hash)) named.later.entries) []
 
 abbrev pub is_cut_at : NamedMembers → ℕ → Bool
 is_cut_at named hash = list_any (is_at (nat_cmp hash)) named.cut.keys

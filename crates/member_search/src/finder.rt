@@ -246,7 +246,7 @@ impl<'t> MemberFinder<'t> {
 
     /// Whether the members of a name are known to be incompatible with a local type, in a struct or
     /// union that has an index, and in those of its members without names.
-    fn are_unlike(
+    fn are_incompatible(
         &mut self,
         local: &Btf<'t>,
         type_id: u32,
@@ -264,7 +264,7 @@ impl<'t> MemberFinder<'t> {
         let Some(types) = self.types.get(&root) else {
             return Ok(false);
         };
-        Ok(types.are_unlike(local, type_id, name, self.target))
+        Ok(types.are_incompatible(local, type_id, name, self.target))
     }
 
     /// What `find_member` answers about this table; `BtfError::OutOfMemory` too where there is no
@@ -289,7 +289,7 @@ impl<'t> MemberFinder<'t> {
         if let Some(answer) = self.answer(local, type_id, name, root, bits, FEW) {
             return answer;
         }
-        if self.are_unlike(local, type_id, name, root)? {
+        if self.are_incompatible(local, type_id, name, root)? {
             return Ok(None);
         }
         if let Some(answer) = self.answer(local, type_id, name, root, bits, usize::MAX) {

@@ -3,7 +3,7 @@
 ghost use Rattle.std.specs.Prelude.{◌≡◌, ◌≤◌, ◌∷◌, [], IfOk, IsSomeAnd, OnOk, ⊤, true};
 ghost use Rattle.btf_tables.specs.Tables.{type_by_id};
 ghost use Rattle.member_search.specs.EmptyTypes.{is_noted};
-ghost use Rattle.member_search.specs.MemberTypes.{AddsType, AreListed, AreUnlike, HasAllTypes, IsListed, ListsMore, ReachesMore, left_in, types_of_name};
+ghost use Rattle.member_search.specs.MemberTypes.{AddsType, AreListed, AreIncompatible, HasAllTypes, IsListed, ListsMore, ReachesMore, left_in, types_of_name};
 
 use crate::look::{Look, look_inside};
 use btf_compatibility::fields_are_compatible;
@@ -141,7 +141,7 @@ impl MemberTypes {
 
     /// Whether each member of a name is known to be incompatible with a local type. Where they have
     /// many types, or one that can't be compared, it isn't known.
-    pub(crate) fn are_unlike<'t>(
+    pub(crate) fn are_incompatible<'t>(
         &self,
         local: &Btf<'t>,
         type_id: u32,
@@ -149,11 +149,11 @@ impl MemberTypes {
         target: &Btf<'t>,
     ) -> bool
         ensures { result ≡ true
-            → AreUnlike local.now type_id target.now (types_of_name self.now name.now) }
+            → AreIncompatible local.now type_id target.now (types_of_name self.now name.now) }
     {
         match self.by_hash.get(&name_hash(name)) {
             Some(types) if types.len() <= MOST_COMPARED => {
-                all_unlike(local, type_id, target, types)
+                all_incompatible(local, type_id, target, types)
             }
             Some(_types) => false,
             None => true,
@@ -162,8 +162,13 @@ impl MemberTypes {
 }
 
 /// Whether none of these types is compatible with a local one.
-fn all_unlike<'t>(local: &Btf<'t>, type_id: u32, target: &Btf<'t>, types: &BTreeSet<u32>) -> bool
-    ensures { result ≡ true → AreUnlike local.now type_id target.now types.now.keys }
+fn all_incompatible<'t>(
+    local: &Btf<'t>,
+    type_id: u32,
+    target: &Btf<'t>,
+    types: &BTreeSet<u32>,
+) -> bool
+    ensures { result ≡ true → AreIncompatible local.now type_id target.now types.now.keys }
 {
     for other in types {
         if !matches!(

@@ -1,7 +1,7 @@
 use Rattle.std.proofs.Common.{◌≡◌, None, ℕ, subst}
 use Rattle.member_search.specs.Namesakes.{first_at}
 use Rattle.member_search.proofs.Answered.{index_known}
-use Rattle.member_search.proofs.Unlike.{not_there, walked_over}
+use Rattle.member_search.proofs.Incompatible.{not_there, walked_over}
 use Rattle.member_search.proofs.finder.MemberFinder.is_walked_over.Goals as goal
 
 pub returns-in-Over : goal.returns-in-Over

@@ -1,8 +1,8 @@
 use Rattle.std.proofs.Common.{refl, subst, ◌∙◌}
 use Rattle.btf_tables.specs.Tables.{Table}
-use Rattle.member_search.specs.MemberTypes.{AreUnlike, types_of_name}
-use Rattle.member_search.proofs.Unlike.{finds_nothing, types_known}
-use Rattle.member_search.proofs.finder.MemberFinder.are_unlike.Goals as goal
+use Rattle.member_search.specs.MemberTypes.{AreIncompatible, types_of_name}
+use Rattle.member_search.proofs.Incompatible.{finds_nothing, types_known}
+use Rattle.member_search.proofs.finder.MemberFinder.are_incompatible.Goals as goal
 
 pub returns-clause-nothing : goal.returns-clause-nothing
 returns-clause-nothing c = λ yes.
@@ -10,4 +10,4 @@ returns-clause-nothing c = λ yes.
     let types = c.in-Some.types.now in
     let same = c.self.view_is ∙ c.in_ok-list_types.ensures in
     finds_nothing c.args.local.now c.args.type_id c.args.name.now target c.args.root types (c.if-not-is_walked_over.ensures refl) (types_known target c.self.inside.target.now c.self.inside.types.entries c.args.root types c.self.invariant.1 same c.in-Some.ensures.value)
-    (subst (λ (t : Table). AreUnlike c.args.local.now c.args.type_id t (types_of_name types c.args.name.now)) same (c.are_unlike.ensures yes))
+    (subst (λ (t : Table). AreIncompatible c.args.local.now c.args.type_id t (types_of_name types c.args.name.now)) same (c.are_incompatible.ensures yes))
