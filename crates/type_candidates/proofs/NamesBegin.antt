@@ -5,7 +5,7 @@ use Rattle.std.specs.Cmp.Lexicographic.{same_text}
 use Rattle.std.specs.Str.{bytes_eq}
 use Rattle.btf_tables.specs.EssentialNames.{essential_name}
 use Rattle.type_headers.specs.Beginnings.{BeginningMarks, MarksName, MayBegin}
-use Rattle.type_candidates.specs.NameBeginnings.{AreBeginnings}
+use Rattle.type_candidates.specs.WantedBeginnings.{AreBeginnings}
 use Rattle.type_candidates.specs.NamedTypes.{number_of_name}
 use Rattle.string_table.specs.Names.{by_bytes}
 use Rattle.type_candidates.proofs.ByBytes.{by_bytes-lookup}

@@ -12,7 +12,7 @@ use Rattle.string_table.specs.Texts.{text_at}
 use Rattle.type_headers.specs.Beginnings.{BeginningMarks, MayBegin}
 use Rattle.type_headers.specs.Headers.{BeginsOtherwise}
 use Rattle.type_candidates.specs.Candidates.{types_at}
-use Rattle.type_candidates.specs.NameBeginnings.{AreBeginnings}
+use Rattle.type_candidates.specs.WantedBeginnings.{AreBeginnings}
 use Rattle.type_candidates.specs.NamedTypes.{AreSeen, IsNamedNext, IsUnreadableNext, number_of_name, of_name, of_number, of_type, of_type_by_id, sighted, types_before}
 use Rattle.type_candidates.specs.declared.kernel_type.KernelType.{KernelType}
 use Rattle.type_candidates.specs.declared.sighting.Sighting.{Sighting}

@@ -1,3 +1,3 @@
 pub mod Candidates
-pub mod NameBeginnings
 pub mod NamedTypes
+pub mod WantedBeginnings

@@ -4,7 +4,7 @@ ghost use Rattle.std.specs.Prelude.{◌≡◌, [], IfNone, IfSome, None, drop};
 ghost use Rattle.std.specs.BTreeMap.{btree_map_len};
 ghost use Rattle.std.specs.List.{list_any};
 ghost use Rattle.btf_tables.specs.EssentialNames.{essential_name};
-ghost use Rattle.type_candidates.specs.NameBeginnings.{AreBeginnings};
+ghost use Rattle.type_candidates.specs.WantedBeginnings.{AreBeginnings};
 ghost use Rattle.type_candidates.specs.NamedTypes.{AreApart, AreLengths, AreNumbered, may_end, number_of_name};
 ghost use Rattle.string_table.specs.Names.{by_bytes};
 
@@ -26,7 +26,7 @@ pub(crate) struct WantedNames<'l> {
 
 impl<'l> Model for WantedNames<'l> {
     ghost use Rattle.std.specs.Prelude.{ℕ, List};
-    ghost use Rattle.type_candidates.specs.NameBeginnings.{AreBeginnings};
+    ghost use Rattle.type_candidates.specs.WantedBeginnings.{AreBeginnings};
     ghost use Rattle.type_candidates.specs.NamedTypes.{AreLengths, AreNumbered};
     ghost use Rattle.string_table.specs.Names.{by_bytes};
     ghost use Rattle.std.specs.BTreeMap.{btree_map_len};
