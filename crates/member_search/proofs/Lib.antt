@@ -1,5 +1,6 @@
 pub mod Answered
 pub mod Collected
+pub mod Counts
 pub mod EmptyTypes
 pub mod Entries
 pub mod FirstBytes

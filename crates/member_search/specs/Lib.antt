@@ -1,4 +1,5 @@
 pub mod Collecting
+pub mod Counts
 pub mod EmptyTypes
 pub mod Finders
 pub mod Indexes

@@ -25,16 +25,16 @@ fn collecting_turn(
     memory: &mut Memory,
     named: &mut NamedMembers,
 ) -> Result<Turn, AccessError>
-    ensures walks { IfOk result (WalksOn target.now memory.old.nothing memory.old.outer.items frame
-        named.old memory.new.nothing memory.new.outer.items named.new) }
+    ensures walks { IfOk result (WalksOn target.now memory.old.nothing memory.old.outer frame
+        named.old memory.new.nothing memory.new.outer named.new) }
     ensures smaller { IfOk result (λ turn.
         found_of turn ≡ None
-        → work target.now (memory.new.outer.items ++ frames_of turn)
-        < work target.now (memory.old.outer.items ++ frame ∷ [])) }
+        → work target.now (memory.new.outer ++ frames_of turn)
+        < work target.now (memory.old.outer ++ frame ∷ [])) }
     ensures same { IfErr result (λ e. e ≢ TypeError OutOfMemory → named.new ≡ named.old) }
     ensures refused { IfErr result (λ e.
         e ≢ TypeError OutOfMemory
-        → AllFail target.now memory.old.outer.items frame e) }
+        → AllFail target.now memory.old.outer frame e) }
 {
     let t = target.type_by_id(frame.type_id)?;
     let Some(member) = member_at(&t, frame.next) else {

@@ -12,6 +12,7 @@ mod member_types;
 mod named_members;
 mod own_names;
 mod search;
+mod stack;
 mod turn;
 
 pub use finder::MemberFinder;

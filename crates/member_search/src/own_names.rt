@@ -161,19 +161,19 @@ impl<'t> OwnNames<'t> {
     ) -> Result<Turn, AccessError>
         requires hash { hash ≡ name_hash name.now }
         requires sound { IsSound (searched local.now type_id name.now self.old) memory.old.nothing
-            memory.old.outer.items frame }
+            memory.old.outer frame }
         ensures same { self.new ≡ self.old }
         ensures turn { IfOk result (λ turn.
             IsTurn (searched local.now type_id name.now self.old)
-            (memory.old.outer.items ++ frame ∷ []) (found_of turn)
-            (memory.new.outer.items ++ frames_of turn)) }
+            (memory.old.outer ++ frame ∷ []) (found_of turn)
+            (memory.new.outer ++ frames_of turn)) }
         ensures sound { IfOk result (λ turn.
             IsSoundTurn (searched local.now type_id name.now self.old) turn memory.new.nothing
-            memory.new.outer.items) }
+            memory.new.outer) }
         ensures refused { IfErr result (λ e.
             e ≢ TypeError OutOfMemory
             → stack_value (searched local.now type_id name.now self.old)
-            (memory.old.outer.items ++ frame ∷ [])
+            (memory.old.outer ++ frame ∷ [])
             ≡ Err e) }
     {
         self.count_visit(frame)?;

@@ -12,6 +12,7 @@ ghost use Rattle.btf_records.specs.declared.error.BtfError.TheVariants.{OutOfMem
 use crate::empty_types::EmptyTypes;
 use crate::look::{Look, look_at};
 use crate::search::Found;
+use crate::stack::Stack;
 use access_paths::{AccessError, Place, bits_after};
 use btf_encoding::TypeRef;
 use btf_records::BtfMember;
@@ -32,7 +33,7 @@ pub(crate) struct Frame {
 #[derive(Debug, Drop)]
 pub(crate) struct Memory {
     /// The structs and unions around the innermost, which is being looked at.
-    pub(crate) outer: Vec<Frame>,
+    pub(crate) outer: Stack,
     /// Those that were searched and hold nothing.
     pub(crate) nothing: EmptyTypes,
 }
@@ -50,11 +51,11 @@ pub(crate) enum Turn {
 
 impl Memory {
     pub(crate) fn new(alloc: Global) -> Memory
-        ensures outer { result.outer.items ≡ [] }
+        ensures outer { result.outer ≡ [] }
         ensures nothing { result.nothing ≡ [] }
     {
         Memory {
-            outer: Vec::new(alloc),
+            outer: Stack::new(alloc),
             nothing: EmptyTypes::new(alloc),
         }
     }
@@ -87,13 +88,6 @@ pub(crate) fn member_here(frame: Frame, t: &TypeRef<'_>, member: BtfMember, part
     }
 }
 
-/// Whether a struct or union is being looked at.
-fn is_open(stack: &[Frame], type_id: u32) -> bool
-    ensures { result ≡ is_open stack.now type_id }
-{
-    stack.iter().any(|frame| frame.type_id == type_id)
-}
-
 /// A struct or union before its members are looked at.
 #[tactic(auto, using(crate::proofs::Members::few_members))]
 pub(crate) fn entered(target: &Btf<'_>, type_id: u32, bits: Option<u32>) -> Frame
@@ -123,16 +117,16 @@ fn enter(
 ) -> Result<Turn, AccessError>
     requires { is_noted memory.old.nothing type_id ≡ false }
     ensures entered { IfOk result (λ turn.
-        IsEntered target.now type_id bits innermost memory.old.outer.items memory.old.nothing turn
-        memory.new.outer.items memory.new.nothing) }
+        IsEntered target.now type_id bits innermost memory.old.outer memory.old.nothing turn
+        memory.new.outer memory.new.nothing) }
     ensures refused { IfErr result (λ e.
         e ≢ TypeError OutOfMemory
         → (e ≡ MaximumNestingLevelReached)
-        × ((is_open (memory.old.outer.items ++ innermost ∷ []) type_id ≡ true)
-        ⊎ (most_open target.now ≤ length (memory.old.outer.items ++ innermost ∷ [])))) }
+        × ((is_open (memory.old.outer ++ innermost ∷ []) type_id ≡ true)
+        ⊎ (most_open target.now ≤ length (memory.old.outer ++ innermost ∷ [])))) }
 {
     memory.outer.push(innermost)?;
-    if is_open(memory.outer.as_slice(), type_id) || memory.outer.len() > target.len() {
+    if memory.outer.contains(type_id) || memory.outer.len() > target.len() {
         return Err(AccessError::MaximumNestingLevelReached);
     }
     Ok(Turn::On(entered(target, type_id, bits)))
@@ -141,7 +135,7 @@ fn enter(
 /// Goes on around a struct or union that holds nothing, which was the innermost.
 pub(crate) fn leave(type_id: u32, memory: &mut Memory) -> Result<Turn, AllocError>
     ensures { IfOk result (λ turn.
-        IsLeft type_id memory.old.outer.items memory.old.nothing turn memory.new.outer.items
+        IsLeft type_id memory.old.outer memory.old.nothing turn memory.new.outer
         memory.new.nothing) }
 {
     match memory.outer.pop() {
@@ -162,11 +156,11 @@ pub(crate) fn follow(
     memory: &mut Memory,
 ) -> Result<Turn, AccessError>
     ensures over { IfOk result (λ turn.
-        IsFollowed target.now seen here after memory.old.outer.items memory.old.nothing turn
-        memory.new.outer.items memory.new.nothing) }
+        IsFollowed target.now seen here after memory.old.outer memory.old.nothing turn
+        memory.new.outer memory.new.nothing) }
     ensures refused { IfErr result (λ e.
         e ≢ TypeError OutOfMemory
-        → IsTooDeep target.now seen (memory.old.outer.items ++ after ∷ []) e) }
+        → IsTooDeep target.now seen (memory.old.outer ++ after ∷ []) e) }
 {
     match seen {
         Look::GoOn => Ok(Turn::On(after)),
@@ -194,18 +188,18 @@ pub(crate) fn next_turn<'t>(
     memory: &mut Memory,
 ) -> Result<Turn, AccessError>
     requires { IsSound (searched local.now type_id name.now target.now) memory.old.nothing
-        memory.old.outer.items frame }
+        memory.old.outer frame }
     ensures turn { IfOk result (λ turn.
         IsTurn (searched local.now type_id name.now target.now)
-        (memory.old.outer.items ++ frame ∷ []) (found_of turn)
-        (memory.new.outer.items ++ frames_of turn)) }
+        (memory.old.outer ++ frame ∷ []) (found_of turn)
+        (memory.new.outer ++ frames_of turn)) }
     ensures sound { IfOk result (λ turn.
         IsSoundTurn (searched local.now type_id name.now target.now) turn memory.new.nothing
-        memory.new.outer.items) }
+        memory.new.outer) }
     ensures refused { IfErr result (λ e.
         e ≢ TypeError OutOfMemory
         → stack_value (searched local.now type_id name.now target.now)
-        (memory.old.outer.items ++ frame ∷ [])
+        (memory.old.outer ++ frame ∷ [])
         ≡ Err e) }
 {
     let t = target.type_by_id(frame.type_id)?;

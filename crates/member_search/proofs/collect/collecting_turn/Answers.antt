@@ -5,70 +5,70 @@ use Rattle.member_search.proofs.Followed.{same-member}
 use Rattle.member_search.proofs.collect.collecting_turn.Goals as goal
 
 pub returns-in_err-t-clause-refused : goal.returns-in_err-t-clause-refused
-returns-in_err-t-clause-refused c = unknown-err _ c.args.target.now c.args.memory.now.outer.items c.args.frame c.in_err-t.field-0.0 c.in_err-t.ensures.0 c.in_err-t.ensures.1 c.from_residual.ensures.1
+returns-in_err-t-clause-refused c = unknown-err _ c.args.target.now c.args.memory.now.outer c.args.frame c.in_err-t.field-0.0 c.in_err-t.ensures.0 c.in_err-t.ensures.1 c.from_residual.ensures.1
 
 pub returns-in_default-clause-walks : goal.returns-in_default-clause-walks
-returns-in_default-clause-walks c = walks-left c.args.target.now c.args.memory.now.nothing c.args.memory.now.outer.items c.args.frame c.in_ok-t.t c.args.named.now c.in_ok-turn.turn _ _ c.in_ok-t.ensures c.in_default.ensures.value c.in_ok-turn.ensures
+returns-in_default-clause-walks c = walks-left c.args.target.now c.args.memory.now.nothing c.args.memory.now.outer c.args.frame c.in_ok-t.t c.args.named.now c.in_ok-turn.turn _ _ c.in_ok-t.ensures c.in_default.ensures.value c.in_ok-turn.ensures
 
 pub returns-in_default-clause-smaller : goal.returns-in_default-clause-smaller
-returns-in_default-clause-smaller c = λ _. left-less c.args.target.now c.args.frame.type_id c.args.memory.now.outer.items c.args.frame c.args.memory.now.nothing c.in_ok-turn.turn _ _ c.in_ok-turn.ensures
+returns-in_default-clause-smaller c = λ _. left-less c.args.target.now c.args.frame.type_id c.args.memory.now.outer c.args.frame c.args.memory.now.nothing c.in_ok-turn.turn _ _ c.in_ok-turn.ensures
 
 pub returns-in_err-name-clause-refused : goal.returns-in_err-name-clause-refused
 returns-in_err-name-clause-refused c =
-    unread-err _ c.args.target.now c.args.memory.now.outer.items c.args.frame c.in_ok-t.t c.in-Some.member c.in_err-name.field-0.0 c.in_ok-t.ensures c.in-Some.ensures.value c.in_err-name.ensures.0 c.in_err-name.ensures.1 c.from_residual-in_err-name.ensures.1
+    unread-err _ c.args.target.now c.args.memory.now.outer c.args.frame c.in_ok-t.t c.in-Some.member c.in_err-name.field-0.0 c.in_ok-t.ensures c.in-Some.ensures.value c.in_err-name.ensures.0 c.in_err-name.ensures.1 c.from_residual-in_err-name.ensures.1
 
 pub returns-in_err-seen-clause-refused : goal.returns-in_err-seen-clause-refused
 returns-in_err-seen-clause-refused c =
-    let depth : c.len.result + 1 ≡ length c.args.memory.now.outer.items + 1 = grind (arith, common_steps, c.len.ensures) in
-    let at_m : IsSeen c.args.target.now c.args.memory.now.outer.items c.args.frame c.in_ok-t.t c.in-Some.member c.member_here-here.result c.in_ok-name.name.now = record {
+    let depth : c.len.result + 1 ≡ length c.args.memory.now.outer + 1 = grind (arith, common_steps, c.len.ensures) in
+    let at_m : IsSeen c.args.target.now c.args.memory.now.outer c.args.frame c.in_ok-t.t c.in-Some.member c.member_here-here.result c.in_ok-name.name.now = record {
       known = c.in_ok-t.ensures;
       next = c.in-Some.ensures.value;
-      is = same-member c.args.memory.now.outer.items c.args.frame c.in_ok-t.t c.in-Some.member _ _ c.member_here-here.ensures depth;
+      is = same-member c.args.memory.now.outer c.args.frame c.in_ok-t.t c.in-Some.member _ _ c.member_here-here.ensures depth;
       reads = c.in_ok-name.ensures;
     } in
     let empty = is-empty c.in_ok-name.name.now c.is_empty.result c.is_empty.ensures c.if-is_empty.true in
-    inside-err _ c.args.target.now c.args.memory.now.outer.items c.args.frame c.in_ok-t.t c.in-Some.member c.member_here-here.result c.in_ok-name.name.now c.in_err-seen.field-0.0 at_m empty c.in_err-seen.ensures.value c.from_residual-in_err-seen.ensures.1
+    inside-err _ c.args.target.now c.args.memory.now.outer c.args.frame c.in_ok-t.t c.in-Some.member c.member_here-here.result c.in_ok-name.name.now c.in_err-seen.field-0.0 at_m empty c.in_err-seen.ensures.value c.from_residual-in_err-seen.ensures.1
 
 pub returns-then-is_empty-clause-walks : goal.returns-then-is_empty-clause-walks
 returns-then-is_empty-clause-walks c =
-    let depth : c.len.result + 1 ≡ length c.args.memory.now.outer.items + 1 = grind (arith, common_steps, c.len.ensures) in
-    let at_m : IsSeen c.args.target.now c.args.memory.now.outer.items c.args.frame c.in_ok-t.t c.in-Some.member c.member_here-here.result c.in_ok-name.name.now = record {
+    let depth : c.len.result + 1 ≡ length c.args.memory.now.outer + 1 = grind (arith, common_steps, c.len.ensures) in
+    let at_m : IsSeen c.args.target.now c.args.memory.now.outer c.args.frame c.in_ok-t.t c.in-Some.member c.member_here-here.result c.in_ok-name.name.now = record {
       known = c.in_ok-t.ensures;
       next = c.in-Some.ensures.value;
-      is = same-member c.args.memory.now.outer.items c.args.frame c.in_ok-t.t c.in-Some.member _ _ c.member_here-here.ensures depth;
+      is = same-member c.args.memory.now.outer c.args.frame c.in_ok-t.t c.in-Some.member _ _ c.member_here-here.ensures depth;
       reads = c.in_ok-name.ensures;
     } in
     let empty = is-empty c.in_ok-name.name.now c.is_empty.result c.is_empty.ensures c.if-is_empty.true in
-    walks-nameless-ok _ c.args.target.now c.args.memory.now.nothing c.args.memory.now.outer.items c.args.frame c.in_ok-t.t c.in-Some.member c.member_here-here.result c.in_ok-name.name.now c.args.named.now c.in_ok-seen.seen _ _ at_m empty c.in_ok-seen.ensures.value c.follow.ensures.over
+    walks-nameless-ok _ c.args.target.now c.args.memory.now.nothing c.args.memory.now.outer c.args.frame c.in_ok-t.t c.in-Some.member c.member_here-here.result c.in_ok-name.name.now c.args.named.now c.in_ok-seen.seen _ _ at_m empty c.in_ok-seen.ensures.value c.follow.ensures.over
 
 pub returns-then-is_empty-clause-smaller : goal.returns-then-is_empty-clause-smaller
 returns-then-is_empty-clause-smaller c =
-    followed-less-ok c.args.target.now c.args.memory.now.outer.items c.args.frame c.in_ok-t.t c.in-Some.member c.in_ok-seen.seen _ c.args.memory.now.nothing _ _ _ c.in_ok-t.ensures c.in-Some.ensures.value c.follow.ensures.over
+    followed-less-ok c.args.target.now c.args.memory.now.outer c.args.frame c.in_ok-t.t c.in-Some.member c.in_ok-seen.seen _ c.args.memory.now.nothing _ _ _ c.in_ok-t.ensures c.in-Some.ensures.value c.follow.ensures.over
 
 pub returns-then-is_empty-clause-refused : goal.returns-then-is_empty-clause-refused
 returns-then-is_empty-clause-refused c =
-    let depth : c.len.result + 1 ≡ length c.args.memory.now.outer.items + 1 = grind (arith, common_steps, c.len.ensures) in
-    let at_m : IsSeen c.args.target.now c.args.memory.now.outer.items c.args.frame c.in_ok-t.t c.in-Some.member c.member_here-here.result c.in_ok-name.name.now = record {
+    let depth : c.len.result + 1 ≡ length c.args.memory.now.outer + 1 = grind (arith, common_steps, c.len.ensures) in
+    let at_m : IsSeen c.args.target.now c.args.memory.now.outer c.args.frame c.in_ok-t.t c.in-Some.member c.member_here-here.result c.in_ok-name.name.now = record {
       known = c.in_ok-t.ensures;
       next = c.in-Some.ensures.value;
-      is = same-member c.args.memory.now.outer.items c.args.frame c.in_ok-t.t c.in-Some.member _ _ c.member_here-here.ensures depth;
+      is = same-member c.args.memory.now.outer c.args.frame c.in_ok-t.t c.in-Some.member _ _ c.member_here-here.ensures depth;
       reads = c.in_ok-name.ensures;
     } in
     let empty = is-empty c.in_ok-name.name.now c.is_empty.result c.is_empty.ensures c.if-is_empty.true in
-    deep-err _ c.args.target.now c.args.memory.now.outer.items c.args.frame c.in_ok-t.t c.in-Some.member c.member_here-here.result c.in_ok-name.name.now c.in_ok-seen.seen at_m empty c.in_ok-seen.ensures.value c.follow.ensures.refused
+    deep-err _ c.args.target.now c.args.memory.now.outer c.args.frame c.in_ok-t.t c.in-Some.member c.member_here-here.result c.in_ok-name.name.now c.in_ok-seen.seen at_m empty c.in_ok-seen.ensures.value c.follow.ensures.refused
 
 pub returns-clause-walks : goal.returns-clause-walks
 returns-clause-walks c =
-    let depth : c.len.result + 1 ≡ length c.args.memory.now.outer.items + 1 = grind (arith, common_steps, c.len.ensures) in
-    let at_m : IsSeen c.args.target.now c.args.memory.now.outer.items c.args.frame c.in_ok-t.t c.in-Some.member c.member_here-here.result c.in_ok-name.name.now = record {
+    let depth : c.len.result + 1 ≡ length c.args.memory.now.outer + 1 = grind (arith, common_steps, c.len.ensures) in
+    let at_m : IsSeen c.args.target.now c.args.memory.now.outer c.args.frame c.in_ok-t.t c.in-Some.member c.member_here-here.result c.in_ok-name.name.now = record {
       known = c.in_ok-t.ensures;
       next = c.in-Some.ensures.value;
-      is = same-member c.args.memory.now.outer.items c.args.frame c.in_ok-t.t c.in-Some.member _ _ c.member_here-here.ensures depth;
+      is = same-member c.args.memory.now.outer c.args.frame c.in_ok-t.t c.in-Some.member _ _ c.member_here-here.ensures depth;
       reads = c.in_ok-name.ensures;
     } in
     let some = not-empty c.in_ok-name.name.now c.is_empty.result c.is_empty.ensures c.if-is_empty.false in
-    walks-named c.args.target.now c.args.memory.now.nothing c.args.memory.now.outer.items c.args.frame c.in_ok-t.t c.in-Some.member c.member_here-here.result c.in_ok-name.name.now c.args.named.now _ at_m some
-    (entered-so c.args.memory.now.outer.items c.as_slice.result.now c.name_hash.result c.in_ok-name.name.now _ c.args.named.now _ c.as_slice.ensures.value c.name_hash.ensures c.in_ok-enter.ensures)
+    walks-named c.args.target.now c.args.memory.now.nothing c.args.memory.now.outer c.args.frame c.in_ok-t.t c.in-Some.member c.member_here-here.result c.in_ok-name.name.now c.args.named.now _ at_m some
+    (entered-so c.args.memory.now.outer c.as_slice.result.now c.name_hash.result c.in_ok-name.name.now _ c.args.named.now _ c.as_slice.ensures c.name_hash.ensures c.in_ok-enter.ensures)
 
 pub returns-clause-smaller : goal.returns-clause-smaller
-returns-clause-smaller c = λ _. named-less c.args.target.now c.args.memory.now.outer.items c.args.frame c.in_ok-t.t c.in-Some.member c.in_ok-t.ensures c.in-Some.ensures.value
+returns-clause-smaller c = λ _. named-less c.args.target.now c.args.memory.now.outer c.args.frame c.in_ok-t.t c.in-Some.member c.in_ok-t.ensures c.in-Some.ensures.value

@@ -7,9 +7,9 @@ use Rattle.member_search.proofs.own_names.OwnNames.find.Given as goal
 abbrev pub invariant-loop-memory : goal.invariant-loop-memory
 invariant-loop-memory l = record {
   names : l.self ≡ l.fn.self;
-  same : stack_value (searched l.local l.type_id l.name l.fn.self) (l.memory.outer.items ++ l.frame ∷ []) ≡ member_found (searched l.local l.type_id l.name l.fn.self) l.root l.fn.bits;
-  sound : IsSound (searched l.local l.type_id l.name l.fn.self) l.memory.nothing l.memory.outer.items l.frame;
+  same : stack_value (searched l.local l.type_id l.name l.fn.self) (l.memory.outer ++ l.frame ∷ []) ≡ member_found (searched l.local l.type_id l.name l.fn.self) l.root l.fn.bits;
+  sound : IsSound (searched l.local l.type_id l.name l.fn.self) l.memory.nothing l.memory.outer l.frame;
 }
 
 abbrev pub decreases-loop-memory : goal.decreases-loop-memory
-decreases-loop-memory l = work l.fn.self (l.memory.outer.items ++ l.frame ∷ [])
+decreases-loop-memory l = work l.fn.self (l.memory.outer ++ l.frame ∷ [])
