@@ -36,7 +36,7 @@ use Rattle.member_search.specs.declared.search.Found.{Found}
 use Rattle.member_search.specs.declared.turn.Frame.{Frame}
 use Rattle.member_search.specs.declared.turn.Turn.{Turn}
 use Rattle.member_search.specs.declared.turn.Turn.TheVariants as turns
-use Rattle.member_search.proofs.Entries.{answers-more, answers-push, goes-inside-or-on, look-nameless, look-other, look-own, look-unread}
+use Rattle.member_search.proofs.Entries.{answers-more, answers-push, gives-more, goes-inside-or-on, look-nameless, look-other, look-own, look-unread}
 use Rattle.member_search.proofs.Followed.{IsNext, IsWholeTurn, begins, by-rest, done, ended, here_in, passed_on, refused-follow, refused-look, refused-unknown, same-here, turned, unknown-root}
 use Rattle.member_search.proofs.Moved.{deep-moved, followed-moved, here-moved, left-moved}
 use Rattle.member_search.proofs.Places.{get-last, not-past, not-within, past-kept, same-struct, within-in, within-left, within-on}
@@ -246,10 +246,7 @@ first-on : (s : Search) (bits : Option ℕ) (value : Result (Option Found) Acces
     → IsGoingOn s bits value noted outer f None → AnswersOn s bits value noted outer (after_next f) (record { first = Some (entered_as m here); later = later; is_cut = is_cut })
 first-on s bits value noted outer f t m here text later is_cut named none h =
     subst (λ (ms : List NamedMember). AnswersOn s bits value noted outer (after_next f) (record { first = Some (entered_as m here); later = ms; is_cut = is_cut })) (sym none)
-    (λ own. answers-given (verdict s bits (entered_as m here)) (compared s bits value noted outer f t m here text named h.sound h.place own)) where
-      answers-given : (o : Option (Result (Option Found) AccessError)) → GivesOr o value (IsGoingOn s bits value noted outer (after_next f) (Some (entered_as m here))) → GivesOr o value (is_cut ≡ false → IsGoingOn s bits value noted outer (after_next f) (Some (entered_as m here)))
-      answers-given None a = λ _. a
-      answers-given (Some answer) a = a
+    (λ own. gives-more (verdict s bits (entered_as m here)) value _ _ (λ go _. go) (compared s bits value noted outer f t m here text named h.sound h.place own))
 
 later-on : (s : Search) (bits : Option ℕ) (value : Result (Option Found) AccessError) (noted : List ℕ) (outer : List Frame) (f : Frame) (t : BtfType) (m : BtfMember) (here : Found) (text : List ℕ) (first : NamedMember) (later : List NamedMember) (is_cut : Bool) → IsNamed s outer f t m here text
     → AnswersOn s bits value noted outer f (record { first = Some first; later = later; is_cut = is_cut }) → AnswersOn s bits value noted outer (after_next f) (entered_after outer (entered_as m here) (record { first = Some first; later = later; is_cut = is_cut }) (Some (unwrap_or (slice_get later (length later - 1)) first)))
@@ -267,11 +264,7 @@ later-on s bits value noted outer f t m here text first later is_cut named h = d
   decided false false cut_is same_is true around_is = answers-more s bits value (first ∷ later) _ _ (λ go not_cut. absurd (let no : true ≡ false = not_cut in cc)) h
   decided false false cut_is same_is false around_is =
       subst (λ (x : NamedMember). Answers s bits value (first ∷ (later ++ entered_as m here ∷ [])) (is_cut ≡ false → IsGoingOn s bits value noted outer (after_next f) (Some x))) (sym (last-pushed first (entered_as m here) later))
-      (answers-push s bits value (first ∷ later) (entered_as m here) _ _ (λ go own. not-cut (verdict s bits (entered_as m here)) (pushed-on s bits value noted outer f t m here text last named same_is around_is (go cut_is) own)) h)
-    where
-      not-cut : (o : Option (Result (Option Found) AccessError)) → GivesOr o value (IsGoingOn s bits value noted outer (after_next f) (Some (entered_as m here))) → GivesOr o value (is_cut ≡ false → IsGoingOn s bits value noted outer (after_next f) (Some (entered_as m here)))
-      not-cut None a = λ _. a
-      not-cut (Some answer) a = a
+      (answers-push s bits value (first ∷ later) (entered_as m here) _ _ (λ go own. gives-more (verdict s bits (entered_as m here)) value _ _ (λ gone _. gone) (pushed-on s bits value noted outer f t m here text last named same_is around_is (go cut_is) own)) h)
 
 own-on : (s : Search) (bits : Option ℕ) (value : Result (Option Found) AccessError) (noted : List ℕ) (outer : List Frame) (f : Frame) (t : BtfType) (m : BtfMember) (here : Found) (text : List ℕ) (first : Option NamedMember) (later : List NamedMember) (is_cut : Bool) → IsNamed s outer f t m here text → (first ≡ None → later ≡ [])
     → AnswersOn s bits value noted outer f (record { first = first; later = later; is_cut = is_cut }) → AnswersOn s bits value noted outer (after_next f) (entered_to outer (entered_as m here) (record { first = first; later = later; is_cut = is_cut }))

@@ -78,7 +78,7 @@ goes-inside-or-on target m seen e = subst IsInsideOrOn (sym e) (by_resolved targ
 
 -- ---- what members answer
 
-gives-more : (o : Option (Result (Option Found) AccessError)) (value : Result (Option Found) AccessError) (P Q : Type 0) → (P → Q) → GivesOr o value P → GivesOr o value Q
+pub gives-more : (o : Option (Result (Option Found) AccessError)) (value : Result (Option Found) AccessError) (P Q : Type 0) → (P → Q) → GivesOr o value P → GivesOr o value Q
 gives-more None value P Q h a = h a
 gives-more (Some answer) value P Q h a = a
 

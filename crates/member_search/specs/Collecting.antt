@@ -55,7 +55,7 @@ pub record IsPast (s : Search) (bits : Option ℕ) (value : Result (Option Found
   pub noted_so : is_noted noted last.place.type_id ≡ true
   pub gives : value ≡ walk_value outer f s bits
 
--- a search has found the listed members to be incompatible
+-- a search has found the listed members to be incompatible, or there are none
 abbrev pub IsAfter : Search
     → Option ℕ
     → Result (Option Found) AccessError
@@ -68,12 +68,13 @@ IsAfter s bits value noted outer f None = value ≡ walk_value outer f s bits
 IsAfter s bits value noted outer f (Some m) =
     IsWithin s bits value noted outer f m.found ⊎ IsPast s bits value noted outer f m.found
 
+-- the walk tells what such a search gives
 pub record IsGoingOn (s : Search) (bits : Option ℕ) (value : Result (Option Found) AccessError)
     (noted : List ℕ) (outer : List Frame) (f : Frame) (last : Option NamedMember) : Type 0 where
   pub sound : IsSound s noted (moved_stack bits outer) (moved_frame bits f)
   pub place : IsAfter s bits value noted outer f last
 
--- what holds after the listed members, if they aren't cut
+-- what holds after the listed members, if there are none, or they aren't cut
 abbrev pub IfNotCut : Option NamedMember → Bool → Type 0 → Type 0
 IfNotCut None is_cut Rest = Rest
 IfNotCut (Some first) is_cut Rest = is_cut ≡ false → Rest
@@ -88,8 +89,9 @@ AnswersSo s bits value known Rest =
     Answers s bits value (all_of known) (IfNotCut known.first known.is_cut Rest)
 
 -- what holds between turns of a walk, where searches give these values in all
-pub record IsWalking (target : Table) (value : Search → Option ℕ → Result (Option Found) AccessError)
-    (noted : List ℕ) (outer : List Frame) (f : Frame) (named : NamedMembers) : Type 0 where
+pub record IsWalking (target : Table)
+    (value : Search → Option ℕ → Result (Option Found) AccessError) (noted : List ℕ)
+    (outer : List Frame) (f : Frame) (named : NamedMembers) : Type 0 where
   pub fresh : (hash : ℕ) → (namesakes_of named hash).first ≡ None
       → (namesakes_of named hash).later ≡ []
   pub each : (local : Table) (id : ℕ) (name : List ℕ) (bits : Option ℕ)
@@ -109,6 +111,7 @@ pub record IsOver (target : Table) (value : Search → Option ℕ → Result (Op
       (namesakes_of named (name_hash name))
       (value (searched local id name target) bits ≡ Ok None)
 
+-- after a turn
 abbrev pub IsWalkTurn : Table
     → (Search → Option ℕ → Result (Option Found) AccessError)
     → Turn
@@ -129,6 +132,7 @@ pub record WalksOn (target : Table) (noted : List ℕ) (outer : List Frame) (f :
       → IsWalkTurn target value turn after around listed
 
 -- each search fails that comes to here
-pub record AllFail (target : Table) (outer : List Frame) (f : Frame) (e : AccessError) : Type 0 where
+pub record AllFail (target : Table) (outer : List Frame) (f : Frame) (e : AccessError)
+    : Type 0 where
   pub each : (local : Table) (id : ℕ) (name : List ℕ) (bits : Option ℕ)
       → walk_value outer f (searched local id name target) bits ≡ Err e

@@ -37,6 +37,7 @@ verdict_of (Ok true) found = Some (Ok (Some found))
 verdict_of (Ok false) found = if found.parts == 1 then Some (Ok None) else None
 verdict_of (Err e) found = Some (Err (TypeError e))
 
+-- to a search
 abbrev pub verdict : Search → Option ℕ → NamedMember → Option (Result (Option Found) AccessError)
 verdict s bits m =
     verdict_of (fields_compatible s.local s.type_id s.target m.found.type_id) (moved bits m.found)
@@ -71,16 +72,18 @@ end_value (ends.UnknownType id) = Some (Err (TypeError (UnknownBtfType id)))
 end_value (ends.LongChain id) = Some (Err (TypeError (MaximumTypeDepthReached id)))
 end_value ends.NotKept = None
 
--- what one gives that finds all listed members to be incompatible. It left structs and unions after
--- them, so that it gives what the walk does only where that is nothing
+-- what one gives that finds all listed members to be incompatible: it left structs and unions in
+-- which the walk may have failed, so that this is known only where the walk came to its end
 abbrev pub value_over : WalkEnd → Option (Result (Option Found) AccessError)
 value_over ends.Over = Some (Ok None)
 value_over _ = None
 
+-- and nothing is known where the list is cut
 abbrev pub value_past : Bool → WalkEnd → Option (Result (Option Found) AccessError)
 value_past true walk_end = None
 value_past false walk_end = value_over walk_end
 
+-- after the first member of a hash, if there is one, and the others
 abbrev pub value_after : Option NamedMember
     → Bool
     → WalkEnd

@@ -38,6 +38,7 @@ pub record AreFresh (named : NamedMembers) : Type 0 where
   pub each : (hash : ℕ)
       → namesakes_of named hash ≡ record { first = None; later = []; is_cut = false }
 
+-- the first and the others
 abbrev pub all_from : Option NamedMember → List NamedMember → List NamedMember
 all_from None later = []
 all_from (Some first) later = first ∷ later
@@ -45,6 +46,7 @@ all_from (Some first) later = first ∷ later
 abbrev pub all_of : Namesakes → List NamedMember
 all_of known = all_from known.first known.later
 
+-- the one that was listed last
 abbrev pub last_from : Option NamedMember → List NamedMember → Option NamedMember
 last_from None later = None
 last_from (Some first) later = Some (unwrap_or (slice_get later (length later - 1)) first)
@@ -80,6 +82,7 @@ pub record Enters (outer : List Frame) (hash : ℕ) (m : NamedMember) (old new :
       ≡ cond (is_at (nat_cmp hash) other) (entered_to outer m (namesakes_of old other))
       (namesakes_of old other)
 
+-- one more is listed after the others of its hash
 pub record AddsLater (hash : ℕ) (m : NamedMember) (old new : NamedMembers) : Type 0 where
   pub each : (other : ℕ)
       → namesakes_of new other

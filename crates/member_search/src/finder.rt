@@ -46,7 +46,7 @@ pub struct MemberFinder<'t> {
     searches: BTreeMap<u32, u8>,
     /// By the ids of structs and unions.
     indexes: BTreeMap<u32, MemberIndex>,
-    /// By the ids of those in which the first member of a name didn't decide.
+    /// By the ids of those whose index didn't decide.
     types: BTreeMap<u32, MemberTypes>,
     /// How many members the indexes and the lists of types have together.
     indexed: usize,
