@@ -17,7 +17,7 @@ use Rattle.btf_tables.specs.ResolvedTypes.{resolved_type}
 use Rattle.btf_tables.specs.Tables.{Table}
 use Rattle.btf_tables.specs.TypeSizes.{type_size_in_32_bits}
 use Rattle.matching_paths.specs.declared.step.Progress.{Progress}
-use Rattle.member_search.specs.Looks.{searched}
+use Rattle.member_looks.specs.Looks.{searched}
 use Rattle.member_search.specs.Searches.{member_found}
 use Rattle.member_search.specs.declared.search.Found.{Found}
 

@@ -14,7 +14,7 @@ use Rattle.access_paths.specs.declared.error.AccessError.{AccessError}
 use Rattle.btf_tables.specs.Tables.{Table}
 use Rattle.member_search.specs.Finders.{AnswersAs, AreIndexes}
 use Rattle.member_search.specs.Indexes.{Answers, GivesOr, IsAnswered, IsIndex, begun_at, end_value, value_after, value_past, verdict}
-use Rattle.member_search.specs.Looks.{Search, searched}
+use Rattle.member_looks.specs.Looks.{Search, searched}
 use Rattle.member_search.specs.Namesakes.{Namesakes, all_from, namesakes_of}
 use Rattle.member_search.specs.Searches.{member_found}
 use Rattle.member_search.specs.declared.member_index.MemberIndex.{MemberIndex}

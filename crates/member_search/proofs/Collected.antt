@@ -22,12 +22,12 @@ use Rattle.string_table.specs.Texts.{text_at}
 use Rattle.member_search.specs.Collecting.{AllFail, AnswersSo, IfNotCut, IsAfter, IsGoingOn, IsOver, IsPast, IsSearched, IsWalking, IsWalkTurn, IsWithin, WalksOn, moved_frame, moved_stack, moved_turn, walk_value}
 use Rattle.member_search.specs.EmptyTypes.{is_noted}
 use Rattle.member_search.specs.Indexes.{Answers, GivesOr, IsAnswered, IsIndex, begun_at, end_value, moved, value_after, value_over, verdict, verdict_of}
-use Rattle.member_search.specs.Looks.{Search, look_at, look_inside, searched}
+use Rattle.member_looks.specs.Looks.{Search, look_at, look_inside, searched}
 use Rattle.member_search.specs.Namesakes.{AreFresh, Enters, Namesakes, all_of, entered_after, entered_to, is_around, is_same_struct, last_from, last_of, namesakes_of}
 use Rattle.member_search.specs.Searches.{member_found}
 use Rattle.member_search.specs.Stacks.{ArePassed, AreSearched, Ends, IsFollowed, IsLeft, IsSound, IsTooDeep, found_of, frames_of, inside, ids, opened, stack_value, work}
-use Rattle.member_search.specs.declared.look.Look.{Look}
-use Rattle.member_search.specs.declared.look.Look.TheVariants.{GoOn, Here, Inside, NotHere}
+use Rattle.member_looks.specs.declared.look.Look.{Look}
+use Rattle.member_looks.specs.declared.look.Look.TheVariants.{GoOn, Here, Inside, NotHere}
 use Rattle.member_search.specs.declared.member_index.WalkEnd.{WalkEnd}
 use Rattle.member_search.specs.declared.member_index.WalkEnd.TheVariants as ends
 use Rattle.member_search.specs.declared.named_members.NamedMember.{NamedMember}

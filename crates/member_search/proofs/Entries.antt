@@ -14,9 +14,9 @@ use Rattle.btf_tables.specs.Tables.{Table, type_by_id}
 use Rattle.string_table.specs.NameHashes.{name_hash}
 use Rattle.string_table.specs.Texts.{text_at}
 use Rattle.member_search.specs.Indexes.{Answers, GivesOr, verdict}
-use Rattle.member_search.specs.Looks.{Search, is_composite, look_at, look_at_type, look_by_name, look_inside}
-use Rattle.member_search.specs.declared.look.Look.{Look}
-use Rattle.member_search.specs.declared.look.Look.TheVariants.{GoOn, Here, Inside, NotHere}
+use Rattle.member_looks.specs.Looks.{Search, is_composite, look_at, look_at_type, look_by_name, look_inside}
+use Rattle.member_looks.specs.declared.look.Look.{Look}
+use Rattle.member_looks.specs.declared.look.Look.TheVariants.{GoOn, Here, Inside, NotHere}
 use Rattle.member_search.specs.declared.named_members.NamedMember.{NamedMember}
 use Rattle.member_search.specs.declared.search.Found.{Found}
 

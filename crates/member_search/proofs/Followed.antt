@@ -12,11 +12,11 @@ use Rattle.btf_records.specs.declared.item.BtfMember.{BtfMember}
 use Rattle.btf_records.specs.declared.types.BtfType.{BtfType}
 use Rattle.btf_tables.specs.Tables.{type_by_id}
 use Rattle.member_search.specs.EmptyTypes.{is_noted}
-use Rattle.member_search.specs.Looks.{Search, look_at}
+use Rattle.member_looks.specs.Looks.{Search, look_at}
 use Rattle.member_search.specs.Searches.{found_in, is_among, member_found, member_here, most_open, or_next}
 use Rattle.member_search.specs.Stacks.{Ends, IsFollowed, IsLeft, IsSound, IsSoundTurn, IsTooDeep, IsTurn, Passes, found_of, frames_of, inside, is_open, left_of, opened, rest_of, stack_value, work}
-use Rattle.member_search.specs.declared.look.Look.{Look}
-use Rattle.member_search.specs.declared.look.Look.TheVariants.{GoOn, Here, Inside, NotHere}
+use Rattle.member_looks.specs.declared.look.Look.{Look}
+use Rattle.member_looks.specs.declared.look.Look.TheVariants.{GoOn, Here, Inside, NotHere}
 use Rattle.member_search.specs.declared.search.Found.{Found}
 use Rattle.member_search.specs.declared.turn.Frame.{Frame}
 use Rattle.member_search.specs.declared.turn.Turn.{Turn}

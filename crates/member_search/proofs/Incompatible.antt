@@ -18,12 +18,12 @@ use Rattle.string_table.specs.NameHashes.{name_hash}
 use Rattle.string_table.specs.Texts.{text_at}
 use Rattle.member_search.specs.EmptyTypes.{is_noted}
 use Rattle.member_search.specs.Indexes.{IsIndex, begun_at, end_value}
-use Rattle.member_search.specs.Looks.{look_at_type, look_by_name, look_inside, searched}
+use Rattle.member_looks.specs.Looks.{look_at_type, look_by_name, look_inside, searched}
 use Rattle.member_search.specs.MemberTypes.{AreListed, AreMemberTypes, AreIncompatible, FindsNothing, HasAllTypes, IsListed, IsListedAs, IsWalkedOver, LeadsToKnown, types_of_name}
 use Rattle.member_search.specs.Namesakes.{first_at, namesakes_of}
 use Rattle.member_search.specs.Searches.{by_look, found_in, is_among, member_found, member_here, members_found, or_next}
-use Rattle.member_search.specs.declared.look.Look.{Look}
-use Rattle.member_search.specs.declared.look.Look.TheVariants.{GoOn, Here, Inside, NotHere}
+use Rattle.member_looks.specs.declared.look.Look.{Look}
+use Rattle.member_looks.specs.declared.look.Look.TheVariants.{GoOn, Here, Inside, NotHere}
 use Rattle.member_search.specs.declared.member_index.MemberIndex.{MemberIndex}
 use Rattle.member_search.specs.declared.member_index.WalkEnd.{WalkEnd}
 use Rattle.member_search.specs.declared.member_index.WalkEnd.TheVariants as ends_of

@@ -3,7 +3,6 @@ pub mod Collected
 pub mod Counts
 pub mod EmptyTypes
 pub mod Entries
-pub mod FirstBytes
 pub mod Followed
 pub mod Free
 pub mod Incompatible

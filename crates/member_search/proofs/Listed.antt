@@ -14,11 +14,11 @@ use Rattle.btf_tables.specs.Tables.{Table, type_by_id}
 use Rattle.string_table.specs.NameHashes.{name_hash}
 use Rattle.string_table.specs.Texts.{text_at}
 use Rattle.member_search.specs.EmptyTypes.{failing, is_noted}
-use Rattle.member_search.specs.Looks.{look_inside}
+use Rattle.member_looks.specs.Looks.{look_inside}
 use Rattle.member_search.specs.MemberTypes.{AreListed, IsListed, IsListedAs, LeadsToKnown, ListsMore, ReachesMore, left_in}
 use Rattle.member_search.specs.Searches.{is_among, most_open}
-use Rattle.member_search.specs.declared.look.Look.{Look}
-use Rattle.member_search.specs.declared.look.Look.TheVariants.{GoOn, Here, Inside, NotHere}
+use Rattle.member_looks.specs.declared.look.Look.{Look}
+use Rattle.member_looks.specs.declared.look.Look.TheVariants.{GoOn, Here, Inside, NotHere}
 use Rattle.member_search.specs.declared.member_types.MemberTypes.{MemberTypes}
 use Rattle.member_search.specs.declared.member_types.Reached.{Reached}
 use Rattle.member_search.proofs.Free.{among-push, fails-lt}

@@ -13,8 +13,8 @@ use Rattle.member_search.specs.Collecting.{moved_frame, moved_stack, moved_turn}
 use Rattle.member_search.specs.Indexes.{moved, rebased}
 use Rattle.member_search.specs.Searches.{most_open}
 use Rattle.member_search.specs.Stacks.{IsFollowed, IsLeft, IsTooDeep, is_open}
-use Rattle.member_search.specs.declared.look.Look.{Look}
-use Rattle.member_search.specs.declared.look.Look.TheVariants.{GoOn, Here, Inside, NotHere}
+use Rattle.member_looks.specs.declared.look.Look.{Look}
+use Rattle.member_looks.specs.declared.look.Look.TheVariants.{GoOn, Here, Inside, NotHere}
 use Rattle.member_search.specs.declared.search.Found.{Found}
 use Rattle.member_search.specs.declared.turn.Frame.{Frame}
 use Rattle.member_search.specs.declared.turn.Turn.{Turn}

@@ -17,10 +17,10 @@ use Rattle.btf_tables.specs.Tables.{Table, type_by_id}
 use Rattle.string_table.specs.Texts.{text_at}
 use Rattle.member_search.specs.EmptyTypes.{free}
 use Rattle.member_search.specs.Laws.{NestingNeverDecides}
-use Rattle.member_search.specs.Looks.{Search, is_composite, look_at, look_at_type, look_by_name}
+use Rattle.member_looks.specs.Looks.{Search, is_composite, look_at, look_at_type, look_by_name}
 use Rattle.member_search.specs.Searches.{by_look, found_in, is_among, member_found, member_here, members_found, most_open}
-use Rattle.member_search.specs.declared.look.Look.{Look}
-use Rattle.member_search.specs.declared.look.Look.TheVariants.{GoOn, Here, Inside, NotHere}
+use Rattle.member_looks.specs.declared.look.Look.{Look}
+use Rattle.member_looks.specs.declared.look.Look.TheVariants.{GoOn, Here, Inside, NotHere}
 use Rattle.member_search.specs.declared.search.Found.{Found}
 use Rattle.member_search.proofs.Free.{free-none, free-push}
 

@@ -10,7 +10,7 @@ use Rattle.access_paths.specs.declared.error.AccessError.{AccessError}
 use Rattle.btf_records.specs.Fields.{members_of}
 use Rattle.member_search.specs.Collecting.{IsPast, IsSearched, IsWithin, moved_stack}
 use Rattle.member_search.specs.EmptyTypes.{AreApart, NotesOne, is_noted}
-use Rattle.member_search.specs.Looks.{Search}
+use Rattle.member_looks.specs.Looks.{Search}
 use Rattle.member_search.specs.Namesakes.{is_around, is_same_struct}
 use Rattle.member_search.specs.Stacks.{ids, opened, stack_value}
 use Rattle.member_search.specs.declared.search.Found.{Found}

@@ -14,10 +14,10 @@ use Rattle.btf_records.specs.declared.types.BtfType.{BtfType}
 use Rattle.btf_tables.specs.Tables.{Table, type_by_id}
 use Rattle.string_table.specs.Texts.{text_at}
 use Rattle.member_search.specs.Laws.{SearchesRest}
-use Rattle.member_search.specs.Looks.{Search, look_at, look_at_type, look_by_name, searched}
+use Rattle.member_looks.specs.Looks.{Search, look_at, look_at_type, look_by_name, searched}
 use Rattle.member_search.specs.Searches.{by_look, found_in, is_among, member_here, members_found, most_open}
-use Rattle.member_search.specs.declared.look.Look.{Look}
-use Rattle.member_search.specs.declared.look.Look.TheVariants.{GoOn, Here, Inside, NotHere}
+use Rattle.member_looks.specs.declared.look.Look.{Look}
+use Rattle.member_looks.specs.declared.look.Look.TheVariants.{GoOn, Here, Inside, NotHere}
 use Rattle.member_search.specs.declared.search.Found.{Found}
 
 type-same : (local : Table) (l : ℕ) (here : Table) (k : ℕ) (target : Table) (m : BtfMember) → ((r : ℕ) → fields_compatible here k target r ≡ fields_compatible local l target r) → look_at_type here k target m ≡ look_at_type local l target m

@@ -17,11 +17,11 @@ use Rattle.btf_records.specs.declared.types.BtfType.{BtfType}
 use Rattle.btf_tables.specs.Tables.{Table, type_by_id}
 use Rattle.string_table.specs.NameHashes.{name_hash}
 use Rattle.string_table.specs.Texts.{text_at}
-use Rattle.member_search.specs.Looks.{Search, look_at, look_at_type, look_by_name, searched}
+use Rattle.member_looks.specs.Looks.{Search, look_at, look_at_type, look_by_name, searched}
 use Rattle.member_search.specs.OwnNames.{AllOther, AreNames, AreOwnNames, HasHash, HasMember, HasOtherHash, IfKnown, IsNamed, Skips, is_other}
 use Rattle.member_search.specs.Stacks.{IsSound, IsTurn, found_of, frames_of, stack_value, work}
-use Rattle.member_search.specs.declared.look.Look.{Look}
-use Rattle.member_search.specs.declared.look.Look.TheVariants.{GoOn}
+use Rattle.member_looks.specs.declared.look.Look.{Look}
+use Rattle.member_looks.specs.declared.look.Look.TheVariants.{GoOn}
 use Rattle.member_search.specs.declared.own_names.NameHashes.{NameHashes}
 use Rattle.member_search.specs.declared.turn.Frame.{Frame}
 use Rattle.member_search.specs.declared.search.Found.{Found}

@@ -3,7 +3,7 @@ use Rattle.std.proofs.Common.{◌≡◌, ℕ, zero, suc, ◌+◌, ◌-◌, true,
 use Rattle.std.proofs.lemmas.Grind.{common_steps}
 use Rattle.access_paths.specs.declared.error.AccessError.{AccessError}
 use Rattle.access_paths.specs.declared.error.AccessError.TheVariants.{MaximumNestingLevelReached}
-use Rattle.member_search.specs.Looks.{Search}
+use Rattle.member_looks.specs.Looks.{Search}
 use Rattle.member_search.specs.Searches.{found_in, is_among, member_found, most_open, or_next}
 use Rattle.member_search.specs.Stacks.{ids, inside, is_open, opened, rest_of, stack_value, value_above}
 use Rattle.member_search.specs.declared.search.Found.{Found}

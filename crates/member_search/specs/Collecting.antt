@@ -7,7 +7,7 @@ use Rattle.btf_tables.specs.Tables.{Table, type_by_id}
 use Rattle.string_table.specs.NameHashes.{name_hash}
 use Rattle.member_search.specs.EmptyTypes.{is_noted}
 use Rattle.member_search.specs.Indexes.{Answers, moved, rebased}
-use Rattle.member_search.specs.Looks.{Search, searched}
+use Rattle.member_looks.specs.Looks.{Search, searched}
 use Rattle.member_search.specs.Namesakes.{Namesakes, all_of, last_of, namesakes_of}
 use Rattle.member_search.specs.Stacks.{AreSearched, IsSound, opened, stack_value}
 use Rattle.member_search.specs.declared.named_members.NamedMember.{NamedMember}

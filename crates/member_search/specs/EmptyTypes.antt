@@ -3,7 +3,7 @@ use Rattle.std.specs.Prelude.{◌≡◌, ◌≤◌, ℕ, zero, suc, ◌+◌, ◌
 use Rattle.std.specs.BTreeMap.{is_at}
 use Rattle.std.specs.List.{list_any}
 use Rattle.std.specs.Ordering.{nat_cmp}
-use Rattle.member_search.specs.Looks.{Search}
+use Rattle.member_looks.specs.Looks.{Search}
 use Rattle.member_search.specs.Searches.{found_in, is_among, most_open}
 
 abbrev pub is_noted : List ℕ → ℕ → Bool

@@ -6,7 +6,7 @@ use Rattle.std.specs.Ordering.{nat_cmp}
 use Rattle.access_paths.specs.declared.error.AccessError.{AccessError}
 use Rattle.btf_tables.specs.Tables.{Table}
 use Rattle.member_search.specs.Indexes.{Answers, IsIndex}
-use Rattle.member_search.specs.Looks.{Search}
+use Rattle.member_looks.specs.Looks.{Search}
 use Rattle.member_search.specs.declared.member_index.MemberIndex.{MemberIndex}
 use Rattle.member_search.specs.declared.named_members.NamedMember.{NamedMember}
 use Rattle.member_search.specs.declared.search.Found.{Found}

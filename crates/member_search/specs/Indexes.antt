@@ -10,7 +10,7 @@ use Rattle.btf_records.specs.declared.error.BtfError.TheVariants.{InvalidStringO
 use Rattle.btf_tables.specs.Tables.{Table}
 use Rattle.string_table.specs.NameHashes.{name_hash}
 use Rattle.string_table.specs.Texts.{text_at}
-use Rattle.member_search.specs.Looks.{Search, searched}
+use Rattle.member_looks.specs.Looks.{Search, searched}
 use Rattle.member_search.specs.Namesakes.{Namesakes, all_of, namesakes_of}
 use Rattle.member_search.specs.Searches.{member_found}
 use Rattle.member_search.specs.declared.member_index.WalkEnd.{WalkEnd}

@@ -2,7 +2,7 @@
 use Rattle.std.specs.Prelude.{◌≡◌, ◌≤◌, ℕ, Bool, true, List, [], Option}
 use Rattle.access_paths.specs.Laws.{AreAlike}
 use Rattle.btf_tables.specs.Tables.{Table}
-use Rattle.member_search.specs.Looks.{Search, searched}
+use Rattle.member_looks.specs.Looks.{Search, searched}
 use Rattle.member_search.specs.Searches.{found_in, member_found, most_open}
 
 -- how many structs and unions may be open decides no answer, where it is at least as many as there

@@ -4,7 +4,6 @@ pub mod EmptyTypes
 pub mod Finders
 pub mod Indexes
 pub mod Laws
-pub mod Looks
 pub mod MemberTypes
 pub mod Namesakes
 pub mod OwnNames

@@ -15,10 +15,10 @@ use Rattle.string_table.specs.NameHashes.{name_hash}
 use Rattle.string_table.specs.Texts.{text_at}
 use Rattle.member_search.specs.EmptyTypes.{failing, is_noted}
 use Rattle.member_search.specs.Indexes.{begun_at}
-use Rattle.member_search.specs.Looks.{Search, look_inside, searched}
+use Rattle.member_looks.specs.Looks.{Search, look_inside, searched}
 use Rattle.member_search.specs.Searches.{is_among, member_found, most_open}
-use Rattle.member_search.specs.declared.look.Look.{Look}
-use Rattle.member_search.specs.declared.look.Look.TheVariants.{Inside}
+use Rattle.member_looks.specs.declared.look.Look.{Look}
+use Rattle.member_looks.specs.declared.look.Look.TheVariants.{Inside}
 use Rattle.member_search.specs.declared.member_types.MemberTypes.{MemberTypes}
 use Rattle.member_search.specs.declared.member_types.Reached.{Reached}
 

@@ -9,12 +9,12 @@ ghost use Rattle.member_search.specs.Indexes.{IsIndex};
 ghost use Rattle.member_search.specs.Namesakes.{AreFresh};
 ghost use Rattle.member_search.specs.Stacks.{found_of, frames_of, work};
 
-use crate::look::look_inside;
 use crate::member_index::{MemberIndex, WalkEnd, failed_end};
 use crate::named_members::{NamedMember, NamedMembers};
 use crate::turn::{Frame, Memory, Turn, entered, follow, leave, member_at, member_here};
 use access_paths::AccessError;
 use btf_tables::Btf;
+use member_looks::look_inside;
 use std::alloc::AllocError;
 use string_table::name_hash;
 

@@ -3,7 +3,7 @@
 ghost use Rattle.std.specs.Prelude.{◌≡◌, ◌≢◌, IfErr, IfOk, IfSome, Some, Ok, Err, true};
 ghost use Rattle.access_paths.specs.declared.error.AccessError.TheVariants.{BtfError as TypeError};
 ghost use Rattle.btf_records.specs.declared.error.BtfError.TheVariants.{OutOfMemory};
-ghost use Rattle.member_search.specs.Looks.{searched};
+ghost use Rattle.member_looks.specs.Looks.{searched};
 ghost use Rattle.member_search.specs.Searches.{member_found};
 ghost use Rattle.string_table.specs.Texts.{text_at};
 ghost use Rattle.member_search.specs.Finders.{AnswersAs};

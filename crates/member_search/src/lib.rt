@@ -6,7 +6,6 @@ mod collect;
 mod empty_types;
 mod finder;
 mod laws;
-mod look;
 mod member_index;
 mod member_types;
 mod named_members;

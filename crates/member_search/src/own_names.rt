@@ -4,7 +4,7 @@ ghost use Rattle.std.specs.Prelude.{◌≡◌, ◌≢◌, ◌≤◌, ◌++◌, �
 ghost use Rattle.access_paths.specs.declared.error.AccessError.TheVariants.{BtfError as TypeError};
 ghost use Rattle.btf_records.specs.declared.error.BtfError.TheVariants.{OutOfMemory};
 ghost use Rattle.btf_records.specs.Fields.{members_of};
-ghost use Rattle.member_search.specs.Looks.{searched};
+ghost use Rattle.member_looks.specs.Looks.{searched};
 ghost use Rattle.member_search.specs.OwnNames.{AllOther, AreNames, IsNamed, Skips, is_other};
 ghost use Rattle.member_search.specs.Searches.{member_found};
 ghost use Rattle.member_search.specs.Stacks.{IsSound, IsSoundTurn, IsTurn, found_of, frames_of, stack_value};

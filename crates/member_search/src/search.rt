@@ -1,7 +1,7 @@
 //! Searches by name.
 
 ghost use Rattle.std.specs.Prelude.{◌≡◌, ◌≢◌, IfOk, IfErr, Ok, Err};
-ghost use Rattle.member_search.specs.Looks.{searched};
+ghost use Rattle.member_looks.specs.Looks.{searched};
 ghost use Rattle.member_search.specs.Searches.{member_found};
 ghost use Rattle.access_paths.specs.declared.error.AccessError.TheVariants.{BtfError as TypeError};
 ghost use Rattle.btf_records.specs.declared.error.BtfError.TheVariants.{OutOfMemory};

@@ -2,7 +2,7 @@
 
 ghost use Rattle.std.specs.Prelude.{◌≡◌, ◌≢◌, ◌+◌, ◌<◌, ◌≤◌, ◌⊎◌, ◌++◌, ◌∷◌, [], IfOk, IfErr, IfSome, Err, true, false, length, slice_get};
 ghost use Rattle.member_search.specs.EmptyTypes.{is_noted};
-ghost use Rattle.member_search.specs.Looks.{searched};
+ghost use Rattle.member_looks.specs.Looks.{searched};
 ghost use Rattle.member_search.specs.Searches.{member_here, most_open};
 ghost use Rattle.member_search.specs.Stacks.{IsEntered, IsFollowed, IsLeft, IsSound, IsSoundTurn, IsTooDeep, IsTurn, found_of, frames_of, inside, is_open, left_of, stack_value};
 ghost use Rattle.access_paths.specs.declared.error.AccessError.TheVariants.{BtfError as TypeError, MaximumNestingLevelReached};
@@ -10,13 +10,13 @@ ghost use Rattle.btf_records.specs.Fields.{members_of};
 ghost use Rattle.btf_records.specs.declared.error.BtfError.TheVariants.{OutOfMemory};
 
 use crate::empty_types::EmptyTypes;
-use crate::look::{Look, look_at};
 use crate::search::Found;
 use crate::stack::Stack;
 use access_paths::{AccessError, Place, bits_after};
 use btf_encoding::TypeRef;
 use btf_records::BtfMember;
 use btf_tables::Btf;
+use member_looks::{Look, look_at};
 use std::alloc::{AllocError, Global};
 
 /// A struct or union whose members are being looked at.

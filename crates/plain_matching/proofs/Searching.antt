@@ -6,7 +6,7 @@ use Rattle.access_paths.specs.declared.error.AccessError.TheVariants.{MaximumNes
 use Rattle.btf_records.specs.Fields.{members_of}
 use Rattle.btf_records.specs.declared.item.BtfMember.{BtfMember}
 use Rattle.btf_records.specs.declared.types.BtfType.{BtfType}
-use Rattle.member_search.specs.Looks.{Search, look_at, look_inside}
+use Rattle.member_looks.specs.Looks.{Search, look_at, look_inside}
 use Rattle.member_search.specs.Searches.{by_look, found_in, is_among, member_here, members_found}
 use Rattle.member_search.specs.declared.search.Found.{Found}
 use Rattle.string_table.specs.Texts.{text_at}

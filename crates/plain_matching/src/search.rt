@@ -1,7 +1,7 @@
 //! Members by name.
 
 ghost use Rattle.std.specs.Prelude.{◌≡◌, ◌≢◌, ◌+◌, ◌<◌, IfOk, IfErr, Ok, Err, length};
-ghost use Rattle.member_search.specs.Looks.{is_composite, look_inside, searched};
+ghost use Rattle.member_looks.specs.Looks.{is_composite, look_inside, searched};
 ghost use Rattle.access_paths.specs.Lookups.{and_then};
 ghost use Rattle.member_search.specs.Searches.{by_look, found_in, is_among, member_found, member_here, members_found};
 ghost use Rattle.access_paths.specs.declared.error.AccessError.TheVariants.{BtfError as TypeError};
@@ -26,7 +26,7 @@ pub(crate) struct Sought<'s, 't> {
 }
 
 impl<'s, 't> Model for Sought<'s, 't> {
-    ghost use Rattle.member_search.specs.Looks.{Search, searched};
+    ghost use Rattle.member_looks.specs.Looks.{Search, searched};
 
     ghost Value = { Search };
 

@@ -1,5 +1,5 @@
 use Rattle.std.proofs.Common.{◌≡◌, [], ◌∷◌, ◌++◌}
-use Rattle.member_search.specs.Looks.{searched}
+use Rattle.member_looks.specs.Looks.{searched}
 use Rattle.member_search.specs.Searches.{member_found}
 use Rattle.member_search.specs.Stacks.{IsSound, stack_value, work}
 use Rattle.member_search.proofs.search.find_member.Given as goal

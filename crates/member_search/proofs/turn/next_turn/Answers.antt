@@ -2,7 +2,7 @@ use Rattle.std.proofs.Common.{◌≡◌, ◌+◌, Err, length, arith, sym, ap, �
 use Rattle.std.proofs.lemmas.Grind.{common_steps}
 use Rattle.access_paths.specs.declared.error.AccessError.TheVariants.{BtfError as TypeError}
 use Rattle.btf_records.specs.declared.error.BtfError.{BtfError}
-use Rattle.member_search.specs.Looks.{searched}
+use Rattle.member_looks.specs.Looks.{searched}
 use Rattle.member_search.proofs.Followed.{IsNext, done, refused-err, refused-look, refused-unknown, refused_by, same-member, sound-ok, turned-ok}
 use Rattle.member_search.proofs.turn.next_turn.Goals as goal
 

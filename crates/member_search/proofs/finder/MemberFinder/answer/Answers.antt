@@ -1,7 +1,7 @@
 use Rattle.std.proofs.Common.{◌≡◌, None, Some, sym, ◌∙◌}
 use Rattle.std.specs.Prelude.{IfSome}
 use Rattle.member_search.specs.Indexes.{Answers, begun_at, value_past}
-use Rattle.member_search.specs.Looks.{searched}
+use Rattle.member_looks.specs.Looks.{searched}
 use Rattle.member_search.specs.Namesakes.{namesakes_of}
 use Rattle.member_search.specs.Searches.{member_found}
 use Rattle.member_search.proofs.Answered.{at_bits, end_gives, first_gives, index_known, known_at, later_gives, later_items, no_later, none_later, not_some, unlisted}

@@ -1,5 +1,5 @@
 use Rattle.member_search.specs.Indexes.{end_value}
-use Rattle.member_search.specs.Looks.{searched}
+use Rattle.member_looks.specs.Looks.{searched}
 use Rattle.member_search.proofs.Answered.{LeavesLater}
 use Rattle.member_search.proofs.finder.MemberFinder.later_answer.Given as goal
 

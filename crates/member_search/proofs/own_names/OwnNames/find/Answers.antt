@@ -2,7 +2,7 @@ use Rattle.std.proofs.Common.{◌≡◌, [], ◌∷◌, ◌++◌, Err, None, Som
 use Rattle.access_paths.specs.declared.error.AccessError.TheVariants.{BtfError as TypeError}
 use Rattle.btf_records.specs.declared.error.BtfError.{BtfError}
 use Rattle.btf_tables.specs.Tables.{Table, type_by_id}
-use Rattle.member_search.specs.Looks.{searched}
+use Rattle.member_looks.specs.Looks.{searched}
 use Rattle.member_search.specs.Stacks.{IsSoundTurn, IsTurn, found_of, frames_of}
 use Rattle.member_search.proofs.Followed.{begins, ended, refused_by, unknown-root}
 use Rattle.member_search.proofs.own_names.OwnNames.find.Goals as goal

@@ -2,7 +2,7 @@ use Rattle.std.proofs.Common.{◌≡◌, ◌≢◌, ◌++◌, ◌∷◌, [], Err
 use Rattle.access_paths.specs.declared.error.AccessError.TheVariants.{BtfError as TypeError}
 use Rattle.btf_records.specs.declared.error.BtfError.TheVariants.{OutOfMemory}
 use Rattle.btf_tables.specs.Tables.{Table}
-use Rattle.member_search.specs.Looks.{searched}
+use Rattle.member_looks.specs.Looks.{searched}
 use Rattle.member_search.specs.OwnNames.{Skips}
 use Rattle.member_search.specs.Stacks.{IsSound, IsTurn, found_of, frames_of, stack_value}
 use Rattle.member_search.proofs.Skipped.{refused_from, skipped, turned_from}

@@ -4,7 +4,7 @@ ghost use Rattle.std.specs.Prelude.{◌≡◌, ◌∷◌, ℕ, List, IfOk, false
 ghost use Rattle.std.specs.Cmp.Lexicographic.{pointwise};
 ghost use Rattle.std.specs.Option.{IsSomeAnd};
 ghost use Rattle.string_table.specs.Texts.{text_at};
-ghost use Rattle.member_search.specs.Looks.{IsOther, LeadsInside, is_composite, look_at, look_at_type, look_inside, searched};
+ghost use Rattle.member_looks.specs.Looks.{IsOther, LeadsInside, is_composite, look_at, look_at_type, look_inside, searched};
 
 use access_paths::AccessError;
 use btf_compatibility::fields_are_compatible;
@@ -14,7 +14,7 @@ use btf_tables::Btf;
 
 /// What a look at a member of a struct or union gives.
 #[derive(Clone, Copy, Debug)]
-pub(crate) enum Look {
+pub enum Look {
     /// It isn't the one, and the next may be.
     GoOn,
     /// It has the name, and isn't compatible: the struct or union doesn't hold the one.
@@ -32,7 +32,7 @@ fn is_composite(t: &TypeRef<'_>) -> bool
 }
 
 /// A member without a name.
-pub(crate) fn look_inside(target: &Btf<'_>, member: BtfMember) -> Result<Look, AccessError>
+pub fn look_inside(target: &Btf<'_>, member: BtfMember) -> Result<Look, AccessError>
     ensures value { result ≡ look_inside target.now member }
     ensures inside { IfOk result (LeadsInside target.now) }
 {
@@ -96,7 +96,7 @@ fn is_another(target: &Btf<'_>, name: &str, offset: u32) -> bool
 ///
 /// `BtfError` where its name or its type can't be looked up, or types can't be compared.
 #[tactic(auto, using(crate::proofs::FirstBytes::look_on))]
-pub(crate) fn look_at<'t>(
+pub fn look_at<'t>(
     local: &Btf<'t>,
     type_id: u32,
     name: &str,

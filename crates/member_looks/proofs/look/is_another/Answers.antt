@@ -4,9 +4,9 @@ use Rattle.std.specs.Option.{IsSomeAnd}
 use Rattle.std.proofs.lemmas.Option.{slice_get_read}
 use Rattle.first_bytes.specs.FirstBytes.{AreTexts}
 use Rattle.string_table.specs.Texts.{text_at}
-use Rattle.member_search.specs.Looks.{IsOther}
-use Rattle.member_search.proofs.FirstBytes.{told_apart}
-use Rattle.member_search.proofs.look.is_another.Goals as goal
+use Rattle.member_looks.specs.Looks.{IsOther}
+use Rattle.member_looks.proofs.FirstBytes.{told_apart}
+use Rattle.member_looks.proofs.look.is_another.Goals as goal
 
 pub returns-in-Some : goal.returns-in-Some
 returns-in-Some c = λ yes.

@@ -9,9 +9,9 @@ use Rattle.std.specs.Str.{is_utf8}
 use Rattle.btf_records.specs.declared.item.BtfMember.{BtfMember}
 use Rattle.first_bytes.specs.FirstBytes.{AreTexts}
 use Rattle.string_table.specs.Texts.{before_nul, text_at, text_of}
-use Rattle.member_search.specs.Looks.{IsOther, Search, look_at, look_at_type}
-use Rattle.member_search.specs.declared.look.Look.TheVariants.{GoOn}
-use Rattle.member_search.proofs.Entries.{look-text}
+use Rattle.member_looks.specs.Looks.{IsOther, Search, look_at, look_at_type, look_by_name}
+use Rattle.member_looks.specs.declared.look.Look.TheVariants.{GoOn}
+use Rattle.access_paths.specs.Lookups.{found_text, with_found}
 
 abbrev nul_at : List ℕ → ℕ
 nul_at bytes = position_or_len (λ b. b == 0) bytes
@@ -54,6 +54,9 @@ told_apart strings name offset b texts at some apart =
 
 pub first_apart : (b c : ℕ) (rest cs : List ℕ) → nat_eq b c ≡ false → pointwise nat_eq (b ∷ rest) (c ∷ cs) ≡ false
 first_apart b c rest cs is = rw is refl
+
+look-text : (search : Search) (m : BtfMember) (text : List ℕ) → text_at search.target.strings m.name_offset ≡ Some text → look_at search m ≡ look_by_name search m text
+look-text search m text is = ap (λ (o : Option (List ℕ)). with_found (found_text m.name_offset o) (look_by_name search m)) is
 
 look_by : (search : Search) (m : BtfMember) (o : Option (List ℕ)) → text_at search.target.strings m.name_offset ≡ o → IsSomeAnd o (IsOther search.name) → Ok GoOn ≡ look_at search m
 look_by search m None is other = absurd other
