@@ -369,6 +369,7 @@ pub fn compare_rounds(alloc: Global, rounds: u64) -> Result<Tally, BtfError> {
     let any = Texts::new(alloc, false)?;
     let mut tally = Tally::new(alloc);
     for round in 0..rounds {
+        // a kernel's tables are 0 to 3, by the round, so that each number of them has both texts
         let texts = if round % 8 < 4 { &ascii } else { &any };
         compare_round(alloc, texts, round, &mut tally)?;
     }

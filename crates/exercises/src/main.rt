@@ -60,7 +60,7 @@ fn status_of_changes(rt: &HostRuntime, answer: Result<(), ChangesError>) -> Exit
 fn status_of_example(rt: &HostRuntime, answer: Result<(), ExampleError>) -> ExitCode {
     match answer {
         Ok(()) => ExitCode::SUCCESS,
-        Err(error) => failed(rt, &error, 1),
+        Err(error) => failed(rt, &error, error.status()),
     }
 }
 

@@ -92,8 +92,8 @@ fn report_among<'c, 'l, 'e, 'n>(
 }
 
 /// What becomes of an object on a kernel of these types, in no more than 2^32 tables: whether it
-/// gets a plan, and what each relocation and each extern comes to by itself. Each table is gone over
-/// once for the plan and for the answers together.
+/// gets a plan, and what each relocation and each extern comes to by itself. What these are looked
+/// up among is gathered once for the plan and for the answers.
 pub fn report_on(
     alloc: Global,
     reported: &Reported<'_, '_>,

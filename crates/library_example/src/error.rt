@@ -31,6 +31,18 @@ pub enum ExampleError {
     OutOfMemory(#[from] AllocError),
 }
 
+impl ExampleError {
+    /// The status that a program ends with: 2 where it was called otherwise, 3 for want of memory,
+    /// else 1.
+    pub fn status(&self) -> u8 {
+        match self {
+            ExampleError::Usage => 2,
+            ExampleError::OutOfMemory(_) => 3,
+            _ => 1,
+        }
+    }
+}
+
 impl<T: Drop> From<AllocFailed<T>> for ExampleError {
     fn from(_error: AllocFailed<T>) -> ExampleError {
         ExampleError::OutOfMemory(AllocError)
