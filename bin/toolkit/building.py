@@ -1,8 +1,9 @@
 """Proves the crates that a program stands on, and builds the program.
 
-The toolchain's gate does both, over a copy that has these crates alone and none of the edits which a prover must refuse.
-It proves crates side by side, and keeps what it proved on this machine, so that builds and gates to come prove only what
-changed. Its other commands hold all crates below the one that they prove, so that they would wait for each other.
+The toolchain's gate does both, over a copy that has these crates alone and none of the edits which a prover must refuse;
+what it makes takes some gigabytes in the folder for temporary files. It proves crates side by side, and keeps what it
+proved on this machine, so that builds and gates to come prove only what changed. Its other commands hold all crates below
+the one that they prove, so that they would wait for each other.
 """
 
 import fcntl
@@ -16,10 +17,11 @@ import time
 from toolkit import processes, repository
 
 # What isn't copied of a crate: what was made from it, and the edits.
-LEFT_OUT = shutil.ignore_patterns("out", "must-fail")
+LEFT_OUT = ("out", "must-fail")
 # What the gate says of a crate: where its lines begin, and what it came to.
-BEGINS = re.compile(r"== (\w+)")
-ENDS = re.compile(r"rt: (\w+) (proved|is kept|NOT PROVED)\b")
+BEGINS = re.compile(r"== \w+$")
+PROVED = re.compile(r"rt: (\w+) (proved$|is kept:)")
+REFUSED = re.compile(r"rt: (\w+) NOT PROVED$")
 SHOWN = 40
 
 
@@ -32,15 +34,28 @@ def work_of(crate):
     return 20_000 + sum(os.path.getsize(path) for path in repository.source_files(crate))
 
 
+def copy_crate(crate, to):
+    """Copies a crate; what its folders hold is copied whole, and links as links."""
+    os.makedirs(to)
+    with os.scandir(repository.crate_folder(crate)) as entries:
+        for entry in entries:
+            path = os.path.join(to, entry.name)
+            if entry.is_dir(follow_symlinks=False):
+                if entry.name not in LEFT_OUT:
+                    shutil.copytree(entry.path, path, symlinks=True)
+            else:
+                shutil.copy2(entry.path, path, follow_symlinks=False)
+
+
 def copy_crates(needed, top):
     """Copies some crates into a folder, as a repository of its own."""
-    os.mkdir(top)
+    os.makedirs(os.path.join(top, ".git"))
     shutil.copy2(os.path.join(repository.TOP, "HANDLES"), top)
     lines = repository.crate_lines()
     with open(os.path.join(top, "crates.txt"), "w", encoding="utf-8") as file:
         file.writelines(lines[crate] + "\n" for crate in sorted(needed))
     for crate in needed:
-        shutil.copytree(repository.crate_folder(crate), os.path.join(top, "crates", crate), ignore=LEFT_OUT)
+        copy_crate(crate, os.path.join(top, "crates", crate))
 
 
 class Progress:
@@ -55,19 +70,23 @@ class Progress:
         self.lines = []
 
     def note(self, line):
-        """Notes a line; tells what became of a crate."""
+        """Notes a line, and tells how far it is; says whether no crate was refused."""
         if BEGINS.match(line):
             self.lines = []
         self.lines.append(line)
-        ended = ENDS.match(line)
-        if not ended or ended[1] not in self.work:
-            return
-        work = self.work.pop(ended[1])
-        if ended[2] == "NOT PROVED":
+        refused = REFUSED.match(line)
+        if refused:
             self.show_lines()
-            say(self.name, f"the crate {ended[1]} could not be proved")
-            return
-        if ended[2] == "proved":
+            say(self.name, f"the crate {refused[1]} could not be proved")
+            return False
+        proved = PROVED.match(line)
+        if proved and proved[1] in self.work:
+            self.note_proved(proved[1], proved[2] == "proved")
+        return True
+
+    def note_proved(self, crate, is_new):
+        work = self.work.pop(crate)
+        if is_new:
             self.done += work
         say(self.name, f"{self.count - len(self.work)} of {self.count} crates are proved{self.time_left()}")
 
@@ -85,16 +104,19 @@ class Progress:
 
 
 def pass_gate(name, needed, top):
-    """Runs the gate over the copied crates; says whether they pass."""
+    """Runs the gate over the copied crates, up to the first that it refuses; says whether they pass."""
     progress = Progress(name, needed)
     how = {"stdout": subprocess.PIPE, "stderr": subprocess.STDOUT, "encoding": "utf-8", "errors": "replace"}
     process = processes.begin(["rt", "ci"], cwd=top, **how)
     for line in process.stdout:
-        progress.note(line.rstrip("\n"))
+        if not progress.note(line.rstrip("\n")):
+            processes.end_all()
+            return False
     process.wait()
     processes.forget(process)
     if process.returncode != 0:
         progress.show_lines()
+        say(name, "the crates don't pass the gate")
     return process.returncode == 0
 
 
@@ -111,17 +133,24 @@ def take_program(name, top):
     return True
 
 
+def has_changed(name, sources):
+    """Whether the sources aren't these any more, which is told."""
+    if repository.sources_checksum(name) == sources:
+        return False
+    say(name, "sources changed meanwhile; build it again")
+    return True
+
+
 def prove_and_build(name):
     sources = repository.sources_checksum(name)
     needed = repository.needed_crates(name)
-    say(name, f"{len(needed)} crates are proved, the program last")
+    say(name, f"{len(needed)} crates are to be proved, the program last")
     with processes.folder() as folder:
         top = os.path.join(folder, name)
         copy_crates(needed, top)
-        if not pass_gate(name, needed, top) or not take_program(name, top):
+        if has_changed(name, sources) or not pass_gate(name, needed, top) or not take_program(name, top):
             return 1
-    if repository.sources_checksum(name) != sources:
-        say(name, "sources changed meanwhile; build it again")
+    if has_changed(name, sources):
         return 1
     repository.note_proved(name, sources)
     say(name, f"the proved program is {os.path.relpath(repository.program_file(name), repository.TOP)}")
@@ -138,4 +167,8 @@ def build(name):
             return 1
         if repository.is_proved(name):
             return 0
-        return prove_and_build(name)
+        try:
+            return prove_and_build(name)
+        except OSError as error:
+            say(name, f"it can't be built: {error}")
+            return 1
