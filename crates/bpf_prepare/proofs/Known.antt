@@ -6,7 +6,7 @@ use Rattle.load_plan.specs.Content.{PlanContent}
 use Rattle.load_plan.specs.Inputs.{Answers, AreAnswered, BtfFeature, Inputs, IsSaid, Predicate}
 use Rattle.load_plan.specs.Known.{GoByFeature, IsPlanFor, IsRefusalFor}
 use Rattle.load_plan.specs.Planned.{IsPlanned, IsRefusal}
-use Rattle.load_plan.specs.declared.error.PrepareError.{PrepareError}
+use Rattle.prepare_errors.specs.declared.error.PrepareError.{PrepareError}
 
 said : (Says : Bool → Type 0) (b : Bool) → ((answer : Bool) → Says answer → answer ≡ b) → (o : Option Bool) → IsSaid Says o → IsSaid (λ answer. answer ≡ b) o
 said Says b says None h = tt

@@ -4,7 +4,7 @@ use Rattle.load_plan.specs.Content.{PlanContent}
 use Rattle.load_plan.specs.Inputs.{Inputs, Table, inputs, symbols_given}
 use Rattle.load_plan.specs.Known.{IsPlanFor, IsRefusalFor}
 use Rattle.load_plan.specs.PlanGrammar as grammar
-use Rattle.load_plan.specs.declared.error.PrepareError.TheVariants as prepare
+use Rattle.prepare_errors.specs.declared.error.PrepareError.TheVariants as prepare
 use Rattle.load_plan.specs.declared.order.Order.{Order}
 use Rattle.run_settings.specs.Documents.{RunContent}
 use Rattle.run_settings.specs.Features.{grants}

@@ -13,4 +13,5 @@ pub use btf_records::{
     Float, Func, FuncLinkage, FuncProto, Fwd, InfoBits, Int, IntEncoding, Items, Ptr, Restrict,
     Struct, TypeTag, Typedef, Union, Var, VarLinkage, Volatile,
 };
-pub use btf_tables::{Answers, Btf, KsymsIds, Types, essential_name};
+pub use btf_rewriting::{Answers, KsymsIds, fixup_and_sanitize, fixup_ksyms_datasec};
+pub use btf_tables::{Btf, Types, essential_name};

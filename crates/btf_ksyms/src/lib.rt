@@ -5,5 +5,5 @@
 mod section;
 mod step;
 
-pub use section::KsymsSection;
+pub use section::{KsymsIds, KsymsSection};
 pub use step::{SteppedTable, fixup_ksyms};

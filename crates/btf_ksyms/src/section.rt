@@ -14,6 +14,10 @@ use btf_parts::{Strings, TypeRecords};
 use btf_records::{BtfError, BtfKind, DataSecEntry};
 use std::alloc::{AllocError, Global};
 
+/// The id of the section `.ksyms`, and of the variable that stands in it for each function, where
+/// there is one.
+pub type KsymsIds = (u32, Option<u32>);
+
 /// A section of a table, by id, and the id of the variable that stands in it for each function.
 #[derive(Debug, Drop)]
 pub struct KsymsSection<'t> {

@@ -1,6 +1,5 @@
 pub mod Flavours
 pub mod Added
-pub mod Carried
 pub mod Chains
 pub mod Headers
 pub mod Held
@@ -8,7 +7,6 @@ pub mod Named
 pub mod NamedAlike
 pub mod OtherTexts
 pub mod Rests
-pub mod Sanitized
 pub mod Sections
 pub mod Texts
 pub mod Walks

@@ -8,6 +8,8 @@ use Rattle.std.proofs.lemmas.Bool.Decides.{nat_tests}
 use Rattle.std.proofs.lemmas.List.{drop-append-le, take-append-le}
 use Rattle.std.proofs.lemmas.List.Elements.{All-head, All-tail}
 use Rattle.std.proofs.Math.Seq.{drop-append_seam, take-append_seam}
+use Rattle.btf_tables.specs.GrownTables.{TextsStay}
+use Rattle.btf_tables.specs.Tables.{Table}
 use Rattle.string_table.specs.Texts.{before_nul, text_at, text_of}
 
 -- where the first NUL stands
@@ -76,3 +78,7 @@ texts_stay strings more offset text e =
       | inl within ↦ rw (drop-append-le offset strings more within) (text_stays (drop offset strings) more text e)
       | inr past ↦ absurd (no_text text (rw (drop_past offset strings (omega (arith, past))) at e))
     ]
+
+-- those of a table stay where more are written after them
+pub texts_after : (old new : Table) (more : List ℕ) → new.strings ≡ old.strings ++ more → TextsStay old new
+texts_after old new more same = record { stay = λ offset text e. rw same (texts_stay old.strings more offset text e) }

@@ -1,6 +1,7 @@
--- What becomes of a table to which a string or a type is added.
+-- What becomes of a table to which a string or a type is added, or that gets other records.
 use Rattle.std.specs.Prelude.{◌≡◌, ℕ, ◌+◌, List, [], ◌∷◌, ◌++◌, length, ◌⊎◌, Some}
 use Rattle.btf_parts.specs.Growth.{TooMany}
+use Rattle.btf_parts.specs.Layout.{RecordList}
 use Rattle.btf_tables.specs.Tables.{Table, type_by_id, type_bytes}
 use Rattle.string_table.specs.Texts.{text_at}
 use Rattle.btf_records.specs.declared.types.BtfType.{BtfType}
@@ -12,6 +13,15 @@ with_string table text = record table { strings = table.strings ++ text ++ 0 ∷
 -- the record, under the next id
 abbrev pub with_type : Table → BtfType → Table
 with_type table t = record table { types = table.types ++ t ∷ [] }
+
+-- other records, in their byte order, and some bytes after the strings
+abbrev pub with_records : Table → RecordList → List ℕ → Table
+with_records table records texts =
+    record table {
+      order = records.order;
+      types = records.types;
+      strings = table.strings ++ texts;
+    }
 
 -- why no type can be added: the type bytes, or the types, would be too many
 abbrev pub IsFull : Table → BtfType → Type 0

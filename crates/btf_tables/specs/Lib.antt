@@ -1,12 +1,10 @@
 pub mod Agreement
-pub mod Carrying
 pub mod EssentialNames
 pub mod GrownTables
 pub mod Headers
 pub mod Holdings
 pub mod OtherTexts
 pub mod ResolvedTypes
-pub mod Sanitizing
 pub mod Sections
 pub mod Tables
 pub mod TypeSizes

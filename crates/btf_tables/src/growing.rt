@@ -1,7 +1,7 @@
 //! New tables, and what is added to a table.
 
 ghost use Rattle.std.specs.Prelude.{◌≡◌, ◌≢◌, ◌+◌, ◌<◌, ◌^◌, ◌∷◌, ◌++◌, [], All, IfErr, IfOk, OnErr, OnOk, Some, length};
-ghost use Rattle.btf_tables.specs.GrownTables.{IsFull, TextsStay, TypesStay, with_string, with_type};
+ghost use Rattle.btf_tables.specs.GrownTables.{IsFull, TextsStay, TypesStay, with_records, with_string, with_type};
 ghost use Rattle.btf_parts.specs.Growth.{TooMany};
 ghost use Rattle.btf_tables.specs.Tables.{new_table, type_by_id};
 ghost use Rattle.string_table.specs.Texts.{text_at};
@@ -41,6 +41,26 @@ impl<'a> Btf<'a> {
             version: self.version,
             flags: self.flags,
             strings: self.strings.try_clone()?,
+        })
+    }
+
+    /// A table of other records, with some bytes after the strings, which are less than 2^32 with
+    /// these.
+    pub fn with_records(
+        &self,
+        records: TypeRecords<'a>,
+        texts: &[u8],
+    ) -> Result<Btf<'a>, AllocError>
+        requires { length (self.now.strings ++ texts.now) < 2 ^ 32 }
+        ensures table { IfOk result (λ table. table ≡ with_records self.now records.entry texts.now) }
+        ensures stay { IfOk result (λ table. TextsStay self.now table) }
+    {
+        Ok(Btf {
+            records,
+            magic: self.magic,
+            version: self.version,
+            flags: self.flags,
+            strings: self.strings.with_texts(self.allocator(), texts)?,
         })
     }
 

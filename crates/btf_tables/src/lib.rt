@@ -6,12 +6,9 @@ mod essential_names;
 mod growing;
 mod lookup;
 mod other_texts;
-mod sanitizing;
 mod section;
 mod table;
 
 pub use btf_parts::{Strings, Types};
-pub use btf_sanitizing::Answers;
 pub use essential_names::essential_name;
-pub use sanitizing::KsymsIds;
 pub use table::Btf;

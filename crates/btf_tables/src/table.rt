@@ -82,7 +82,8 @@ impl<'a> Btf<'a> {
 
     /// The strings that name its types.
     pub fn strings(&self) -> &Strings<'a>
-        ensures { result.now ≡ self.now.strings }
+        ensures strings { result.now ≡ self.now.strings }
+        ensures bounded { length self.now.strings < 2 ^ 32 }
     {
         &self.strings
     }
@@ -112,6 +113,14 @@ impl<'a> Btf<'a> {
             × (text_at self.now.strings (name_offset_of t.now) ≡ None)) }
     {
         self.string_at(t.name_offset())
+    }
+
+    /// The records of the types from id 1 on, as they lie in memory.
+    pub fn records(&self) -> &TypeRecords<'a>
+        ensures { result.now
+            ≡ record { order = self.now.order; types = self.now.types } }
+    {
+        &self.records
     }
 
     /// The records in order of id; the first is void.

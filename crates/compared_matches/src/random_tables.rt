@@ -3,7 +3,7 @@
 
 use crate::tally::Tally;
 use access_paths::{AccessError, Subject, subject_of};
-use btf::{Btf, BtfError, BtfFeature, BtfKind, Endianness, TypeRef};
+use btf::{Btf, BtfError, BtfFeature, BtfKind, Endianness, TypeRef, fixup_and_sanitize};
 use ebpf_items::RelocationKind;
 use member_search::{Found, MemberFinder, find_member};
 use plain_matching::{Answer, Fault, plain_member, plain_outcome};
@@ -292,7 +292,7 @@ fn compare_tables<'m>(
 fn deny_enum64(alloc: Global, table: &mut Btf<'_>) {
     let sizes: BTreeMap<&str, u64> = BTreeMap::new(alloc);
     let offsets: BTreeMap<&str, u64> = BTreeMap::new(alloc);
-    let _answers = table.fixup_and_sanitize(&sizes, &offsets, None, |feature| {
+    let _answers = fixup_and_sanitize(table, &sizes, &offsets, None, |feature| {
         feature != BtfFeature::Enum64
     });
 }

@@ -2,7 +2,6 @@ pub mod Faults
 pub mod Hashed
 pub mod Helpers
 pub mod ParsedObject
-pub mod Places
 pub mod Rewriting
 pub mod TextSections
 pub mod TypeRelocations

@@ -9,9 +9,9 @@ use Rattle.btf_sanitizing.specs.Answers.{Answers, AreDistinct, AreGiven, feature
 use Rattle.btf_sanitizing.specs.Kept.{Keeps}
 use Rattle.btf_sanitizing.specs.Needs.{AreQuestions}
 use Rattle.btf_sanitizing.specs.Sanitized.{SanitizingFault}
-use Rattle.btf_tables.specs.Carrying.{Carries, stays_in}
+use Rattle.btf_rewriting.specs.Carrying.{Carries, stays_in}
 use Rattle.btf_tables.specs.GrownTables.{TextsStay}
-use Rattle.btf_tables.specs.Sanitizing.{IsAccepted, StepFault, StepStays, facts_in, sanitized, stepped}
+use Rattle.btf_rewriting.specs.Sanitizing.{IsAccepted, StepFault, StepStays, facts_in, sanitized, stepped}
 use Rattle.btf_tables.specs.Tables.{Table}
 use Rattle.elf64.specs.Symbols.{symbols_of}
 use Rattle.object_file.specs.Reading.{read_sections}

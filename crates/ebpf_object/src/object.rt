@@ -252,14 +252,14 @@ impl<'a> Object<'a> {
     }
 
     /// Rewrites the table of types to the features that a kernel grants, as the predicate tells:
-    /// [`Btf::fixup_and_sanitize`] with the sizes of the sections, the offsets of the symbols and,
+    /// [`btf_rewriting::fixup_and_sanitize`] with the sizes of the sections, the offsets of the symbols and,
     /// where a section of externs has an entry, its ids. Asks and changes nothing where the object
     /// has no table or an empty one. Answers the features that were asked about, each once, with
     /// their answers.
     ///
     /// # Errors
     ///
-    /// Those of [`Btf::fixup_and_sanitize`]; the object is as before then.
+    /// Those of [`btf_rewriting::fixup_and_sanitize`]; the object is as before then.
     pub fn fixup_and_sanitize_btf<F: FnMut(BtfFeature) -> bool>(
         &mut self,
         predicate: F,

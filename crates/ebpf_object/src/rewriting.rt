@@ -5,8 +5,8 @@ ghost use Rattle.btf_records.specs.declared.error.BtfError.TheVariants.{OutOfMem
 ghost use Rattle.ebpf_object.specs.Rewriting.{AreAnswered, IsRefused, IsRefusedTable, IsRewritten, IsRewrittenTable};
 
 use btf_records::{BtfError, BtfFeature};
-use btf_sanitizing::Answers;
-use btf_tables::{Btf, KsymsIds};
+use btf_rewriting::{Answers, KsymsIds, fixup_and_sanitize};
+use btf_tables::Btf;
 use object_file::ObjectFile;
 use object_names::{section_sizes, symbol_offsets};
 use std::alloc::Global;
@@ -29,7 +29,7 @@ fn rewrite_table<'a, F: FnMut(BtfFeature) -> bool>(
 {
     let sizes = section_sizes(alloc, file)?;
     let offsets = symbol_offsets(alloc, file)?;
-    table.fixup_and_sanitize(&sizes, &offsets, ksyms, predicate)
+    fixup_and_sanitize(table, &sizes, &offsets, ksyms, predicate)
 }
 
 /// Rewrites the table of a file, where there is one that has a type.

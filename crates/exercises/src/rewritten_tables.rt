@@ -1,7 +1,7 @@
 //! A table, rewritten by both calls that do: what becomes of it, where memory is refused that it is
 //! as it was.
 
-use btf::{Btf, BtfError, Endianness};
+use btf::{Btf, BtfError, Endianness, fixup_and_sanitize, fixup_ksyms_datasec};
 use std::alloc::Global;
 use std::collections::BTreeMap;
 use std::process::ExitCode;
@@ -54,7 +54,7 @@ fn outcome(
 /// The step on the section `.ksyms` alone.
 fn step(alloc: Global) -> Result<&'static str, BtfError> {
     let mut table = Btf::parse(alloc, &SECTION, Endianness::Little)?;
-    let answer = table.fixup_ksyms_datasec(3, None);
+    let answer = fixup_ksyms_datasec(&mut table, 3, None);
     outcome(&table, answer, &STEPPED)
 }
 
@@ -62,9 +62,10 @@ fn step(alloc: Global) -> Result<&'static str, BtfError> {
 fn rewriting(alloc: Global) -> Result<&'static str, BtfError> {
     let mut table = Btf::parse(alloc, &SECTION, Endianness::Little)?;
     let numbers: BTreeMap<&str, u64> = BTreeMap::new(alloc);
-    let answer = table
-        .fixup_and_sanitize(&numbers, &numbers, Some((3, None)), |_feature| false)
-        .map(|_answers| ());
+    let ksyms = Some((3, None));
+    let answer = fixup_and_sanitize(&mut table, &numbers, &numbers, ksyms, |_feature| false).map(
+        |_answers| (),
+    );
     outcome(&table, answer, &REWRITTEN)
 }
 

@@ -18,7 +18,7 @@ use Rattle.btf_sanitizing.specs.Needs.{AreQuestions, needs_of}
 use Rattle.btf_sanitizing.specs.Rewritten.{rewritten, rewritten_func}
 use Rattle.btf_sanitizing.specs.Facts.{Facts}
 use Rattle.btf_tables.specs.GrownTables.{TextsStay}
-use Rattle.btf_tables.specs.Sanitizing.{StepStays, facts_in, ksyms_in, stepped}
+use Rattle.btf_rewriting.specs.Sanitizing.{StepStays, facts_in, ksyms_in, stepped}
 use Rattle.btf_tables.specs.Sections.{without_fallbacks}
 use Rattle.btf_tables.specs.Tables.{Table, type_by_id}
 use Rattle.string_table.specs.Texts.{text_at}

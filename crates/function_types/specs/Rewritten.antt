@@ -8,7 +8,7 @@ use Rattle.btf_sanitizing.specs.Answers.{Answers, answer_to}
 use Rattle.btf_sanitizing.specs.Kept.{Keeps}
 use Rattle.btf_sanitizing.specs.Needs.{AreQuestions}
 use Rattle.btf_tables.specs.GrownTables.{TextsStay}
-use Rattle.btf_tables.specs.Sanitizing.{StepStays, facts_in, stepped}
+use Rattle.btf_rewriting.specs.Sanitizing.{StepStays, facts_in, stepped}
 use Rattle.btf_tables.specs.Sections.{without_fallbacks}
 use Rattle.btf_tables.specs.Tables.{Table, type_by_id}
 use Rattle.string_table.specs.Texts.{text_at}

@@ -11,7 +11,7 @@ use Rattle.load_plan.specs.Inputs.{Inputs, Predicate, State, Symbols, Under}
 use Rattle.load_plan.specs.Made.{AreTypesMade, AreTypesRefused, IsRefusedTypes, MakesTypes, RefusesTypes}
 use Rattle.load_plan.specs.Passes.{CannotLink, CannotPutValues, CannotRelocateTypes, CannotResolve, CannotWriteExterns, CannotWriteNumbers, ExternSlots, HasKernelTypes, HasNamelessRecord, IsNumbered, KeepsNamed, LacksKernelTypes, LacksNumber, Made, MapSlots, OfKsyms, OfParse, OfRelocation, OfTypeRelocation, Pass, PutsValues, Refused, RelocatesTypes, ResolvesExterns, RewritesTypes, WritesExterns, WritesNumbers, first_of, first_table, linking, passes, second_of}
 use Rattle.load_plan.specs.Planned.{IsRefusedObject}
-use Rattle.load_plan.specs.declared.error.PrepareError.{PrepareError}
+use Rattle.prepare_errors.specs.declared.error.PrepareError.{PrepareError}
 use Rattle.load_plan.specs.declared.order.Order.{Order}
 use Rattle.load_plan.specs.declared.order.Order.TheVariants.{RelocateFirst, RewriteFirst}
 

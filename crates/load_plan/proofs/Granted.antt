@@ -10,7 +10,7 @@ use Rattle.btf_sanitizing.specs.Answers.{Answers, granted}
 use Rattle.btf_sanitizing.specs.Facts.{Facts}
 use Rattle.btf_sanitizing.specs.Kept.{AllGranted, EachGranted, Keeps, needed_after}
 use Rattle.btf_sanitizing.specs.Rewritten.{rewritten}
-use Rattle.btf_tables.specs.Sanitizing.{facts_in, stepped}
+use Rattle.btf_rewriting.specs.Sanitizing.{facts_in, stepped}
 use Rattle.btf_tables.specs.Tables.{Table}
 use Rattle.ebpf_object.specs.Rewriting.{IsRewritten, IsRewrittenIf}
 use Rattle.load_plan.specs.Granted.{AreGranted, NeedGranted, came_as}

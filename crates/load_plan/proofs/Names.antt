@@ -6,7 +6,7 @@ use Rattle.std.specs.Prelude.{Option, if◌then◌else◌, is_some, slice_get}
 use Rattle.btf_records.specs.declared.types.BtfType.{BtfType}
 use Rattle.btf_records.specs.declared.types.BtfType.TheVariants as types
 use Rattle.btf_sanitizing.specs.Answers.{Answers}
-use Rattle.btf_tables.specs.Sanitizing.{stepped}
+use Rattle.btf_rewriting.specs.Sanitizing.{stepped}
 use Rattle.btf_tables.specs.Tables.{Table}
 use Rattle.ebpf_object.specs.Helpers.{for_kernel}
 use Rattle.ebpf_object.specs.Rewriting.{IsRewritten, IsRewrittenIf}

@@ -4,7 +4,7 @@ use Rattle.btf_parts.specs.Ids.{record_of_id}
 use Rattle.btf_records.specs.declared.types.BtfType.{BtfType}
 use Rattle.btf_sanitizing.specs.Answers.{Answers, granted}
 use Rattle.btf_sanitizing.specs.Kept.{AllGranted, needed_after}
-use Rattle.btf_tables.specs.Sanitizing.{stepped}
+use Rattle.btf_rewriting.specs.Sanitizing.{stepped}
 use Rattle.btf_tables.specs.Tables.{Table}
 
 -- the record that an id had before, or that it has where it had none

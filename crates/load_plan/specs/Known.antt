@@ -8,7 +8,7 @@ use Rattle.plan_text.specs.Content.{PlanContent}
 use Rattle.load_plan.specs.Inputs.{Inputs, IsSaid, State, Under}
 use Rattle.load_plan.specs.Passes.{OfParse, Refused, passes}
 use Rattle.load_plan.specs.Planned.{IsPlanOf, IsWholeObject}
-use Rattle.load_plan.specs.declared.error.PrepareError.{PrepareError}
+use Rattle.prepare_errors.specs.declared.error.PrepareError.{PrepareError}
 
 -- each answer about a feature is the one that goes by the feature
 abbrev pub GoByFeature : (BtfFeature → Bool) → Answers → Type 0

@@ -1,4 +1,3 @@
-pub mod Errors
 pub mod Gathered
 pub mod Granted
 pub mod Inputs

@@ -26,8 +26,8 @@ use Rattle.settings.specs.Content.{SettingsContent}
 use Rattle.slot_relocation.specs.Maps.{MapsGiven, given, map_rule}
 use Rattle.slot_relocation.specs.Writes.{AreRelocated, CanBeRelocated, HasErrorIn, Rule}
 use Rattle.load_plan.specs.Inputs.{Inputs, State, Symbols, Under, keeps_helpers}
-use Rattle.load_plan.specs.declared.error.PrepareError.{PrepareError}
-use Rattle.load_plan.specs.declared.error.PrepareError.TheVariants as error
+use Rattle.prepare_errors.specs.declared.error.PrepareError.{PrepareError}
+use Rattle.prepare_errors.specs.declared.error.PrepareError.TheVariants as error
 use Rattle.load_plan.specs.declared.order.Order.{Order}
 use Rattle.load_plan.specs.declared.order.Order.TheVariants.{RelocateFirst, RewriteFirst}
 use Rattle.type_relocation.specs.Faults as faults

@@ -10,7 +10,7 @@ use Rattle.load_plan.specs.Granted.{AreGranted}
 use Rattle.load_plan.specs.Inputs.{AreSaid, Inputs, Predicate, State, Under}
 use Rattle.load_plan.specs.Passes.{Made, OfParse, Refused, linking, passes, patching}
 use Rattle.load_plan.specs.Programs.{ArePlanPrograms}
-use Rattle.load_plan.specs.declared.error.PrepareError.{PrepareError}
+use Rattle.prepare_errors.specs.declared.error.PrepareError.{PrepareError}
 
 -- the object that a file without a fault holds
 pub record IsWholeObject (file : List ℕ) (object : State) : Type 0 where

@@ -1,7 +1,6 @@
 //! From an eBPF object to its load plan, what a loader hands to one kernel.
 #![tactic(auto)]
 
-mod error;
 mod gathered;
 mod making;
 mod order;
@@ -13,12 +12,12 @@ pub use ebpf_object::{
     BtfRelocationCause, BtfRelocationError, Candidates, GlobalValue, GlobalValues, KernelExterns,
     KsymsError, ParseError, PinningType, ProgramSection, RelocationPlace, Slots, Watched, bpf_insn,
 };
-pub use error::PrepareError;
 pub use gathered::Gathered;
 pub use order::Order;
 pub use plan_text::{
     Answers, MapWords, Plan, PlanMap, PlanProgram, PlanReadError, texts_are_read_back,
 };
 pub use planning::{prepare, prepare_among};
+pub use prepare_errors::PrepareError;
 pub use relocation_errors::{EbpfRelocationError, RelocationError};
 pub use settings::Settings;

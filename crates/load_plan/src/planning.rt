@@ -6,10 +6,9 @@ ghost use Rattle.load_plan.specs.Gathered.{AreGathered};
 ghost use Rattle.load_plan.specs.Inputs.{inputs, symbols_given};
 ghost use Rattle.load_plan.specs.Passes.{OfParse};
 ghost use Rattle.load_plan.specs.Planned.{IsPlanned, IsPlannedObject, IsRefusal, IsRefusedObject, IsWholeObject};
-ghost use Rattle.load_plan.specs.declared.error.PrepareError.TheVariants.{OutOfMemory};
+ghost use Rattle.prepare_errors.specs.declared.error.PrepareError.TheVariants.{OutOfMemory};
 ghost use Rattle.watched.specs.Watched.{has_failed, watched_inner};
 
-use crate::error::PrepareError;
 use crate::gathered::Gathered;
 use crate::making::make;
 use crate::order::Order;
@@ -21,6 +20,7 @@ use function_layout::{reached_are_appended, renamed_visits_same, slots_are_copie
 use object_plan::{names_are_carried, plan_of, records_name};
 use plan_maps::plan_maps;
 use plan_text::Plan;
+use prepare_errors::PrepareError;
 use settings::Settings;
 use slot_relocation::numbers_are_written;
 use std::alloc::Global;

@@ -4,7 +4,7 @@
 use crate::error::ExerciseError;
 use crate::files::read_next;
 use crate::times::{micros, print_times};
-use btf::{Btf, BtfError, BtfKind, Endianness};
+use btf::{Btf, BtfError, BtfKind, Endianness, fixup_and_sanitize, fixup_ksyms_datasec};
 use std::alloc::Global;
 use std::collections::BTreeMap;
 use std::env::Args;
@@ -69,7 +69,7 @@ fn measure_writing(rt: &HostRuntime, table: &Btf<'_>) -> Result<(), ExerciseErro
 /// Rewrites a table for a kernel that grants all features, or none.
 fn rewrite(alloc: Global, table: &mut Btf<'_>, is_granted: bool) -> Result<(), BtfError> {
     let numbers: BTreeMap<&str, u64> = BTreeMap::new(alloc);
-    let _answers = table.fixup_and_sanitize(&numbers, &numbers, None, |_feature| is_granted)?;
+    let _answers = fixup_and_sanitize(table, &numbers, &numbers, None, |_feature| is_granted)?;
     Ok(())
 }
 
@@ -121,7 +121,7 @@ fn first_section(table: &Btf<'_>) -> Option<u32> {
 /// How many microseconds it takes to take the step on `.ksyms` for a section of a table.
 fn step_time(rt: &HostRuntime, table: &mut Btf<'_>, section: u32) -> Result<u128, ExerciseError> {
     let start = Instant::now(rt)?;
-    table.fixup_ksyms_datasec(section, None)?;
+    fixup_ksyms_datasec(table, section, None)?;
     micros(rt, start)
 }
 

@@ -2,6 +2,7 @@ pub mod Addresses
 pub mod Faults
 pub mod Functions
 pub mod KnownInfos
+pub mod LackingCode
 pub mod Places
 pub mod Programs
 pub mod SectionInfos

@@ -4,10 +4,12 @@
 
 mod addresses;
 mod code;
+mod lacking_code;
 mod program_sections;
 mod section_info;
 mod sections;
 mod text_sections;
 
 pub use code::{code_of, function_name};
+pub use lacking_code::{function_without_code, name_at};
 pub use sections::read_code;

@@ -6,7 +6,7 @@ use Rattle.load_plan.specs.Inputs.{Inputs, State, Under}
 use Rattle.load_plan.specs.Known.{IsPlanFor, IsRefusalFor}
 use Rattle.load_plan.specs.Passes.{Refused, passes}
 use Rattle.load_plan.specs.Planned.{IsPlanOf, IsWholeObject}
-use Rattle.load_plan.specs.declared.error.PrepareError.{PrepareError}
+use Rattle.prepare_errors.specs.declared.error.PrepareError.{PrepareError}
 use Rattle.load_plan.specs.declared.order.Order.{Order}
 use Rattle.load_plan.specs.declared.order.Order.TheVariants.{RelocateFirst, RewriteFirst}
 use Rattle.plan_laws.proofs.Determining.{agree-itself, agree-known, for-object, is-made, not-both, not-faulty, plan-one, said-same, whole-sound}

@@ -9,7 +9,7 @@ use Rattle.btf_records.specs.declared.types.BtfType.TheVariants as types
 use Rattle.btf_records.specs.declared.words.Endianness.{Endianness}
 use Rattle.btf_sanitizing.specs.Answers.{Answers, granted}
 use Rattle.btf_sanitizing.specs.Kept.{AllGranted, needed_after}
-use Rattle.btf_tables.specs.Sanitizing.{stepped}
+use Rattle.btf_rewriting.specs.Sanitizing.{stepped}
 use Rattle.btf_tables.specs.Sections.{HoldsTable, without_fallbacks}
 use Rattle.btf_tables.specs.Tables.{Table}
 use Rattle.ebpf_object.specs.Rewriting.{IsRewritten, IsRewrittenIf}

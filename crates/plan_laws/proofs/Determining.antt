@@ -10,7 +10,7 @@ use Rattle.load_plan.specs.Inputs.{Inputs, IsSaid, State, Under}
 use Rattle.load_plan.specs.Known.{GoByFeature, IsPlanFor, IsRefusalFor}
 use Rattle.load_plan.specs.Passes.{ExternSlots, Externs, FunctionRecords, GlobalValues, Helpers, KernelTypes, Made, MapNumbers, MapSlots, OfParse, Pass, Refused, TypeSlots, Types, linking, passes, patching}
 use Rattle.load_plan.specs.Planned.{IsPlanOf, IsWholeObject}
-use Rattle.load_plan.specs.declared.error.PrepareError.{PrepareError}
+use Rattle.prepare_errors.specs.declared.error.PrepareError.{PrepareError}
 use Rattle.load_plan.specs.declared.order.Order.{Order}
 use Rattle.load_plan.specs.declared.order.Order.TheVariants.{RelocateFirst, RewriteFirst}
 use Rattle.object_parts.specs.Content.{FunctionContent, ProgramContent, function_at}

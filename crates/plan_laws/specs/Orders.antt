@@ -11,7 +11,7 @@ use Rattle.load_plan.specs.Inputs.{Inputs, State, Under}
 use Rattle.load_plan.specs.Known.{GoByFeature, IsPlanFor, IsRefusalFor}
 use Rattle.load_plan.specs.Passes.{Made, linking, patching}
 use Rattle.load_plan.specs.Planned.{IsWholeObject}
-use Rattle.load_plan.specs.declared.error.PrepareError.{PrepareError}
+use Rattle.prepare_errors.specs.declared.error.PrepareError.{PrepareError}
 use Rattle.load_plan.specs.declared.order.Order.{Order}
 use Rattle.load_plan.specs.declared.order.Order.TheVariants.{RelocateFirst, RewriteFirst}
 use Rattle.object_plan.specs.Plans.{plan_of}

@@ -2,7 +2,7 @@
 use Rattle.std.specs.Prelude.{◌≡◌, ℕ, List, Option, Some, None}
 use Rattle.std.specs.List.{AllZip}
 use Rattle.btf_sanitizing.specs.Answers.{Answers}
-use Rattle.btf_tables.specs.Sanitizing.{stepped}
+use Rattle.btf_rewriting.specs.Sanitizing.{stepped}
 use Rattle.btf_tables.specs.Sections.{HoldsTable}
 use Rattle.btf_tables.specs.Tables.{Table}
 use Rattle.function_layout.specs.Layout.{IsLayout, Key, Table as Functions, linked}

@@ -4,8 +4,8 @@ use Rattle.std.specs.String.{string_bytes}
 use Rattle.btf_records.specs.declared.error.BtfError.TheVariants as btf
 use Rattle.ebpf_items.specs.declared.error.ParseError.{ParseError}
 use Rattle.ebpf_items.specs.declared.error.ParseError.TheVariants as error
-use Rattle.ebpf_object.specs.Places.{name_at, place_without_code}
 use Rattle.object_file.specs.Symbols.{unnamed_symbol}
+use Rattle.object_parse.specs.LackingCode.{name_at, place_without_code}
 use Rattle.refusal_texts.specs.declared.places.Place.{Place}
 use Rattle.refusal_texts.specs.declared.places.Place.TheVariants.{Function, Symbol}
 

@@ -1,11 +1,11 @@
 //! Instructions at which relocations are refused.
 
-use ebpf_object::{EbpfRelocationError, Function, Functions, RelocationError};
 use elf64::RelocView;
 use function_references::{Target, target_of};
 use object_file::ObjectFile;
 use object_parse::read_code;
-use object_parts::SLOT_SIZE;
+use object_parts::{Function, Functions, SLOT_SIZE};
+use relocation_errors::{EbpfRelocationError, RelocationError};
 use std::alloc::{AllocError, Global};
 use std::collections::BTreeSet;
 

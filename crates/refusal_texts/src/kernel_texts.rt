@@ -3,10 +3,11 @@
 use crate::first_names::FirstNames;
 use crate::kernel_files::{KernelFiles, NO_TYPES};
 use crate::tables::table_of;
-use ebpf_object::{BtfRelocationCause, BtfRelocationError, KsymsError};
+use extern_resolution::KsymsError;
 use object_externs::{Externs, read_externs};
 use object_file::ObjectFile;
 use std::alloc::{AllocError, Global};
+use type_relocation::{BtfRelocationCause, BtfRelocationError};
 
 /// The externs of an object, where they can be read.
 fn externs_of<'o>(alloc: Global, object: &'o [u8]) -> Option<Externs<'o>> {

@@ -5,7 +5,8 @@ ghost use Rattle.refusal_texts.specs.Places.{IsPlace};
 
 use btf_records::BtfError;
 use ebpf_items::ParseError;
-use ebpf_object::{ObjectFile, function_without_code, name_at, unnamed_symbol};
+use object_file::{ObjectFile, unnamed_symbol};
+use object_parse::{function_without_code, name_at};
 use std::alloc::{AllocError, Global};
 use std::fmt;
 

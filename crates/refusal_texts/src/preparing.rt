@@ -7,7 +7,7 @@ use crate::parsing::parse_text;
 use crate::relocation_texts::relocation_text;
 use crate::unmapped::unmapped_text;
 use ebpf_items::ParseError;
-use load_plan::PrepareError;
+use prepare_errors::PrepareError;
 use settings::Settings;
 use std::alloc::{AllocError, Global};
 

@@ -2,8 +2,8 @@
 
 use crate::instructions::{Instruction, instruction_of};
 use crate::names::{SectionName, SymbolName};
-use ebpf_object::{EbpfRelocationError, RelocationError};
 use object_parts::SLOT_SIZE;
+use relocation_errors::{EbpfRelocationError, RelocationError};
 use std::alloc::{AllocError, Global};
 
 /// An error's text, with the names of sections and symbols beside their indexes.

@@ -6,6 +6,7 @@ use crate::tables::{
     UNION_1, UNREADABLE, parse, section_of,
 };
 use btf_records::BtfFeature;
+use btf_rewriting::fixup_and_sanitize;
 use btf_tables::Btf;
 use ebpf_items::RelocationKind;
 use plain_matching::{Answer, Fault};
@@ -130,7 +131,7 @@ fn is_granted(feature: BtfFeature) -> bool {
 fn deny_enum64(table: &mut Btf<'_>, alloc: Global) -> bool {
     let sizes: BTreeMap<&str, u64> = BTreeMap::new(alloc);
     let offsets: BTreeMap<&str, u64> = BTreeMap::new(alloc);
-    let answers = table.fixup_and_sanitize(&sizes, &offsets, None, is_granted);
+    let answers = fixup_and_sanitize(table, &sizes, &offsets, None, is_granted);
     answers.is_ok()
 }
 

@@ -6,8 +6,9 @@ mod refusals;
 use crate::sections::{
     CONST, DATASEC, DATASEC_1, DATASEC_2, EXTERN, INT, PROTO, SIGNED_INT, VAR, VOLATILE, section,
 };
+use btf_ksyms::KsymsIds;
 use btf_records::Endianness;
-use btf_tables::{Btf, KsymsIds};
+use btf_tables::Btf;
 use object::OBJECT;
 use object_externs::{ExternDesc, Externs, is_extern_symbol, read_externs};
 use object_file::{ObjectFile, ReadSymbol};

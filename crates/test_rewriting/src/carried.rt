@@ -3,10 +3,10 @@
 
 ghost use Rattle.std.specs.Prelude.{◌≡◌, Bool, IfOk, true, ℕ};
 ghost use Rattle.btf_sanitizing.specs.Facts.{number_named};
-ghost use Rattle.btf_tables.specs.Carrying.{AreLeft, stays_in};
-ghost use Rattle.btf_tables.specs.Sanitizing.{facts_in, stepped};
+ghost use Rattle.btf_rewriting.specs.Carrying.{AreLeft, stays_in};
+ghost use Rattle.btf_rewriting.specs.Sanitizing.{facts_in, stepped};
 
-use btf::{Answers, Btf, BtfError, BtfFeature, KsymsIds};
+use btf::{Answers, Btf, BtfError, BtfFeature, KsymsIds, fixup_and_sanitize};
 use std::collections::BTreeMap;
 
 /// The sizes of a type before and after a rewriting, and the answers on which that rests.
@@ -38,7 +38,7 @@ pub fn size_after<'m, 'n, F: FnMut(BtfFeature) -> bool>(
         → sizes_of.after ≡ sizes_of.before) }
 {
     let before = table.type_size(type_id).ok();
-    let answers = table.fixup_and_sanitize(sizes, offsets, ksyms, predicate)?;
+    let answers = fixup_and_sanitize(table, sizes, offsets, ksyms, predicate)?;
     let after = table.type_size(type_id).ok();
     Ok(SizeAfter {
         answers,

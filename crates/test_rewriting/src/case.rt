@@ -1,7 +1,7 @@
 //! Tables, and what they become.
 
 use crate::sections::ORDERS;
-use btf::{Answers, Btf, BtfError, BtfFeature, Endianness, KsymsIds};
+use btf::{Answers, Btf, BtfError, BtfFeature, Endianness, KsymsIds, fixup_and_sanitize};
 use sample_tables::section;
 use std::alloc::Global;
 use std::collections::BTreeMap;
@@ -73,7 +73,13 @@ fn rewrite<'m, 'n>(
     ksyms: Option<KsymsIds>,
     kernel: &mut Kernel,
 ) -> Result<Answers, BtfError> {
-    table.fixup_and_sanitize(sizes, offsets, ksyms, |feature| kernel.grants(feature))
+    fixup_and_sanitize(
+        table,
+        sizes,
+        offsets,
+        ksyms,
+        |feature| kernel.grants(feature),
+    )
 }
 
 /// Whether there are as many answers as there were questions, where there are any.

@@ -5,7 +5,7 @@ use crate::sections::{
     DATASEC, DATASEC_1, DATASEC_2, ENUM, EXTERN, FUNC, GLOBAL, INT, ORDERS, PROTO, PROTO_1,
     SIGNED_INT, STRUCT_2, TYPEDEF, VAR,
 };
-use btf::{Btf, BtfFeature, Endianness};
+use btf::{Btf, BtfFeature, Endianness, fixup_ksyms_datasec};
 use sample_tables::section;
 use std::alloc::Global;
 use std::process::Abort;
@@ -80,7 +80,7 @@ fn becomes(alloc: Global, order: Endianness, step: &Step, [before, after]: [&[u8
     let Ok(mut table) = Btf::parse(alloc, before, order) else {
         return false;
     };
-    let outcome = table.fixup_ksyms_datasec(step.section, step.placeholder);
+    let outcome = fixup_ksyms_datasec(&mut table, step.section, step.placeholder);
     outcome.is_ok() && is_written_as(&table, after)
 }
 

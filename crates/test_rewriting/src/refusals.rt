@@ -2,7 +2,7 @@
 
 use crate::case::{ALL, SIZES, is_written_as, sanitize};
 use crate::sections::{DATASEC, DATASEC_1, DATASEC_2, ENUM, EXTERN, GLOBAL, INT, ORDERS, VAR};
-use btf::{Btf, BtfError, BtfFeature, Endianness, KsymsIds};
+use btf::{Btf, BtfError, BtfFeature, Endianness, KsymsIds, fixup_ksyms_datasec};
 use sample_tables::section;
 use std::alloc::Global;
 use std::process::Abort;
@@ -209,7 +209,7 @@ fn is_refusal(error: Option<&BtfError>, wanted: Refusal<'static>) -> bool {
 fn is_step_refused(table: &mut Btf<'_>, refused: &Refused) -> bool {
     match refused.ksyms {
         Some((id, placeholder)) => {
-            let outcome = table.fixup_ksyms_datasec(id, placeholder);
+            let outcome = fixup_ksyms_datasec(table, id, placeholder);
             is_refusal(outcome.as_ref().err(), refused.refusal)
         }
         None => true,

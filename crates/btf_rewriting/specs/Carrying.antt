@@ -7,7 +7,7 @@ use Rattle.btf_sanitizing.specs.Facts.{Facts}
 use Rattle.btf_sanitizing.specs.Stays.{stays}
 use Rattle.btf_tables.specs.Agreement.{AgreeOn, AgreeOnNames}
 use Rattle.btf_tables.specs.Holdings.{AgreeOnTexts, held_ids, held_names}
-use Rattle.btf_tables.specs.Sanitizing.{ksyms_in}
+use Rattle.btf_rewriting.specs.Sanitizing.{ksyms_in}
 use Rattle.btf_tables.specs.Tables.{Table, type_by_id}
 use Rattle.string_table.specs.Texts.{text_at}
 

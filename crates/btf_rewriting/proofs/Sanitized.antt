@@ -1,12 +1,11 @@
 -- A rewritten table is small enough for its invariant.
-use Rattle.std.proofs.Common.{◌≡◌, ℕ, ◌<◌, ◌≤◌, ◌^◌, ◌++◌, Ok, Err, List, Result, inl, inr, length, arith, subst, sym}
+use Rattle.std.proofs.Common.{◌≡◌, ℕ, ◌<◌, ◌≤◌, ◌^◌, ◌++◌, Ok, Err, Result, inl, inr, length, arith, subst, sym}
 use Rattle.std.specs.Prelude.{IfErr, IsErrAnd}
 use Rattle.btf_records.specs.declared.error.BtfError.{BtfError}
 use Rattle.btf_records.specs.declared.error.BtfError.TheVariants.{InvalidTypeInfo}
 use Rattle.btf_records.specs.declared.words.Endianness.{Endianness}
 use Rattle.btf_tables.specs.GrownTables.{TextsStay}
 use Rattle.btf_tables.specs.Tables.{Table}
-use Rattle.btf_tables.proofs.Texts.{texts_stay}
 use Rattle.btf_sanitizing.specs.Facts.{Facts}
 use Rattle.btf_ksyms.specs.Ksyms.{Ksyms, KsymsFault, stepped_texts}
 use Rattle.btf_sanitizing.specs.Sanitized.{SanitizingFault, sanitized_strings}
@@ -26,9 +25,6 @@ pub passed_on : {T : Type 0} (result : Result T BtfError) (e : BtfError) (P : Bt
 passed_on (Ok value) e P h p = tt
 passed_on (Err f) e P h p = subst P (sym h) p
 
--- the texts of a table stay where more are written after them, and so they do once more
-pub texts_after : (old new : Table) (more : List ℕ) → new.strings ≡ old.strings ++ more → TextsStay old new
-texts_after old new more same = record { stay = λ offset text e. rw same (texts_stay old.strings more offset text e) }
-
+-- the texts of a table stay through both of two changes
 pub texts_then : (a b c : Table) → TextsStay a b → TextsStay b c → TextsStay a c
 texts_then a b c h k = record { stay = λ offset text e. k.stay offset text (h.stay offset text e) }

@@ -1,4 +1,4 @@
--- Where a fault stands whose error doesn't say it.
+-- Functions that have no code: the error that stands for one doesn't name it.
 use Rattle.std.specs.Prelude.{ℕ, List, [], find, ◌==◌, Option, unwrap_or, option_and_then}
 use Rattle.std.specs.Option.{option_map}
 use Rattle.elf64.specs.Sections.{Section}

@@ -1,15 +1,16 @@
 //! Why an object gets no plan.
 
 ghost use Rattle.std.specs.Prelude.{◌≡◌};
-ghost use Rattle.load_plan.specs.Errors.{of_ksyms, of_parse, of_relocation, of_type_relocation, of_types};
-ghost use Rattle.load_plan.specs.declared.error.PrepareError.TheVariants.{OutOfMemory};
+ghost use Rattle.prepare_errors.specs.Errors.{of_ksyms, of_parse, of_relocation, of_type_relocation, of_types};
+ghost use Rattle.prepare_errors.specs.declared.error.PrepareError.TheVariants.{OutOfMemory};
 
 use btf_records::BtfError;
 use ebpf_items::ParseError;
-use ebpf_object::{BtfRelocationCause, BtfRelocationError, KsymsError};
+use extern_resolution::KsymsError;
 use relocation_errors::{EbpfRelocationError, RelocationError};
 use std::alloc::{AllocError, AllocFailed};
 use thiserror::Error;
+use type_relocation::{BtfRelocationCause, BtfRelocationError};
 
 /// Why an object gets no plan.
 #[derive(Debug, Drop, Error)]

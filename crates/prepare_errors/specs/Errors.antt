@@ -11,8 +11,8 @@ use Rattle.relocation_errors.specs.declared.error.RelocationError.TheVariants as
 use Rattle.type_relocation.specs.declared.error.BtfRelocationCause.{BtfRelocationCause}
 use Rattle.type_relocation.specs.declared.error.BtfRelocationCause.TheVariants as cause
 use Rattle.type_relocation.specs.declared.error.BtfRelocationError.{BtfRelocationError}
-use Rattle.load_plan.specs.declared.error.PrepareError.{PrepareError}
-use Rattle.load_plan.specs.declared.error.PrepareError.TheVariants as prepare
+use Rattle.prepare_errors.specs.declared.error.PrepareError.{PrepareError}
+use Rattle.prepare_errors.specs.declared.error.PrepareError.TheVariants as prepare
 
 abbrev pub of_parse : ParseError → PrepareError
 of_parse parse.OutOfMemory = prepare.OutOfMemory

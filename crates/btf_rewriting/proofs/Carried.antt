@@ -8,10 +8,10 @@ use Rattle.btf_records.specs.declared.types.BtfType.{BtfType}
 use Rattle.btf_sanitizing.specs.Answers.{Answers}
 use Rattle.btf_sanitizing.specs.Kept.{Keeps}
 use Rattle.btf_sanitizing.specs.Stays.{stays}
-use Rattle.btf_tables.specs.Carrying.{AreReadable, Carries, stays_in}
+use Rattle.btf_rewriting.specs.Carrying.{AreReadable, Carries, stays_in}
 use Rattle.btf_tables.specs.GrownTables.{TextsStay}
 use Rattle.btf_tables.specs.Holdings.{held_names, item_names}
-use Rattle.btf_tables.specs.Sanitizing.{StepStays, facts_in, ksyms_in, stepped}
+use Rattle.btf_rewriting.specs.Sanitizing.{StepStays, facts_in, ksyms_in, stepped}
 use Rattle.btf_tables.specs.Tables.{Table, type_by_id}
 use Rattle.string_table.specs.Texts.{text_at}
 

@@ -1,4 +1,4 @@
-//! Where a fault stands whose error doesn't say it.
+//! Functions that have no code: the error that stands for one doesn't name it.
 
 ghost use Rattle.std.specs.Prelude.{◌≡◌, ◌==◌, find};
 ghost use Rattle.std.specs.List.{list_any};
@@ -7,11 +7,11 @@ ghost use Rattle.elf64.specs.Symbols.{symbols_of};
 ghost use Rattle.object_file.specs.Reading.{read_sections};
 ghost use Rattle.object_parse.specs.Faults.{has_function_without_code};
 ghost use Rattle.object_parse.specs.Programs.{has_no_code};
-ghost use Rattle.ebpf_object.specs.Places.{section_without_code, function_without_code_in, name_at, place_without_code};
+ghost use Rattle.object_parse.specs.LackingCode.{section_without_code, function_without_code_in, name_at, place_without_code};
 
+use crate::code::{code_of, function_name};
 use ebpf_items::EbpfSectionKind;
 use object_file::{ObjectFile, ReadSection, ReadSymbol};
-use object_parse::{code_of, function_name};
 
 /// Whether a symbol of a section is a function that has no code among the section's bytes.
 fn has_no_code(section: &ReadSection<'_>, symbol: &ReadSymbol<'_>) -> bool

@@ -1,0 +1,6 @@
+//! Why an object gets no plan.
+#![tactic(auto)]
+
+mod error;
+
+pub use error::PrepareError;
