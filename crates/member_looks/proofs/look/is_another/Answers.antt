@@ -15,5 +15,5 @@ returns-in-Some c = λ yes.
     let read = c.in-Some.ensures.lookup in
     let at : slice_get bytes c.args.offset ≡ Some first = slice_get_read bytes (length bytes) c.args.offset first refl read.3.0 read.1 in
     let texts : AreTexts bytes = subst AreTexts (sym c.as_slice.ensures) (c.are_texts.ensures c.if-not-are_texts.false) in
-    subst (λ (s : List ℕ). IsSomeAnd (text_at s c.args.offset) (IsOther c.args.name.now)) (c.as_slice.ensures ∙ c.strings-strings.ensures)
+    subst (λ (s : List ℕ). IsSomeAnd (text_at s c.args.offset) (IsOther c.args.name.now)) (c.as_slice.ensures ∙ c.strings-strings.ensures.strings)
     (told_apart bytes c.args.name.now c.args.offset first texts at (c.begins_another.ensures.some yes) (c.begins_another.ensures.other yes))

@@ -16,7 +16,7 @@ returns-clause-holds c =
     let f = c.in_ok-functions.functions in
     let l = c.in_ok-lines.lines in
     let r = c.in_ok-relocations.relocations in
-    subst (λ (s : List ℕ). HoldsExtension c.args.order strings bytes (extension_of s f l r)) (sym (c.in_ok-try_clone.ensures ∙ c.strings-3.ensures))
+    subst (λ (s : List ℕ). HoldsExtension c.args.order strings bytes (extension_of s f l r)) (sym (c.in_ok-try_clone.ensures ∙ c.strings-3.ensures.strings))
     (holds_extension c.args.order strings bytes f l r c.in_ok-header.ensures.1
     (record { within = c.in_ok-function_region.ensures.within; read = rw (c.in_ok-function_region.ensures.kind, c.in_ok-function_region.ensures.bytes) at c.in_ok-functions.ensures.read })
     (record { within = c.in_ok-line_region.ensures.within; read = rw (c.in_ok-line_region.ensures.kind, c.in_ok-line_region.ensures.bytes) at c.in_ok-lines.ensures.read })
@@ -40,7 +40,7 @@ returns-in_err-relocations-clause-refused c =
 
 pub invariant_of-result : goal.invariant_of-result
 invariant_of-result c =
-    let kept = sym (c.in_ok-try_clone.ensures ∙ c.strings-3.ensures) in
+    let kept = sym (c.in_ok-try_clone.ensures ∙ c.strings-3.ensures.strings) in
     let f = c.in_ok-function_region.ensures in
     let l = c.in_ok-line_region.ensures in
     let r = c.in_ok-relocation_region.ensures in (
@@ -48,6 +48,6 @@ invariant_of-result c =
       rw l.kind at c.in_ok-lines.ensures.laid_out,
       rw r.kind at c.in_ok-relocations.ensures.laid_out,
       all_known c.args.order c.args.table.now.strings c.in_ok-relocation_region.relocation_region.bytes.now c.in_ok-relocations.relocations (rw r.kind at c.in_ok-relocations.ensures.read),
-      subst (λ (s : List ℕ). AreNames s c.in_ok-functions.functions c.in_ok-new.field-0.last.entries) (c.strings.ensures ∙ kept) c.in_ok-new.ensures,
-      subst (λ (s : List ℕ). AreNames s c.in_ok-lines.lines c.in_ok-new-2.field-0.last.entries) (c.strings-2.ensures ∙ kept) c.in_ok-new-2.ensures,
+      subst (λ (s : List ℕ). AreNames s c.in_ok-functions.functions c.in_ok-new.field-0.last.entries) (c.strings.ensures.strings ∙ kept) c.in_ok-new.ensures,
+      subst (λ (s : List ℕ). AreNames s c.in_ok-lines.lines c.in_ok-new-2.field-0.last.entries) (c.strings-2.ensures.strings ∙ kept) c.in_ok-new-2.ensures,
     )
