@@ -11,7 +11,7 @@ use Rattle.object_parts.specs.Content.{FunctionContent, function_at}
 use Rattle.type_relocation.specs.Faults.{CanBeRelocated, HasTypesFault, WritesFault}
 use Rattle.type_relocation.specs.Relocations.{Groups, TypesGiven}
 use Rattle.type_relocation.specs.Writes.{AreRelocated, types_inside, with_types}
-use Rattle.type_relocation.specs.declared.error.BtfRelocationCause.{BtfRelocationCause}
+use Rattle.relocation_errors.specs.declared.type_relocations.BtfRelocationCause.{BtfRelocationCause}
 
 abbrev Keyed : Type 0
 Keyed = List ((ℕ × ℕ) × FunctionContent)

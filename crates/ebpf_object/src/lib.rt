@@ -27,6 +27,8 @@ pub use object_file::{ObjectFile, ReadSection, ReadSymbol, unnamed_symbol};
 pub use object_maps::Maps;
 pub use object_parse::{function_without_code, name_at};
 pub use object_parts::{Function, Functions, Program, Programs};
-pub use relocation_errors::{EbpfRelocationError, RelocationError};
+pub use relocation_errors::{
+    BtfRelocationCause, BtfRelocationError, EbpfRelocationError, RelocationError, RelocationPlace,
+};
 pub use slot_relocation::NumberedMap;
-pub use type_relocation::{BtfRelocationCause, BtfRelocationError, Candidates, RelocationPlace};
+pub use type_relocation::Candidates;

@@ -32,7 +32,7 @@ use Rattle.load_plan.specs.declared.order.Order.{Order}
 use Rattle.load_plan.specs.declared.order.Order.TheVariants.{RelocateFirst, RewriteFirst}
 use Rattle.type_relocation.specs.Faults as faults
 use Rattle.type_relocation.specs.Writes as types
-use Rattle.type_relocation.specs.declared.error.BtfRelocationCause.{BtfRelocationCause}
+use Rattle.relocation_errors.specs.declared.type_relocations.BtfRelocationCause.{BtfRelocationCause}
 
 -- the names of the passes
 pub data Pass : Type 0 where

@@ -23,7 +23,7 @@ use Rattle.type_relocation.specs.Faults.{CanBeRelocated, HasTypesFault}
 use Rattle.type_relocation.specs.Laws.{AgreeOnReach, RelocationsRest}
 use Rattle.type_relocation.specs.Relocations.{Groups, types_given}
 use Rattle.type_relocation.specs.Writes.{AreRelocated}
-use Rattle.type_relocation.specs.declared.error.BtfRelocationCause.{BtfRelocationCause}
+use Rattle.relocation_errors.specs.declared.type_relocations.BtfRelocationCause.{BtfRelocationCause}
 use Rattle.plan_laws.specs.Orders.{IsMadePlan, IsOrderFree, IsReach, IsReadable, OrdersAgree, StaysReached, in_order}
 
 -- ---- tables that agree

@@ -41,7 +41,7 @@ use Rattle.relocation_errors.specs.declared.error.RelocationError.{RelocationErr
 use Rattle.settings.specs.Content.{SettingsContent}
 use Rattle.slot_relocation.specs.Maps.{map_rule}
 use Rattle.slot_relocation.specs.Writes.{HasErrorIn, HasFaultInside, Rule, relocations_inside}
-use Rattle.type_relocation.specs.declared.error.BtfRelocationCause.{BtfRelocationCause}
+use Rattle.relocation_errors.specs.declared.type_relocations.BtfRelocationCause.{BtfRelocationCause}
 
 -- ---- functions by key
 

@@ -8,9 +8,9 @@ use Rattle.extern_resolution.specs.declared.error.KsymsError.TheVariants as ksym
 use Rattle.relocation_errors.specs.declared.error.EbpfRelocationError.{EbpfRelocationError}
 use Rattle.relocation_errors.specs.declared.error.RelocationError.{RelocationError}
 use Rattle.relocation_errors.specs.declared.error.RelocationError.TheVariants as relocation
-use Rattle.type_relocation.specs.declared.error.BtfRelocationCause.{BtfRelocationCause}
-use Rattle.type_relocation.specs.declared.error.BtfRelocationCause.TheVariants as cause
-use Rattle.type_relocation.specs.declared.error.BtfRelocationError.{BtfRelocationError}
+use Rattle.relocation_errors.specs.declared.type_relocations.BtfRelocationCause.{BtfRelocationCause}
+use Rattle.relocation_errors.specs.declared.type_relocations.BtfRelocationCause.TheVariants as cause
+use Rattle.relocation_errors.specs.declared.type_relocations.BtfRelocationError.{BtfRelocationError}
 use Rattle.prepare_errors.specs.declared.error.PrepareError.{PrepareError}
 use Rattle.prepare_errors.specs.declared.error.PrepareError.TheVariants as prepare
 

@@ -7,10 +7,11 @@ ghost use Rattle.prepare_errors.specs.declared.error.PrepareError.TheVariants.{O
 use btf_records::BtfError;
 use ebpf_items::ParseError;
 use extern_resolution::KsymsError;
-use relocation_errors::{EbpfRelocationError, RelocationError};
+use relocation_errors::{
+    BtfRelocationCause, BtfRelocationError, EbpfRelocationError, RelocationError,
+};
 use std::alloc::{AllocError, AllocFailed};
 use thiserror::Error;
-use type_relocation::{BtfRelocationCause, BtfRelocationError};
 
 /// Why an object gets no plan.
 #[derive(Debug, Drop, Error)]

@@ -6,8 +6,8 @@ use crate::tables::table_of;
 use extern_resolution::KsymsError;
 use object_externs::{Externs, read_externs};
 use object_file::ObjectFile;
+use relocation_errors::{BtfRelocationCause, BtfRelocationError};
 use std::alloc::{AllocError, Global};
-use type_relocation::{BtfRelocationCause, BtfRelocationError};
 
 /// The externs of an object, where they can be read.
 fn externs_of<'o>(alloc: Global, object: &'o [u8]) -> Option<Externs<'o>> {

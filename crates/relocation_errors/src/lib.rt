@@ -2,5 +2,9 @@
 #![tactic(auto)]
 
 mod error;
+mod place;
+mod type_relocations;
 
 pub use error::{EbpfRelocationError, RelocationError};
+pub use place::RelocationPlace;
+pub use type_relocations::{BtfRelocationCause, BtfRelocationError};

@@ -29,8 +29,8 @@ use Rattle.type_relocation.specs.Faults.{FaultOfGroup, GroupsFault, HasTypesFaul
 use Rattle.type_relocation.specs.Laws.{AgreeOnReach, RelocationsRest, with_types_of}
 use Rattle.type_relocation.specs.Relocations.{Groups, TypesGiven, all_from, all_placed, function_holding, outcome_of_kind, placed, placed_as, placed_from, placed_group, placed_in, record_outcome, section_at, section_named}
 use Rattle.type_relocation.specs.Writes.{AreRelocated, after_types, inside_of}
-use Rattle.type_relocation.specs.declared.error.BtfRelocationCause.{BtfRelocationCause}
-use Rattle.type_relocation.specs.declared.error.BtfRelocationCause.TheVariants as cause
+use Rattle.relocation_errors.specs.declared.type_relocations.BtfRelocationCause.{BtfRelocationCause}
+use Rattle.relocation_errors.specs.declared.type_relocations.BtfRelocationCause.TheVariants as cause
 use Rattle.type_relocation.specs.declared.placed.Placed.{Placed}
 use Rattle.type_relocation.specs.declared.placed.Position.{Position}
 

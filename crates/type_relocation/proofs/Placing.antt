@@ -7,7 +7,7 @@ use Rattle.btf_extension.specs.declared.record.bpf_core_relo.{bpf_core_relo}
 use Rattle.type_relocation.specs.Faults.{GroupsFault, RecordsFault}
 use Rattle.type_relocation.specs.Relocations.{Groups, TypesGiven, all_from, all_placed, placed, placed_from, placed_group}
 use Rattle.type_relocation.specs.Walks.{GroupFault, IsFront, RecordFault, StandsNone}
-use Rattle.type_relocation.specs.declared.error.BtfRelocationCause.{BtfRelocationCause}
+use Rattle.relocation_errors.specs.declared.type_relocations.BtfRelocationCause.{BtfRelocationCause}
 use Rattle.type_relocation.specs.declared.placed.Placed.{Placed}
 
 nothing_left : {A : Type 0} (xs : List A) (i : ℕ) → length xs ≤ i → drop i xs ≡ []

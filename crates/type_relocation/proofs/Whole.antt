@@ -6,9 +6,9 @@ use Rattle.type_relocation.specs.Faults.{CanBeRelocated, GroupsFault, HasTypesFa
 use Rattle.type_relocation.specs.Relocations.{Groups, TypesGiven, all_placed}
 use Rattle.type_relocation.specs.Walks.{IsFront, StandsNone}
 use Rattle.type_relocation.specs.Writes.{inside_of, type_rule, types_inside}
-use Rattle.type_relocation.specs.declared.error.BtfRelocationCause.{BtfRelocationCause}
-use Rattle.type_relocation.specs.declared.error.BtfRelocationCause.TheVariants.{OutOfMemory}
-use Rattle.type_relocation.specs.declared.error.BtfRelocationError.{BtfRelocationError}
+use Rattle.relocation_errors.specs.declared.type_relocations.BtfRelocationCause.{BtfRelocationCause}
+use Rattle.relocation_errors.specs.declared.type_relocations.BtfRelocationCause.TheVariants.{OutOfMemory}
+use Rattle.relocation_errors.specs.declared.type_relocations.BtfRelocationError.{BtfRelocationError}
 use Rattle.type_relocation.specs.declared.placed.Placed.{Placed}
 use Rattle.type_relocation.proofs.Writing.{no_writes_fault, writes_fault_in_front}
 

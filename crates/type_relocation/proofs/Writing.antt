@@ -13,7 +13,7 @@ use Rattle.slot_relocation.specs.declared.driver.Stop.TheVariants as stop
 use Rattle.type_relocation.specs.Faults.{OfWrite, WritesFault}
 use Rattle.type_relocation.specs.Walks.{IsCauseFor, IsFront}
 use Rattle.type_relocation.specs.Writes.{inside_of, placed_at, type_rule}
-use Rattle.type_relocation.specs.declared.error.BtfRelocationCause.{BtfRelocationCause}
+use Rattle.relocation_errors.specs.declared.type_relocations.BtfRelocationCause.{BtfRelocationCause}
 use Rattle.type_relocation.specs.declared.placed.Placed.{Placed}
 use Rattle.type_relocation.specs.declared.placed.PlacedFault.{PlacedFault}
 

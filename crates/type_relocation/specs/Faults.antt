@@ -11,8 +11,8 @@ use Rattle.type_match.specs.declared.error.TypeRelocationError.{TypeRelocationEr
 use Rattle.type_match.specs.declared.error.TypeRelocationError.TheVariants as match
 use Rattle.type_relocation.specs.Relocations.{Groups, TypesGiven, function_holding, record_outcome, section_at, section_named}
 use Rattle.type_relocation.specs.Writes.{type_rule, types_inside}
-use Rattle.type_relocation.specs.declared.error.BtfRelocationCause.{BtfRelocationCause}
-use Rattle.type_relocation.specs.declared.error.BtfRelocationCause.TheVariants as cause
+use Rattle.relocation_errors.specs.declared.type_relocations.BtfRelocationCause.{BtfRelocationCause}
+use Rattle.relocation_errors.specs.declared.type_relocations.BtfRelocationCause.TheVariants as cause
 use Rattle.type_patches.specs.declared.instruction.WriteFault.{WriteFault}
 use Rattle.type_patches.specs.declared.instruction.WriteFault.TheVariants as write
 use Rattle.type_relocation.specs.declared.placed.Placed.{Placed}

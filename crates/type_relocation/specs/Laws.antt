@@ -10,7 +10,7 @@ use Rattle.string_table.specs.Texts.{text_at}
 use Rattle.type_relocation.specs.Faults.{HasTypesFault}
 use Rattle.type_relocation.specs.Relocations.{Groups, TypesGiven, all_placed}
 use Rattle.type_relocation.specs.Writes.{AreRelocated, type_rule, types_inside}
-use Rattle.type_relocation.specs.declared.error.BtfRelocationCause.{BtfRelocationCause}
+use Rattle.relocation_errors.specs.declared.type_relocations.BtfRelocationCause.{BtfRelocationCause}
 
 -- some type relocation writes the slot at a place of a function: its own, or the next one
 abbrev pub WritesAt : TypesGiven → Groups → FunctionContent → ℕ → Type 0

@@ -14,7 +14,7 @@ use Rattle.type_match.specs.RelocationOutcomes.{Matched}
 use Rattle.type_relocation.specs.Faults.{FaultOfGroup, LacksFunction, LacksOutcome, OfWrite, RecordsFault}
 use Rattle.type_relocation.specs.Relocations.{TypesGiven, section_at}
 use Rattle.type_relocation.specs.Writes.{placed_at}
-use Rattle.type_relocation.specs.declared.error.BtfRelocationCause.{BtfRelocationCause}
+use Rattle.relocation_errors.specs.declared.type_relocations.BtfRelocationCause.{BtfRelocationCause}
 use Rattle.type_relocation.specs.declared.placed.Placed.{Placed}
 use Rattle.type_relocation.specs.declared.placed.PlacedFault.{PlacedFault}
 

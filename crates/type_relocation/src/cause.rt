@@ -2,16 +2,16 @@
 
 ghost use Rattle.std.specs.Prelude.{◌≢◌, IfOk};
 ghost use Rattle.type_relocation.specs.Faults.{OfAccess, OfMatch, OfWrite};
-ghost use Rattle.type_relocation.specs.declared.error.BtfRelocationCause.TheVariants.{OutOfMemory};
+ghost use Rattle.relocation_errors.specs.declared.type_relocations.BtfRelocationCause.TheVariants.{OutOfMemory};
 
 use crate::conflicting::matches_of;
-use crate::error::BtfRelocationCause;
 use crate::placed::PlacedFault;
 use crate::texts::{kind_name, name_or_empty, text_at, type_name};
 use access_paths::AccessError;
 use btf_records::BtfError;
 use btf_tables::Btf;
 use object_parts::SLOT_SIZE;
+use relocation_errors::BtfRelocationCause;
 use std::alloc::{AllocError, Global};
 use type_match::{TypeRelocation, TypeRelocationError, conflicts};
 use type_patches::WriteFault;

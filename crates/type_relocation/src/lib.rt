@@ -8,7 +8,6 @@
 mod by_function;
 mod cause;
 mod conflicting;
-mod error;
 mod groups;
 mod laws;
 mod pass;
@@ -18,9 +17,7 @@ mod placement;
 mod relocation;
 mod texts;
 
-pub use error::{BtfRelocationCause, BtfRelocationError};
 pub use laws::{relocations_rest, types_are_written};
-pub use place::RelocationPlace;
 pub use placed::{Placed, PlacedFault, Position};
 pub use relocation::relocate_types;
 pub use type_match::Candidates;

@@ -7,47 +7,9 @@ use btf_tables::Btf;
 use ebpf_items::RelocationKind;
 use object_parts::{Functions, SLOT_SIZE};
 use path_texts::relocation_text;
+use relocation_errors::RelocationPlace;
 use std::alloc::{AllocError, Global};
-use std::fmt;
 use type_match::{Match, TypeRelocation};
-
-/// What a fault of type relocations belongs to.
-#[derive(Debug, Drop)]
-pub enum RelocationPlace {
-    /// A group as a whole.
-    Group,
-    /// A relocation of the group.
-    Relocation {
-        /// The name of the function that holds the instruction, if there is one.
-        function: Option<String>,
-        /// The instruction, by slots from the function's beginning, or from the section's where no
-        /// function holds it.
-        instruction: u64,
-        /// What the relocation asks for, in words.
-        asked: String,
-    },
-}
-
-impl fmt::Display for RelocationPlace {
-    fn fmt<W: fmt::Write>(&self, f: &mut fmt::Formatter<W>) -> fmt::Result {
-        match self {
-            RelocationPlace::Group => Ok(()),
-            RelocationPlace::Relocation {
-                function: Some(function),
-                instruction,
-                asked,
-            } => write!(
-                f,
-                ", function {function:?}, instruction {instruction}, {asked}"
-            ),
-            RelocationPlace::Relocation {
-                function: None,
-                instruction,
-                asked,
-            } => write!(f, ", instruction {instruction}, {asked}"),
-        }
-    }
-}
 
 /// What a record asks for, in words; of a number that stands for no kind it has the number.
 pub(crate) fn asked_text(
@@ -96,27 +58,25 @@ pub(crate) fn asked_with_matches(
     with_matches(alloc, text, matches.as_slice())
 }
 
-impl RelocationPlace {
-    /// The place of a relocation in a section, with what it asks for.
-    pub(crate) fn of_relocation(
-        alloc: Global,
-        functions: &Functions<'_>,
-        section_index: usize,
-        record: bpf_core_relo,
-        asked: String,
-    ) -> Result<RelocationPlace, AllocError> {
-        let offset = u64::from(record.insn_off);
-        match function_holding(functions, section_index, offset) {
-            Some(function) => Ok(RelocationPlace::Relocation {
-                function: Some(String::from_str(alloc, function.name)?),
-                instruction: offset.saturating_sub(function.section_offset as u64) / SLOT_SIZE,
-                asked,
-            }),
-            None => Ok(RelocationPlace::Relocation {
-                function: None,
-                instruction: offset / SLOT_SIZE,
-                asked,
-            }),
-        }
+/// The place of a relocation in a section, with what it asks for.
+pub(crate) fn place_in_section(
+    alloc: Global,
+    functions: &Functions<'_>,
+    section_index: usize,
+    record: bpf_core_relo,
+    asked: String,
+) -> Result<RelocationPlace, AllocError> {
+    let offset = u64::from(record.insn_off);
+    match function_holding(functions, section_index, offset) {
+        Some(function) => Ok(RelocationPlace::Relocation {
+            function: Some(String::from_str(alloc, function.name)?),
+            instruction: offset.saturating_sub(function.section_offset as u64) / SLOT_SIZE,
+            asked,
+        }),
+        None => Ok(RelocationPlace::Relocation {
+            function: None,
+            instruction: offset / SLOT_SIZE,
+            asked,
+        }),
     }
 }

@@ -7,13 +7,12 @@ ghost use Rattle.object_file.specs.Reading.{read_sections};
 ghost use Rattle.type_relocation.specs.Faults.{FaultOfGroup, GroupsFault, LacksOutcome, RecordsFault};
 ghost use Rattle.type_relocation.specs.Relocations.{all_placed, function_holding, record_outcome, placed, placed_from, placed_group, section_at};
 ghost use Rattle.type_relocation.specs.Walks.{GroupFault, IsFront, RecordFault, StandsNone, matched};
-ghost use Rattle.type_relocation.specs.declared.error.BtfRelocationCause.TheVariants.{OutOfMemory};
+ghost use Rattle.relocation_errors.specs.declared.type_relocations.BtfRelocationCause.TheVariants.{OutOfMemory};
 ghost use Rattle.type_match.specs.RelocationOutcomes.{IsTableOf};
 
 use crate::cause::{Told, cause_of_match};
-use crate::error::{BtfRelocationCause, BtfRelocationError};
 use crate::groups::RelocationGroup;
-use crate::place::{RelocationPlace, asked_text, asked_with_matches};
+use crate::place::{asked_text, asked_with_matches, place_in_section};
 use crate::placed::{Placed, Position};
 use crate::texts::section_name;
 use btf_extension::bpf_core_relo;
@@ -22,6 +21,7 @@ use btf_tables::Btf;
 use ebpf_items::RelocationKind;
 use object_file::ObjectFile;
 use object_parts::{Function, Functions};
+use relocation_errors::{BtfRelocationCause, BtfRelocationError, RelocationPlace};
 use std::alloc::{AllocError, Global};
 use std::collections::BTreeMap;
 use std::marker::Model;
@@ -266,7 +266,7 @@ impl<'r, 'o, 'f, 't, 'k> Lookup<'r, 'o, 'f, 't, 'k> {
             return Ok(RelocationPlace::Group);
         };
         let asked = self.asked(record, cause)?;
-        RelocationPlace::of_relocation(self.alloc, self.functions, section_index, record, asked)
+        place_in_section(self.alloc, self.functions, section_index, record, asked)
     }
 
     /// The error for a cause that stands at a relocation of a group.

@@ -10,13 +10,12 @@ ghost use Rattle.type_relocation.specs.Faults.{CanBeRelocated, GroupsFault, HasT
 ghost use Rattle.type_relocation.specs.Relocations.{all_placed, types_given};
 ghost use Rattle.type_relocation.specs.Walks.{IsCauseFor, IsFront, StandsNone};
 ghost use Rattle.type_relocation.specs.Writes.{AreRelocated, after_types, inside_of, type_rule};
-ghost use Rattle.type_relocation.specs.declared.error.BtfRelocationCause.TheVariants.{OutOfMemory};
+ghost use Rattle.relocation_errors.specs.declared.type_relocations.BtfRelocationCause.TheVariants.{OutOfMemory};
 
 use crate::cause::cause_of_write;
-use crate::error::BtfRelocationError;
 use crate::groups::{RelocationGroup, asked_by, groups_of};
 use crate::pass::TypePass;
-use crate::place::{RelocationPlace, asked_text};
+use crate::place::{asked_text, place_in_section};
 use crate::placed::{Placed, PlacedFault};
 use crate::placement::Lookup;
 use crate::texts::section_name;
@@ -25,6 +24,7 @@ use btf_tables::Btf;
 use object_file::ObjectFile;
 use object_names::section_indexes;
 use object_parts::{Function, Functions, changes_are_installed};
+use relocation_errors::{BtfRelocationError, RelocationPlace};
 use slot_relocation::{FaultAt, Stop, relocated_functions};
 use std::alloc::{AllocError, Global};
 use type_match::{Candidates, TypeMatcher};
@@ -135,7 +135,7 @@ fn place_of_fault(
         return Ok(RelocationPlace::Group);
     };
     let asked = asked_text(alloc, local, record)?;
-    RelocationPlace::of_relocation(alloc, functions, at.section_index, record, asked)
+    place_in_section(alloc, functions, at.section_index, record, asked)
 }
 
 /// The error for what stopped the writing.

@@ -3,8 +3,8 @@ use Rattle.std.specs.Prelude.{IfSome, Option}
 use Rattle.type_relocation.specs.Faults.{GroupsFault}
 use Rattle.type_relocation.specs.Relocations.{Groups, all_placed, types_given}
 use Rattle.type_relocation.specs.Walks.{IsFront, StandsNone}
-use Rattle.type_relocation.specs.declared.error.BtfRelocationCause.TheVariants.{OutOfMemory}
-use Rattle.type_relocation.specs.declared.error.BtfRelocationError.{BtfRelocationError}
+use Rattle.relocation_errors.specs.declared.type_relocations.BtfRelocationCause.TheVariants.{OutOfMemory}
+use Rattle.relocation_errors.specs.declared.type_relocations.BtfRelocationError.{BtfRelocationError}
 use Rattle.type_relocation.proofs.Whole.{can_be, if_err, on_ok, stopped, written}
 use Rattle.type_relocation.proofs.relocation.relocate_types.Goals as goal
 

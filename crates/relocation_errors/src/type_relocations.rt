@@ -3,8 +3,8 @@
 ghost use Rattle.std.specs.Prelude.{◌≡◌, ◌≢◌, None, Some, [], unwrap_or};
 ghost use Rattle.std.specs.Option.{option_map};
 ghost use Rattle.std.specs.String.{string_bytes};
-ghost use Rattle.type_relocation.specs.declared.error.BtfRelocationCause.TheVariants.{BtfError as TypeError, OutOfMemory};
-ghost use Rattle.type_relocation.specs.declared.place.RelocationPlace.TheVariants.{Group};
+ghost use Rattle.relocation_errors.specs.declared.type_relocations.BtfRelocationCause.TheVariants.{BtfError as TypeError, OutOfMemory};
+ghost use Rattle.relocation_errors.specs.declared.place.RelocationPlace.TheVariants.{Group};
 
 use crate::place::RelocationPlace;
 use btf_records::BtfError;
@@ -120,7 +120,7 @@ pub struct BtfRelocationError {
 
 impl BtfRelocationError {
     /// A fault at a place of a group. It is want of memory where name or place couldn't be kept.
-    pub(crate) fn new(
+    pub fn new(
         section: Result<String, AllocError>,
         place: Result<RelocationPlace, AllocError>,
         error: BtfRelocationCause,

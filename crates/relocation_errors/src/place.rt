@@ -1,0 +1,41 @@
+//! Where type relocations stand that have a fault.
+
+use std::fmt;
+
+/// What a fault of type relocations belongs to.
+#[derive(Debug, Drop)]
+pub enum RelocationPlace {
+    /// A group as a whole.
+    Group,
+    /// A relocation of the group.
+    Relocation {
+        /// The name of the function that holds the instruction, if there is one.
+        function: Option<String>,
+        /// The instruction, by slots from the function's beginning, or from the section's where no
+        /// function holds it.
+        instruction: u64,
+        /// What the relocation asks for, in words.
+        asked: String,
+    },
+}
+
+impl fmt::Display for RelocationPlace {
+    fn fmt<W: fmt::Write>(&self, f: &mut fmt::Formatter<W>) -> fmt::Result {
+        match self {
+            RelocationPlace::Group => Ok(()),
+            RelocationPlace::Relocation {
+                function: Some(function),
+                instruction,
+                asked,
+            } => write!(
+                f,
+                ", function {function:?}, instruction {instruction}, {asked}"
+            ),
+            RelocationPlace::Relocation {
+                function: None,
+                instruction,
+                asked,
+            } => write!(f, ", instruction {instruction}, {asked}"),
+        }
+    }
+}
