@@ -2,45 +2,85 @@
 
 use btf::BtfError;
 use ebpf_object::ParseError;
-use relocation_errors::EbpfRelocationError;
+use relocation_errors::{EbpfRelocationError, RelocationError};
 use std::alloc::{AllocError, AllocFailed};
 use std::io;
 use std::io::ErrorKind;
 use thiserror::Error;
 
-/// Why an exercise or a measure ends early.
-#[derive(Debug, Drop, Error)]
+/// Why an exercise or a measure ends early. What is wrong with an object `bin/inspect_object` says.
+#[derive(Clone, Copy, Debug, Error)]
 pub enum ExerciseError {
     #[error("call it with an exercise and its words")]
     Usage,
     #[error("{0}")]
-    Io(#[from] io::Error),
-    #[error("{0}")]
-    Parse(#[from] ParseError),
-    #[error("{0}")]
-    Btf(#[from] BtfError),
-    #[error("{0}")]
-    Relocation(#[from] EbpfRelocationError),
+    Io(ErrorKind),
+    #[error("the object can't be parsed")]
+    Parse,
+    #[error("the types can't be parsed or rewritten")]
+    Btf,
+    #[error("a slot can't be relocated, or a program can't be linked")]
+    Relocation,
     #[error("the kernel symbols can't be read")]
     Symbols,
     #[error("out of memory")]
-    OutOfMemory(#[from] AllocError),
+    OutOfMemory,
+}
+
+impl From<io::Error> for ExerciseError {
+    fn from(error: io::Error) -> ExerciseError {
+        match error.kind() {
+            ErrorKind::OutOfMemory => ExerciseError::OutOfMemory,
+            kind => ExerciseError::Io(kind),
+        }
+    }
+}
+
+impl From<ParseError> for ExerciseError {
+    fn from(error: ParseError) -> ExerciseError {
+        match error {
+            ParseError::OutOfMemory => ExerciseError::OutOfMemory,
+            _ => ExerciseError::Parse,
+        }
+    }
+}
+
+impl From<BtfError> for ExerciseError {
+    fn from(error: BtfError) -> ExerciseError {
+        match error {
+            BtfError::OutOfMemory => ExerciseError::OutOfMemory,
+            _ => ExerciseError::Btf,
+        }
+    }
+}
+
+impl From<EbpfRelocationError> for ExerciseError {
+    fn from(error: EbpfRelocationError) -> ExerciseError {
+        match error.error() {
+            RelocationError::OutOfMemory => ExerciseError::OutOfMemory,
+            _ => ExerciseError::Relocation,
+        }
+    }
+}
+
+impl From<AllocError> for ExerciseError {
+    fn from(_error: AllocError) -> ExerciseError {
+        ExerciseError::OutOfMemory
+    }
 }
 
 impl<T: Drop> From<AllocFailed<T>> for ExerciseError {
     fn from(_error: AllocFailed<T>) -> ExerciseError {
-        ExerciseError::OutOfMemory(AllocError)
+        ExerciseError::OutOfMemory
     }
 }
 
 impl ExerciseError {
     /// The status that the program ends with: 3 where memory was refused, 2 where it is called
     /// otherwise, else 1.
-    pub fn status(&self) -> u8 {
+    pub fn status(self) -> u8 {
         match self {
-            ExerciseError::OutOfMemory(_) | ExerciseError::Parse(ParseError::OutOfMemory) => 3,
-            ExerciseError::Btf(BtfError::OutOfMemory) => 3,
-            ExerciseError::Io(error) if error.kind() == ErrorKind::OutOfMemory => 3,
+            ExerciseError::OutOfMemory => 3,
             ExerciseError::Usage => 2,
             _ => 1,
         }
