@@ -2,7 +2,6 @@
 
 ghost use Rattle.std.specs.Prelude.{◌≡◌};
 ghost use Rattle.bpf_prepare.specs.declared.error.ProgramError.TheVariants.{Input, OutOfMemory, Word};
-ghost use Rattle.bpf_prepare.specs.declared.error.RunError.TheVariants.{Refused};
 ghost use Rattle.bpf_prepare.specs.Program.{status_of};
 
 use command_line::WordError;
@@ -11,25 +10,6 @@ use program_io::{InputError, Unwritten};
 use refusal_texts::Refusal;
 use std::alloc::{AllocError, AllocFailed};
 use thiserror::Error;
-
-/// Why [`run`](crate::running::run) writes no plan.
-#[derive(Debug, Drop, Error)]
-pub enum RunError {
-    /// The object gets no plan.
-    #[error("refused: {0}")]
-    Refused(PrepareError),
-    /// The writer failed, or took nothing.
-    #[error("the plan can't be written")]
-    Output,
-}
-
-impl From<PrepareError> for RunError {
-    ghost from_gives = { λ error e. e ≡ Refused error };
-
-    fn from(error: PrepareError) -> RunError {
-        RunError::Refused(error)
-    }
-}
 
 /// Why the program ends without a plan.
 #[derive(Debug, Drop, Error)]

@@ -2,17 +2,16 @@
 #![tactic(auto)]
 
 mod error;
-mod running;
 mod settings_text;
 
 use command_line::{Arguments, LineError, arguments};
-use error::{ProgramError, RunError};
+use error::ProgramError;
 use load_plan::{Order, PrepareError, Watched};
 use object_notes::notes;
+use prepare_run::{RunError, run};
 use program_io::{Kept, Unwritten, kernel_tables, open, print_text, read, read_all, words_of};
 use refusal_texts::{KernelFiles, Refusal, prepare_text};
 use run_settings::{RunSettings, SettingsError};
-use running::run;
 use settings_text::fault_text;
 use std::alloc::Global;
 use std::io;

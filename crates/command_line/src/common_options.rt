@@ -56,12 +56,12 @@ pub(crate) fn with_kernel_files<'a>(
     ensures shape { IfOk result (λ r. HasKernelFiles (app_of command.entry) (app_of r)) }
 {
     let types = values(alloc, "types", "FILE", texts.types);
+    let command = with_option(command, types)?;
     let order = value(alloc, "types-order", "ORDER", texts.types_order)
         .value_parser(["little", "big"].as_slice())
         .default_value("little");
-    let symbols = value(alloc, "symbols", "FILE", texts.symbols);
-    let command = with_option(command, types)?;
     let command = with_option(command, order)?;
+    let symbols = value(alloc, "symbols", "FILE", texts.symbols);
     let command = with_option(command, symbols)?;
     Ok(command)
 }

@@ -46,12 +46,12 @@ fn with_lacks<'a>(alloc: Global, command: Command<'a>) -> Result<Command<'a>, Al
         "A feature of types that the kernel doesn't take",
     )
     .value_parser(feature_names());
+    let command = with_option(command, denied)?;
     let older = flag(
         alloc,
         "older-helpers",
         "The kernel lacks the newer helpers that read memory",
     );
-    let command = with_option(command, denied)?;
     let command = with_option(command, older)?;
     Ok(command)
 }
@@ -63,32 +63,32 @@ fn with_settings<'a>(alloc: Global, command: Command<'a>) -> Result<Command<'a>,
     ensures shape { IfOk result (λ r. HasSettings (app_of command.entry) (app_of r)) }
 {
     let settings = value(alloc, "settings", "FILE", "A file of settings (TOML)");
+    let command = with_option(command, settings)?;
     let maps = values(
         alloc,
         "map",
         "NAME=NUMBER",
         "The number of a map, below 2^31, as a loader's file descriptor",
     );
+    let command = with_option(command, maps)?;
     let globals = values(
         alloc,
         "global",
         "NAME=HEX",
         "The bytes of a global variable, which the object must have",
     );
+    let command = with_option(command, globals)?;
     let rewrite_first = flag(
         alloc,
         "rewrite-first",
         "Rewrite the object's types before type relocations are looked up in them",
     );
+    let command = with_option(command, rewrite_first)?;
     let notes = flag(
         alloc,
         "notes",
         "Say on standard error what may surprise in the object or its plan, as is done on a terminal",
     );
-    let command = with_option(command, settings)?;
-    let command = with_option(command, maps)?;
-    let command = with_option(command, globals)?;
-    let command = with_option(command, rewrite_first)?;
     let command = with_option(command, notes)?;
     Ok(command)
 }

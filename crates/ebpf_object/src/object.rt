@@ -28,7 +28,7 @@ ghost use Rattle.btf_records.specs.declared.error.BtfError.TheVariants as BtfErr
 
 use crate::rewriting::rewrite;
 use crate::text_sections::text_sections;
-use crate::types::{Types, read_types};
+use crate::types::read_types;
 use btf_extension::BtfExt;
 use btf_records::{BtfError, BtfFeature, Endianness};
 use btf_sanitizing::Answers;
@@ -54,7 +54,7 @@ pub struct Object<'a> {
     pub(crate) btf: Option<Btf<'a>>,
     pub(crate) btf_ext: Option<BtfExt<'a>>,
     pub(crate) maps: Maps<'a>,
-    programs: Programs<'a>,
+    pub(crate) programs: Programs<'a>,
     pub(crate) functions: Functions<'a>,
     pub(crate) externs: Externs<'a>,
 }
@@ -252,10 +252,10 @@ impl<'a> Object<'a> {
     }
 
     /// Rewrites the table of types to the features that a kernel grants, as the predicate tells:
-    /// [`btf_rewriting::fixup_and_sanitize`] with the sizes of the sections, the offsets of the symbols and,
-    /// where a section of externs has an entry, its ids. Asks and changes nothing where the object
-    /// has no table or an empty one. Answers the features that were asked about, each once, with
-    /// their answers.
+    /// [`btf_rewriting::fixup_and_sanitize`] with the sizes of the sections, the offsets of the
+    /// symbols and, where a section of externs has an entry, its ids. Asks and changes nothing where
+    /// the object has no table or an empty one. Answers the features that were asked about, each
+    /// once, with their answers.
     ///
     /// # Errors
     ///
@@ -320,44 +320,6 @@ impl<'a> Object<'a> {
             &mut self.functions,
             text_sections,
         )
-    }
-
-    /// The same object again.
-    pub fn try_clone(&self) -> Result<Object<'a>, AllocError>
-        ensures { IfOk result (λ object. object ≡ self.now) }
-    {
-        let file = self.file.try_clone()?;
-        let types = self.types()?;
-        let maps = self.maps.try_clone()?;
-        let programs = self.programs.try_clone()?;
-        let functions = self.functions.try_clone()?;
-        let externs = self.externs.try_clone()?;
-        Ok(Object {
-            alloc: self.alloc,
-            file,
-            btf: types.table,
-            btf_ext: types.extension,
-            maps,
-            programs,
-            functions,
-            externs,
-        })
-    }
-
-    /// The types, and what stands beside them, again.
-    fn types(&self) -> Result<Types<'a>, AllocError>
-        ensures table { IfOk result (λ types. types.table ≡ self.now.types) }
-        ensures extension { IfOk result (λ types. types.extension ≡ self.now.extension) }
-    {
-        let table = match &self.btf {
-            Some(table) => Some(table.try_clone()?),
-            None => None,
-        };
-        let extension = match &self.btf_ext {
-            Some(extension) => Some(extension.try_clone()?),
-            None => None,
-        };
-        Ok(Types { table, extension })
     }
 
     /// Parses an object file: [`ObjectFile::parse`], and then [`Object::from_file`].

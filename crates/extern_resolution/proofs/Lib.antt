@@ -5,6 +5,7 @@ pub mod FirstNamed
 pub mod Found
 pub mod Growing
 pub mod NamesBegin
+pub mod NothingLeft
 pub mod PassedTypes
 pub mod SaidBlocks
 pub mod Seeking

@@ -28,6 +28,10 @@ pub record AreAllSaid (kernel : Table) (r : KernelRecords) (below : ℕ) : Type 
   pub function_kind : r.functions.kind ≡ kinds.Func
   pub variable_kind : r.variables.kind ≡ kinds.Var
 
+-- whatever the records from an id on are, they say nothing more of the wanted names
+pub record NothingIsLeft (kernel : Table) (r : NamedRecords) : Type 0 where
+  pub anywhere : (below end : ℕ) → AreSaid kernel r below → AreSaid kernel r end
+
 -- the same names are wanted
 pub record SameWanted (old new : KernelRecords) : Type 0 where
   pub functions : SameNames old.functions new.functions

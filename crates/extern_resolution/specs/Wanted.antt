@@ -1,10 +1,10 @@
 -- What a kernel's table says of wanted names, as far as it was gone through.
-use Rattle.std.specs.Prelude.{◌≡◌, ◌≢◌, ℕ, ◌<◌, ◌⊎◌, All, Bool, true, false, ◌||◌, List, [], Option, None, Some, IfSome, is_some}
+use Rattle.std.specs.Prelude.{◌≡◌, ◌≢◌, ℕ, ◌<◌, ◌⊎◌, All, Bool, true, false, ◌||◌, List, [], Option, None, Some, IfSome, is_none, is_some}
 use Rattle.std.specs.BTreeMap.{is_at}
 use Rattle.std.specs.BTreeSet.{insert_key}
 use Rattle.std.specs.Borrow.{Bor}
 use Rattle.std.specs.Cmp.Lexicographic.{slice_cmp}
-use Rattle.std.specs.List.{AllByRecursion}
+use Rattle.std.specs.List.{AllByRecursion, list_any}
 use Rattle.std.specs.Map.{lookup}
 use Rattle.std.specs.Option.{IsSomeAnd, MatchOption, option_flatten}
 use Rattle.std.specs.Ordering.{nat_cmp}
@@ -30,6 +30,10 @@ under r name = ids_under r.ids.entries name
 
 abbrev pub id_under : NamedRecords → List ℕ → Option ℕ
 id_under r name = option_flatten (under r name)
+
+-- some wanted name has no id yet
+abbrev pub is_any_left : List (Bor (List ℕ) × Option ℕ) → Bool
+is_any_left entries = list_any (λ e. is_none e.1) entries
 
 -- the first id is kept
 abbrev pub entered : ℕ → Option (Option ℕ) → Option (Option ℕ)

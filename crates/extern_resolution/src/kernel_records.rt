@@ -1,6 +1,6 @@
 //! What the kernel's table has of the functions and variables that externs are declared as.
 
-ghost use Rattle.std.specs.Prelude.{◌≡◌, ◌≤◌, ◌+◌, ◌^◌, false, length, slice_index_or, true, IfOk, OnOk};
+ghost use Rattle.std.specs.Prelude.{◌≡◌, ◌≤◌, ◌+◌, ◌^◌, ℕ, false, length, slice_index_or, true, IfOk, OnOk};
 ghost use Rattle.std.specs.Option.{option_copied};
 ghost use Rattle.btf_records.specs.Kinds.{number_of};
 ghost use Rattle.btf_records.specs.declared.kind.BtfKind.TheVariants.{Func, Var};
@@ -166,7 +166,7 @@ impl<'n> KernelRecords<'n> {
     ) -> Result<(), AllocError>
         requires headers { AreHeadersOf kernel.now headers.now }
         requires order { from ≤ to }
-        requires few { to ≤ from + 1024 }
+        requires few { to ≤ from + 256 }
         requires countable { to ≤ 2 ^ 32 }
         requires said { AreAllSaid kernel.now self.old from }
         ensures said { OnOk result (AreAllSaid kernel.now self.new to) }
@@ -183,7 +183,24 @@ impl<'n> KernelRecords<'n> {
         Ok(())
     }
 
-    /// Goes through a table.
+    /// How many names are wanted.
+    fn len(&self) -> usize {
+        self.functions.len().saturating_add(self.variables.len())
+    }
+
+    /// Whether no later record of the table can say more.
+    #[tactic(auto, using(crate::proofs::NothingLeft::of_both))]
+    fn is_settled(&self) -> bool
+        ensures { (kernel : Table) (below end : ℕ)
+            → result ≡ true
+            → AreAllSaid kernel self.now below
+            → AreAllSaid kernel self.now end }
+    {
+        self.functions.is_settled() && self.variables.is_settled()
+    }
+
+    /// Goes through a table, as far as it can say more. Whether it can is looked at again after as
+    /// many types as there are names, so that this takes no longer than going through.
     fn go_through(&mut self, kernel: &Btf<'_>) -> Result<(), AllocError>
         requires { AreBegun self.old }
         ensures said { OnOk result (AreAllSaid kernel.now self.new (length kernel.now.types + 1)) }
@@ -191,8 +208,16 @@ impl<'n> KernelRecords<'n> {
     {
         let headers = TypeHeaders::new(kernel);
         let count = kernel.len() + 1;
+        let names = self.len();
         let mut from = 0;
+        let mut looked_at = 0;
         while from < count {
+            if from - looked_at >= names {
+                if self.is_settled() {
+                    return Ok(());
+                }
+                looked_at = from;
+            }
             let to = count.min(from + BLOCK);
             self.take_block(kernel, &headers, from, to)?;
             from = to;

@@ -2,8 +2,9 @@
 
 ghost use Rattle.std.specs.Prelude.{◌≡◌, ◌+◌, ◌||◌, ℕ, List, None, Some, false, true, if◌then◌else◌, is_some, IfOk, OnOk};
 ghost use Rattle.std.specs.Str.{bytes_eq};
-ghost use Rattle.btf_tables.specs.Tables.{type_by_id};
-ghost use Rattle.extern_resolution.specs.Wanted.{AreSaid, IsBegun, IsNoted, SameNames, Wants, entered, id_under, ids_under, under};
+ghost use Rattle.btf_tables.specs.Tables.{Table, type_by_id};
+ghost use Rattle.extern_resolution.specs.Gathering.{NothingIsLeft};
+ghost use Rattle.extern_resolution.specs.Wanted.{AreSaid, IsBegun, IsNoted, SameNames, Wants, entered, id_under, ids_under, is_any_left, under};
 
 use btf_encoding::TypeRef;
 use btf_records::BtfKind;
@@ -117,6 +118,32 @@ impl<'n> NamedRecords<'n> {
         enter(&mut self.ids, name, id);
         note(&mut self.looked_up, name, offset)?;
         Ok(())
+    }
+
+    /// How many names are wanted.
+    pub(crate) fn len(&self) -> usize {
+        self.ids.len()
+    }
+
+    /// Whether some wanted name has no id yet.
+    fn is_any_left(&self) -> bool
+        ensures { result ≡ is_any_left self.now.ids.entries }
+    {
+        for (_name, id) in self.ids.iter() {
+            if id.is_none() {
+                return true;
+            }
+        }
+        false
+    }
+
+    /// Whether no later record of the table can say more: each wanted name has the id of its first
+    /// record, or a name that can't be read hides what comes after it.
+    #[tactic(auto, using(crate::proofs::NothingLeft::hidden, crate::proofs::NothingLeft::all_met))]
+    pub(crate) fn is_settled(&self) -> bool
+        ensures { (kernel : Table) → result ≡ true → NothingIsLeft kernel self.now }
+    {
+        self.is_hidden || !self.is_any_left()
     }
 
     /// Whether a name is wanted.

@@ -158,13 +158,16 @@ static ACCEPTED_BIG: [(Changes, Content); 2] = [
     ),
 ];
 
+/// The object that some bytes hold, where they aren't refused.
+fn parsed(alloc: Global, bytes: &[u8]) -> Option<Object<'_>> {
+    Object::parse(alloc, bytes).ok()
+}
+
 /// What a changed object holds.
 fn changed_content(alloc: Global, object: &[u8; 568], changes: Changes) -> Option<Content> {
     let bytes = with_bytes(object, changes);
-    match Object::parse(alloc, &bytes) {
-        Ok(object) => content_of(&object),
-        Err(_) => None,
-    }
+    let object = parsed(alloc, &bytes)?;
+    content_of(&object)
 }
 
 #[test]
@@ -206,9 +209,10 @@ static REFUSED: [(Changes, Refusal); 14] = [
 
 /// Whether an object is refused as expected.
 fn is_refused(alloc: Global, bytes: &[u8], expected: Refusal) -> bool {
-    match Object::parse(alloc, bytes) {
-        Ok(_) => false,
-        Err(error) => is_refusal(&error, expected),
+    let parsed = Object::parse(alloc, bytes);
+    match &parsed {
+        Ok(_object) => false,
+        Err(error) => is_refusal(error, expected),
     }
 }
 

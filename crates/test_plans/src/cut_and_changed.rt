@@ -24,9 +24,12 @@ fn is_hex(word: &str) -> bool {
 }
 
 fn is_decimal(word: &str) -> bool {
-    !word.is_empty()
-        && (word == "0" || !word.starts_with('0'))
-        && word.bytes().all(|b| matches!(b, b'0'..=b'9'))
+    match word.as_bytes() {
+        [] => false,
+        [b'0'] => true,
+        [b'0', ..] => false,
+        digits => digits.iter().all(|digit| matches!(*digit, b'0'..=b'9')),
+    }
 }
 
 /// Whether a line is one of a plan without maps, types, features and records.
@@ -58,10 +61,8 @@ fn are_lines(text: &[u8]) -> bool {
 
 /// Whether bytes are refused since they are no ELF file.
 fn is_no_file(alloc: Global, object: &[u8]) -> bool {
-    match plan_of(alloc, object) {
-        Err(PrepareError::Parse(ParseError::ElfError(_))) => true,
-        _ => false,
-    }
+    let plan = plan_of(alloc, object);
+    matches!(&plan, Err(PrepareError::Parse(ParseError::ElfError(_))))
 }
 
 #[test]
@@ -79,8 +80,9 @@ fn has_lines(alloc: Global, plan: &Plan<'_>) -> bool {
 
 /// Whether an object is refused, or its plan is made of lines of a plan.
 fn is_sound(alloc: Global, object: &[u8]) -> bool {
-    match plan_of(alloc, object) {
-        Ok(plan) => has_lines(alloc, &plan),
+    let plan = plan_of(alloc, object);
+    match &plan {
+        Ok(plan) => has_lines(alloc, plan),
         Err(PrepareError::Parse(ParseError::OutOfMemory)) => false,
         Err(PrepareError::OutOfMemory) => false,
         Err(_) => true,

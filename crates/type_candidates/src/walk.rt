@@ -146,7 +146,7 @@ fn note_block(
     requires headers { IsSomeAnd (slice_get targets.now table) (λ target.
         AreHeadersOf target headers.now) }
     requires order { from ≤ to }
-    requires few { to ≤ from + 1024 }
+    requires few { to ≤ from + 256 }
     requires countable { to ≤ 2 ^ 32 }
     requires seen { AreSeen (sighted kinds.now names.now targets.now)
         (types_before targets.now table from) named.old unreadable.old }

@@ -2,5 +2,6 @@ pub mod HeadersOf
 pub mod KindsFrom
 pub mod LongBeginnings
 pub mod MarkedNames
+pub mod NoneOfKinds
 pub mod RawTexts
 pub mod WrittenIds

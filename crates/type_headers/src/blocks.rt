@@ -1,7 +1,9 @@
 //! The types of some kinds, block by block.
 
-ghost use Rattle.std.specs.Prelude.{◌≡◌, ◌≤◌, ◌+◌, ◌^◌, false, length, slice_index_or, if◌then◌else◌, IfSome};
+ghost use Rattle.std.specs.Prelude.{◌≡◌, ◌≤◌, ◌+◌, ◌^◌, ◌==◌, [], true, false, length, slice_index_or, if◌then◌else◌, IfSome};
+ghost use Rattle.std.specs.List.{list_any};
 ghost use Rattle.btf_records.specs.Kinds.{number_of};
+ghost use Rattle.btf_records.specs.declared.kind.BtfKind.{BtfKind};
 ghost use Rattle.btf_tables.specs.Tables.{Table};
 ghost use Rattle.type_headers.specs.Blocks.{AreIdsOfKinds, AreKindsFrom, is_of_kinds};
 ghost use Rattle.type_headers.specs.Headers.{AreHeadersOf};
@@ -11,12 +13,15 @@ use btf_records::BtfKind;
 use std::marker::Model;
 
 /// How many types a block has at most.
-pub const BLOCK: usize = 1024;
+pub const BLOCK: usize = 256;
+
+/// How many kinds there are.
+const KINDS: u8 = 20;
 
 /// The ids of the types of a block that are of some kinds.
 #[derive(Debug, Drop)]
 pub struct IdsOfKinds {
-    ids: [u32; 1024],
+    ids: [u32; 256],
     len: usize,
 }
 
@@ -27,7 +32,7 @@ impl Model for IdsOfKinds {
 
     ghost view = { λ b. take b.len b.ids };
 
-    ghost invariant = { λ b. b.len ≤ 1024 };
+    ghost invariant = { λ b. b.len ≤ 256 };
 }
 
 /// Whether a kind, by its number, is one of these.
@@ -47,6 +52,34 @@ fn is_one_of(kinds: &[bool], kind: BtfKind) -> bool
     is_among(kinds, kind as usize)
 }
 
+/// Whether one of some types has the kind of a number. Each is looked at, so that a processor
+/// compares many at once.
+fn has_kind(types: &[BtfKind], number: u8) -> bool
+    ensures { result ≡ list_any (λ kind. number_of kind == number) types.now }
+{
+    let mut has = false;
+    for kind in types {
+        has |= *kind as u8 == number;
+    }
+    has
+}
+
+/// Whether one of some types may be of one of these kinds.
+#[tactic(auto, using(crate::proofs::NoneOfKinds::few_kinds))]
+fn has_any(kinds: &[bool], types: &[BtfKind]) -> bool
+    ensures { (kind : BtfKind)
+        → result ≡ false
+        → slice_index_or kinds.now (number_of kind) false ≡ true
+        → list_any (λ k. number_of k == number_of kind) types.now ≡ false }
+{
+    for number in 0..KINDS {
+        if is_among(kinds, number as usize) && has_kind(types, number) {
+            return true;
+        }
+    }
+    false
+}
+
 /// 1 or 0.
 fn count_of(is: bool) -> usize
     ensures { result ≡ (if is then 1 else 0) }
@@ -57,13 +90,13 @@ fn count_of(is: bool) -> usize
 /// Of the ids from `first` on, whose types have the kinds `types`, those whose kind is wanted. Each
 /// id is written, and stays only where its kind is: the processor has nothing to guess.
 fn ids_among(kinds: &[bool], types: &[BtfKind], first: usize) -> IdsOfKinds
-    requires few { length types.now ≤ 1024 }
+    requires few { length types.now ≤ 256 }
     requires countable { first + length types.now ≤ 2 ^ 32 }
     ensures { (table : Table)
         → AreKindsFrom table first types.now
         → AreIdsOfKinds table kinds.now first (first + length types.now) result }
 {
-    let mut ids = [0; 1024];
+    let mut ids = [0; 256];
     let mut len = 0;
     let mut id = first;
     for kind in types {
@@ -75,6 +108,16 @@ fn ids_among(kinds: &[bool], types: &[BtfKind], first: usize) -> IdsOfKinds
 }
 
 impl IdsOfKinds {
+    /// No ids.
+    fn none() -> IdsOfKinds
+        ensures { result ≡ [] }
+    {
+        IdsOfKinds {
+            ids: [0; 256],
+            len: 0,
+        }
+    }
+
     /// The ids, in order.
     pub fn as_slice(&self) -> &[u32]
         ensures { result.now ≡ self.now }
@@ -99,13 +142,13 @@ impl<'t> TypeHeaders<'t> {
     /// The ids of the types of some kinds from one id up to another, looked at one by one.
     fn ids_one_by_one(&self, kinds: &[bool], from: usize, to: usize) -> IdsOfKinds
         requires order { from ≤ to }
-        requires few { to ≤ from + 1024 }
+        requires few { to ≤ from + 256 }
         requires countable { to ≤ 2 ^ 32 }
         ensures { (table : Table)
             → AreHeadersOf table self.now
             → AreIdsOfKinds table kinds.now from to result }
     {
-        let mut ids = [0; 1024];
+        let mut ids = [0; 256];
         let mut len = 0;
         for id in from..to {
             ids[len] = id as u32;
@@ -129,15 +172,17 @@ impl<'t> TypeHeaders<'t> {
     }
 
     /// The ids of the types of some kinds from one id up to another, which begin and end a block.
+    /// Of most blocks of a kernel's table no type is of the kinds of which few types are.
     pub fn ids_of_kinds(&self, kinds: &[bool], from: usize, to: usize) -> IdsOfKinds
         requires order { from ≤ to }
-        requires few { to ≤ from + 1024 }
+        requires few { to ≤ from + 256 }
         requires countable { to ≤ 2 ^ 32 }
         ensures { (table : Table)
             → AreHeadersOf table self.now
             → AreIdsOfKinds table kinds.now from to result }
     {
         match self.kinds_between(from, to) {
+            Some(types) if !has_any(kinds, types) => IdsOfKinds::none(),
             Some(types) => ids_among(kinds, types, from),
             None => self.ids_one_by_one(kinds, from, to),
         }

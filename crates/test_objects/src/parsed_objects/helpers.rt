@@ -1,5 +1,6 @@
 //! Newer helpers, in whose place older ones are called.
 
+use super::parsed;
 use super::two_functions::TWO_FUNCTIONS;
 use ebpf_items::Slots;
 use ebpf_object::Object;
@@ -74,10 +75,8 @@ fn sanitized_code(object: &mut Object<'_>) -> Option<(u32, Code)> {
 /// The same for the object of one program with these slots.
 fn sanitized(alloc: Global, first: [u8; 8], second: [u8; 8]) -> Option<(u32, Code)> {
     let bytes = with_bytes(&ONE_PROGRAM, &[(CODE, &first), (CODE + 8, &second)]);
-    match Object::parse(alloc, &bytes) {
-        Ok(mut object) => sanitized_code(&mut object),
-        Err(_) => None,
-    }
+    let mut object = parsed(alloc, &bytes)?;
+    sanitized_code(&mut object)
 }
 
 /// The code of the functions of sections 2 and 3 with older helpers, and that once they are linked.
@@ -90,10 +89,8 @@ fn linked_codes(object: &mut Object<'_>) -> Option<[Code; 4]> {
 
 /// The same for the object of two functions.
 fn linked(alloc: Global) -> Option<[Code; 4]> {
-    match Object::parse(alloc, &TWO_FUNCTIONS) {
-        Ok(mut object) => linked_codes(&mut object),
-        Err(_) => None,
-    }
+    let mut object = parsed(alloc, &TWO_FUNCTIONS)?;
+    linked_codes(&mut object)
 }
 
 #[test]

@@ -1,5 +1,6 @@
 //! Objects with variables, whose table of types is rewritten.
 
+use super::parsed;
 use btf_records::BtfError;
 use ebpf_object::Object;
 use sample_objects::{ONE_PROGRAM, VARIABLES, with_bytes};
@@ -73,10 +74,9 @@ fn copied(object: &Object<'_>) -> Option<Facts> {
 
 /// The facts of a copy of an object, and then those of the object.
 fn facts_twice(alloc: Global, bytes: &[u8]) -> Option<[Facts; 2]> {
-    match Object::parse(alloc, bytes) {
-        Ok(mut object) => Some([copied(&object)?, facts_of(&mut object)]),
-        Err(_) => None,
-    }
+    let mut object = parsed(alloc, bytes)?;
+    let of_copy = copied(&object)?;
+    Some([of_copy, facts_of(&mut object)])
 }
 
 #[test]

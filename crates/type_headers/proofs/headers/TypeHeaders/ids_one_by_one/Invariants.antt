@@ -5,4 +5,4 @@ use Rattle.type_headers.specs.Headers.{AreHeadersOf}
 use Rattle.type_headers.proofs.headers.TypeHeaders.ids_one_by_one.Given as goal
 
 abbrev pub invariant-loop-id : goal.invariant-loop-id
-invariant-loop-id l = (l.from + l.len ≤ l.id) × (length l.ids ≡ 1024) × ((table : Table) → AreHeadersOf table l.fn.self → AreIdsOfKinds table l.kinds l.from l.id (take l.len l.ids))
+invariant-loop-id l = (l.from + l.len ≤ l.id) × (length l.ids ≡ 256) × ((table : Table) → AreHeadersOf table l.fn.self → AreIdsOfKinds table l.kinds l.from l.id (take l.len l.ids))

@@ -1,8 +1,8 @@
 use Rattle.std.proofs.Common.{◌≡◌, refl, rules}
 use Rattle.std.proofs.lemmas.Result.{err_from_is_err_and}
 use Rattle.run_settings.specs.Features.{grants}
-use Rattle.bpf_prepare.proofs.Known.{planned, refused}
-use Rattle.bpf_prepare.proofs.running.run.Goals as goal
+use Rattle.prepare_run.proofs.Known.{planned, refused}
+use Rattle.prepare_run.proofs.running.run.Goals as goal
 
 pub returns-in-Ok-clause-written : goal.returns-in-Ok-clause-written
 returns-in-Ok-clause-written g c = record {

@@ -8,8 +8,8 @@ use Rattle.prepare_errors.specs.declared.error.PrepareError.TheVariants as prepa
 use Rattle.load_plan.specs.declared.order.Order.{Order}
 use Rattle.run_settings.specs.Documents.{RunContent}
 use Rattle.run_settings.specs.Features.{grants}
-use Rattle.bpf_prepare.specs.declared.error.RunError.{RunError}
-use Rattle.bpf_prepare.specs.declared.error.RunError.TheVariants.{Output, Refused}
+use Rattle.prepare_run.specs.declared.error.RunError.{RunError}
+use Rattle.prepare_run.specs.declared.error.RunError.TheVariants.{Output, Refused}
 
 -- the inputs of a run: the bytes of the symbols' reader, if they are known, and whether reading
 -- them failed

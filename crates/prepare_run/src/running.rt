@@ -3,8 +3,8 @@
 ghost use Rattle.std.specs.Prelude.{◌≡◌, ◌≢◌, ◌≤◌, ◌^◌, true, false, length, IfErr, OnOk, Err};
 ghost use Rattle.std.specs.Io.KnownBytes.{Appends};
 ghost use Rattle.load_plan.specs.Watched.{watched_inner, has_failed, AppendsPart};
-ghost use Rattle.bpf_prepare.specs.Run.{inputs_of, HoldsOfText, IsRunRefusal};
-ghost use Rattle.bpf_prepare.specs.declared.error.RunError.TheVariants.{Output};
+ghost use Rattle.prepare_run.specs.Run.{inputs_of, HoldsOfText, IsRunRefusal};
+ghost use Rattle.prepare_run.specs.declared.error.RunError.TheVariants.{Output};
 
 use crate::error::RunError;
 use load_plan::{Btf, Order, Watched, prepare};

@@ -1,0 +1,82 @@
+//! The same object again.
+
+ghost use Rattle.std.specs.Prelude.{◌≡◌, [], IfOk, OnOk};
+
+use crate::object::Object;
+use btf_extension::BtfExt;
+use btf_tables::Btf;
+use object_externs::Externs;
+use object_file::ObjectFile;
+use object_maps::Maps;
+use object_parts::{Functions, Programs};
+use std::alloc::{AllocError, Global};
+
+/// Puts a value in place of another.
+fn put<T: Drop>(place: &mut T, value: T)
+    ensures { place.new ≡ value }
+{
+    *place = value;
+}
+
+/// A table again, if there is one.
+fn table_again<'a>(table: &Option<Btf<'a>>) -> Result<Option<Btf<'a>>, AllocError>
+    ensures { IfOk result (λ again. again ≡ table.now) }
+{
+    match table {
+        Some(table) => Ok(Some(table.try_clone()?)),
+        None => Ok(None),
+    }
+}
+
+/// What stands beside a table again, if there is something.
+fn extension_again<'a>(extension: &Option<BtfExt<'a>>) -> Result<Option<BtfExt<'a>>, AllocError>
+    ensures { IfOk result (λ again. again ≡ extension.now) }
+{
+    match extension {
+        Some(extension) => Ok(Some(extension.try_clone()?)),
+        None => Ok(None),
+    }
+}
+
+/// An object of a file of which nothing is read.
+fn unread<'a>(alloc: Global, file: ObjectFile<'a>) -> Object<'a>
+    ensures file { result.file ≡ file.entry }
+    ensures programs { result.programs ≡ [] }
+{
+    Object {
+        alloc,
+        file,
+        btf: None,
+        btf_ext: None,
+        maps: Maps::new(alloc),
+        programs: Programs::new(alloc),
+        functions: Functions::new(alloc),
+        externs: Externs::none(alloc),
+    }
+}
+
+impl<'a> Object<'a> {
+    /// Takes what another object has beside its file. The object has no programs before.
+    fn copy(&mut self, other: &Object<'a>) -> Result<(), AllocError>
+        requires { self.old.programs ≡ [] }
+        ensures { OnOk result (self.new ≡ record other.now { file = self.old.file }) }
+    {
+        put(&mut self.btf, table_again(&other.btf)?);
+        put(&mut self.btf_ext, extension_again(&other.btf_ext)?);
+        put(&mut self.maps, other.maps.try_clone()?);
+        put(&mut self.functions, other.functions.try_clone()?);
+        put(&mut self.programs, other.programs.try_clone()?);
+        put(&mut self.externs, other.externs.try_clone()?);
+        Ok(())
+    }
+
+    /// The same object again.
+    pub fn try_clone(&self) -> Result<Object<'a>, AllocError>
+        ensures { IfOk result (λ object. object ≡ self.now) }
+    {
+        let file = self.file.try_clone()?;
+        let mut object = unread(self.alloc, file);
+        object.copy(self)?;
+        Ok(object)
+    }
+}
