@@ -189,7 +189,6 @@ impl<'n> KernelRecords<'n> {
     }
 
     /// Whether no later record of the table can say more.
-    #[tactic(auto, using(crate::proofs::NothingLeft::of_both))]
     fn is_settled(&self) -> bool
         ensures { (kernel : Table) (below end : ℕ)
             → result ≡ true
