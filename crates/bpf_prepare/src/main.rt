@@ -122,35 +122,65 @@ fn print_notes(rt: &HostRuntime, object: &[u8], settings: &RunSettings) {
     }
 }
 
-/// Reads the files that a line names, and prints the plan of its object.
-fn print_named(rt: &HostRuntime, line: &Arguments<'_>) -> Result<(), ProgramError> {
-    let alloc = rt.alloc();
-    // Faults of the line come first.
-    settings_of(alloc, line, None)?;
-    let object = read(rt, line.object)?;
+/// Prints the plan of an object for a kernel with these symbols, with the settings of a file's text
+/// and of the line.
+fn print_with_symbols<R: BufRead>(
+    rt: &HostRuntime,
+    line: &Arguments<'_>,
+    object: &[u8],
+    file: Option<&[u8]>,
+    types: &[Vec<u8>],
+    symbols: &mut Watched<R>,
+) -> Result<(), ProgramError> {
+    let settings = settings_of(rt.alloc(), line, file)?;
+    if line.notes || rt.stderr().is_terminal() {
+        print_notes(rt, object, &settings);
+    }
+    let given = Given {
+        line,
+        object,
+        settings: &settings,
+        types,
+    };
+    print_plan(rt, &given, symbols)
+}
+
+/// The same, with the symbols of the file that the line names, if it names one.
+fn print_with_types(
+    rt: &HostRuntime,
+    line: &Arguments<'_>,
+    object: &[u8],
+    file: Option<&[u8]>,
+    types: &[Vec<u8>],
+) -> Result<(), ProgramError> {
+    match line.symbols {
+        Some(name) => {
+            let mut symbols = Watched::new(open(rt, name)?);
+            print_with_symbols(rt, line, object, file, types, &mut symbols)
+        }
+        None => {
+            let mut symbols = Watched::new(io::empty());
+            print_with_symbols(rt, line, object, file, types, &mut symbols)
+        }
+    }
+}
+
+/// Reads the other files that a line names, and prints the plan of its object.
+fn print_object(rt: &HostRuntime, line: &Arguments<'_>, object: &[u8]) -> Result<(), ProgramError> {
     let file = match line.settings {
         Some(name) => Some(read(rt, name)?),
         None => None,
     };
     let types = read_all(rt, &line.types)?;
-    let symbols = match line.symbols {
-        Some(name) => Some(open(rt, name)?),
-        None => None,
-    };
-    let settings = settings_of(alloc, line, file.as_deref())?;
-    if line.notes || rt.stderr().is_terminal() {
-        print_notes(rt, &object, &settings);
-    }
-    let given = Given {
-        line,
-        object: &object,
-        settings: &settings,
-        types: &types,
-    };
-    match symbols {
-        Some(reader) => print_plan(rt, &given, &mut Watched::new(reader)),
-        None => print_plan(rt, &given, &mut Watched::new(io::empty())),
-    }
+    print_with_types(rt, line, object, file.as_deref(), &types)
+}
+
+/// Reads the files that a line names, and prints the plan of its object.
+fn print_named(rt: &HostRuntime, line: &Arguments<'_>) -> Result<(), ProgramError> {
+    // Faults of the line come first.
+    settings_of(rt.alloc(), line, None)?;
+    let object = read(rt, line.object)?;
+    print_object(rt, line, &object)
 }
 
 /// Prints what a line asks for: a plan, the program's help or its version.

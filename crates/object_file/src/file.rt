@@ -20,7 +20,7 @@ ghost use Rattle.object_file.specs.Version.{version_of, IsKnownVersion};
 
 use crate::license::{DEFAULT_LICENSE, parse_license};
 use crate::names::{Names, ReadSection, ReadSymbol};
-use crate::reading::read_sections;
+use crate::reading::sections_of;
 use crate::relocations::{RelocationTable, any_without_symbol};
 use crate::symbols::{SymbolTable, first_unnamed};
 use crate::version::parse_version;
@@ -139,12 +139,10 @@ impl<'a> ObjectFile<'a> {
         ensures refused { IfErr result (λ e. e ≢ OutOfMemory → HasFileFault bytes.entry.now e) }
     {
         let elf = ElfFile::parse(bytes)?;
-        let section_names = Names::new(alloc, elf.section_names())?;
-        let symbol_names = Names::new(alloc, elf.symbol_names())?;
-        let sections = read_sections(alloc, &elf, &section_names)?;
+        let sections = sections_of(alloc, &elf)?;
         let license = license(alloc, &elf)?;
         let kernel_version = kernel_version(alloc, &elf)?;
-        let symbols = SymbolTable::read(alloc, &elf, &symbol_names)?;
+        let symbols = SymbolTable::of(alloc, &elf)?;
         let relocations = RelocationTable::read(alloc, &elf)?;
         let file = ObjectFile {
             bytes,

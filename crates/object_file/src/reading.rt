@@ -39,7 +39,7 @@ fn is_read(
 }
 
 /// The sections of a file that are read, in order of index.
-pub(crate) fn read_sections<'a>(
+fn read_sections<'a>(
     alloc: Global,
     elf: &ElfFile<'a>,
     names: &Names<'a>,
@@ -59,4 +59,18 @@ pub(crate) fn read_sections<'a>(
         }
     }
     Ok(sections)
+}
+
+/// The sections of a file that are read.
+pub(crate) fn sections_of<'a>(
+    alloc: Global,
+    elf: &ElfFile<'a>,
+) -> Result<Vec<ReadSection<'a>>, ParseError>
+    ensures value { IfOk result (λ v. v.items ≡ read_sections elf.now) }
+    ensures readable { OnOk result (list_any is_unreadable (read_sections elf.now) ≡ false) }
+    ensures refused { IfErr result (λ e.
+        e ≢ OutOfMemory → HasUnreadable (read_sections elf.now) e) }
+{
+    let names = Names::new(alloc, elf.section_names())?;
+    read_sections(alloc, elf, &names)
 }

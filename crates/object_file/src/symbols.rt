@@ -24,8 +24,8 @@ pub(crate) struct SymbolTable<'a> {
 impl<'a> SymbolTable<'a> {
     ghost use Rattle.object_file.specs.SymbolTable.{symbols_at, AreSymbolsOf, AddsSymbol};
 
-    /// The symbols of a file.
-    pub(crate) fn read(
+    /// The symbols of a file, whose names these are.
+    fn read(
         alloc: Global,
         elf: &ElfFile<'a>,
         names: &Names<'a>,
@@ -49,6 +49,19 @@ impl<'a> SymbolTable<'a> {
             table.add(symbol)?;
         }
         Ok(table)
+    }
+
+    /// The symbols of a file.
+    pub(crate) fn of(alloc: Global, elf: &ElfFile<'a>) -> Result<SymbolTable<'a>, ParseError>
+        ensures value { IfOk result (λ t. AreSymbolsOf t (symbols_of elf.now)) }
+        ensures accepted { OnOk result (list_any is_unnamed (symbols_of elf.now) ≡ false) }
+        ensures refused { IfErr result (λ e.
+            e ≢ OutOfMemory
+            → (e ≡ ParseError.BtfError BtfError.InvalidSymbolName)
+            × (list_any is_unnamed (symbols_of elf.now) ≡ true)) }
+    {
+        let names = Names::new(alloc, elf.symbol_names())?;
+        SymbolTable::read(alloc, elf, &names)
     }
 
     fn add(&mut self, symbol: ReadSymbol<'a>) -> Result<(), AllocError>
