@@ -1,4 +1,5 @@
 pub mod Faultless
 pub mod Linked
+pub mod NoPrograms
 pub mod NoTypeRelocations
 pub mod RefusedTables
