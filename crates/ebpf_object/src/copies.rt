@@ -11,7 +11,7 @@ use object_maps::Maps;
 use object_parts::{Functions, Programs};
 use std::alloc::{AllocError, Global};
 
-/// Puts a value in place of another.
+/// Puts a value in place of another, which is dropped here alone.
 fn put<T: Drop>(place: &mut T, value: T)
     ensures { place.new ≡ value }
 {
@@ -38,7 +38,7 @@ fn extension_again<'a>(extension: &Option<BtfExt<'a>>) -> Result<Option<BtfExt<'
     }
 }
 
-/// An object of a file of which nothing is read.
+/// An object of a file of which nothing else is read.
 fn unread<'a>(alloc: Global, file: ObjectFile<'a>) -> Object<'a>
     ensures file { result.file ≡ file.entry }
     ensures programs { result.programs ≡ [] }
@@ -56,7 +56,8 @@ fn unread<'a>(alloc: Global, file: ObjectFile<'a>) -> Object<'a>
 }
 
 impl<'a> Object<'a> {
-    /// Takes what another object has beside its file. The object has no programs before.
+    /// Takes what another object has beside its file. The object has no programs before; functions
+    /// come before programs, so that each program's function is there where memory runs out.
     fn copy(&mut self, other: &Object<'a>) -> Result<(), AllocError>
         requires { self.old.programs ≡ [] }
         ensures { OnOk result (self.new ≡ record other.now { file = self.old.file }) }

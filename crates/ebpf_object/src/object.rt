@@ -253,9 +253,9 @@ impl<'a> Object<'a> {
 
     /// Rewrites the table of types to the features that a kernel grants, as the predicate tells:
     /// [`btf_rewriting::fixup_and_sanitize`] with the sizes of the sections, the offsets of the
-    /// symbols and, where a section of externs has an entry, its ids. Asks and changes nothing where
-    /// the object has no table or an empty one. Answers the features that were asked about, each
-    /// once, with their answers.
+    /// symbols and, where a section of externs has an entry, its ids. Asks and changes nothing
+    /// where the object has no table or an empty one. Answers the features that were asked about,
+    /// each once, with their answers.
     ///
     /// # Errors
     ///

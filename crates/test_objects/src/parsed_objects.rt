@@ -209,8 +209,8 @@ static REFUSED: [(Changes, Refusal); 14] = [
 
 /// Whether an object is refused as expected.
 fn is_refused(alloc: Global, bytes: &[u8], expected: Refusal) -> bool {
-    let parsed = Object::parse(alloc, bytes);
-    match &parsed {
+    let answer = Object::parse(alloc, bytes);
+    match &answer {
         Ok(_object) => false,
         Err(error) => is_refusal(error, expected),
     }
