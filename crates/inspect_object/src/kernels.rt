@@ -14,7 +14,7 @@ use kernel_reports::{
 use program_io::{kernel_table, print_text, read};
 use refusal_texts::{KernelFiles, prepare_text};
 use relocation_reports::RelocationAt;
-use report_texts::{Column, Rows, report_lines, rows_of, summary_text};
+use report_texts::{Column, Rows, lines_text, rows_of, summary_text};
 use std::alloc::{AllocError, Global};
 use std::io::IsTerminal;
 
@@ -24,7 +24,7 @@ fn refusal_of(
     line: &InspectArguments<'_>,
     reported: &Reported<'_, '_>,
     name: &str,
-    plan: &PlanAnswer,
+    plan: PlanAnswer,
 ) -> Result<Option<String>, AllocError> {
     let types = [name];
     let files = KernelFiles {
@@ -34,7 +34,7 @@ fn refusal_of(
     match plan {
         PlanAnswer::Planned => Ok(None),
         PlanAnswer::Refused(error) => {
-            let text = prepare_text(alloc, reported.file, reported.settings, &files, error)?;
+            let text = prepare_text(alloc, reported.file, reported.settings, &files, &error)?;
             Ok(Some(text))
         }
     }
@@ -48,7 +48,7 @@ fn column_of<'w>(
     name: &'w str,
     report: KernelReport,
 ) -> Result<Column<'w>, AllocError> {
-    let refusal = refusal_of(alloc, line, reported, name, &report.plan)?;
+    let refusal = refusal_of(alloc, line, reported, name, report.plan)?;
     Ok(Column {
         file: name,
         relocations: report.relocations,
@@ -117,15 +117,6 @@ fn reports_of<'w>(
     Ok(columns)
 }
 
-/// Reports as lines.
-fn lines_of(alloc: Global, rows: &Rows<'_>, columns: &[Column<'_>]) -> Result<String, AllocError> {
-    let mut text = String::new(alloc);
-    for column in columns {
-        report_lines(&mut text, rows, column)?;
-    }
-    Ok(text)
-}
-
 /// Reports as a table, or as lines.
 fn text_of(
     alloc: Global,
@@ -136,7 +127,7 @@ fn text_of(
     if line.summary {
         summary_text(alloc, rows, columns)
     } else {
-        lines_of(alloc, rows, columns)
+        lines_text(alloc, rows, columns)
     }
 }
 

@@ -6,6 +6,6 @@ mod rows;
 mod summary;
 mod texts;
 
-pub use lines::report_lines;
+pub use lines::lines_text;
 pub use rows::{ExternKind, ExternRow, RelocationRow, Rows, rows_of};
 pub use summary::{Column, summary_text};

@@ -1,4 +1,4 @@
-//! A report as lines.
+//! Reports on several kernels as lines.
 
 use crate::rows::{ExternRow, RelocationRow, Rows};
 use crate::summary::Column;
@@ -6,7 +6,7 @@ use crate::texts::{AnswerWords, extern_kind_word, presence_word};
 use extern_reports::Presence;
 use line_words::{QuotedText, Text};
 use relocation_reports::RelocationAnswer;
-use std::alloc::AllocError;
+use std::alloc::{AllocError, Global};
 
 /// A name as a word, or a dash where there is none.
 fn name_word(name: Option<&str>) -> Text<'_> {
@@ -16,53 +16,108 @@ fn name_word(name: Option<&str>) -> Text<'_> {
     }
 }
 
-fn push_relocation(
-    text: &mut String,
-    row: &RelocationRow<'_>,
-    answer: &RelocationAnswer,
-) -> Result<(), AllocError> {
-    writeln!(
-        text,
-        "relocation {} function {} instruction {} asks {} {}",
-        name_word(row.section),
-        name_word(row.function),
-        row.instruction,
-        Text::of(&row.asked),
-        AnswerWords(answer)
-    )
+/// How the lines on type relocations begin.
+fn relocation_beginnings(
+    alloc: Global,
+    rows: &[RelocationRow<'_>],
+) -> Result<Vec<String>, AllocError> {
+    let mut beginnings = Vec::new(alloc);
+    for row in rows {
+        let section = name_word(row.section);
+        let function = name_word(row.function);
+        let instruction = row.instruction;
+        let asked = Text::of(&row.asked);
+        beginnings.push(format!(in alloc;
+            "relocation {section} function {function} instruction {instruction} asks {asked} "
+        )?)?;
+    }
+    Ok(beginnings)
 }
 
-fn push_extern(
+/// How the lines on externs begin.
+fn extern_beginnings(alloc: Global, rows: &[ExternRow<'_>]) -> Result<Vec<String>, AllocError> {
+    let mut beginnings = Vec::new(alloc);
+    for row in rows {
+        let name = Text::of(row.name);
+        let kind = extern_kind_word(row.kind);
+        let is_weak = row.is_weak;
+        beginnings.push(format!(in alloc; "extern {name} kind {kind} weak {is_weak} ")?)?;
+    }
+    Ok(beginnings)
+}
+
+/// How lines begin, which is the same for each kernel.
+#[derive(Drop)]
+struct Beginnings {
+    relocations: Vec<String>,
+    externs: Vec<String>,
+}
+
+impl Beginnings {
+    fn of(alloc: Global, rows: &Rows<'_>) -> Result<Beginnings, AllocError> {
+        Ok(Beginnings {
+            relocations: relocation_beginnings(alloc, &rows.relocations)?,
+            externs: extern_beginnings(alloc, &rows.externs)?,
+        })
+    }
+}
+
+/// Appends the lines on the kernel and on whether there is a plan.
+fn push_plan(text: &mut String, report: &Column<'_>) -> Result<(), AllocError> {
+    writeln!(text, "kernel {}", QuotedText(report.file))?;
+    match &report.refusal {
+        Some(refusal) => writeln!(text, "plan no {refusal}"),
+        None => writeln!(text, "plan yes"),
+    }
+}
+
+/// Appends the lines on type relocations.
+fn push_relocations(
     text: &mut String,
-    row: &ExternRow<'_>,
-    presence: Presence,
+    beginnings: &[String],
+    answers: &[RelocationAnswer],
 ) -> Result<(), AllocError> {
-    writeln!(
-        text,
-        "extern {} kind {} weak {} {}",
-        Text::of(row.name),
-        extern_kind_word(row.kind),
-        row.is_weak,
-        presence_word(presence)
-    )
+    for (beginning, answer) in beginnings.iter().zip(answers) {
+        text.push_str(beginning)?;
+        writeln!(text, "{}", AnswerWords(answer))?;
+    }
+    Ok(())
+}
+
+/// Appends the lines on externs.
+fn push_externs(
+    text: &mut String,
+    beginnings: &[String],
+    presences: &[Presence],
+) -> Result<(), AllocError> {
+    for (beginning, presence) in beginnings.iter().zip(presences) {
+        text.push_str(beginning)?;
+        writeln!(text, "{}", presence_word(*presence))?;
+    }
+    Ok(())
 }
 
 /// Appends the lines of a report.
-pub fn report_lines(
+fn push_report(
     text: &mut String,
-    rows: &Rows<'_>,
+    beginnings: &Beginnings,
     report: &Column<'_>,
 ) -> Result<(), AllocError> {
-    writeln!(text, "kernel {}", QuotedText(report.file))?;
-    match &report.refusal {
-        Some(refusal) => writeln!(text, "plan no {refusal}")?,
-        None => writeln!(text, "plan yes")?,
+    push_plan(text, report)?;
+    push_relocations(text, &beginnings.relocations, &report.relocations)?;
+    push_externs(text, &beginnings.externs, &report.externs)
+}
+
+/// The reports on several kernels as lines that tools read, kernel by kernel.
+pub fn lines_text(
+    alloc: Global,
+    rows: &Rows<'_>,
+    columns: &[Column<'_>],
+) -> Result<String, AllocError> {
+    let beginnings = Beginnings::of(alloc, rows)?;
+    let mut text = String::new(alloc);
+    for column in columns {
+        push_report(&mut text, &beginnings, column)?;
     }
-    for (row, answer) in rows.relocations.iter().zip(&report.relocations) {
-        push_relocation(text, row, answer)?;
-    }
-    for (row, presence) in rows.externs.iter().zip(&report.externs) {
-        push_extern(text, row, *presence)?;
-    }
-    Ok(())
+    Ok(text)
 }

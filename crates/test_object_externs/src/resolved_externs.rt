@@ -1,5 +1,6 @@
 //! Externs of objects, resolved by a kernel's types and symbols.
 
+mod large_kernels;
 mod object;
 
 use crate::sections::{INT, PROTO, VAR, section};

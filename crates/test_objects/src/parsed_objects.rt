@@ -209,10 +209,9 @@ static REFUSED: [(Changes, Refusal); 14] = [
 
 /// Whether an object is refused as expected.
 fn is_refused(alloc: Global, bytes: &[u8], expected: Refusal) -> bool {
-    let answer = Object::parse(alloc, bytes);
-    match &answer {
-        Ok(_object) => false,
-        Err(error) => is_refusal(error, expected),
+    match Object::parse(alloc, bytes).err() {
+        Some(error) => is_refusal(&error, expected),
+        None => false,
     }
 }
 

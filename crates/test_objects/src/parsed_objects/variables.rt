@@ -72,11 +72,16 @@ fn copied(object: &Object<'_>) -> Option<Facts> {
     }
 }
 
+/// The same of a copy of an object and then of the object.
+fn facts_of_both(object: &mut Object<'_>) -> Option<[Facts; 2]> {
+    let of_copy = copied(object)?;
+    Some([of_copy, facts_of(object)])
+}
+
 /// The facts of a copy of an object, and then those of the object.
 fn facts_twice(alloc: Global, bytes: &[u8]) -> Option<[Facts; 2]> {
     let mut object = parsed(alloc, bytes)?;
-    let of_copy = copied(&object)?;
-    Some([of_copy, facts_of(&mut object)])
+    facts_of_both(&mut object)
 }
 
 #[test]
