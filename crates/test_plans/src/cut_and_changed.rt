@@ -23,12 +23,14 @@ fn is_hex(word: &str) -> bool {
             && word.bytes().all(|b| matches!(b, b'0'..=b'9' | b'a'..=b'f'))
 }
 
+fn are_digits(word: &str) -> bool {
+    !word.is_empty() && word.bytes().all(|byte| matches!(byte, b'0'..=b'9'))
+}
+
 fn is_decimal(word: &str) -> bool {
-    match word.as_bytes() {
-        [] => false,
-        [b'0'] => true,
-        [b'0', ..] => false,
-        digits => digits.iter().all(|digit| matches!(*digit, b'0'..=b'9')),
+    match word.strip_prefix('0') {
+        Some(rest) => rest.is_empty(),
+        None => are_digits(word),
     }
 }
 
@@ -59,10 +61,23 @@ fn are_lines(text: &[u8]) -> bool {
     }
 }
 
+fn is_elf_fault(error: &PrepareError) -> bool {
+    matches!(error, PrepareError::Parse(ParseError::ElfError(_)))
+}
+
+fn is_want_of_memory(error: &PrepareError) -> bool {
+    matches!(
+        error,
+        PrepareError::OutOfMemory | PrepareError::Parse(ParseError::OutOfMemory)
+    )
+}
+
 /// Whether bytes are refused since they are no ELF file.
 fn is_no_file(alloc: Global, object: &[u8]) -> bool {
-    let plan = plan_of(alloc, object);
-    matches!(&plan, Err(PrepareError::Parse(ParseError::ElfError(_))))
+    match plan_of(alloc, object).err() {
+        Some(error) => is_elf_fault(&error),
+        None => false,
+    }
 }
 
 #[test]
@@ -80,12 +95,9 @@ fn has_lines(alloc: Global, plan: &Plan<'_>) -> bool {
 
 /// Whether an object is refused, or its plan is made of lines of a plan.
 fn is_sound(alloc: Global, object: &[u8]) -> bool {
-    let plan = plan_of(alloc, object);
-    match &plan {
-        Ok(plan) => has_lines(alloc, plan),
-        Err(PrepareError::Parse(ParseError::OutOfMemory)) => false,
-        Err(PrepareError::OutOfMemory) => false,
-        Err(_) => true,
+    match plan_of(alloc, object) {
+        Ok(plan) => has_lines(alloc, &plan),
+        Err(error) => !is_want_of_memory(&error),
     }
 }
 
