@@ -19,7 +19,7 @@ use Rattle.extern_resolution.specs.Wanted.{AreKnown, AreNotNamed, AreSaid, IsBeg
 use Rattle.extern_resolution.specs.declared.error.KsymsError.{KsymsError}
 use Rattle.extern_resolution.specs.declared.kernel_records.KernelRecords.{KernelRecords}
 use Rattle.extern_resolution.specs.declared.named_records.NamedRecords.{NamedRecords}
-use Rattle.extern_resolution.proofs.FirstNamed.{above_all, said_begun}
+use Rattle.extern_resolution.proofs.FirstNamed.{above_all}
 use Rattle.extern_resolution.proofs.Found.{not_both, three_ways}
 use Rattle.object_externs.specs.Externs.{ExternContent}
 use Rattle.string_table.specs.Texts.{text_at}
@@ -137,22 +137,20 @@ all_wanted table r all rest none before =
 
 -- ---- records one by one
 
-pub all_begun : (kernel : Table) (r : KernelRecords) → AreBegun r → AreAllSaid kernel r 0
-all_begun kernel r begun = record {
-  functions = said_begun kernel r.functions begun.functions;
-  variables = said_begun kernel r.variables begun.variables;
-  function_kind = begun.function_kind;
-  variable_kind = begun.variable_kind;
+-- of functions and of variables
+pub all_said : (kernel : Table) (old new : KernelRecords) (below : ℕ) → AreBegun old → SameWanted old new → AreSaid kernel new.functions below → AreSaid kernel new.variables below → AreAllSaid kernel new below
+all_said kernel old new below begun same functions variables = record {
+  functions = functions;
+  variables = variables;
+  function_kind = same.functions.same_kind ∙ begun.function_kind;
+  variable_kind = same.variables.same_kind ∙ begun.variable_kind;
 }
 
-pub same_wanted_at_all : (r : KernelRecords) → SameWanted r r
-same_wanted_at_all r = record { functions = record { same_kind = refl; same = λ name. refl }; variables = record { same_kind = refl; same = λ name. refl } }
+pub same_at_all : (r : NamedRecords) → SameNames r r
+same_at_all r = record { same_kind = refl; same_beginnings = refl; same = λ name. refl }
 
-both_names : (one two three : NamedRecords) → SameNames one two → SameNames two three → SameNames one three
-both_names one two three p q = record { same_kind = q.same_kind ∙ p.same_kind; same = λ name. q.same name ∙ p.same name }
-
-pub both_wanted : (one two three : KernelRecords) → SameWanted one two → SameWanted two three → SameWanted one three
-both_wanted one two three p q = record { functions = both_names one.functions two.functions three.functions p.functions q.functions; variables = both_names one.variables two.variables three.variables p.variables q.variables }
+pub both_names : (one two three : NamedRecords) → SameNames one two → SameNames two three → SameNames one three
+both_names one two three p q = record { same_kind = q.same_kind ∙ p.same_kind; same_beginnings = q.same_beginnings ∙ p.same_beginnings; same = λ name. q.same name ∙ p.same name }
 
 -- ---- what is known in the end
 

@@ -7,9 +7,8 @@ use Rattle.std.specs.Cmp.Lexicographic.{slice_cmp}
 use Rattle.std.specs.Ordering.{nat_cmp}
 use Rattle.btf_records.specs.declared.kind.BtfKind.{BtfKind}
 use Rattle.btf_tables.specs.Tables.{Table}
-use Rattle.extern_resolution.specs.Gathering.{AreAllSaid, NothingIsLeft}
-use Rattle.extern_resolution.specs.Wanted.{AreSaid, Says, ids_under, is_any_left, under}
-use Rattle.extern_resolution.specs.declared.kernel_records.KernelRecords.{KernelRecords}
+use Rattle.extern_resolution.specs.Gathering.{NothingIsLeft}
+use Rattle.extern_resolution.specs.Wanted.{Says, ids_under, is_any_left, under}
 use Rattle.extern_resolution.specs.declared.named_records.NamedRecords.{NamedRecords}
 
 says_anywhere : (kernel : Table) (kind : BtfKind) (hidden : Bool) (name : List ℕ) (found : Option (Option ℕ)) (below end : ℕ) → (hidden ≡ true) → IfSome found (Says kernel kind below hidden name) → IfSome found (Says kernel kind end hidden name)
@@ -59,12 +58,3 @@ all_met kernel r all = record {
     none_left : (b : Bool) → not b ≡ true → b ≡ false
     none_left true is = absurd cc
     none_left false is = refl
-
--- of functions and of variables
-pub of_both : (kernel : Table) (r : KernelRecords) (below end : ℕ) → NothingIsLeft kernel r.functions → NothingIsLeft kernel r.variables → AreAllSaid kernel r below → AreAllSaid kernel r end
-of_both kernel r below end functions variables said = record {
-  functions = functions.anywhere below end said.functions;
-  variables = variables.anywhere below end said.variables;
-  function_kind = said.function_kind;
-  variable_kind = said.variable_kind;
-}

@@ -1,7 +1,6 @@
 -- What was gathered of the kernel's table, of functions and variables.
-use Rattle.std.specs.Prelude.{◌≡◌, ℕ, List, ◌++◌, Option, None, Some}
+use Rattle.std.specs.Prelude.{◌≡◌, ℕ, List, ◌++◌, None}
 use Rattle.std.specs.List.{AllByRecursion}
-use Rattle.btf_records.specs.declared.kind.BtfKind.{BtfKind}
 use Rattle.btf_records.specs.declared.kind.BtfKind.TheVariants as kinds
 use Rattle.btf_tables.specs.Tables.{Table}
 use Rattle.extern_resolution.specs.Wanted.{AreSaid, IsBegun, IsEntryWanted, SameNames, under}
@@ -57,9 +56,3 @@ pub record WantsEntry (table : Table) (old new : KernelRecords) (entry : List �
   pub kept : (other : List ℕ × ExternContent)
       → IsEntryWanted table old other
       → IsEntryWanted table new other
-
--- where the records of a kind are gathered
-abbrev pub records_of : KernelRecords → BtfKind → Option NamedRecords
-records_of r kinds.Func = Some r.functions
-records_of r kinds.Var = Some r.variables
-records_of r _ = None

@@ -88,6 +88,7 @@ pub record Wants (old new : NamedRecords) (name : List ℕ) : Type 0 where
 -- the same names are wanted
 pub record SameNames (old new : NamedRecords) : Type 0 where
   pub same_kind : new.kind ≡ old.kind
+  pub same_beginnings : new.beginnings ≡ old.beginnings
   pub same : (name : List ℕ) → is_some (under new name) ≡ is_some (under old name)
 
 -- a name is wanted of a kind; of kinds that declare no extern none is

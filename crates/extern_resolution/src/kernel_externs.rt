@@ -30,8 +30,8 @@ impl<'k, 'n> Model for KernelExterns<'k, 'n> {
 }
 
 impl<'k, 'n> KernelExterns<'k, 'n> {
-    /// Goes through the kernel's table once for externs of an object with this table of types, and
-    /// not at all where no extern has a type.
+    /// Goes through the kernel's table for externs of an object with this table of types, but not
+    /// where no extern has a type.
     pub fn collect(
         alloc: Global,
         externs: &Externs<'n>,

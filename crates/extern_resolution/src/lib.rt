@@ -10,6 +10,7 @@ mod named_records;
 mod records;
 mod resolving;
 mod typed;
+mod walk;
 
 pub use error::KsymsError;
 pub use kernel_externs::KernelExterns;

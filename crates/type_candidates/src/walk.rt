@@ -17,7 +17,7 @@ use crate::wanted_names::WantedNames;
 use btf_encoding::TypeRef;
 use btf_tables::Btf;
 use std::alloc::{AllocError, Global};
-use type_headers::{BLOCK, TypeHeaders, is_among};
+use type_headers::{BLOCK, BlockIds, TypeHeaders, is_among};
 
 /// What a type of a table is.
 fn of_type(
@@ -130,7 +130,7 @@ fn table_at<'t, 'a>(targets: &'t [Btf<'a>], table: usize) -> Option<&'t Btf<'a>>
 
 /// Enters the types of a table from one id up to another, a block, after those before them. Where
 /// each string is known to be readable, the records of nearly all types without a wanted name
-/// aren't read.
+/// aren't read. The ids to look at are noted in `block`.
 fn note_block(
     kinds: &[bool],
     names: &WantedNames<'_>,
@@ -139,6 +139,7 @@ fn note_block(
     table: usize,
     from: usize,
     to: usize,
+    block: &mut BlockIds,
     long_names: &mut LongNames,
     named: &mut [Places],
     unreadable: &mut [bool],
@@ -156,8 +157,8 @@ fn note_block(
         (AreSeen (sighted kinds.now names.now targets.now) (types_before targets.now table to)
         named.new unreadable.new) }
 {
-    let ids = headers.ids_of_kinds(kinds, from, to);
-    for id in ids.as_slice() {
+    headers.note_ids(kinds, names.beginnings(), from, to, block);
+    for id in block.as_slice() {
         if is_other(names, headers, *id as usize) {
             continue;
         }
@@ -191,6 +192,7 @@ fn note_table(
     };
     let headers = TypeHeaders::new(target);
     let mut long_names = LongNames::new(alloc);
+    let mut block = BlockIds::new();
     let count = target.len() + 1;
     let mut from = 0;
     while from < count {
@@ -203,6 +205,7 @@ fn note_table(
             table,
             from,
             to,
+            &mut block,
             &mut long_names,
             named,
             unreadable,

@@ -9,10 +9,11 @@ use Rattle.btf_records.specs.declared.kind.BtfKind.{BtfKind}
 use Rattle.btf_records.specs.declared.kind.BtfKind.TheVariants as kinds
 use Rattle.btf_records.specs.declared.types.BtfType.{BtfType}
 use Rattle.btf_tables.specs.Tables.{Table, type_by_id}
-use Rattle.first_bytes.specs.FirstBytes.{AreTexts}
+use Rattle.first_bytes.specs.FirstBytes.{AreTexts, is_marked}
 use Rattle.string_table.specs.Texts.{text_at}
-use Rattle.type_headers.specs.Beginnings.{BeginningMarks, MayBegin}
+use Rattle.type_headers.specs.Beginnings.{BeginningMarks, MayBegin, beginning}
 use Rattle.type_headers.specs.Headers.{AreHeadersOf, BeginsOtherwise, Headers, IsNameOf}
+use Rattle.type_headers.proofs.RawTexts.{unpaired}
 
 by_id : (table : Table) (id : ℕ) → id ≢ 0 → type_by_id table id ≡ slice_get table.types (id - 1)
 by_id table id isnt =
@@ -48,3 +49,7 @@ isnt_among table headers marks id bytes may are name sure isnt otherwise =
     in
     subst (λ (strings : List ℕ). IsSomeAnd (type_by_id table id) (λ t. IsSomeAnd (text_at strings (name_offset_of t)) (λ text. MayBegin marks text → ⊥))) are.strings
     (type_otherwise headers.strings marks name.offset (type_by_id table id) (are.texts sure) name.within (λ text e. otherwise headers.strings text name.offset name.are e (not_false may isnt)) named)
+
+-- the number of its first two bytes is of none of the names
+pub has_other_pair : (table : Table) (headers : Headers) (marks : BeginningMarks) (id : ℕ) (bytes : List ℕ) → AreHeadersOf table headers → IsNameOf headers id bytes → headers.are_texts ≡ true → is_marked marks.pairs (beginning bytes) ≡ false → BeginsOtherwise table marks id
+has_other_pair table headers marks id bytes are name sure other = isnt_among table headers marks id bytes false are name sure refl (λ strings text offset is e _. unpaired marks strings text bytes offset is e other)

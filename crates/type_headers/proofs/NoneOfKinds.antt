@@ -10,7 +10,7 @@ use Rattle.btf_records.specs.declared.kind.BtfKind.{BtfKind}
 use Rattle.btf_records.specs.declared.kind.BtfKind.TheVariants as kinds
 use Rattle.btf_records.specs.declared.types.BtfType.{BtfType}
 use Rattle.btf_tables.specs.Tables.{Table, type_by_id}
-use Rattle.type_headers.specs.Blocks.{AreIdsOfKinds, AreKindsFrom, is_of_kinds}
+use Rattle.type_headers.specs.Blocks.{AreIdsOfKinds, AreKindsFrom, AreListed, is_of_kinds}
 
 pub few_kinds : (kind : BtfKind) → number_of kind < 20
 few_kinds kinds.Unknown = omega arith
@@ -86,7 +86,7 @@ one_other table kinds first index types none are below =
     by_kind kinds kind (type_by_id table (first + index)) (found table first index kind (slice_get types index) there (are.each index)) (here_none kinds types index kind none there)
 
 pub none_of_kinds : (table : Table) (kinds : List Bool) (from to : ℕ) (types : List BtfKind) → HaveNone kinds types → from + length types ≡ to → AreKindsFrom table from types → AreIdsOfKinds table kinds from to []
-unfolding AreIdsOfKinds
+unfolding AreListed
 none_of_kinds table kinds from to types none long are = λ id from_le below.
     let same : from + (id - from) ≡ id = omega (arith, from_le) in
     let inside : id - from < length types = omega (arith, from_le, below, long) in

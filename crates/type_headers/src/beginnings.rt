@@ -123,6 +123,13 @@ impl NameBeginnings {
         }
     }
 
+    /// Whether a text of one of the names has the number of the first two of these bytes.
+    pub(crate) fn has_pair(&self, bytes: &[u8]) -> bool
+        ensures { result ≡ is_marked self.now.pairs (beginning bytes.now) }
+    {
+        self.pairs.contains(beginning(bytes))
+    }
+
     /// Whether these bytes may begin with a text of one of the names that have fewer than eight.
     fn may_be_short(&self, bytes: &[u8]) -> bool
         ensures { result
@@ -141,7 +148,7 @@ impl NameBeginnings {
             → MayBegin self.now text
             → ⊥ }
     {
-        if !self.pairs.contains(beginning(bytes)) {
+        if !self.has_pair(bytes) {
             return false;
         }
         if self.may_be_short(bytes) {

@@ -1,6 +1,6 @@
 //! Kinds and names of a table's types.
 
-ghost use Rattle.std.specs.Prelude.{◌≡◌, ◌<◌, drop, length, true, IfSome};
+ghost use Rattle.std.specs.Prelude.{◌≡◌, ◌<◌, drop, false, length, true, IfSome};
 ghost use Rattle.std.specs.Option.{option_map};
 ghost use Rattle.btf_records.specs.Fields.{kind_of_type};
 ghost use Rattle.btf_tables.specs.Tables.{Table, type_by_id};
@@ -83,6 +83,24 @@ impl<'t> TypeHeaders<'t> {
         }
         let offset = self.name_offsets.get(id - 1).copied()?;
         bytes_from(self.strings, offset as usize)
+    }
+
+    /// Whether the name of the type of an id may begin as one of some names does, as its first two
+    /// bytes tell.
+    #[tactic(auto, using(crate::proofs::HeadersOf::has_other_pair))]
+    pub(crate) fn may_begin(&self, id: usize, names: &NameBeginnings) -> bool
+        ensures { (table : Table)
+            → AreHeadersOf table self.now
+            → result ≡ false
+            → BeginsOtherwise table names.now id }
+    {
+        if !self.are_texts {
+            return true;
+        }
+        match self.name_bytes(id) {
+            Some(bytes) => names.has_pair(bytes),
+            None => true,
+        }
     }
 
     /// Whether the name of the type of an id can be read, and begins as none of some names does.

@@ -7,5 +7,5 @@ mod blocks;
 mod headers;
 
 pub use beginnings::NameBeginnings;
-pub use blocks::{BLOCK, IdsOfKinds, is_among};
+pub use blocks::{BLOCK, BlockIds, is_among};
 pub use headers::TypeHeaders;

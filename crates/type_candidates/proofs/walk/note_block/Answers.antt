@@ -4,8 +4,8 @@ use Rattle.type_candidates.proofs.walk.note_block.Goals as goal
 
 pub loop-id-init : goal.loop-id-init
 loop-id-init c = (
-  begun c.args.kinds.now c.args.names.now c.args.targets.now c.args.headers.now c.args.table c.args.from c.args.to c.as_slice-id-items.result.now c.args.named.now c.args.unreadable.now c.requires.headers c.requires.order c.requires.seen
-      (λ table are. rw c.as_slice-id-items.ensures (c.ids_of_kinds-ids.ensures table are)),
+  begun c.args.kinds.now c.args.names.now c.beginnings.result.now c.args.targets.now c.args.headers.now c.args.table c.args.from c.args.to c.as_slice-id-items.result.now c.args.named.now c.args.unreadable.now c.beginnings.ensures c.requires.headers c.requires.order c.requires.seen
+      (λ table are. rw c.as_slice-id-items.ensures (c.note_ids.ensures table are)),
   c.requires.numbers,
 )
 

@@ -5,7 +5,7 @@ use Rattle.type_headers.proofs.beginnings.NameBeginnings.may_begin.Goals as goal
 pub returns-in-Some : goal.returns-in-Some
 returns-in-Some c = λ strings text offset is e isnt may.
     unmarked c.args.self.now strings text c.args.bytes.now offset c.in-Some.number is e (sym c.may_be_short.ensures ∙ c.if-may_be_short.false) c.in-Some.ensures
-    (rw (← c.self.view_is) (sym c.contains-in-Some.ensures ∙ isnt))
+    (rw (← c.self.view_is) (sym c.contains.ensures ∙ isnt))
     may
 
 pub returns-in-None : goal.returns-in-None

@@ -1,18 +1,14 @@
-use Rattle.std.proofs.Common.{◌≡◌, ◌≤◌, ◌<◌, Bool, true, false, cond, ℕ, Some, length, length-set, get_or, refl, sym, ap, ◌∙◌, arith}
+use Rattle.std.proofs.Common.{◌≡◌, ◌≤◌, ◌<◌, true, false, Some, length, length-set, get_or, sym, ap, ◌∙◌, arith}
 use Rattle.std.specs.Prelude.{slice_get}
 use Rattle.std.proofs.lemmas.Option.{slice_get-get_or}
 use Rattle.btf_records.specs.declared.kind.BtfKind.TheVariants.{Unknown}
 use Rattle.type_headers.specs.Blocks.{is_of_kinds}
 use Rattle.type_headers.proofs.KindsFrom.{told}
-use Rattle.type_headers.proofs.WrittenIds.{next, none}
-use Rattle.type_headers.proofs.blocks.ids_among.Goals as goal
-
-one_at_most : (is : Bool) (count : ℕ) → count ≡ cond is 1 0 → count ≤ 1
-one_at_most true count is = omega (arith, is)
-one_at_most false count is = omega (arith, is)
+use Rattle.type_headers.proofs.WrittenIds.{next_of_kinds, none, one_at_most}
+use Rattle.type_headers.proofs.blocks.write_ids.Goals as goal
 
 pub loop-kind-init : goal.loop-kind-init
-loop-kind-init c = (omega arith, omega arith, refl, λ table are. none table c.args.kinds.now c.args.first)
+loop-kind-init c = (omega arith, omega arith, c.requires.room, λ table are. none (λ id. is_of_kinds table c.args.kinds.now id ≡ true) (λ id. is_of_kinds table c.args.kinds.now id ≡ false) c.args.first)
 
 pub loop-kind-preserved : goal.loop-kind-preserved
 loop-kind-preserved c =
@@ -26,5 +22,5 @@ loop-kind-preserved c =
       length-set c.loop-kind.ids c.loop-kind.len c.loop-kind.id ∙ long,
       λ table are.
           let is = c.is_one_of.ensures ∙ (told table c.args.kinds.now c.args.first c.loop-kind.kind-index c.args.types.now _ there are ∙ ap (is_of_kinds table c.args.kinds.now) (sym at)) in
-          next table c.args.kinds.now c.args.first c.loop-kind.id c.loop-kind.len c.count_of-len.result c.loop-kind.ids c.is_one_of.result order within is c.count_of-len.ensures (before table are),
+          next_of_kinds table c.args.kinds.now c.args.first c.loop-kind.id c.loop-kind.len c.count_of-len.result c.loop-kind.ids c.is_one_of.result order within is c.count_of-len.ensures (before table are),
     )
