@@ -65,7 +65,7 @@ impl<'n> NamedRecords<'n> {
     }
 
     /// Goes through a table, as far as it can say more. Whether it can is looked at again after as
-    /// many types as there are names, each of which that takes a step.
+    /// many types as there are names, each of which takes one step.
     pub(crate) fn go_through(
         &mut self,
         kernel: &Btf<'_>,

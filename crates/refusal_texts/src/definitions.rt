@@ -100,19 +100,38 @@ fn fault_text(alloc: Global, table: &Btf<'_>, type_id: u32) -> Result<String, Al
     }
 }
 
-/// The first map that types don't define well, if an error is for it.
+/// The first variable of sections of maps that defines no map, by its id, if an error is for it.
+fn variable_of(
+    alloc: Global,
+    table: &Btf<'_>,
+    error: &BtfError,
+) -> Result<Option<u32>, AllocError> {
+    let Some((type_id, found)) = first_fault(alloc, table) else {
+        return Ok(None);
+    };
+    if say_the_same(alloc, &found, error)? {
+        Ok(Some(type_id))
+    } else {
+        Ok(None)
+    }
+}
+
+/// The first map that a table doesn't define well, if an error is for it.
+fn hint_in(alloc: Global, table: &Btf<'_>, error: &BtfError) -> Result<Option<String>, AllocError> {
+    match variable_of(alloc, table, error)? {
+        Some(type_id) => Ok(Some(fault_text(alloc, table, type_id)?)),
+        None => Ok(None),
+    }
+}
+
+/// The first map that an object's types don't define well, if an error is for it.
 pub(crate) fn definition_hint(
     alloc: Global,
     object: &[u8],
     error: &BtfError,
 ) -> Result<Option<String>, AllocError> {
-    let Some(table) = table_of(alloc, object) else {
-        return Ok(None);
-    };
-    match first_fault(alloc, &table) {
-        Some((type_id, found)) if say_the_same(alloc, &found, error)? => {
-            Ok(Some(fault_text(alloc, &table, type_id)?))
-        }
-        _ => Ok(None),
+    match table_of(alloc, object) {
+        Some(table) => hint_in(alloc, &table, error),
+        None => Ok(None),
     }
 }

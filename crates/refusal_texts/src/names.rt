@@ -18,7 +18,7 @@ pub(crate) struct SymbolName<'a> {
 }
 
 /// The section of an index.
-pub(crate) fn section_at<'a>(elf: &ElfFile<'a>, index: usize) -> Option<SectionView<'a>> {
+fn section_at<'a>(elf: &ElfFile<'a>, index: usize) -> Option<SectionView<'a>> {
     for section in elf.sections() {
         if section.index() == index {
             return Some(section);

@@ -2,6 +2,7 @@
 
 use crate::first_names::{FirstNames, ShortName};
 use crate::tables::table_of;
+use btf_tables::Btf;
 use object_file::ObjectFile;
 use object_maps::{Maps, read_maps};
 use settings::Settings;
@@ -25,12 +26,22 @@ fn without_number<'a>(
     Ok(names)
 }
 
-/// The names of the maps of an object that have no number, where it can be read.
+/// The names of the maps of a file with these types that have no number, where the maps can be read.
+fn names_in<'o>(
+    alloc: Global,
+    file: &ObjectFile<'o>,
+    table: Option<&Btf<'_>>,
+    settings: &Settings,
+) -> Option<FirstNames<'o>> {
+    let maps = read_maps(alloc, file, table).ok()?;
+    without_number(alloc, &maps, settings).ok()
+}
+
+/// The same of an object, where it can be read.
 fn names_of<'o>(alloc: Global, object: &'o [u8], settings: &Settings) -> Option<FirstNames<'o>> {
     let file = ObjectFile::parse(alloc, object).ok()?;
     let table = table_of(alloc, object);
-    let maps = read_maps(alloc, &file, table.as_ref()).ok()?;
-    without_number(alloc, &maps, settings).ok()
+    names_in(alloc, &file, table.as_ref(), settings)
 }
 
 /// What is told where the map of a name has no number: which maps have none, and how maps get them.

@@ -1,30 +1,39 @@
 //! Global variables of sections without a map.
 
 use crate::names::SectionName;
-use object_file::{ObjectFile, ReadSymbol};
+use object_file::ObjectFile;
 use settings::Settings;
 use std::alloc::{AllocError, Global};
+use std::collections::BTreeMap;
 
-/// The last symbol of a name.
-fn last_named<'f, 'a>(file: &'f ObjectFile<'a>, name: &str) -> Option<&'f ReadSymbol<'a>> {
-    let mut found = None;
+/// The indexes of the sections that symbols lie in, 0 for none, by their names: of some of one name
+/// that of the last.
+fn sections_by_name<'a>(
+    alloc: Global,
+    file: &ObjectFile<'a>,
+) -> Result<BTreeMap<&'a str, usize>, AllocError> {
+    let mut sections = BTreeMap::new(alloc);
     for symbol in file.symbols() {
-        if symbol.name() == name {
-            found = Some(symbol);
-        }
+        sections.insert(symbol.name(), symbol.view().section_index().unwrap_or(0))?;
     }
-    found
-}
-
-/// Whether the variable of a name lies in the section of an index, 0 for none.
-fn lies_in(file: &ObjectFile<'_>, name: &str, index: usize) -> bool {
-    match last_named(file, name) {
-        Some(symbol) => symbol.view().section_index().unwrap_or(0) == index,
-        None => false,
-    }
+    Ok(sections)
 }
 
 /// The name of the first variable with a value that lies in the section of an index.
+fn variable_in<'s>(
+    sections: &BTreeMap<&str, usize>,
+    index: usize,
+    settings: &'s Settings,
+) -> Option<&'s str> {
+    for (name, _value) in settings.globals().iter() {
+        if sections.get(name.as_str()).copied() == Some(index) {
+            return Some(name.as_str());
+        }
+    }
+    None
+}
+
+/// The same of an object, where it can be read.
 fn variable_of<'s>(
     alloc: Global,
     object: &[u8],
@@ -32,12 +41,8 @@ fn variable_of<'s>(
     settings: &'s Settings,
 ) -> Option<&'s str> {
     let file = ObjectFile::parse(alloc, object).ok()?;
-    for (name, _value) in settings.globals().iter() {
-        if lies_in(&file, name, index) {
-            return Some(name.as_str());
-        }
-    }
-    None
+    let sections = sections_by_name(alloc, &file).ok()?;
+    variable_in(&sections, index, settings)
 }
 
 /// What is told where no map is made of the section of an index, 0 for none, in which a variable

@@ -1,8 +1,9 @@
 //! Relocations without a symbol.
 
-use crate::names::{SectionName, section_at};
+use crate::names::SectionName;
 use elf64::{ElfFile, RelocationSectionView};
 use std::alloc::{AllocError, Global};
+use std::collections::BTreeSet;
 
 /// The offset of the first relocation without a symbol.
 fn without_symbol(section: &RelocationSectionView<'_>) -> Option<u64> {
@@ -14,31 +15,43 @@ fn without_symbol(section: &RelocationSectionView<'_>) -> Option<u64> {
     None
 }
 
-/// Whether a section is one of types, of which only the first are read.
-fn is_of_types(elf: &ElfFile<'_>, index: usize) -> bool {
-    match section_at(elf, index) {
-        Some(section) => section.has_name(".BTF") || section.has_name(".BTF.ext"),
-        None => false,
+/// The indexes of the sections of types, whose relocations aren't read.
+fn sections_of_types(alloc: Global, elf: &ElfFile<'_>) -> Result<BTreeSet<usize>, AllocError> {
+    let mut sections = BTreeSet::new(alloc);
+    for section in elf.sections() {
+        if section.has_name(".BTF") || section.has_name(".BTF.ext") {
+            sections.insert(section.index())?;
+        }
     }
+    Ok(sections)
 }
 
-/// The first relocation without a symbol: the index of its section, and its offset there.
-fn place_without_symbol(object: &[u8]) -> Option<(usize, u64)> {
-    let elf = ElfFile::parse(object).ok()?;
+/// The first relocation without a symbol, in none of some sections: the index of its section, and
+/// its offset there.
+fn first_without_symbol(elf: &ElfFile<'_>, unread: &BTreeSet<usize>) -> Option<(usize, u64)> {
     for section in elf.relocation_sections() {
         let target = section.target();
+        if unread.contains(&target) {
+            continue;
+        }
         if let Some(offset) = without_symbol(&section) {
-            if !is_of_types(&elf, target) {
-                return Some((target, offset));
-            }
+            return Some((target, offset));
         }
     }
     None
 }
 
+/// The first relocation without a symbol of an object: the index of its section, and its offset
+/// there.
+fn place_without_symbol(alloc: Global, object: &[u8]) -> Option<(usize, u64)> {
+    let elf = ElfFile::parse(object).ok()?;
+    let unread = sections_of_types(alloc, &elf).ok()?;
+    first_without_symbol(&elf, &unread)
+}
+
 /// Where the first relocation without a symbol stands.
 pub(crate) fn unsupported_hint(alloc: Global, object: &[u8]) -> Result<Option<String>, AllocError> {
-    let Some((index, offset)) = place_without_symbol(object) else {
+    let Some((index, offset)) = place_without_symbol(alloc, object) else {
         return Ok(None);
     };
     let section = SectionName::of(object, index);
