@@ -13,7 +13,7 @@ use Rattle.string_table.specs.Texts.{text_at}
 use Rattle.access_paths.specs.declared.error.AccessError.{AccessError}
 use Rattle.btf_tables.specs.Tables.{Table}
 use Rattle.member_search.specs.Finders.{AnswersAs, AreIndexes}
-use Rattle.member_search.specs.Indexes.{Answers, GivesOr, IsAnswered, IsIndex, begun_at, end_value, value_after, value_past, verdict}
+use Rattle.member_search.specs.Indexes.{Answers, GivesOr, IsAnswered, IsIndex, begun_at, end_value, value_after, value_over, verdict}
 use Rattle.member_looks.specs.Looks.{Search, searched}
 use Rattle.member_search.specs.Namesakes.{Namesakes, all_from, namesakes_of}
 use Rattle.member_search.specs.Searches.{member_found}
@@ -39,7 +39,7 @@ one_more_index target old new root index are here updates = record { each = λ q
 -- no member of the hash is listed
 pub unlisted : (s : Search) (bits : Option ℕ) (value : Result (Option Found) AccessError) (known : Namesakes) (walk_end : WalkEnd) → known.first ≡ None → IsAnswered s bits value known walk_end → IfSome (end_value walk_end) (λ answer. value ≡ answer)
 unlisted s bits value known walk_end none h = by known.first known.later none h where
-  by : (first : Option NamedMember) (later : List NamedMember) → first ≡ None → Answers s bits value (all_from first later) (IfSome (value_after first known.is_cut walk_end) (λ answer. value ≡ answer)) → IfSome (end_value walk_end) (λ answer. value ≡ answer)
+  by : (first : Option NamedMember) (later : List NamedMember) → first ≡ None → Answers s bits value (all_from first later) (IfSome (value_after first walk_end) (λ answer. value ≡ answer)) → IfSome (end_value walk_end) (λ answer. value ≡ answer)
   by None later none h = h
   by (Some first) later none h = absurd cc
 
@@ -63,17 +63,17 @@ pub known_at : (target : Table) (root : ℕ) (named : NamedMembers) (walk_end : 
     → IsAnswered (searched local id name target) bits (member_found (searched local id name target) root (begun_at bits)) (namesakes_of named hash) walk_end
 known_at target root named walk_end local id name bits hash index is = subst (λ (h : ℕ). IsAnswered (searched local id name target) bits (member_found (searched local id name target) root (begun_at bits)) (namesakes_of named h) walk_end) (sym is) (index.each local id name bits)
 
-first_known : (s : Search) (bits : Option ℕ) (value : Result (Option Found) AccessError) (first : Option NamedMember) (later : List NamedMember) (is_cut : Bool) (walk_end : WalkEnd) (m : NamedMember) → first ≡ Some m → Answers s bits value (all_from first later) (IfSome (value_after first is_cut walk_end) (λ answer. value ≡ answer))
-    → Answers s bits value (m ∷ later) (IfSome (value_past is_cut walk_end) (λ answer. value ≡ answer))
-first_known s bits value first later is_cut walk_end m is h = subst (λ (o : Option NamedMember). Answers s bits value (all_from o later) (IfSome (value_after o is_cut walk_end) (λ answer. value ≡ answer))) is h
+first_known : (s : Search) (bits : Option ℕ) (value : Result (Option Found) AccessError) (first : Option NamedMember) (later : List NamedMember) (walk_end : WalkEnd) (m : NamedMember) → first ≡ Some m → Answers s bits value (all_from first later) (IfSome (value_after first walk_end) (λ answer. value ≡ answer))
+    → Answers s bits value (m ∷ later) (IfSome (value_over walk_end) (λ answer. value ≡ answer))
+first_known s bits value first later walk_end m is h = subst (λ (o : Option NamedMember). Answers s bits value (all_from o later) (IfSome (value_after o walk_end) (λ answer. value ≡ answer))) is h
 
 pub first_gives : (s : Search) (bits : Option ℕ) (value : Result (Option Found) AccessError) (known : Namesakes) (walk_end : WalkEnd) (m : NamedMember) (o : Option (Result (Option Found) AccessError)) → IsAnswered s bits value known walk_end → known.first ≡ Some m → text_at s.target.strings m.name_offset ≡ Some s.name → verdict s bits m ≡ o
-    → GivesOr o value (Answers s bits value known.later (IfSome (value_past known.is_cut walk_end) (λ answer. value ≡ answer)))
-first_gives s bits value known walk_end m o answered first text is = given s bits m known.later value _ o text is (first_known s bits value known.first known.later known.is_cut walk_end m first answered)
+    → GivesOr o value (Answers s bits value known.later (IfSome (value_over walk_end) (λ answer. value ≡ answer)))
+first_gives s bits value known walk_end m o answered first text is = given s bits m known.later value _ o text is (first_known s bits value known.first known.later walk_end m first answered)
 
-pub later_gives : (s : Search) (bits : Option ℕ) (value : Result (Option Found) AccessError) (later members : List NamedMember) (end answer : Option (Result (Option Found) AccessError)) (is_cut : Bool) (walk_end : WalkEnd) → Answers s bits value later (IfSome (value_past is_cut walk_end) (λ v. value ≡ v)) → later ≡ members → end ≡ value_past is_cut walk_end
+pub later_gives : (s : Search) (bits : Option ℕ) (value : Result (Option Found) AccessError) (later members : List NamedMember) (end answer : Option (Result (Option Found) AccessError)) (walk_end : WalkEnd) → Answers s bits value later (IfSome (value_over walk_end) (λ v. value ≡ v)) → later ≡ members → end ≡ value_over walk_end
     → AnswersAs s bits members end answer → IfSome answer (λ v. value ≡ v)
-later_gives s bits value later members end answer is_cut walk_end h same is answers =
+later_gives s bits value later members end answer walk_end h same is answers =
     answers.each value (subst (λ (ms : List NamedMember). Answers s bits value ms (IfSome end (λ v. value ≡ v))) same (subst (λ (o : Option (Result (Option Found) AccessError)). Answers s bits value later (IfSome o (λ v. value ≡ v))) (sym is) h))
 
 -- where the struct or union begins at the bits of the search

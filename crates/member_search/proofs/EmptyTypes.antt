@@ -20,7 +20,7 @@ use Rattle.member_search.specs.declared.turn.Frame.{Frame}
 use Rattle.member_search.proofs.Free.{among-kept, among-new, among-push, free-none, free-pop, free-push, length-push, not-twice}
 use Rattle.member_search.proofs.Nesting.{IsKnown, known-below}
 use Rattle.member_search.proofs.Passed.{passed-more, passed-next, passed-none}
-use Rattle.member_search.proofs.Rests.{after_next}
+use Rattle.member_search.proofs.Rests.{after_next, skipping}
 use Rattle.member_search.proofs.Turns.{among-ids, ids-pushed}
 
 -- ---- sets
@@ -62,13 +62,13 @@ noted-either before after id k h e = h.each k ∙ by (k == id) (is_noted before 
 apart-less : (before after open_ids : List ℕ) (id : ℕ) → NotesOne before after id → AreApart after open_ids → AreApart before open_ids
 apart-less before after open_ids id h apart = record { each = λ k e. or_else (k == id) (is_noted before k) (sym (h.each k) ∙ apart.each k e) }
 
-apart-push : (noted open_ids : List ℕ) (id : ℕ) → AreApart noted open_ids → is_noted noted id ≡ false → AreApart noted (open_ids ++ id ∷ [])
+pub apart-push : (noted open_ids : List ℕ) (id : ℕ) → AreApart noted open_ids → is_noted noted id ≡ false → AreApart noted (open_ids ++ id ∷ [])
 apart-push noted open_ids id apart fresh = record { each = λ k e. by k (is_among open_ids k) refl (sym (among-push open_ids id k) ∙ e) } where
   by : (k : ℕ) (b : Bool) → is_among open_ids k ≡ b → (is_among open_ids k || (id == k)) ≡ true → is_noted noted k ≡ false
   by k true is e = apart.each k is
   by k false is e = let last : (id == k) ≡ true = rw is at e in subst (λ (j : ℕ). is_noted noted j ≡ false) (same_number id k last) fresh
 
-apart-pop : (before after open_ids : List ℕ) (id : ℕ) → NotesOne before after id → AreApart before (open_ids ++ id ∷ []) → is_among open_ids id ≡ false → AreApart after open_ids
+pub apart-pop : (before after open_ids : List ℕ) (id : ℕ) → NotesOne before after id → AreApart before (open_ids ++ id ∷ []) → is_among open_ids id ≡ false → AreApart after open_ids
 apart-pop before after open_ids id h apart once = record { each = λ k e. h.each k ∙ by k (k == id) refl e (apart.each k (among-kept open_ids id k e)) } where
   by : (k : ℕ) (b : Bool) → (k == id) ≡ b → is_among open_ids k ≡ true → is_noted before k ≡ false → cond b true (is_noted before k) ≡ false
   by k true is e fresh = absurd (let there : is_among open_ids id ≡ true = subst (λ (j : ℕ). is_among open_ids j ≡ true) (same_number k id is) e in cc)
@@ -106,15 +106,15 @@ by-members search noted f t go depth bits h (inl are) ends = passed-none go sear
 by-members search noted f t go depth bits h (inr are) ends = passed-none go search (is_noted noted) f.type_id t depth bits h are.index 0 (members_of t) are.passed are.ends
 
 -- in one whose members are all passed, where others hold nothing
-searched-none : (search : Search) (noted : List ℕ) (f : Frame) (t : BtfType) → HoldNothing search noted → is_noted noted f.type_id ≡ false → type_by_id search.target f.type_id ≡ Some t → IsPassed search (is_noted noted) f → Ends search (slice_get (members_of t) f.next)
+searched-none : (search : Search) (noted : List ℕ) (f : Frame) (t : BtfType) → f.skipped ≡ false → HoldNothing search noted → is_noted noted f.type_id ≡ false → type_by_id search.target f.type_id ≡ Some t → IsPassed search (is_noted noted) f → Ends search (slice_get (members_of t) f.next)
     → (open_ids : List ℕ) → AreApart noted open_ids → is_among open_ids f.type_id ≡ false → (n : ℕ) → free (most_open search.target) open_ids ≤ n → (bits : Option ℕ) → found_in n search open_ids f.type_id bits ≡ Ok None
 unfolding found_in
-searched-none search noted f t nothing fresh known passed ends open_ids apart once zero le bits =
+searched-none search noted f t clean nothing fresh known passed ends open_ids apart once zero le bits =
     absurd (omega (arith, free-push (most_open search.target) open_ids f.type_id (known-below search.target f.type_id (record { found = t; is = known })) once))
-searched-none search noted f t nothing fresh known passed ends open_ids apart once (suc n) le bits =
+searched-none search noted f t clean nothing fresh known passed ends open_ids apart once (suc n) le bits =
     let fewer = free-push (most_open search.target) open_ids f.type_id (known-below search.target f.type_id (record { found = t; is = known })) once in
     let inner = apart-push noted open_ids f.type_id apart fresh in
-    rw (once, known) (by-members search noted f t (found_in n search (open_ids ++ f.type_id ∷ [])) (length (open_ids ++ f.type_id ∷ [])) bits (λ k is b. nothing.each k is (open_ids ++ f.type_id ∷ []) inner n (omega arith) b) (passed.members t known) ends)
+    rw (once, known) (by-members search noted f t (found_in n search (open_ids ++ f.type_id ∷ [])) (length (open_ids ++ f.type_id ∷ [])) bits (λ k is b. nothing.each k is (open_ids ++ f.type_id ∷ []) inner n (omega arith) b) (passed.members clean t known) ends)
 
 not-open : (noted open_ids : List ℕ) (id : ℕ) → AreApart noted open_ids → is_noted noted id ≡ true → is_among open_ids id ≡ false
 not-open noted open_ids id apart is = by (is_among open_ids id) refl where
@@ -122,13 +122,13 @@ not-open noted open_ids id apart is = by (is_among open_ids id) refl where
   by true e = absurd (let other : is_noted noted id ≡ false = apart.each id e in cc)
   by false e = e
 
-hold-more : (search : Search) (before after : List ℕ) (f : Frame) (t : BtfType) → HoldNothing search before → NotesOne before after f.type_id → is_noted before f.type_id ≡ false → type_by_id search.target f.type_id ≡ Some t → IsPassed search (is_noted before) f → Ends search (slice_get (members_of t) f.next) → HoldNothing search after
-hold-more search before after f t nothing notes fresh known passed ends =
+hold-more : (search : Search) (before after : List ℕ) (f : Frame) (t : BtfType) → f.skipped ≡ false → HoldNothing search before → NotesOne before after f.type_id → is_noted before f.type_id ≡ false → type_by_id search.target f.type_id ≡ Some t → IsPassed search (is_noted before) f → Ends search (slice_get (members_of t) f.next) → HoldNothing search after
+hold-more search before after f t clean nothing notes fresh known passed ends =
     record { each = λ id is open_ids apart n le bits. by id (id == f.type_id) refl is open_ids apart n le bits } where
       by : (id : ℕ) (b : Bool) → (id == f.type_id) ≡ b → is_noted after id ≡ true → (open_ids : List ℕ) → AreApart after open_ids → (n : ℕ) → free (most_open search.target) open_ids ≤ n → (bits : Option ℕ) → found_in n search open_ids id bits ≡ Ok None
       by id true e is open_ids apart n le bits =
           subst (λ (j : ℕ). found_in n search open_ids j bits ≡ Ok None) (sym (same_number id f.type_id e))
-          (searched-none search before f t nothing fresh known passed ends open_ids (apart-less before after open_ids f.type_id notes apart) (not-open after open_ids f.type_id apart (noted-self before after f.type_id notes)) n le bits)
+          (searched-none search before f t clean nothing fresh known passed ends open_ids (apart-less before after open_ids f.type_id notes apart) (not-open after open_ids f.type_id apart (noted-self before after f.type_id notes)) n le bits)
       by id false e is open_ids apart n le bits =
           let old : is_noted before id ≡ true = rw e at (sym (notes.each id) ∙ is) in
           nothing.each id old open_ids (apart-less before after open_ids f.type_id notes apart) n le bits
@@ -186,12 +186,12 @@ sound-in search noted outer f t m id bits sound known here seen unnoted fresh th
       nothing = sound.nothing;
       apart = subst (λ (xs : List ℕ). AreApart noted (xs ++ id ∷ [])) (sym same) (apart-push noted (opened outer f) id sound.apart unnoted);
       few = subst (λ (xs : List ℕ). AreFew search.target (xs ++ id ∷ [])) (sym same) (few-push search.target (opened outer f) id sound.few (known-below search.target id there) once);
-      passed = record { members = λ u is. inl tt };
+      passed = record { members = λ clean u is. inl tt };
       around = around-push search noted outer (after_next f) id sound.around after;
     }
 
-pub sound-left : (search : Search) (before after : List ℕ) (outer : List Frame) (g f : Frame) (t : BtfType) → IsSound search before (outer ++ g ∷ []) f → NotesOne before after f.type_id → type_by_id search.target f.type_id ≡ Some t → Ends search (slice_get (members_of t) f.next) → IsSound search after outer g
-sound-left search before after outer g f t sound notes known ends =
+pub sound-left : (search : Search) (before after : List ℕ) (outer : List Frame) (g f : Frame) (t : BtfType) → f.skipped ≡ false → IsSound search before (outer ++ g ∷ []) f → NotesOne before after f.type_id → type_by_id search.target f.type_id ≡ Some t → Ends search (slice_get (members_of t) f.next) → IsSound search after outer g
+sound-left search before after outer g f t clean sound notes known ends =
     let same : ids (outer ++ g ∷ []) ≡ opened outer g = ids-pushed outer g in
     let apart = subst (λ (xs : List ℕ). AreApart before (xs ++ f.type_id ∷ [])) same sound.apart in
     let few = subst (λ (xs : List ℕ). AreFew search.target (xs ++ f.type_id ∷ [])) same sound.few in
@@ -199,12 +199,45 @@ sound-left search before after outer g f t sound notes known ends =
     let fresh = apart.each f.type_id (among-new (opened outer g) f.type_id) in
     let parts = around-pop search before outer g f.type_id sound.around in
     record {
-      nothing = hold-more search before after f t sound.nothing notes fresh known sound.passed ends;
+      nothing = hold-more search before after f t clean sound.nothing notes fresh known sound.passed ends;
       apart = apart-pop before after (opened outer g) f.type_id notes apart once;
       few = few-pop search.target (opened outer g) f.type_id few;
       passed = passed-more search (or_noted before f.type_id) (is_noted after) g (λ k e. noted-either before after f.type_id k notes e) parts.1;
       around = around-more search before after f.type_id notes outer g.type_id parts.0;
     }
+
+or_first : (a b : Bool) → (a || b) ≡ false → a ≡ false
+or_first true b e = absurd cc
+or_first false b e = refl
+
+-- where members in the innermost may be skipped
+pub sound-or : (search : Search) (noted : List ℕ) (outer : List Frame) (f : Frame) (skipped : Bool) → IsSound search noted outer f → IsSound search noted outer (skipping (f.skipped || skipped) f)
+sound-or search noted outer f skipped sound = record {
+  nothing = sound.nothing;
+  apart = sound.apart;
+  few = sound.few;
+  passed = record { members = λ clean t known. sound.passed.members (or_first f.skipped skipped clean) t known };
+  around = sound.around;
+}
+
+-- where members in one that is left were skipped
+pub sound-skips : (search : Search) (noted : List ℕ) (outer : List Frame) (g f : Frame) → IsSound search noted (outer ++ g ∷ []) f → IsSound search noted outer (skipping true g)
+sound-skips search noted outer g f sound =
+    let same : ids (outer ++ g ∷ []) ≡ opened outer g = ids-pushed outer g in
+    let apart = subst (λ (xs : List ℕ). AreApart noted (xs ++ f.type_id ∷ [])) same sound.apart in
+    let few = subst (λ (xs : List ℕ). AreFew search.target (xs ++ f.type_id ∷ [])) same sound.few in
+    record {
+      nothing = sound.nothing;
+      apart = record { each = λ k e. apart.each k (among-kept (opened outer g) f.type_id k e) };
+      few = few-pop search.target (opened outer g) f.type_id few;
+      passed = record { members = λ clean t known. absurd (let no : true ≡ false = clean in cc) };
+      around = (around-pop search noted outer g f.type_id sound.around).0;
+    }
+
+-- it is open once
+pub left-once : (search : Search) (noted : List ℕ) (outer : List Frame) (g f : Frame) → IsSound search noted (outer ++ g ∷ []) f → is_among (opened outer g) f.type_id ≡ false
+left-once search noted outer g f sound =
+    not-twice (most_open search.target) (opened outer g) f.type_id (subst (λ (xs : List ℕ). AreFew search.target (xs ++ f.type_id ∷ [])) (ids-pushed outer g) sound.few)
 
 pub sound-first : (search : Search) (root : ℕ) (bits : Option ℕ) (t : BtfType) → type_by_id search.target root ≡ Some t → IsSound search [] [] (inside root bits)
 sound-first search root bits t known =
@@ -212,6 +245,6 @@ sound-first search root bits t known =
       nothing = record { each = λ id is open_ids apart n le b. absurd cc };
       apart = record { each = λ id e. refl };
       few = few-push search.target [] root (few-none search.target) (known-below search.target root (record { found = t; is = known })) refl;
-      passed = record { members = λ u is. inl tt };
+      passed = record { members = λ clean u is. inl tt };
       around = tt;
     }

@@ -14,18 +14,18 @@ use Rattle.btf_tables.specs.Tables.{type_by_id}
 use Rattle.member_search.specs.EmptyTypes.{is_noted}
 use Rattle.member_looks.specs.Looks.{Search, look_at}
 use Rattle.member_search.specs.Searches.{found_in, is_among, member_found, member_here, most_open, or_next}
-use Rattle.member_search.specs.Stacks.{Ends, IsFollowed, IsLeft, IsSound, IsSoundTurn, IsTooDeep, IsTurn, Passes, found_of, frames_of, inside, is_open, left_of, opened, rest_of, stack_value, work}
+use Rattle.member_search.specs.Stacks.{Ends, GoesOnAround, IsFollowed, IsLeft, IsSound, IsSoundTurn, IsTooDeep, IsTurn, Passes, found_of, frames_of, inside, is_open, left_of, opened, rest_of, stack_value, work}
 use Rattle.member_looks.specs.declared.look.Look.{Look}
 use Rattle.member_looks.specs.declared.look.Look.TheVariants.{GoOn, Here, Inside, NotHere}
 use Rattle.member_search.specs.declared.search.Found.{Found}
 use Rattle.member_search.specs.declared.turn.Frame.{Frame}
 use Rattle.member_search.specs.declared.turn.Turn.{Turn}
 use Rattle.member_search.specs.declared.turn.Turn.TheVariants as turns
-use Rattle.member_search.proofs.EmptyTypes.{sound-first, sound-in, sound-left, sound-on}
+use Rattle.member_search.proofs.EmptyTypes.{sound-first, sound-in, sound-left, sound-on, sound-skips}
 use Rattle.member_search.proofs.Nesting.{leads-inside}
-use Rattle.member_search.proofs.Rests.{after_next, go_inside, next_here, rest_bad, rest_done, rest_here, rest_inside, rest_not_here, rest_on, rest_unknown}
+use Rattle.member_search.proofs.Rests.{after_next, go_inside, next_here, rest_bad, rest_done, rest_here, rest_inside, rest_not_here, rest_on, rest_skipping, rest_unknown, skipping}
 use Rattle.member_search.proofs.Turns.{among-ids, begun, found-deep, found-fresh, found-open, ids-pushed, length-opened, length-pushed, next-next, top-first, value-none}
-use Rattle.member_search.proofs.Work.{less-advanced, less-entered, less-popped, one_fewer_left}
+use Rattle.member_search.proofs.Work.{less-advanced, less-entered, less-popped, one_fewer_left, work-skipping}
 
 -- the innermost is known, and has this next member
 pub record IsNext (search : Search) (f : Frame) (t : BtfType) (m : BtfMember) : Type 0 where
@@ -54,9 +54,37 @@ is_none : (fs : List Frame) → length fs ≡ 0 → fs ≡ []
 is_none [] e = refl
 is_none (f ∷ fs) e = absurd (omega (arith, e))
 
+-- where members in the innermost are skipped, or aren't
+pub value-skipping : (search : Search) (below : List Frame) (skipped : Bool) (f : Frame) → stack_value search (below ++ skipping skipped f ∷ []) ≡ stack_value search (below ++ f ∷ [])
+value-skipping search below skipped f = by-rest search below (skipping skipped f) _ (rest_skipping search (opened below f) skipped f) ∙ sym (top-first search below f)
+
+left-skipped : (search : Search) (new : List Frame) (g f : Frame) (noted : List ℕ) → IsSound search noted (new ++ g ∷ []) f → rest_of search (opened (new ++ g ∷ []) f) f ≡ Ok None → IsWholeTurn search (new ++ g ∷ []) f (turns.On (skipping true g)) new noted
+left-skipped search new g f noted sound none = (
+  record {
+    here = tt;
+    same = λ _. value-skipping search new true g ∙ value-popped search (new ++ g ∷ []) f none;
+    smaller = λ _. subst (λ (n : ℕ). n < work search.target ((new ++ g ∷ []) ++ f ∷ [])) (sym (work-skipping search.target new true g)) (less-popped search.target (new ++ g ∷ []) f);
+  },
+  sound-skips search noted new g f sound,
+)
+
+left-on : (search : Search) (below : List Frame) (f : Frame) (t : BtfType) (before : List ℕ) (g : Frame) (new : List Frame) (after : List ℕ) (skipped : Bool) → f.skipped ≡ skipped → IsSound search before below f → type_by_id search.target f.type_id ≡ Some t → rest_of search (opened below f) f ≡ Ok None
+    → Ends search (slice_get (members_of t) f.next) → GoesOnAround skipped f.type_id below before g new after → IsWholeTurn search below f (turns.On g) new after
+left-on search below f t before g new after true is sound known none ends h =
+    subst (λ (b : List Frame). IsWholeTurn search b f (turns.On g) new after) (sym h.popped)
+    (rw (h.frame, h.same) (left-skipped search new h.around f before (subst (λ (b : List Frame). IsSound search before b f) h.popped sound) (subst (λ (b : List Frame). rest_of search (opened b f) f ≡ Ok None) h.popped none)))
+left-on search below f t before g new after false is sound known none ends h = (
+  record {
+    here = tt;
+    same = λ _. subst (λ (b : List Frame). stack_value search b ≡ stack_value search (below ++ f ∷ [])) h.0 (value-popped search below f none);
+    smaller = λ _. subst (λ (b : List Frame). work search.target b < work search.target (below ++ f ∷ [])) h.0 (less-popped search.target below f);
+  },
+  sound-left search before after new g f t is (subst (λ (b : List Frame). IsSound search before b f) h.0 sound) h.1 known ends,
+)
+
 -- the innermost holds nothing
 pub left : (search : Search) (below : List Frame) (f : Frame) (t : BtfType) (before : List ℕ) (turn : Turn) (new : List Frame) (after : List ℕ) → IsSound search before below f → type_by_id search.target f.type_id ≡ Some t → rest_of search (opened below f) f ≡ Ok None → Ends search (slice_get (members_of t) f.next)
-    → IsLeft f.type_id below before turn new after → IsWholeTurn search below f turn new after
+    → IsLeft f below before turn new after → IsWholeTurn search below f turn new after
 left search below f t before (turns.Found found) new after sound known none ends h = absurd h
 left search below f t before turns.Over new after sound known none ends h =
     let old_none : below ≡ [] = is_none below h.0 in
@@ -69,14 +97,12 @@ left search below f t before turns.Over new after sound known none ends h =
       },
       refl,
     )
-left search below f t before (turns.On g) new after sound known none ends h = (
-  record {
-    here = tt;
-    same = λ _. subst (λ (b : List Frame). stack_value search b ≡ stack_value search (below ++ f ∷ [])) h.0 (value-popped search below f none);
-    smaller = λ _. subst (λ (b : List Frame). work search.target b < work search.target (below ++ f ∷ [])) h.0 (less-popped search.target below f);
-  },
-  sound-left search before after new g f t (subst (λ (b : List Frame). IsSound search before b f) h.0 sound) h.1 known ends,
-)
+left search below f t before (turns.On g) new after sound known none ends h = left-on search below f t before g new after f.skipped refl sound known none ends h
+
+pub left-next : (f : Frame) (below : List Frame) (before : List ℕ) (turn : Turn) (new : List Frame) (after : List ℕ) → IsLeft (after_next f) below before turn new after → IsLeft f below before turn new after
+left-next f below before (turns.Found found) new after h = h
+left-next f below before (turns.On g) new after h = h
+left-next f below before turns.Over new after h = h
 
 pub refused-unknown : (search : Search) (below : List Frame) (f : Frame) → type_by_id search.target f.type_id ≡ None → stack_value search (below ++ f ∷ []) ≡ Err (TypeError (UnknownBtfType f.type_id))
 refused-unknown search below f none = by-rest search below f _ (rest_unknown search (opened below f) f none)
@@ -115,7 +141,7 @@ refused-inside search below f id bits (inr deep) =
     found-deep search (opened below f) id (most_open search.target - length (opened below f)) bits (omega arith)
 
 -- the innermost has no more members
-pub done : (search : Search) (below : List Frame) (f : Frame) (t : BtfType) (before : List ℕ) (turn : Turn) (new : List Frame) (after : List ℕ) → IsSound search before below f → type_by_id search.target f.type_id ≡ Some t → None ≡ slice_get (members_of t) f.next → IsLeft f.type_id below before turn new after → IsWholeTurn search below f turn new after
+pub done : (search : Search) (below : List Frame) (f : Frame) (t : BtfType) (before : List ℕ) (turn : Turn) (new : List Frame) (after : List ℕ) → IsSound search before below f → type_by_id search.target f.type_id ≡ Some t → None ≡ slice_get (members_of t) f.next → IsLeft f below before turn new after → IsWholeTurn search below f turn new after
 done search below f t before turn new after sound known none h =
     left search below f t before turn new after sound known (rest_done search (opened below f) f t known none) (subst (Ends search) none tt) h
 
@@ -155,7 +181,7 @@ pub turned : (search : Search) (below : List Frame) (f : Frame) (t : BtfType) (m
 turned search below f t m GoOn here before turn new after sound next seen is h =
     rw (h.0, h.1, h.2) (advanced search below f t m before sound next (pass search m (is_noted before) GoOn seen tt) (top-first search below (after_next f) ∙ sym (by-rest search below f _ (rest_on search (opened below f) f t m next.known next.here seen))))
 turned search below f t m NotHere here before turn new after sound next seen is h =
-    left search below f t before turn new after sound next.known (rest_not_here search (opened below f) f t m next.known next.here seen) (subst (Ends search) next.here seen) h
+    left search below f t before turn new after sound next.known (rest_not_here search (opened below f) f t m next.known next.here seen) (subst (Ends search) next.here seen) (left-next f below before turn new after h)
 turned search below f t m Here here before turn new after sound next seen is h =
     rw h (
       record {

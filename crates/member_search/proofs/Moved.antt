@@ -12,7 +12,7 @@ use Rattle.btf_tables.specs.Tables.{Table}
 use Rattle.member_search.specs.Collecting.{moved_frame, moved_stack, moved_turn}
 use Rattle.member_search.specs.Indexes.{moved, rebased}
 use Rattle.member_search.specs.Searches.{most_open}
-use Rattle.member_search.specs.Stacks.{IsFollowed, IsLeft, IsTooDeep, is_open}
+use Rattle.member_search.specs.Stacks.{GoesOnAround, IsFollowed, IsLeft, IsTooDeep, ids, is_open}
 use Rattle.member_looks.specs.declared.look.Look.{Look}
 use Rattle.member_looks.specs.declared.look.Look.TheVariants.{GoOn, Here, Inside, NotHere}
 use Rattle.member_search.specs.declared.search.Found.{Found}
@@ -70,17 +70,25 @@ open-pushed b stack f id = ap (λ (fs : List Frame). is_open fs id) (sym (pushed
 length-pushed : (b : Option ℕ) (stack : List Frame) (f : Frame) → length (moved_stack b stack ++ moved_frame b f ∷ []) ≡ length (stack ++ f ∷ [])
 length-pushed b stack f = ap length (sym (pushed b stack f)) ∙ length-moved b (stack ++ f ∷ [])
 
+pub ids-moved : (b : Option ℕ) (stack : List Frame) → ids (moved_stack b stack) ≡ ids stack
+ids-moved b [] = refl
+ids-moved b (f ∷ stack) = ap (λ (xs : List ℕ). f.type_id ∷ xs) (ids-moved b stack)
+
 -- ---- turns
 
-pub left-moved : (b : Option ℕ) (id : ℕ) (old : List Frame) (before : List ℕ) (turn : Turn) (new : List Frame) (after : List ℕ) → IsLeft id old before turn new after → IsLeft id (moved_stack b old) before (moved_turn b turn) (moved_stack b new) after
-left-moved b id old before (turns.Found found) new after h = absurd h
-left-moved b id old before (turns.On g) new after h = (ap (moved_stack b) h.0 ∙ pushed b new g, h.1)
-left-moved b id old before turns.Over new after h = (length-moved b old ∙ h.0, length-moved b new ∙ h.1)
+around-moved : (b : Option ℕ) (skipped : Bool) (id : ℕ) (old : List Frame) (before : List ℕ) (g : Frame) (new : List Frame) (after : List ℕ) → GoesOnAround skipped id old before g new after → GoesOnAround skipped id (moved_stack b old) before (moved_frame b g) (moved_stack b new) after
+around-moved b true id old before g new after h = record { around = moved_frame b h.around; popped = ap (moved_stack b) h.popped ∙ pushed b new h.around; frame = ap (moved_frame b) h.frame; same = h.same }
+around-moved b false id old before g new after h = (ap (moved_stack b) h.0 ∙ pushed b new g, h.1)
+
+pub left-moved : (b : Option ℕ) (f : Frame) (old : List Frame) (before : List ℕ) (turn : Turn) (new : List Frame) (after : List ℕ) → IsLeft f old before turn new after → IsLeft (moved_frame b f) (moved_stack b old) before (moved_turn b turn) (moved_stack b new) after
+left-moved b f old before (turns.Found found) new after h = absurd h
+left-moved b f old before (turns.On g) new after h = around-moved b f.skipped f.type_id old before g new after h
+left-moved b f old before turns.Over new after h = (length-moved b old ∙ h.0, length-moved b new ∙ h.1)
 
 pub followed-moved : (b : Option ℕ) (target : Table) (seen : Look) (here : Found) (f : Frame) (old : List Frame) (before : List ℕ) (turn : Turn) (new : List Frame) (after : List ℕ) → IsFollowed target seen here f old before turn new after
     → IsFollowed target seen (moved b here) (moved_frame b f) (moved_stack b old) before (moved_turn b turn) (moved_stack b new) after
 followed-moved b target GoOn here f old before turn new after h = (ap (moved_turn b) h.0, ap (moved_stack b) h.1, h.2)
-followed-moved b target NotHere here f old before turn new after h = left-moved b f.type_id old before turn new after h
+followed-moved b target NotHere here f old before turn new after h = left-moved b f old before turn new after h
 followed-moved b target Here here f old before turn new after h = ap (moved_turn b) h
 followed-moved b target (Inside id) here f old before turn new after (inl h) = inl (h.0, (ap (moved_turn b) h.1.0, ap (moved_stack b) h.1.1, h.1.2))
 followed-moved b target (Inside id) here f old before turn new after (inr h) =

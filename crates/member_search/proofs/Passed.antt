@@ -30,9 +30,9 @@ of_record search p n t u same h = rw (add-one, ← same) h
 pub passed-next : (search : Search) (p : ℕ → Bool) (f : Frame) (t : BtfType) (m : BtfMember) → IsPassed search p f → type_by_id search.target f.type_id ≡ Some t → Some m ≡ slice_get (members_of t) f.next → Passes p (look_at search m) → IsPassed search p (after_next f)
 passed-next search p f t m h known here pass =
     record {
-      members = λ u is.
+      members = λ clean u is.
           let same : t ≡ u = cc in
-          by u same (h.members t known);
+          by u same (h.members clean t known);
     } where
       by : (u : BtfType) → t ≡ u → ArePassed search p f.next (members_of t) ⊎ AreSearched search p (members_of t) → ArePassed search p (f.next + 1) (members_of u) ⊎ AreSearched search p (members_of u)
       by u same (inl are) = inl (of_record search p f.next t u same (one_more search p f.next (members_of t) m are here pass))
@@ -56,7 +56,7 @@ pub searched-more : (search : Search) (p q : ℕ → Bool) (ms : List BtfMember)
 searched-more search p q ms h are = record { index = are.index; passed = more_passed search p q h are.index ms are.passed; ends = are.ends }
 
 pub passed-more : (search : Search) (p q : ℕ → Bool) (f : Frame) → ((k : ℕ) → p k ≡ true → q k ≡ true) → IsPassed search p f → IsPassed search q f
-passed-more search p q f h is = record { members = λ t known. by t (is.members t known) } where
+passed-more search p q f h is = record { members = λ clean t known. by t (is.members clean t known) } where
   by : (t : BtfType) → ArePassed search p f.next (members_of t) ⊎ AreSearched search p (members_of t) → ArePassed search q f.next (members_of t) ⊎ AreSearched search q (members_of t)
   by t (inl are) = inl (more_passed search p q h f.next (members_of t) are)
   by t (inr are) = inr (searched-more search p q (members_of t) h are)

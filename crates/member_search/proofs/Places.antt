@@ -1,26 +1,24 @@
 -- Where a walk is, to a member that a search has found to be incompatible.
-use Rattle.std.proofs.Common.{◌≡◌, ℕ, zero, suc, ◌+◌, ◌-◌, ◌<◌, ◌⊎◌, inl, inr, Bool, true, false, List, [], ◌∷◌, ◌++◌, length, take, None, Some, Option, Result, refl, sym, ap, subst, ◌∙◌, arith}
+use Rattle.std.proofs.Common.{◌≡◌, ℕ, zero, suc, ◌+◌, ◌<◌, ◌⊎◌, inl, inr, Bool, true, false, List, [], ◌∷◌, ◌++◌, length, take, Some, Option, Result, refl, sym, ap, subst, ◌∙◌, arith}
 use Rattle.std.proofs.lemmas.Bool.Decides.{nat_tests}
 use Rattle.std.proofs.lemmas.Grind.{common_steps}
 use Rattle.std.proofs.lemmas.List.{take-append-le, take_all}
-use Rattle.std.proofs.lemmas.Option.{slice_get-map, slice_get_within}
-use Rattle.std.specs.Prelude.{◌==◌, ◌&&◌, slice_get}
-use Rattle.std.specs.Option.{option_map, option_map_or}
+use Rattle.std.proofs.lemmas.Option.{slice_get_within}
+use Rattle.std.specs.Prelude.{◌==◌, ◌||◌, slice_get}
 use Rattle.access_paths.specs.declared.error.AccessError.{AccessError}
-use Rattle.btf_records.specs.Fields.{members_of}
-use Rattle.member_search.specs.Collecting.{IsPast, IsSearched, IsWithin, moved_stack}
-use Rattle.member_search.specs.EmptyTypes.{AreApart, NotesOne, is_noted}
+use Rattle.member_search.specs.Collecting.{IsPast, IsWithin, moved_frame, moved_stack}
+use Rattle.member_search.specs.EmptyTypes.{AreApart, is_noted}
 use Rattle.member_looks.specs.Looks.{Search}
-use Rattle.member_search.specs.Namesakes.{is_around, is_same_struct}
-use Rattle.member_search.specs.Stacks.{ids, opened, stack_value}
+use Rattle.member_search.specs.Namesakes.{is_skipped}
+use Rattle.member_search.specs.Searches.{is_among}
+use Rattle.member_search.specs.Stacks.{ids, is_open, opened, stack_value}
 use Rattle.member_search.specs.declared.search.Found.{Found}
 use Rattle.member_search.specs.declared.turn.Frame.{Frame}
-use Rattle.member_search.proofs.EmptyTypes.{noted-kept, noted-self}
-use Rattle.member_search.proofs.Free.{among-new}
+use Rattle.member_search.proofs.Free.{among-push}
+use Rattle.member_search.proofs.Followed.{value-skipping}
 use Rattle.member_search.proofs.Moved.{pushed}
-use Rattle.member_search.proofs.Passed.{searched-more}
-use Rattle.member_search.proofs.Rests.{after_next}
-use Rattle.member_search.proofs.Turns.{ids-pushed, length-opened}
+use Rattle.member_search.proofs.Rests.{after_next, skipping}
+use Rattle.member_search.proofs.Turns.{among-ids, ids-pushed, length-opened}
 
 -- ---- lists
 
@@ -42,108 +40,83 @@ get-either (z ∷ xs) y (suc k) x e = by (get-either xs y k x e) where
   by (inl h) = inl h
   by (inr h) = inr (ap suc h.0, h.1)
 
--- ---- more is noted
-
-searched-kept : (s : Search) (before after : List ℕ) (noted id : ℕ) → NotesOne before after noted → IsSearched s (is_noted before) id → IsSearched s (is_noted after) id
-searched-kept s before after noted id notes h = record { members = λ t known. searched-more s (is_noted before) (is_noted after) (members_of t) (λ k e. noted-kept before after noted k notes e) (h.members t known) }
-
 -- ---- turns in the struct or union of the member
 
 -- the innermost goes on
-pub within-on : (s : Search) (bits : Option ℕ) (value : Result (Option Found) AccessError) (noted : List ℕ) (outer : List Frame) (f : Frame) (last : Found) → IsWithin s bits value noted outer f last → IsWithin s bits value noted outer (after_next f) last
-within-on s bits value noted outer f last h = record { around = h.around; parts = h.parts; here = h.here; gives = h.gives; left = h.left }
+pub within-on : (s : Search) (bits : Option ℕ) (value : Result (Option Found) AccessError) (outer : List Frame) (f : Frame) (last : Found) → IsWithin s bits value outer f last → IsWithin s bits value outer (after_next f) last
+within-on s bits value outer f last h = record { around = h.around; here = h.here; gives = h.gives }
 
 -- another one is entered
-pub within-in : (s : Search) (bits : Option ℕ) (value : Result (Option Found) AccessError) (noted : List ℕ) (outer : List Frame) (f g : Frame) (last : Found) → IsWithin s bits value noted outer f last → IsWithin s bits value noted (outer ++ after_next f ∷ []) g last
-within-in s bits value noted outer f g last h =
+pub within-in : (s : Search) (bits : Option ℕ) (value : Result (Option Found) AccessError) (outer : List Frame) (f g : Frame) (last : Found) → IsWithin s bits value outer f last → IsWithin s bits value (outer ++ after_next f ∷ []) g last
+within-in s bits value outer f g last h =
     let len = length-opened outer f in
     let inside : h.around < length (opened outer f) = slice_get_within (opened outer f) h.around last.place.type_id h.here in
     record {
       around = h.around;
-      parts = h.parts;
       here = subst (λ (xs : List ℕ). slice_get (xs ++ g.type_id ∷ []) h.around ≡ Some last.place.type_id) (sym (ids-pushed outer (after_next f))) (get-left (opened outer f) g.type_id h.around last.place.type_id h.here);
       gives = h.gives ∙ ap (λ (fs : List Frame). stack_value s (moved_stack bits fs)) (sym (take-append-le h.around outer (after_next f ∷ []) (omega arith)));
-      left = h.left;
     }
 
 -- the innermost is left
-pub within-left : (s : Search) (bits : Option ℕ) (value : Result (Option Found) AccessError) (before after : List ℕ) (rest : List Frame) (g f : Frame) (last : Found) → NotesOne before after f.type_id → IsWithin s bits value before (rest ++ g ∷ []) f last
-    → IsWithin s bits value after rest g last ⊎ IsPast s bits value after rest g last
-within-left s bits value before after rest g f last notes h = by (get-either (opened rest g) f.type_id h.around last.place.type_id here) where
+pub within-left : (s : Search) (bits : Option ℕ) (value : Result (Option Found) AccessError) (incomplete noted : List ℕ) (rest : List Frame) (g f : Frame) (skipped : Bool) (last : Found) → (is_noted noted f.type_id ≡ true) ⊎ (is_noted incomplete f.type_id ≡ true) → IsWithin s bits value (rest ++ g ∷ []) f last
+    → IsWithin s bits value rest (skipping skipped g) last ⊎ IsPast s bits value incomplete noted rest (skipping skipped g) last
+within-left s bits value incomplete noted rest g f skipped last kept h = by (get-either (opened rest g) f.type_id h.around last.place.type_id here) where
   here : slice_get (opened rest g ++ f.type_id ∷ []) h.around ≡ Some last.place.type_id
   here = subst (λ (xs : List ℕ). slice_get (xs ++ f.type_id ∷ []) h.around ≡ Some last.place.type_id) (ids-pushed rest g) h.here
 
-  by : (slice_get (opened rest g) h.around ≡ Some last.place.type_id) ⊎ ((h.around ≡ length (opened rest g)) × (f.type_id ≡ last.place.type_id)) → IsWithin s bits value after rest g last ⊎ IsPast s bits value after rest g last
+  by : (slice_get (opened rest g) h.around ≡ Some last.place.type_id) ⊎ ((h.around ≡ length (opened rest g)) × (f.type_id ≡ last.place.type_id)) → IsWithin s bits value rest (skipping skipped g) last ⊎ IsPast s bits value incomplete noted rest (skipping skipped g) last
   by (inl e) =
       let len = length-opened rest g in
       let inside : h.around < length (opened rest g) = slice_get_within (opened rest g) h.around last.place.type_id e in
       inl (record {
         around = h.around;
-        parts = h.parts;
         here = e;
         gives = h.gives ∙ ap (λ (fs : List Frame). stack_value s (moved_stack bits fs)) (take-append-le h.around rest (g ∷ []) (omega arith));
-        left = searched-kept s before after f.type_id last.place.type_id notes h.left;
       })
   by (inr e) =
       let len = length-opened rest g in
       let same : length (rest ++ g ∷ []) ≡ length rest + 1 = grind (arith, common_steps) in
       let is_all : take h.around (rest ++ g ∷ []) ≡ rest ++ g ∷ [] = take_all h.around (rest ++ g ∷ []) (omega (arith, e.0)) in
       inr (record {
-        noted_so = subst (λ (id : ℕ). is_noted after id ≡ true) e.1 (noted-self before after f.type_id notes);
-        gives = h.gives ∙ (ap (λ (fs : List Frame). stack_value s (moved_stack bits fs)) is_all ∙ ap (stack_value s) (pushed bits rest g));
+        left = subst (λ (id : ℕ). (is_noted noted id ≡ true) ⊎ (is_noted incomplete id ≡ true)) e.1 kept;
+        gives = h.gives ∙ (ap (λ (fs : List Frame). stack_value s (moved_stack bits fs)) is_all ∙ (ap (stack_value s) (pushed bits rest g) ∙ sym (value-skipping s (moved_stack bits rest) skipped (moved_frame bits g))));
       })
 
-pub past-kept : (before after : List ℕ) (id : ℕ) (last : Found) → NotesOne before after id → is_noted before last.place.type_id ≡ true → is_noted after last.place.type_id ≡ true
-past-kept before after id last notes h = noted-kept before after id last.place.type_id notes h
+-- ---- what is open
 
--- ---- what tests say
+or_true : (a b : Bool) → a ≡ true → (a || b) ≡ true
+or_true true b e = refl
+or_true false b e = absurd cc
 
-same_number : (a b : ℕ) → (a == b) ≡ true → a ≡ b
-same_number a b e = grind (arith, nat_tests)
+or_right : (a b : Bool) → b ≡ true → (a || b) ≡ true
+or_right true b e = refl
+or_right false b e = e
 
-is_number : (a b : ℕ) → a ≡ b → (a == b) ≡ true
-is_number a b e = grind (arith, nat_tests)
+self : (k : ℕ) → (k == k) ≡ true
+self k = grind (arith, nat_tests)
 
-both : (p q : Bool) → (p && q) ≡ true → (p ≡ true) × (q ≡ true)
-both true q e = (refl, e)
-both false q e = absurd cc
+among-get : (xs : List ℕ) (k x : ℕ) → slice_get xs k ≡ Some x → is_among xs x ≡ true
+among-get [] k x e = absurd cc
+among-get (y ∷ ys) zero x e = let same : y ≡ x = cc in or_true (y == x) (is_among ys x) (subst (λ (z : ℕ). (z == x) ≡ true) (sym same) (self x))
+among-get (y ∷ ys) (suc k) x e = or_right (y == x) (is_among ys x) (among-get ys k x e)
 
-and_so : (p q : Bool) → p ≡ true → q ≡ true → (p && q) ≡ true
-and_so true q p_is q_is = q_is
-and_so false q p_is q_is = absurd cc
+-- a member is skipped where the struct or union of the one listed last is open
+skips-open : (outer : List Frame) (f : Frame) (last here : Found) → here.place.type_id ≡ f.type_id → is_skipped outer last here ≡ is_among (opened outer f) last.place.type_id
+skips-open outer f last here is =
+    let left = last.place.type_id in
+    sym (among-push (ids outer) f.type_id left ∙ (ap (λ (b : Bool). b || (f.type_id == left)) (among-ids outer left) ∙ ap (λ (id : ℕ). is_open outer left || (id == left)) (sym is)))
 
-pub same-struct : (last here : Found) → is_same_struct last here ≡ true → (last.parts ≡ here.parts) × (last.place.type_id ≡ here.place.type_id)
-same-struct last here e =
-    let parts = both (last.parts == here.parts) (last.place.type_id == here.place.type_id) e in
-    (same_number last.parts here.parts parts.0, same_number last.place.type_id here.place.type_id parts.1)
+pub not-within : (s : Search) (bits : Option ℕ) (value : Result (Option Found) AccessError) (outer : List Frame) (f : Frame) (last here : Found) → here.place.type_id ≡ f.type_id → is_skipped outer last here ≡ false → IsWithin s bits value outer f last → ⊥
+not-within s bits value outer f last here is test h =
+    let there : is_skipped outer last here ≡ true = skips-open outer f last here is ∙ among-get (opened outer f) h.around last.place.type_id h.here in
+    let no : true ≡ false = sym there ∙ test in
+    absurd cc
 
--- neither in it nor around the innermost
-pub not-within : (s : Search) (bits : Option ℕ) (value : Result (Option Found) AccessError) (noted : List ℕ) (outer : List Frame) (f : Frame) (last here : Found) → here.parts ≡ length outer + 1 → here.place.type_id ≡ f.type_id
-    → is_same_struct last here ≡ false → is_around outer last ≡ false → IsWithin s bits value noted outer f last → ⊥
-not-within s bits value noted outer f last here depth id apart not_around h = by (get-either (ids outer) f.type_id h.around last.place.type_id h.here) where
-  len : length (ids outer) ≡ length outer
-  len = let n = length-opened outer f in let m : length (ids outer ++ f.type_id ∷ []) ≡ length (ids outer) + 1 = grind (arith, common_steps) in omega (arith, n, m)
-
-  around-by : (o : Option Frame) → slice_get outer (last.parts - 1) ≡ o → option_map (λ g. g.type_id) o ≡ Some last.place.type_id → ⊥
-  around-by None e is = absurd cc
-  around-by (Some g) e is =
-      let same : g.type_id ≡ last.place.type_id = cc in
-      let test : is_around outer last ≡ true = ap (λ (o : Option Frame). option_map_or (λ x. x.type_id == last.place.type_id) o false) e ∙ is_number g.type_id last.place.type_id same in
-      absurd (let no : true ≡ false = sym test ∙ not_around in cc)
-
-  by : (slice_get (ids outer) h.around ≡ Some last.place.type_id) ⊎ ((h.around ≡ length (ids outer)) × (f.type_id ≡ last.place.type_id)) → ⊥
-  by (inl e) =
-      let depth_is : last.parts - 1 ≡ h.around = omega (arith, h.parts) in
-      around-by (slice_get outer (last.parts - 1)) refl (subst (λ (k : ℕ). option_map (λ g. g.type_id) (slice_get outer k) ≡ Some last.place.type_id) (sym depth_is) (sym (slice_get-map (λ g. g.type_id) outer h.around) ∙ e))
-  by (inr e) =
-      let parts : last.parts ≡ here.parts = omega (arith, h.parts, e.0, len, depth) in
-      let test : is_same_struct last here ≡ true = and_so (last.parts == here.parts) (last.place.type_id == here.place.type_id) (is_number last.parts here.parts parts) (is_number last.place.type_id here.place.type_id (sym e.1 ∙ sym id)) in
-      let no : true ≡ false = sym test ∙ apart in
-      absurd cc
-
--- one that was left isn't the innermost
-pub not-past : (noted : List ℕ) (outer : List Frame) (f : Frame) (id : ℕ) → AreApart noted (opened outer f) → id ≡ f.type_id → is_noted noted id ≡ true → ⊥
-not-past noted outer f id apart same e =
-    let fresh : is_noted noted f.type_id ≡ false = apart.each f.type_id (among-new (ids outer) f.type_id) in
-    let there : is_noted noted f.type_id ≡ true = subst (λ (k : ℕ). is_noted noted k ≡ true) same e in
+pub not-past : (incomplete noted : List ℕ) (outer : List Frame) (f : Frame) (last here : Found) → here.place.type_id ≡ f.type_id → is_skipped outer last here ≡ true → AreApart noted (opened outer f) → AreApart incomplete (opened outer f)
+    → (is_noted noted last.place.type_id ≡ true) ⊎ (is_noted incomplete last.place.type_id ≡ true) → ⊥
+not-past incomplete noted outer f last here is skips apart aside (inl e) =
+    let fresh : is_noted noted last.place.type_id ≡ false = apart.each last.place.type_id (sym (skips-open outer f last here is) ∙ skips) in
+    absurd cc
+not-past incomplete noted outer f last here is skips apart aside (inr e) =
+    let fresh : is_noted incomplete last.place.type_id ≡ false = aside.each last.place.type_id (sym (skips-open outer f last here is) ∙ skips) in
     absurd cc

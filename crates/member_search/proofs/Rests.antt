@@ -1,5 +1,5 @@
 -- What the members that are left of an open struct or union give, by the look at the next.
-use Rattle.std.proofs.Common.{◌≡◌, ℕ, zero, suc, ◌+◌, ◌-◌, List, [], ◌∷◌, drop, length, None, Some, Ok, Err, Option, Result, refl, sym, add-one}
+use Rattle.std.proofs.Common.{◌≡◌, ℕ, zero, suc, ◌+◌, ◌-◌, Bool, List, [], ◌∷◌, drop, length, None, Some, Ok, Err, Option, Result, refl, sym, add-one}
 use Rattle.std.specs.Prelude.{slice_get}
 use Rattle.access_paths.specs.declared.error.AccessError.{AccessError}
 use Rattle.access_paths.specs.declared.error.AccessError.TheVariants.{BtfError as TypeError}
@@ -29,6 +29,14 @@ drop-at (y ∷ xs) (suc n) x e = drop-at xs n x e
 -- the innermost after its next member
 abbrev pub after_next : Frame → Frame
 after_next f = record f { next = f.next + 1 }
+
+-- and where members in it are skipped, or aren't
+abbrev pub skipping : Bool → Frame → Frame
+skipping skipped f = record f { skipped = skipped }
+
+pub rest_skipping : (search : Search) (open_ids : List ℕ) (skipped : Bool) (f : Frame) → rest_of search open_ids (skipping skipped f) ≡ rest_of search open_ids f
+unfolding rest_of
+rest_skipping search open_ids skipped f = refl
 
 -- searches inside the innermost
 abbrev pub go_inside : Search → List ℕ → ℕ → Option ℕ → Result (Option Found) AccessError

@@ -1,5 +1,5 @@
 -- Each turn makes a stack's work less.
-use Rattle.std.proofs.Common.{◌≡◌, ℕ, zero, suc, lit<, ◌+◌, ◌-◌, ◌*◌, ◌^◌, ◌<◌, ◌≤◌, List, [], ◌∷◌, ◌++◌, length, Some, sym, arith}
+use Rattle.std.proofs.Common.{◌≡◌, ℕ, zero, suc, lit<, ◌+◌, ◌-◌, ◌*◌, ◌^◌, ◌<◌, ◌≤◌, Bool, List, [], ◌∷◌, ◌++◌, length, Some, sym, ◌∙◌, arith}
 use Rattle.std.proofs.Math.Nat.{mul-le-mul_right, pow-succ'}
 use Rattle.std.proofs.lemmas.Grind.{common_steps}
 use Rattle.std.proofs.lemmas.Option.{slice_get_within}
@@ -11,7 +11,7 @@ use Rattle.btf_tables.specs.Tables.{Table, type_by_id}
 use Rattle.member_search.specs.Searches.{most_open}
 use Rattle.member_search.specs.Stacks.{left_of, work, work_from}
 use Rattle.member_search.specs.declared.turn.Frame.{Frame}
-use Rattle.member_search.proofs.Rests.{after_next}
+use Rattle.member_search.proofs.Rests.{after_next, skipping}
 
 -- what a member is worth at this depth
 abbrev pub worth : Table → ℕ → ℕ
@@ -46,6 +46,10 @@ pub less-popped : (target : Table) (below : List Frame) (f : Frame) → work tar
 less-popped target below f =
     let some = some_worth (most_open target - length below) in
     rw (work-top target below f) (omega arith)
+
+-- where members in the innermost are skipped, or aren't
+pub work-skipping : (target : Table) (below : List Frame) (skipped : Bool) (f : Frame) → work target (below ++ skipping skipped f ∷ []) ≡ work target (below ++ f ∷ [])
+work-skipping target below skipped f = work-top target below (skipping skipped f) ∙ sym (work-top target below f)
 
 pub less-advanced : (target : Table) (below : List Frame) (f : Frame) → left_of target f ≡ suc (left_of target (after_next f)) → work target (below ++ after_next f ∷ []) < work target (below ++ f ∷ [])
 less-advanced target below f fewer =

@@ -1,15 +1,13 @@
 -- A walk over all members of a struct or union, at which those that have names are listed.
-use Rattle.std.specs.Prelude.{◌≡◌, ◌+◌, ◌++◌, ◌⊎◌, ℕ, Bool, true, false, List, [], ◌∷◌, map, take, Option, None, Some, Result, Ok, Err, slice_get}
+use Rattle.std.specs.Prelude.{◌≡◌, ◌++◌, ◌⊎◌, ℕ, Bool, true, false, List, [], ◌∷◌, map, take, Option, None, Some, Result, Ok, Err, slice_get}
 use Rattle.access_paths.specs.declared.error.AccessError.{AccessError}
-use Rattle.btf_records.specs.Fields.{members_of}
-use Rattle.btf_records.specs.declared.types.BtfType.{BtfType}
-use Rattle.btf_tables.specs.Tables.{Table, type_by_id}
+use Rattle.btf_tables.specs.Tables.{Table}
 use Rattle.string_table.specs.NameHashes.{name_hash}
-use Rattle.member_search.specs.EmptyTypes.{is_noted}
+use Rattle.member_search.specs.EmptyTypes.{AreApart, NotesOne, is_noted}
 use Rattle.member_search.specs.Indexes.{Answers, moved, rebased}
 use Rattle.member_looks.specs.Looks.{Search, searched}
-use Rattle.member_search.specs.Namesakes.{Namesakes, all_of, last_of, namesakes_of}
-use Rattle.member_search.specs.Stacks.{AreSearched, IsSound, opened, stack_value}
+use Rattle.member_search.specs.Namesakes.{all_of, last_of, namesakes_of}
+use Rattle.member_search.specs.Stacks.{IsSound, opened, stack_value}
 use Rattle.member_search.specs.declared.named_members.NamedMember.{NamedMember}
 use Rattle.member_search.specs.declared.named_members.NamedMembers.{NamedMembers}
 use Rattle.member_search.specs.declared.search.Found.{Found}
@@ -33,26 +31,19 @@ moved_turn bits turns.Over = turns.Over
 abbrev pub walk_value : List Frame → Frame → Search → Option ℕ → Result (Option Found) AccessError
 walk_value outer f s bits = stack_value s (moved_stack bits outer ++ moved_frame bits f ∷ [])
 
--- a search ends in the struct or union of this id, and has found nothing
-pub record IsSearched (s : Search) (holds_nothing : ℕ → Bool) (id : ℕ) : Type 0 where
-  pub members : (t : BtfType)
-      → type_by_id s.target id ≡ Some t
-      → AreSearched s holds_nothing (members_of t)
-
--- the walk is in the struct or union of a member which a search has left there: it goes on in those
+-- a search has left the struct or union of a member in which the walk still is: it goes on in those
 -- around that
 pub record IsWithin (s : Search) (bits : Option ℕ) (value : Result (Option Found) AccessError)
-    (noted : List ℕ) (outer : List Frame) (f : Frame) (last : Found) : Type 0 where
+    (outer : List Frame) (f : Frame) (last : Found) : Type 0 where
   pub around : ℕ
-  pub parts : last.parts ≡ around + 1
   pub here : slice_get (opened outer f) around ≡ Some last.place.type_id
   pub gives : value ≡ stack_value s (moved_stack bits (take around outer))
-  pub left : IsSearched s (is_noted noted) last.place.type_id
 
--- or has left it too
+-- the walk has left it too, and may have skipped members in it
 pub record IsPast (s : Search) (bits : Option ℕ) (value : Result (Option Found) AccessError)
-    (noted : List ℕ) (outer : List Frame) (f : Frame) (last : Found) : Type 0 where
-  pub noted_so : is_noted noted last.place.type_id ≡ true
+    (incomplete noted : List ℕ) (outer : List Frame) (f : Frame) (last : Found) : Type 0 where
+  pub left : (is_noted noted last.place.type_id ≡ true)
+      ⊎ (is_noted incomplete last.place.type_id ≡ true)
   pub gives : value ≡ walk_value outer f s bits
 
 -- a search has found the listed members to be incompatible, or there are none
@@ -60,55 +51,46 @@ abbrev pub IsAfter : Search
     → Option ℕ
     → Result (Option Found) AccessError
     → List ℕ
+    → List ℕ
     → List Frame
     → Frame
     → Option NamedMember
     → Type 0
-IsAfter s bits value noted outer f None = value ≡ walk_value outer f s bits
-IsAfter s bits value noted outer f (Some m) =
-    IsWithin s bits value noted outer f m.found ⊎ IsPast s bits value noted outer f m.found
+IsAfter s bits value incomplete noted outer f None = value ≡ walk_value outer f s bits
+IsAfter s bits value incomplete noted outer f (Some m) =
+    IsWithin s bits value outer f m.found ⊎ IsPast s bits value incomplete noted outer f m.found
 
 -- the walk tells what such a search gives
 pub record IsGoingOn (s : Search) (bits : Option ℕ) (value : Result (Option Found) AccessError)
-    (noted : List ℕ) (outer : List Frame) (f : Frame) (last : Option NamedMember) : Type 0 where
+    (incomplete noted : List ℕ) (outer : List Frame) (f : Frame) (last : Option NamedMember)
+    : Type 0 where
   pub sound : IsSound s noted (moved_stack bits outer) (moved_frame bits f)
-  pub place : IsAfter s bits value noted outer f last
+  pub apart : AreApart incomplete (opened outer f)
+  pub place : IsAfter s bits value incomplete noted outer f last
 
--- what holds after the listed members, if there are none, or they aren't cut
-abbrev pub IfNotCut : Option NamedMember → Bool → Type 0 → Type 0
-IfNotCut None is_cut Rest = Rest
-IfNotCut (Some first) is_cut Rest = is_cut ≡ false → Rest
-
-abbrev pub AnswersSo : Search
-    → Option ℕ
-    → Result (Option Found) AccessError
-    → Namesakes
-    → Type 0
-    → Type 0
-AnswersSo s bits value known Rest =
-    Answers s bits value (all_of known) (IfNotCut known.first known.is_cut Rest)
-
--- what holds between turns of a walk, where searches give these values in all
+-- what holds between turns of a walk, where searches give these values in all, unless it has come
+-- again into a struct or union in which it skipped members
 pub record IsWalking (target : Table)
-    (value : Search → Option ℕ → Result (Option Found) AccessError) (noted : List ℕ)
+    (value : Search → Option ℕ → Result (Option Found) AccessError) (incomplete noted : List ℕ)
     (outer : List Frame) (f : Frame) (named : NamedMembers) : Type 0 where
   pub fresh : (hash : ℕ) → (namesakes_of named hash).first ≡ None
       → (namesakes_of named hash).later ≡ []
   pub each : (local : Table) (id : ℕ) (name : List ℕ) (bits : Option ℕ)
-      → AnswersSo (searched local id name target) bits
+      → Answers (searched local id name target) bits
       (value (searched local id name target) bits)
-      (namesakes_of named (name_hash name))
-      (IsGoingOn (searched local id name target) bits
+      (all_of (namesakes_of named (name_hash name)))
+      (is_noted incomplete f.type_id ≡ false
+      → IsGoingOn (searched local id name target) bits
       (value (searched local id name target) bits)
-      noted outer f (last_of (namesakes_of named (name_hash name))))
+      incomplete noted outer f (last_of (namesakes_of named (name_hash name))))
 
 -- after the last one
 pub record IsOver (target : Table) (value : Search → Option ℕ → Result (Option Found) AccessError)
     (named : NamedMembers) : Type 0 where
   pub each : (local : Table) (id : ℕ) (name : List ℕ) (bits : Option ℕ)
-      → AnswersSo (searched local id name target) bits
+      → Answers (searched local id name target) bits
       (value (searched local id name target) bits)
-      (namesakes_of named (name_hash name))
+      (all_of (namesakes_of named (name_hash name)))
       (value (searched local id name target) bits ≡ Ok None)
 
 -- after a turn
@@ -116,20 +98,28 @@ abbrev pub IsWalkTurn : Table
     → (Search → Option ℕ → Result (Option Found) AccessError)
     → Turn
     → List ℕ
+    → List ℕ
     → List Frame
     → NamedMembers
     → Type 0
-IsWalkTurn target value (turns.Found found) noted outer named = ⊥
-IsWalkTurn target value (turns.On f) noted outer named = IsWalking target value noted outer f named
-IsWalkTurn target value turns.Over noted outer named = IsOver target value named
+IsWalkTurn target value (turns.Found found) incomplete noted outer named = ⊥
+IsWalkTurn target value (turns.On f) incomplete noted outer named =
+    IsWalking target value incomplete noted outer f named
+IsWalkTurn target value turns.Over incomplete noted outer named = IsOver target value named
 
 -- what a turn of a walk makes of what held before
-pub record WalksOn (target : Table) (noted : List ℕ) (outer : List Frame) (f : Frame)
-    (named : NamedMembers) (after : List ℕ) (around : List Frame) (listed : NamedMembers)
+pub record WalksOn (target : Table) (incomplete noted : List ℕ) (outer : List Frame) (f : Frame)
+    (named : NamedMembers) (skipped after : List ℕ) (around : List Frame) (listed : NamedMembers)
     (turn : Turn) : Type 0 where
   pub each : (value : Search → Option ℕ → Result (Option Found) AccessError)
-      → IsWalking target value noted outer f named
-      → IsWalkTurn target value turn after around listed
+      → IsWalking target value incomplete noted outer f named
+      → is_noted incomplete f.type_id ≡ false
+      → IsWalkTurn target value turn skipped after around listed
+
+-- one that is left is noted if members in it were skipped
+abbrev pub NotesIf : Bool → ℕ → List ℕ → List ℕ → Type 0
+NotesIf true id before after = NotesOne before after id
+NotesIf false id before after = after ≡ before
 
 -- each search fails that comes to here
 pub record AllFail (target : Table) (outer : List Frame) (f : Frame) (e : AccessError)

@@ -78,18 +78,12 @@ abbrev pub value_over : WalkEnd → Option (Result (Option Found) AccessError)
 value_over ends.Over = Some (Ok None)
 value_over _ = None
 
--- and nothing is known where the list is cut
-abbrev pub value_past : Bool → WalkEnd → Option (Result (Option Found) AccessError)
-value_past true walk_end = None
-value_past false walk_end = value_over walk_end
-
 -- after the first member of a hash, if there is one, and the others
 abbrev pub value_after : Option NamedMember
-    → Bool
     → WalkEnd
     → Option (Result (Option Found) AccessError)
-value_after None is_cut walk_end = end_value walk_end
-value_after (Some first) is_cut walk_end = value_past is_cut walk_end
+value_after None walk_end = end_value walk_end
+value_after (Some first) walk_end = value_over walk_end
 
 -- an index answers a search for a name by the members of its hash
 abbrev pub IsAnswered : Search
@@ -100,7 +94,7 @@ abbrev pub IsAnswered : Search
     → Type 0
 IsAnswered s bits value known walk_end =
     Answers s bits value (all_of known)
-    (IfSome (value_after known.first known.is_cut walk_end) (λ answer. value ≡ answer))
+    (IfSome (value_after known.first walk_end) (λ answer. value ≡ answer))
 
 -- an index of the members of the struct or union of this id, where that begins at any bits
 pub record IsIndex (target : Table) (root : ℕ) (named : NamedMembers) (walk_end : WalkEnd)

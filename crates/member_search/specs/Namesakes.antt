@@ -1,20 +1,19 @@
 -- Members of one hash that a walk has come to.
-use Rattle.std.specs.Prelude.{◌≡◌, ℕ, ◌-◌, ◌==◌, ◌&&◌, ◌||◌, Bool, false, true, cond, List, [], ◌∷◌, ◌++◌, length, Option, None, Some, slice_get, unwrap_or, if◌then◌else◌}
+use Rattle.std.specs.Prelude.{◌≡◌, ℕ, ◌-◌, ◌==◌, ◌||◌, Bool, false, cond, List, [], ◌∷◌, ◌++◌, length, Option, None, Some, slice_get, unwrap_or, if◌then◌else◌}
 use Rattle.std.specs.BTreeMap.{is_at}
-use Rattle.std.specs.List.{list_any}
 use Rattle.std.specs.Map.{lookup}
 use Rattle.std.specs.Option.{option_map_or}
 use Rattle.std.specs.Ordering.{nat_cmp}
+use Rattle.member_search.specs.Stacks.{is_open}
 use Rattle.member_search.specs.declared.named_members.NamedMember.{NamedMember}
 use Rattle.member_search.specs.declared.named_members.NamedMembers.{NamedMembers}
 use Rattle.member_search.specs.declared.search.Found.{Found}
 use Rattle.member_search.specs.declared.turn.Frame.{Frame}
 
--- in the order of the walk; where they are cut, there may be more
+-- in the order of the walk
 pub record Namesakes : Type 0 where
   pub first : Option NamedMember
   pub later : List NamedMember
-  pub is_cut : Bool
 
 abbrev pub first_at : NamedMembers → ℕ → Option NamedMember
 first_at named hash = lookup (is_at (nat_cmp hash)) named.first.entries
@@ -23,20 +22,16 @@ abbrev pub later_at : NamedMembers → ℕ → List NamedMember
 later_at named hash =
     option_map_or (λ ms. ms.items) (lookup (is_at (nat_cmp hash)) named.later.entries) []
 
-abbrev pub is_cut_at : NamedMembers → ℕ → Bool
-is_cut_at named hash = list_any (is_at (nat_cmp hash)) named.cut.keys
-
 abbrev pub namesakes_of : NamedMembers → ℕ → Namesakes
 namesakes_of named hash = record {
   first = first_at named hash;
   later = later_at named hash;
-  is_cut = is_cut_at named hash;
 }
 
 -- none are listed
 pub record AreFresh (named : NamedMembers) : Type 0 where
   pub each : (hash : ℕ)
-      → namesakes_of named hash ≡ record { first = None; later = []; is_cut = false }
+      → namesakes_of named hash ≡ record { first = None; later = [] }
 
 -- the first and the others
 abbrev pub all_from : Option NamedMember → List NamedMember → List NamedMember
@@ -54,21 +49,22 @@ last_from (Some first) later = Some (unwrap_or (slice_get later (length later - 
 abbrev pub last_of : Namesakes → Option NamedMember
 last_of known = last_from known.first known.later
 
--- one member stands in the struct or union of the other
-abbrev pub is_same_struct : Found → Found → Bool
-is_same_struct last here = (last.parts == here.parts) && (last.place.type_id == here.place.type_id)
+-- the struct or union of the one that was listed last is open: a search that has left it there
+-- doesn't come to this one
+abbrev pub is_skipped : List Frame → Found → Found → Bool
+is_skipped outer last here =
+    is_open outer last.place.type_id || (here.place.type_id == last.place.type_id)
 
--- the struct or union of the member is around the innermost
-abbrev pub is_around : List Frame → Found → Bool
-is_around outer last =
-    option_map_or (λ f. f.type_id == last.place.type_id) (slice_get outer (last.parts - 1)) false
+-- after the one that was listed last
+abbrev pub skips_after : List Frame → NamedMember → Option NamedMember → Bool
+skips_after outer m None = false
+skips_after outer m (Some last) = is_skipped outer last.found m.found
 
 -- what a member adds that the walk comes to, after the one that was listed last
 abbrev pub entered_after : List Frame → NamedMember → Namesakes → Option NamedMember → Namesakes
 entered_after outer m known None = record known { first = Some m }
 entered_after outer m known (Some last) =
-    if known.is_cut || is_same_struct last.found m.found then known
-    else if is_around outer last.found then record known { is_cut = true }
+    if is_skipped outer last.found m.found then known
     else record known { later = known.later ++ m ∷ [] }
 
 abbrev pub entered_to : List Frame → NamedMember → Namesakes → Namesakes

@@ -21,7 +21,7 @@ use Rattle.member_search.specs.declared.turn.Turn.TheVariants as turns
 
 -- a struct or union before its members are looked at
 abbrev pub inside : ℕ → Option ℕ → Frame
-inside id bits = record { type_id = id; next = 0; bits = bits }
+inside id bits = record { type_id = id; next = 0; bits = bits; skipped = false }
 
 abbrev pub is_open : List Frame → ℕ → Bool
 is_open stack id = list_any (λ f. f.type_id == id) stack
@@ -89,11 +89,31 @@ frames_of _ = []
 abbrev pub GoesOn : Frame → List Frame → List ℕ → Turn → List Frame → List ℕ → Type 0
 GoesOn f old before turn new after = (turn ≡ turns.On f) × (new ≡ old) × (after ≡ before)
 
+-- one in which members were skipped isn't noted, and those are skipped in the one around it too
+pub record SkipsAround (old : List Frame) (before : List ℕ) (f : Frame) (new : List Frame)
+    (after : List ℕ) : Type 0 where
+  pub around : Frame
+  pub popped : old ≡ new ++ around ∷ []
+  pub frame : f ≡ record around { skipped = true }
+  pub same : after ≡ before
+
+abbrev pub GoesOnAround : Bool
+    → ℕ
+    → List Frame
+    → List ℕ
+    → Frame
+    → List Frame
+    → List ℕ
+    → Type 0
+GoesOnAround false id old before f new after = (old ≡ new ++ f ∷ []) × NotesOne before after id
+GoesOnAround true id old before f new after = SkipsAround old before f new after
+
 -- nothing was found in the innermost, and the one that it lies in goes on
-abbrev pub IsLeft : ℕ → List Frame → List ℕ → Turn → List Frame → List ℕ → Type 0
-IsLeft id old before (turns.Found found) new after = ⊥
-IsLeft id old before (turns.On f) new after = (old ≡ new ++ f ∷ []) × NotesOne before after id
-IsLeft id old before turns.Over new after = (length old ≡ 0) × (length new ≡ 0)
+abbrev pub IsLeft : Frame → List Frame → List ℕ → Turn → List Frame → List ℕ → Type 0
+IsLeft left old before (turns.Found found) new after = ⊥
+IsLeft left old before (turns.On f) new after =
+    GoesOnAround left.skipped left.type_id old before f new after
+IsLeft left old before turns.Over new after = (length old ≡ 0) × (length new ≡ 0)
 
 -- one that isn't open is entered
 abbrev pub IsEntered : Table
@@ -129,7 +149,7 @@ abbrev pub IsFollowed : Table
     → Type 0
 IsFollowed target GoOn here f old before turn new after = GoesOn f old before turn new after
 IsFollowed target NotHere here f old before turn new after =
-    IsLeft f.type_id old before turn new after
+    IsLeft f old before turn new after
 IsFollowed target Here here f old before turn new after = turn ≡ turns.Found here
 IsFollowed target (Inside id) here f old before turn new after =
     ((is_noted before id ≡ true) × GoesOn f old before turn new after)
@@ -167,9 +187,10 @@ pub record AreSearched (search : Search) (holds_nothing : ℕ → Bool) (members
   pub passed : ArePassed search holds_nothing index members
   pub ends : Ends search (slice_get members index)
 
--- those before the next are passed, or a search has ended before it
+-- those before the next are passed, or a search has ended before it, if none were skipped
 pub record IsPassed (search : Search) (holds_nothing : ℕ → Bool) (f : Frame) : Type 0 where
-  pub members : (t : BtfType)
+  pub members : f.skipped ≡ false
+      → (t : BtfType)
       → type_by_id search.target f.type_id ≡ Some t
       → ArePassed search holds_nothing f.next (members_of t)
       ⊎ AreSearched search holds_nothing (members_of t)

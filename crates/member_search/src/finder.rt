@@ -206,7 +206,7 @@ impl<'t> MemberFinder<'t> {
         if let Some(answer) = self.verdict(local, type_id, name, *first, bits)? {
             return Some(answer);
         }
-        let end = index.end_past(hash);
+        let end = index.end_past();
         match index.named.later.get(&hash) {
             Some(later) if later.len() > most => None,
             Some(later) => self.later_answer(local, type_id, name, later.as_slice(), end, bits),

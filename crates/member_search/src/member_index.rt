@@ -3,8 +3,7 @@
 ghost use Rattle.std.specs.Prelude.{◌≡◌, ◌≢◌, IfOk, IfSome, Err};
 ghost use Rattle.access_paths.specs.declared.error.AccessError.TheVariants.{BtfError as TypeError};
 ghost use Rattle.btf_records.specs.declared.error.BtfError.TheVariants.{OutOfMemory};
-ghost use Rattle.member_search.specs.Indexes.{end_value, value_past};
-ghost use Rattle.member_search.specs.Namesakes.{is_cut_at};
+ghost use Rattle.member_search.specs.Indexes.{end_value, value_over};
 
 use crate::named_members::NamedMembers;
 use crate::search::Found;
@@ -39,11 +38,11 @@ pub(crate) struct MemberIndex {
 impl MemberIndex {
     /// How a walk ends for a search that has found all listed members of a hash to be incompatible.
     /// It has left structs and unions after them, in which the walk may have failed.
-    pub(crate) fn end_past(&self, hash: u64) -> WalkEnd
-        ensures { end_value result ≡ value_past (is_cut_at self.now.named hash) self.now.walk_end }
+    pub(crate) fn end_past(&self) -> WalkEnd
+        ensures { end_value result ≡ value_over self.now.walk_end }
     {
         match self.walk_end {
-            WalkEnd::Over if !self.named.cut.contains(&hash) => WalkEnd::Over,
+            WalkEnd::Over => WalkEnd::Over,
             _ => WalkEnd::NotKept,
         }
     }

@@ -1,12 +1,12 @@
 //! Members to which a walk over a struct or union has come, by hashes of their names.
 
-ghost use Rattle.std.specs.Prelude.{◌≡◌, OnOk};
-ghost use Rattle.member_search.specs.Namesakes.{AddsLater, AreFresh, Enters, is_around, is_same_struct, last_of, namesakes_of};
+ghost use Rattle.std.specs.Prelude.{◌≡◌, IfOk, OnOk};
+ghost use Rattle.member_search.specs.Namesakes.{AddsLater, AreFresh, Enters, is_skipped, last_of, namesakes_of, skips_after};
 
 use crate::search::Found;
-use crate::turn::Frame;
+use crate::stack::Stack;
 use std::alloc::{AllocError, Global};
-use std::collections::{BTreeMap, BTreeSet};
+use std::collections::BTreeMap;
 
 /// One of the later members of a hash may take the memory of as many first ones.
 const LATER: usize = 4;
@@ -26,29 +26,16 @@ pub(crate) struct NamedMembers {
     pub(crate) first: BTreeMap<u64, NamedMember>,
     /// Those to which a search comes that has found the ones before to be incompatible.
     pub(crate) later: BTreeMap<u64, Vec<NamedMember>>,
-    /// The hashes of which not all such members are known.
-    pub(crate) cut: BTreeSet<u64>,
     /// How many first members would take as much memory.
     count: usize,
 }
 
-/// Whether a member stands in the struct or union of the one that was listed last, which has
-/// decided for it.
-fn is_same_struct(last: Found, here: Found) -> bool
-    ensures { result ≡ is_same_struct last here }
+/// Whether the struct or union of the member that was listed last is open. A search that has left it
+/// there doesn't come to this one.
+fn is_skipped(outer: &Stack, last: Found, here: Found) -> bool
+    ensures { result ≡ is_skipped outer.now last here }
 {
-    last.parts == here.parts && last.place.type_id == here.place.type_id
-}
-
-/// Whether the struct or union of the member that was listed last is around the innermost. A search
-/// that has left it there doesn't come to the members of the innermost.
-fn is_around(outer: &[Frame], last: Found) -> bool
-    ensures { result ≡ is_around outer.now last }
-{
-    match outer.get(last.parts.saturating_sub(1)) {
-        Some(frame) => frame.type_id == last.place.type_id,
-        None => false,
-    }
+    outer.contains(last.place.type_id) || here.place.type_id == last.place.type_id
 }
 
 impl NamedMembers {
@@ -58,7 +45,6 @@ impl NamedMembers {
         NamedMembers {
             first: BTreeMap::new(alloc),
             later: BTreeMap::new(alloc),
-            cut: BTreeSet::new(alloc),
             count: 0,
         }
     }
@@ -90,28 +76,27 @@ impl NamedMembers {
         Ok(())
     }
 
-    /// Lists a member, if a search may come to it that has found those before to be incompatible;
-    /// `outer` are the structs and unions around the one that it stands in.
+    /// Lists a member, unless a search that has found those before to be incompatible doesn't come
+    /// to it here; whether it is skipped so. `outer` are the structs and unions around its own.
     pub(crate) fn enter(
         &mut self,
         hash: u64,
         member: NamedMember,
-        outer: &[Frame],
-    ) -> Result<(), AllocError>
-        ensures { OnOk result (Enters outer.now hash member self.old self.new) }
+        outer: &Stack,
+    ) -> Result<bool, AllocError>
+        ensures enters { OnOk result (Enters outer.now hash member self.old self.new) }
+        ensures skipped { IfOk result (λ skipped.
+            skipped ≡ skips_after outer.now member (last_of (namesakes_of self.old hash))) }
     {
         let Some(last) = self.last(hash) else {
             self.first.insert(hash, member)?;
             self.count = self.count.saturating_add(1);
-            return Ok(());
+            return Ok(false);
         };
-        if self.cut.contains(&hash) || is_same_struct(last.found, member.found) {
-            return Ok(());
+        let skipped = is_skipped(outer, last.found, member.found);
+        if !skipped {
+            self.add_later(hash, member)?;
         }
-        if is_around(outer, last.found) {
-            self.cut.insert(hash)?;
-            return Ok(());
-        }
-        self.add_later(hash, member)
+        Ok(skipped)
     }
 }

@@ -87,12 +87,6 @@ impl Stack {
         }
     }
 
-    pub(crate) fn as_slice(&self) -> &[Frame]
-        ensures { result.now ≡ self.now }
-    {
-        self.frames.as_slice()
-    }
-
     pub(crate) fn len(&self) -> usize
         ensures value { result ≡ length self.now }
         ensures few { result < 2 ^ 63 }

@@ -27,6 +27,8 @@ pub(crate) struct Frame {
     pub(crate) next: usize,
     /// The bits of its beginning.
     pub(crate) bits: Option<u32>,
+    /// Whether members in it were skipped, which searches may find by another way.
+    pub(crate) skipped: bool,
 }
 
 /// What a search remembers between turns.
@@ -101,6 +103,7 @@ pub(crate) fn entered(target: &Btf<'_>, type_id: u32, bits: Option<u32>) -> Fram
         type_id,
         next: 0,
         bits,
+        skipped: false,
     }
 }
 
@@ -132,15 +135,19 @@ fn enter(
     Ok(Turn::On(entered(target, type_id, bits)))
 }
 
-/// Goes on around a struct or union that holds nothing, which was the innermost.
-pub(crate) fn leave(type_id: u32, memory: &mut Memory) -> Result<Turn, AllocError>
+/// Goes on around a struct or union that was the innermost, which holds nothing.
+pub(crate) fn leave(left: Frame, memory: &mut Memory) -> Result<Turn, AllocError>
     ensures { IfOk result (λ turn.
-        IsLeft type_id memory.old.outer memory.old.nothing turn memory.new.outer
+        IsLeft left memory.old.outer memory.old.nothing turn memory.new.outer
         memory.new.nothing) }
 {
     match memory.outer.pop() {
+        Some(frame) if left.skipped => Ok(Turn::On(Frame {
+            skipped: true,
+            ..frame
+        })),
         Some(frame) => {
-            memory.nothing.note(type_id)?;
+            memory.nothing.note(left.type_id)?;
             Ok(Turn::On(frame))
         }
         None => Ok(Turn::Over),
@@ -165,7 +172,7 @@ pub(crate) fn follow(
     match seen {
         Look::GoOn => Ok(Turn::On(after)),
         Look::NotHere => {
-            let turn = leave(after.type_id, memory)?;
+            let turn = leave(after, memory)?;
             Ok(turn)
         }
         Look::Here => Ok(Turn::Found(here)),
@@ -204,7 +211,7 @@ pub(crate) fn next_turn<'t>(
 {
     let t = target.type_by_id(frame.type_id)?;
     let Some(member) = member_at(&t, frame.next) else {
-        let turn = leave(frame.type_id, memory)?;
+        let turn = leave(frame, memory)?;
         return Ok(turn);
     };
     let seen = look_at(local, type_id, name, target, member)?;

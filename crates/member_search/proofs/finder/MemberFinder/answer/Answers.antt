@@ -1,6 +1,6 @@
 use Rattle.std.proofs.Common.{◌≡◌, None, Some, sym, ◌∙◌}
 use Rattle.std.specs.Prelude.{IfSome}
-use Rattle.member_search.specs.Indexes.{Answers, begun_at, value_past}
+use Rattle.member_search.specs.Indexes.{Answers, begun_at, value_over}
 use Rattle.member_looks.specs.Looks.{searched}
 use Rattle.member_search.specs.Namesakes.{namesakes_of}
 use Rattle.member_search.specs.Searches.{member_found}
@@ -43,10 +43,10 @@ returns-in-Some-2-get c =
     let begun = c.begun_at-bits.result in
     let value = member_found s c.args.root (begun_at begun) in
     let answered = known_at target c.args.root i.named i.walk_end c.args.local.now c.args.type_id c.args.name.now begun c.name_hash-hash.result index c.name_hash-hash.ensures in
-    let rest : Answers s begun value known.later (IfSome (value_past known.is_cut i.walk_end) (λ answer. value ≡ answer)) =
+    let rest : Answers s begun value known.later (IfSome (value_over i.walk_end) (λ answer. value ≡ answer)) =
     first_gives s begun value known i.walk_end c.in-Some.first.now None answered (sym c.in-Some.ensures.value) c.in_ok-answer.ensures.text (c.in_ok-answer.ensures.verdict ∙ not_some _ c.in_default-2.not-Some) in
     at_bits s c.args.root c.args.bits begun c.later_answer.result c.begun_at-bits.ensures.value c.begun_at-bits.ensures.same
-    (later_gives s begun value known.later c.as_slice.result.now _ c.later_answer.result known.is_cut i.walk_end rest (later_items _ _ c.as_slice.result.now (sym c.in-Some-get.ensures.value) c.as_slice.ensures.value) c.end_past-end.ensures c.later_answer.ensures)
+    (later_gives s begun value known.later c.as_slice.result.now _ c.later_answer.result i.walk_end rest (later_items _ _ c.as_slice.result.now (sym c.in-Some-get.ensures.value) c.as_slice.ensures.value) c.end_past-end.ensures c.later_answer.ensures)
 
 pub returns-in-None : goal.returns-in-None
 returns-in-None c =
@@ -58,7 +58,7 @@ returns-in-None c =
     let begun = c.begun_at-bits.result in
     let value = member_found s c.args.root (begun_at begun) in
     let answered = known_at target c.args.root i.named i.walk_end c.args.local.now c.args.type_id c.args.name.now begun c.name_hash-hash.result index c.name_hash-hash.ensures in
-    let rest : Answers s begun value known.later (IfSome (value_past known.is_cut i.walk_end) (λ answer. value ≡ answer)) =
+    let rest : Answers s begun value known.later (IfSome (value_over i.walk_end) (λ answer. value ≡ answer)) =
     first_gives s begun value known i.walk_end c.in-Some.first.now None answered (sym c.in-Some.ensures.value) c.in_ok-answer.ensures.text (c.in_ok-answer.ensures.verdict ∙ not_some _ c.in_default-2.not-Some) in
     at_bits s c.args.root c.args.bits begun c.value-in-None.result c.begun_at-bits.ensures.value c.begun_at-bits.ensures.same
     (end_gives value _ c.value-in-None.result (c.value-in-None.ensures ∙ c.end_past-end.ensures) (none_later s begun value known.later _ (no_later _ (sym c.in-None.ensures.value)) rest))
