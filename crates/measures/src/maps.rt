@@ -2,8 +2,8 @@
 //! slots.
 
 use crate::error::ExerciseError;
-use crate::objects::ROUNDS;
-use crate::times::{micros, print_times};
+use crate::objects::{Call, measure_call};
+use crate::times::micros;
 use ebpf_object::{
     EbpfSectionKind, GlobalValues, Maps, NumberedMap, Object, ObjectFile, ParseError, ReadSymbol,
 };
@@ -54,20 +54,13 @@ fn write_numbers_of(
     write_numbered(rt, object, &numbered)
 }
 
-/// The same for the maps of an object that is parsed anew.
-fn numbers_time(rt: &HostRuntime, bytes: &[u8]) -> Result<u128, ExerciseError> {
-    let mut object = Object::parse(rt.alloc(), bytes)?;
+/// The same for the maps of an object.
+pub(crate) fn write_numbers(
+    rt: &HostRuntime,
+    object: &mut Object<'_>,
+) -> Result<u128, ExerciseError> {
     let maps = object.take_maps();
-    write_numbers_of(rt, &mut object, &maps)
-}
-
-/// Writes the numbers of maps into the slots of objects that are parsed anew.
-pub(crate) fn measure_numbers(rt: &HostRuntime, bytes: &[u8]) -> Result<(), ExerciseError> {
-    let mut times = Vec::with_capacity(rt.alloc(), ROUNDS as usize)?;
-    for _ in 0..ROUNDS {
-        times.push(numbers_time(rt, bytes)?)?;
-    }
-    print_times(rt, "numbers of maps written", times)
+    write_numbers_of(rt, object, &maps)
 }
 
 /// Whether sections of a kind hold variables.
@@ -127,7 +120,7 @@ fn set_values(
 }
 
 /// How many microseconds it takes to put values into an object's maps.
-fn put_values(
+pub(crate) fn put_values(
     rt: &HostRuntime,
     object: &mut Object<'_>,
     values: &GlobalValues,
@@ -137,28 +130,14 @@ fn put_values(
     micros(rt, start)
 }
 
-/// The same for an object that is parsed anew.
-fn values_time(
-    rt: &HostRuntime,
-    bytes: &[u8],
-    values: &GlobalValues,
-) -> Result<u128, ExerciseError> {
-    let mut object = Object::parse(rt.alloc(), bytes)?;
-    put_values(rt, &mut object, values)
-}
-
-/// Puts values into the maps of objects that are parsed anew.
+/// Measures how long it takes to put values into an object's maps.
 fn measure_putting(
     rt: &HostRuntime,
     bytes: &[u8],
     values: &GlobalValues,
 ) -> Result<(), ExerciseError> {
     println!(rt; "{} variables with values", values.iter().count())?;
-    let mut times = Vec::with_capacity(rt.alloc(), ROUNDS as usize)?;
-    for _ in 0..ROUNDS {
-        times.push(values_time(rt, bytes, values)?)?;
-    }
-    print_times(rt, "values put", times)
+    measure_call(rt, bytes, "values put", Call::PutValues(values))
 }
 
 /// Puts values of at most this number of variables into the maps of objects that are parsed anew.

@@ -2,15 +2,15 @@
 //! leads to, and to put values into its maps and their numbers into its slots.
 
 use crate::error::ExerciseError;
-use crate::maps::{measure_numbers, measure_values};
+use crate::maps::{measure_values, put_values, write_numbers};
 use crate::times::{micros, print_times};
-use ebpf_object::Object;
+use ebpf_object::{GlobalValues, Object};
 use std::env::Args;
 use std::fs;
 use std::time::Instant;
 
 /// How many times everything but the first parse is measured.
-pub(crate) const ROUNDS: u32 = 5;
+const ROUNDS: u32 = 5;
 
 /// The slots of all functions of an object.
 fn slot_count(object: &Object<'_>) -> u64 {
@@ -21,13 +21,14 @@ fn slot_count(object: &Object<'_>) -> u64 {
     count
 }
 
-/// Prints how much an object of this size holds, which was parsed from a moment on.
+/// Prints how much an object of this size holds, and how many microseconds it took to parse it,
+/// which began at a moment, and answers these.
 fn print_parsed(
     rt: &HostRuntime,
     object: &Object<'_>,
     size: usize,
     start: Instant,
-) -> Result<(), ExerciseError> {
+) -> Result<u128, ExerciseError> {
     let time = micros(rt, start)?;
     println!(rt;
         "{} programs, {} functions of {} slots, {} maps in {size} bytes, first parsed in {time} us",
@@ -36,30 +37,30 @@ fn print_parsed(
         slot_count(object),
         object.maps().len()
     )?;
-    Ok(())
+    Ok(time)
 }
 
-/// Parses the object for the first time in this process, and prints how much it holds.
-fn measure_first(rt: &HostRuntime, bytes: &[u8]) -> Result<(), ExerciseError> {
-    let start = Instant::now(rt)?;
-    let object = Object::parse(rt.alloc(), bytes)?;
-    print_parsed(rt, &object, bytes.len(), start)
+/// What is measured of an object that is parsed anew.
+#[derive(Clone, Copy)]
+pub(crate) enum Call<'v> {
+    /// Parsing it from as many bytes for the first time in this process; how much it holds is
+    /// printed.
+    ParseFirst(usize),
+    /// Parsing it.
+    Parse,
+    /// Linking its programs.
+    Link,
+    /// Writing the numbers of its maps into its slots.
+    WriteNumbers,
+    /// Putting these values into its maps.
+    PutValues(&'v GlobalValues),
 }
 
-/// How many microseconds it takes to parse the object.
-fn parsing_time(rt: &HostRuntime, bytes: &[u8]) -> Result<u128, ExerciseError> {
-    let start = Instant::now(rt)?;
-    let _object = Object::parse(rt.alloc(), bytes)?;
-    micros(rt, start)
-}
-
-/// Parses the object again and again.
-fn measure_parsing(rt: &HostRuntime, bytes: &[u8]) -> Result<(), ExerciseError> {
-    let mut times = Vec::with_capacity(rt.alloc(), ROUNDS as usize)?;
-    for _ in 0..ROUNDS {
-        times.push(parsing_time(rt, bytes)?)?;
-    }
-    print_times(rt, "parsed again", times)
+/// How many microseconds a call takes, and how many slots the object has then.
+#[derive(Clone, Copy)]
+struct Measured {
+    time: u128,
+    slots: u64,
 }
 
 /// How many microseconds it takes to link an object's programs.
@@ -70,27 +71,78 @@ fn link_time(rt: &HostRuntime, object: &mut Object<'_>) -> Result<u128, Exercise
     micros(rt, start)
 }
 
+/// How many microseconds a call takes of an object that was parsed from a moment on.
+fn call_time(
+    rt: &HostRuntime,
+    object: &mut Object<'_>,
+    call: Call<'_>,
+    start: Instant,
+) -> Result<u128, ExerciseError> {
+    match call {
+        Call::ParseFirst(size) => print_parsed(rt, object, size, start),
+        Call::Parse => micros(rt, start),
+        Call::Link => link_time(rt, object),
+        Call::WriteNumbers => write_numbers(rt, object),
+        Call::PutValues(values) => put_values(rt, object, values),
+    }
+}
+
 /// The same, and how many slots the object has then.
-fn link(rt: &HostRuntime, object: &mut Object<'_>) -> Result<(u128, u64), ExerciseError> {
-    let time = link_time(rt, object)?;
-    Ok((time, slot_count(object)))
+fn time_and_slots(
+    rt: &HostRuntime,
+    object: &mut Object<'_>,
+    call: Call<'_>,
+    start: Instant,
+) -> Result<Measured, ExerciseError> {
+    let time = call_time(rt, object, call, start)?;
+    Ok(Measured {
+        time,
+        slots: slot_count(object),
+    })
 }
 
-/// The same for an object that is parsed anew.
-fn linking(rt: &HostRuntime, bytes: &[u8]) -> Result<(u128, u64), ExerciseError> {
+/// The same of an object that is parsed here.
+fn parsed_and_measured(
+    rt: &HostRuntime,
+    bytes: &[u8],
+    call: Call<'_>,
+) -> Result<Measured, ExerciseError> {
+    let start = Instant::now(rt)?;
     let mut object = Object::parse(rt.alloc(), bytes)?;
-    link(rt, &mut object)
+    time_and_slots(rt, &mut object, call, start)
 }
 
-/// Links the programs of objects that are parsed anew.
-fn measure_linking(rt: &HostRuntime, bytes: &[u8]) -> Result<(), ExerciseError> {
+/// How many microseconds a call takes of objects that are parsed anew, and how many slots the last
+/// one has then.
+fn times_of(
+    rt: &HostRuntime,
+    bytes: &[u8],
+    call: Call<'_>,
+) -> Result<(Vec<u128>, u64), ExerciseError> {
     let mut slots = 0;
     let mut times = Vec::with_capacity(rt.alloc(), ROUNDS as usize)?;
     for _ in 0..ROUNDS {
-        let (time, count) = linking(rt, bytes)?;
-        times.push(time)?;
-        slots = count;
+        let one = parsed_and_measured(rt, bytes, call)?;
+        times.push(one.time)?;
+        slots = one.slots;
     }
+    Ok((times, slots))
+}
+
+/// Measures a call, and prints its times under a name.
+pub(crate) fn measure_call(
+    rt: &HostRuntime,
+    bytes: &[u8],
+    name: &str,
+    call: Call<'_>,
+) -> Result<(), ExerciseError> {
+    let (times, _slots) = times_of(rt, bytes, call)?;
+    print_times(rt, name, times)
+}
+
+/// Links the programs of objects, and prints how many slots they have then.
+fn measure_linking(rt: &HostRuntime, bytes: &[u8]) -> Result<(), ExerciseError> {
+    let (times, slots) = times_of(rt, bytes, Call::Link)?;
     println!(rt; "{slots} slots where linked")?;
     print_times(rt, "linked", times)
 }
@@ -105,10 +157,10 @@ fn most_variables(word: Option<String>) -> Result<usize, ExerciseError> {
 
 /// Measures an object, of whose variables at most so many get values.
 fn measure(rt: &HostRuntime, bytes: &[u8], most: usize) -> Result<(), ExerciseError> {
-    measure_first(rt, bytes)?;
-    measure_parsing(rt, bytes)?;
+    parsed_and_measured(rt, bytes, Call::ParseFirst(bytes.len()))?;
+    measure_call(rt, bytes, "parsed again", Call::Parse)?;
     measure_linking(rt, bytes)?;
-    measure_numbers(rt, bytes)?;
+    measure_call(rt, bytes, "numbers of maps written", Call::WriteNumbers)?;
     measure_values(rt, bytes, most)
 }
 
