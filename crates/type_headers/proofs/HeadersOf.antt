@@ -1,5 +1,5 @@
 -- What headers tell of a table.
-use Rattle.std.proofs.Common.{◌≡◌, ◌≢◌, ℕ, ◌-◌, ◌<◌, ◌==◌, Bool, true, false, not, List, Option, None, Some, drop, length, refl, ap, sym, ◌∙◌, subst, arith}
+use Rattle.std.proofs.Common.{◌≡◌, ◌≢◌, ℕ, ◌-◌, ◌<◌, ◌==◌, Bool, true, false, not, List, map, Option, None, Some, drop, length, refl, ap, sym, ◌∙◌, subst, arith}
 use Rattle.std.specs.Prelude.{is_some, slice_get}
 use Rattle.std.proofs.lemmas.Bool.Decides.{nat_tests}
 use Rattle.std.proofs.lemmas.Option.{slice_get-map}
@@ -23,9 +23,11 @@ by_id table id isnt =
 pub void_kind : (table : Table) (id : ℕ) → id ≡ 0 → Some kinds.Unknown ≡ option_map kind_of_type (type_by_id table id)
 void_kind table id is = rw is refl
 
+pub part_is : (A : Type 0) (part : BtfType → A) (table : Table) (id : ℕ) → id ≢ 0 → slice_get (map part table.types) (id - 1) ≡ option_map part (type_by_id table id)
+part_is A part table id isnt = slice_get-map part table.types (id - 1) ∙ ap (option_map part) (sym (by_id table id isnt))
+
 pub kind_is : (table : Table) (headers : Headers) (id : ℕ) → id ≢ 0 → AreHeadersOf table headers → slice_get headers.kinds (id - 1) ≡ option_map kind_of_type (type_by_id table id)
-kind_is table headers id isnt are =
-    ap (λ (ks : List BtfKind). slice_get ks (id - 1)) are.kinds ∙ (slice_get-map kind_of_type table.types (id - 1) ∙ ap (option_map kind_of_type) (sym (by_id table id isnt)))
+kind_is table headers id isnt are = ap (λ (ks : List BtfKind). slice_get ks (id - 1)) are.kinds ∙ part_is BtfKind kind_of_type table id isnt
 
 text_otherwise : (strings : List ℕ) (marks : BeginningMarks) (offset : ℕ) (text : Option (List ℕ)) → text_at strings offset ≡ text → is_some text ≡ true → ((other : List ℕ) → text_at strings offset ≡ Some other → MayBegin marks other → ⊥) → IsSomeAnd text (λ t. MayBegin marks t → ⊥)
 text_otherwise strings marks offset None is some isnt = absurd cc
@@ -51,5 +53,7 @@ isnt_among table headers marks id bytes may are name sure isnt otherwise =
     (type_otherwise headers.strings marks name.offset (type_by_id table id) (are.texts sure) name.within (λ text e. otherwise headers.strings text name.offset name.are e (not_false may isnt)) named)
 
 -- the number of its first two bytes is of none of the names
-pub has_other_pair : (table : Table) (headers : Headers) (marks : BeginningMarks) (id : ℕ) (bytes : List ℕ) → AreHeadersOf table headers → IsNameOf headers id bytes → headers.are_texts ≡ true → is_marked marks.pairs (beginning bytes) ≡ false → BeginsOtherwise table marks id
-has_other_pair table headers marks id bytes are name sure other = isnt_among table headers marks id bytes false are name sure refl (λ strings text offset is e _. unpaired marks strings text bytes offset is e other)
+pub has_other_pair : (table : Table) (strings : List ℕ) (marks : BeginningMarks) (id offset : ℕ) → table.strings ≡ strings → AreTexts strings → option_map name_offset_of (type_by_id table id) ≡ Some offset → offset < length strings → is_marked marks.pairs (beginning (drop offset strings)) ≡ false → BeginsOtherwise table marks id
+has_other_pair table strings marks id offset same texts named within other =
+    subst (λ (all : List ℕ). IsSomeAnd (type_by_id table id) (λ t. IsSomeAnd (text_at all (name_offset_of t)) (λ text. MayBegin marks text → ⊥))) (sym same)
+    (type_otherwise strings marks offset (type_by_id table id) texts within (λ text e. unpaired marks strings text (drop offset strings) offset refl e other) named)

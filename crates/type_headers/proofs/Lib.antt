@@ -1,8 +1,9 @@
+pub mod EmptyTexts
 pub mod HeadersOf
-pub mod KindsFrom
 pub mod LongBeginnings
 pub mod MarkedNames
 pub mod NamedIds
 pub mod NoneOfKinds
 pub mod RawTexts
+pub mod TypesFrom
 pub mod WrittenIds

@@ -1,53 +1,44 @@
--- Ids of types of some kinds, of which those stay whose names may be among some.
-use Rattle.std.proofs.Common.{◌≡◌, ℕ, suc, ◌+◌, ◌<◌, ◌≤◌, Bool, true, false, cond, List, [], ◌∷◌, take, drop, length, slice_set, subst, arith, inl, inr}
-use Rattle.std.specs.Prelude.{slice_index_or}
-use Rattle.std.proofs.lemmas.List.{drop_all, drop_more}
+-- Ids of types of some kinds, of which those are left out whose names are among none.
+use Rattle.std.proofs.Common.{◌≡◌, ℕ, ◌+◌, ◌<◌, ◌≤◌, Bool, true, false, List, [], take, length, slice_set, inl, inr, subst, arith}
 use Rattle.btf_tables.specs.Tables.{Table}
 use Rattle.type_headers.specs.Beginnings.{BeginningMarks}
-use Rattle.type_headers.specs.Blocks.{AreIdsByName, AreIdsOfKinds, AreListed, IsOther, is_of_kinds}
+use Rattle.type_headers.specs.Blocks.{AreIdsByName, IsOther, is_of_kinds}
 use Rattle.type_headers.specs.Headers.{BeginsOtherwise}
-use Rattle.type_headers.proofs.WrittenIds.{next, none, passed_to}
+use Rattle.type_headers.proofs.WrittenIds.{left_out, none, stayed}
 
--- up to the next one these stayed, of which the rest are those of the kinds
-pub record HaveStayed (table : Table) (kinds : List Bool) (marks : BeginningMarks) (from to : ℕ) (rest stayed : List ℕ) : Type 0 where
-  pub next : ℕ
-  pub after : from ≤ next
-  pub order : next ≤ to
-  pub ids : AreIdsByName table kinds marks from next stayed
-  pub left : AreIdsOfKinds table kinds next to rest
+pub no_ids : (table : Table) (kinds : List Bool) (marks : BeginningMarks) (from : ℕ) → AreIdsByName table kinds marks from from []
+no_ids table kinds marks from = none (λ id. is_of_kinds table kinds id ≡ true) (IsOther table kinds marks) from
 
--- none was looked at
-pub begun : (table : Table) (kinds : List Bool) (marks : BeginningMarks) (from to : ℕ) (ids : List ℕ) → from ≤ to → AreIdsOfKinds table kinds from to ids → HaveStayed table kinds marks from to ids []
-begun table kinds marks from to ids order are = record { next = from; after = omega arith; order = order; ids = none (λ id. is_of_kinds table kinds id ≡ true) (IsOther table kinds marks) from; left = are }
+-- the next id is written
+pub one_more : (table : Table) (kinds : List Bool) (marks : BeginningMarks) (from id len : ℕ) (ids : List ℕ) → from ≤ id → len < length ids → is_of_kinds table kinds id ≡ true → AreIdsByName table kinds marks from id (take len ids) → AreIdsByName table kinds marks from (id + 1) (take (len + 1) (slice_set ids len id))
+one_more table kinds marks from id len ids order within is are = stayed (λ n. is_of_kinds table kinds n ≡ true) (IsOther table kinds marks) from id len ids order within is are
 
-one_by : (table : Table) (kinds : List Bool) (marks : BeginningMarks) (from to id len count : ℕ) (rest ids room : List ℕ) (is : Bool) → rest ≡ id ∷ ids → len < length room → (is ≡ false → BeginsOtherwise table marks id) → count ≡ cond is 1 0 → HaveStayed table kinds marks from to rest (take len room)
-    → HaveStayed table kinds marks from to ids (take (len + count) (slice_set room len id))
-unfolding AreListed
-one_by table kinds marks from to id len count rest ids room is same within begins counted have =
-    let (from_le, below, others, of, others_left) = subst (AreIdsOfKinds table kinds have.next to) same have.left in
-    let Is = λ (n : ℕ). is_of_kinds table kinds n ≡ true in
-    let before : AreIdsByName table kinds marks from id (take len room) = passed_to Is (IsOther table kinds marks) from have.next id (take len room) from_le have.ids (λ other at_least less. inl (others other at_least less)) in
-    let after : suc id ≡ id + 1 = omega arith in
-    record {
-      next = id + 1;
-      after = omega (arith, have.after, from_le);
-      order = omega (arith, below);
-      ids = next Is (IsOther table kinds marks) from id len count room is (omega (arith, have.after, from_le)) within (λ e. of) (λ e. inr (begins e)) counted before;
-      left = subst (λ (n : ℕ). AreIdsOfKinds table kinds n to ids) after others_left;
-    }
+-- or its type is of another kind
+pub other_kind : (table : Table) (kinds : List Bool) (marks : BeginningMarks) (from id : ℕ) (ids : List ℕ) → is_of_kinds table kinds id ≡ false → AreIdsByName table kinds marks from id ids → AreIdsByName table kinds marks from (id + 1) ids
+other_kind table kinds marks from id ids isnt are = left_out (λ n. is_of_kinds table kinds n ≡ true) (IsOther table kinds marks) from id ids (inl isnt) are
 
--- one more was
-pub one_more : (table : Table) (kinds : List Bool) (marks : BeginningMarks) (from to index len count : ℕ) (ids room : List ℕ) (is : Bool) → index < length ids → len < length room → (is ≡ false → BeginsOtherwise table marks (slice_index_or ids index 0)) → count ≡ cond is 1 0
-    → HaveStayed table kinds marks from to (drop index ids) (take len room) → HaveStayed table kinds marks from to (drop (index + 1) ids) (take (len + count) (slice_set room len (slice_index_or ids index 0)))
-one_more table kinds marks from to index len count ids room is there within begins counted have =
-    one_by table kinds marks from to (slice_index_or ids index 0) len count (drop index ids) (drop (index + 1) ids) room is (drop_more ids index 0 there) within begins counted have
+-- or has another name
+pub other_name : (table : Table) (kinds : List Bool) (marks : BeginningMarks) (from id : ℕ) (ids : List ℕ) → BeginsOtherwise table marks id → AreIdsByName table kinds marks from id ids → AreIdsByName table kinds marks from (id + 1) ids
+other_name table kinds marks from id ids begins are = left_out (λ n. is_of_kinds table kinds n ≡ true) (IsOther table kinds marks) from id ids (inr begins) are
 
-all_by : (table : Table) (kinds : List Bool) (marks : BeginningMarks) (from to : ℕ) (rest stayed : List ℕ) → rest ≡ [] → HaveStayed table kinds marks from to rest stayed → AreIdsByName table kinds marks from to stayed
-unfolding AreListed
-all_by table kinds marks from to rest stayed none have =
-    let others = subst (AreIdsOfKinds table kinds have.next to) none have.left in
-    passed_to (λ n. is_of_kinds table kinds n ≡ true) (IsOther table kinds marks) from have.next to stayed have.order have.ids (λ other at_least less. inl (others other at_least less))
+-- ---- one type after the other, from the first on
 
--- all were
-pub all_looked_at : (table : Table) (kinds : List Bool) (marks : BeginningMarks) (from to index : ℕ) (ids stayed : List ℕ) → length ids ≤ index → HaveStayed table kinds marks from to (drop index ids) stayed → AreIdsByName table kinds marks from to stayed
-all_looked_at table kinds marks from to index ids stayed past have = all_by table kinds marks from to (drop index ids) stayed (drop_all index ids past) have
+-- how an id follows the one before
+counted : (table : Table) (kinds : List Bool) (marks : BeginningMarks) (first index : ℕ) (ids : List ℕ) → AreIdsByName table kinds marks first (first + index + 1) ids → AreIdsByName table kinds marks first (first + (index + 1)) ids
+counted table kinds marks first index ids are =
+    let same : first + index + 1 ≡ first + (index + 1) = omega arith in
+    subst (λ (to : ℕ). AreIdsByName table kinds marks first to ids) same are
+
+pub begun : (table : Table) (kinds : List Bool) (marks : BeginningMarks) (first : ℕ) → AreIdsByName table kinds marks first (first + 0) []
+begun table kinds marks first =
+    let same : first ≡ first + 0 = omega arith in
+    subst (λ (to : ℕ). AreIdsByName table kinds marks first to []) same (no_ids table kinds marks first)
+
+pub one_more_at : (table : Table) (kinds : List Bool) (marks : BeginningMarks) (first index len : ℕ) (ids : List ℕ) → len < length ids → is_of_kinds table kinds (first + index) ≡ true → AreIdsByName table kinds marks first (first + index) (take len ids) → AreIdsByName table kinds marks first (first + (index + 1)) (take (len + 1) (slice_set ids len (first + index)))
+one_more_at table kinds marks first index len ids within is are = counted table kinds marks first index (take (len + 1) (slice_set ids len (first + index))) (one_more table kinds marks first (first + index) len ids (omega arith) within is are)
+
+pub other_kind_at : (table : Table) (kinds : List Bool) (marks : BeginningMarks) (first index : ℕ) (ids : List ℕ) → is_of_kinds table kinds (first + index) ≡ false → AreIdsByName table kinds marks first (first + index) ids → AreIdsByName table kinds marks first (first + (index + 1)) ids
+other_kind_at table kinds marks first index ids isnt are = counted table kinds marks first index ids (other_kind table kinds marks first (first + index) ids isnt are)
+
+pub other_name_at : (table : Table) (kinds : List Bool) (marks : BeginningMarks) (first index : ℕ) (ids : List ℕ) → BeginsOtherwise table marks (first + index) → AreIdsByName table kinds marks first (first + index) ids → AreIdsByName table kinds marks first (first + (index + 1)) ids
+other_name_at table kinds marks first index ids begins are = counted table kinds marks first index ids (other_name table kinds marks first (first + index) ids begins are)

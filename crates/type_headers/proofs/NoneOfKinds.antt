@@ -1,5 +1,5 @@
 -- None of some types is of some kinds.
-use Rattle.std.proofs.Common.{◌≡◌, ◌<◌, ℕ, zero, suc, ◌+◌, ◌-◌, ◌==◌, ◌||◌, Bool, true, false, nat_eq, List, [], ◌∷◌, length, Option, None, Some, refl, ap, sym, ◌∙◌, subst, arith}
+use Rattle.std.proofs.Common.{◌≡◌, ◌<◌, ℕ, zero, suc, ◌+◌, ◌-◌, ◌==◌, ◌||◌, Bool, true, false, nat_eq, List, [], ◌∷◌, length, Option, None, Some, refl, ap, sym, ◌∙◌, subst, arith, inl}
 use Rattle.std.proofs.lemmas.Bool.Decides.{nat_tests}
 use Rattle.std.specs.Prelude.{IfSome, slice_get, slice_index_or}
 use Rattle.std.specs.List.{list_any}
@@ -10,7 +10,8 @@ use Rattle.btf_records.specs.declared.kind.BtfKind.{BtfKind}
 use Rattle.btf_records.specs.declared.kind.BtfKind.TheVariants as kinds
 use Rattle.btf_records.specs.declared.types.BtfType.{BtfType}
 use Rattle.btf_tables.specs.Tables.{Table, type_by_id}
-use Rattle.type_headers.specs.Blocks.{AreIdsOfKinds, AreKindsFrom, AreListed, is_of_kinds}
+use Rattle.type_headers.specs.Beginnings.{BeginningMarks}
+use Rattle.type_headers.specs.Blocks.{AreIdsByName, AreListed, ArePartsFrom, is_of_kinds}
 
 pub few_kinds : (kind : BtfKind) → number_of kind < 20
 few_kinds kinds.Unknown = omega arith
@@ -80,14 +81,14 @@ found : (table : Table) (first index : ℕ) (kind : BtfKind) (there : Option Btf
 found table first index kind None is are = absurd cc
 found table first index kind (Some k) is are = let same : k ≡ kind = cc in are ∙ ap Some same
 
-one_other : (table : Table) (kinds : List Bool) (first index : ℕ) (types : List BtfKind) → HaveNone kinds types → AreKindsFrom table first types → index < length types → is_of_kinds table kinds (first + index) ≡ false
+one_other : (table : Table) (kinds : List Bool) (first index : ℕ) (types : List BtfKind) → HaveNone kinds types → ArePartsFrom BtfKind kind_of_type table first types → index < length types → is_of_kinds table kinds (first + index) ≡ false
 one_other table kinds first index types none are below =
     let (kind, there) = within types index below in
     by_kind kinds kind (type_by_id table (first + index)) (found table first index kind (slice_get types index) there (are.each index)) (here_none kinds types index kind none there)
 
-pub none_of_kinds : (table : Table) (kinds : List Bool) (from to : ℕ) (types : List BtfKind) → HaveNone kinds types → from + length types ≡ to → AreKindsFrom table from types → AreIdsOfKinds table kinds from to []
+pub none_of_kinds : (table : Table) (kinds : List Bool) (marks : BeginningMarks) (from to : ℕ) (types : List BtfKind) → HaveNone kinds types → from + length types ≡ to → ArePartsFrom BtfKind kind_of_type table from types → AreIdsByName table kinds marks from to []
 unfolding AreListed
-none_of_kinds table kinds from to types none long are = λ id from_le below.
+none_of_kinds table kinds marks from to types none long are = λ id from_le below.
     let same : from + (id - from) ≡ id = omega (arith, from_le) in
     let inside : id - from < length types = omega (arith, from_le, below, long) in
-    subst (λ (n : ℕ). is_of_kinds table kinds n ≡ false) same (one_other table kinds from (id - from) types none are inside)
+    inl (subst (λ (n : ℕ). is_of_kinds table kinds n ≡ false) same (one_other table kinds from (id - from) types none are inside))

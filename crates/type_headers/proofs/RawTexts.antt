@@ -1,6 +1,7 @@
 -- The first bytes of a text are those at its offset.
-use Rattle.std.proofs.Common.{◌≡◌, ℕ, zero, suc, ◌+◌, Bool, true, false, cond, nat_eq, nat_lt, not, List, [], ◌∷◌, Option, None, Some, drop, take, length, refl, ap, sym, ◌∙◌, arith, inl, inr}
-use Rattle.std.specs.Prelude.{◌==◌, ◌&&◌, option_and_then}
+use Rattle.std.proofs.Common.{◌≡◌, ℕ, zero, suc, ◌+◌, ◌<◌, Bool, true, false, cond, nat_eq, nat_lt, not, List, [], ◌∷◌, Option, None, Some, drop, take, length, refl, ap, sym, ◌∙◌, arith, inl, inr}
+use Rattle.std.specs.Prelude.{◌==◌, ◌&&◌, option_and_then, slice_index_or}
+use Rattle.std.proofs.lemmas.List.{drop_more}
 use Rattle.std.proofs.lemmas.Bool.Decides.{nat_tests}
 use Rattle.std.specs.List.{position_or_len}
 use Rattle.std.specs.Option.{IsSomeAnd, option_map}
@@ -102,3 +103,9 @@ too_short_as marks strings text bytes offset is e isnt none (inr may) =
 
 pub too_short : (marks : BeginningMarks) (strings text bytes : List ℕ) (offset : ℕ) → bytes ≡ drop offset strings → text_at strings offset ≡ Some text → NoShort marks bytes → None ≡ long_beginning bytes → MayBegin marks text → ⊥
 too_short marks strings text bytes offset is e isnt none may = too_short_as marks strings text bytes offset is e isnt none may.1
+
+-- the number of the bytes at an offset
+pub two_bytes_at : (strings : List ℕ) (offset : ℕ) → offset + 1 < length strings → beginning (drop offset strings) ≡ beginning_of (slice_index_or strings offset 0) (slice_index_or strings (offset + 1) 0)
+two_bytes_at strings offset within =
+    let here : offset < length strings = omega (arith, within) in
+    ap beginning (drop_more strings offset 0 here) ∙ ap (λ (rest : List ℕ). beginning_of (slice_index_or strings offset 0) (first_byte rest)) (drop_more strings (offset + 1) 0 within)

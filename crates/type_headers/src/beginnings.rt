@@ -11,13 +11,13 @@ use std::marker::Model;
 /// A number that all texts have which begin with these two bytes, a NUL after the last byte of a
 /// text being one of them. 31 is odd, so that where the second bytes are alike the numbers differ
 /// as the first bytes do.
+#[tactic(auto, using(crate::proofs::EmptyTexts::masked))]
 fn beginning_of(first: u8, second: u8) -> u8
     ensures { result ≡ beginning_of first second }
 {
-    if first == 0 {
-        return 0;
-    }
-    first.wrapping_mul(31).wrapping_add(second)
+    let number = first.wrapping_mul(31).wrapping_add(second);
+    // Which texts are empty a processor can't guess: they are told without a branch.
+    number & 0u8.wrapping_sub(u8::from(first != 0))
 }
 
 /// The number of the text that these bytes begin with, by its first two.
@@ -123,8 +123,15 @@ impl NameBeginnings {
         }
     }
 
+    /// Whether a text of one of the names has the number of these two bytes.
+    pub(crate) fn has_two_bytes(&self, first: u8, second: u8) -> bool
+        ensures { result ≡ is_marked self.now.pairs (beginning_of first second) }
+    {
+        self.pairs.contains(beginning_of(first, second))
+    }
+
     /// Whether a text of one of the names has the number of the first two of these bytes.
-    pub(crate) fn has_pair(&self, bytes: &[u8]) -> bool
+    fn has_pair(&self, bytes: &[u8]) -> bool
         ensures { result ≡ is_marked self.now.pairs (beginning bytes.now) }
     {
         self.pairs.contains(beginning(bytes))

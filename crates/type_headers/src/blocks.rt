@@ -1,11 +1,13 @@
 //! The types of some kinds and names, block by block.
 
-ghost use Rattle.std.specs.Prelude.{◌≡◌, ◌≤◌, ◌+◌, ◌^◌, ◌==◌, ℕ, Bool, List, [], true, false, length, slice_index_or, take, if◌then◌else◌, IfSome};
+ghost use Rattle.std.specs.Prelude.{◌≡◌, ◌≤◌, ◌<◌, ◌+◌, ◌^◌, ◌==◌, [], drop, true, false, length, slice_index_or, take, IfSome};
 ghost use Rattle.std.specs.List.{list_any};
 ghost use Rattle.btf_records.specs.Kinds.{number_of};
 ghost use Rattle.btf_records.specs.declared.kind.BtfKind.{BtfKind};
 ghost use Rattle.btf_tables.specs.Tables.{Table};
-ghost use Rattle.type_headers.specs.Blocks.{AreIdsByName, AreIdsOfKinds, AreKindsFrom, is_of_kinds};
+ghost use Rattle.first_bytes.specs.FirstBytes.{AreTexts, is_marked};
+ghost use Rattle.type_headers.specs.Beginnings.{BeginningMarks, beginning};
+ghost use Rattle.type_headers.specs.Blocks.{AreIdsByName, AreTypesFrom, is_of_kinds};
 ghost use Rattle.type_headers.specs.Headers.{AreHeadersOf};
 
 use crate::beginnings::NameBeginnings;
@@ -19,10 +21,9 @@ pub const BLOCK: usize = 256;
 /// How many kinds there are.
 const KIND_COUNT: u8 = 20;
 
-/// Ids of types of a block, with room for those that are looked at before.
+/// Ids of types of a block.
 #[derive(Debug, Drop)]
 pub struct BlockIds {
-    of_kinds: [u32; 256],
     ids: [u32; 256],
     len: usize,
 }
@@ -43,7 +44,6 @@ impl BlockIds {
         ensures { result ≡ [] }
     {
         BlockIds {
-            of_kinds: [0; 256],
             ids: [0; 256],
             len: 0,
         }
@@ -102,32 +102,60 @@ fn has_any(kinds: &[bool], types: &[BtfKind]) -> bool
     false
 }
 
-/// 1 or 0.
-fn count_of(is: bool) -> usize
-    ensures { result ≡ (if is then 1 else 0) }
+/// Whether the name at an offset may begin as one of some names does, as its first two bytes tell.
+#[tactic(auto, using(crate::proofs::RawTexts::two_bytes_at))]
+fn may_begin(strings: &[u8], offset: u32, names: &NameBeginnings) -> bool
+    ensures within { result ≡ false → offset < length strings.now }
+    ensures otherwise { result ≡ false
+        → is_marked names.now.pairs (beginning (drop offset strings.now)) ≡ false }
 {
-    usize::from(is)
+    let first = offset as usize;
+    let second = first + 1;
+    if second >= strings.len() {
+        return true;
+    }
+    names.has_two_bytes(strings[first], strings[second])
 }
 
-/// Writes those of the ids from `first` on, whose types have the kinds `types`, whose kind is
-/// wanted, and answers how many they are. Each id is written, and stays only where its kind is: the
-/// processor has nothing to guess.
-fn write_ids(kinds: &[bool], types: &[BtfKind], first: usize, ids: &mut [u32]) -> usize
-    requires few { length types.now ≤ 256 }
-    requires countable { first + length types.now ≤ 2 ^ 32 }
+/// What is looked at of types that follow each other.
+#[derive(Clone, Copy, Debug)]
+struct BlockTypes<'t> {
+    kinds: &'t [BtfKind],
+    /// As many as there are kinds.
+    name_offsets: &'t [u32],
+}
+
+/// Writes those of the ids from `first` on whose types are of some kinds, without nearly all whose
+/// names begin as none of some names does, and answers how many they are. Names are looked at
+/// first: few begin so, which a processor guesses well.
+fn write_ids(
+    kinds: &[bool],
+    names: &NameBeginnings,
+    types: BlockTypes<'_>,
+    strings: &[u8],
+    first: usize,
+    ids: &mut [u32],
+) -> usize
+    requires few { length types.kinds.now ≤ 256 }
+    requires as_many { length types.name_offsets.now ≡ length types.kinds.now }
+    requires countable { first + length types.kinds.now ≤ 2 ^ 32 }
     requires room { length ids.old ≡ 256 }
     ensures room { length ids.new ≡ 256 }
     ensures within { result ≤ 256 }
     ensures are { (table : Table)
-        → AreKindsFrom table first types.now
-        → AreIdsOfKinds table kinds.now first (first + length types.now) (take result ids.new) }
+        → table.strings ≡ strings.now
+        → AreTexts strings.now
+        → AreTypesFrom table first types.entry.kinds.now types.entry.name_offsets.now
+        → AreIdsByName table kinds.now names.now first (first + length types.entry.kinds.now)
+        (take result ids.new) }
 {
     let mut len = 0;
-    let mut id = first;
-    for kind in types {
-        ids[len] = id as u32;
-        len += count_of(is_one_of(kinds, *kind));
-        id += 1;
+    for index in 0..types.kinds.len() {
+        let may = may_begin(strings, types.name_offsets[index], names);
+        if may && is_one_of(kinds, types.kinds[index]) {
+            ids[len] = (first + index) as u32;
+            len += 1;
+        }
     }
     len
 }
@@ -146,7 +174,7 @@ impl<'t> TypeHeaders<'t> {
     }
 
     /// Writes the ids of the types of some kinds from one id up to another, looked at one by one,
-    /// and answers how many they are.
+    /// whatever their names, and answers how many they are.
     fn write_one_by_one(&self, kinds: &[bool], from: usize, to: usize, ids: &mut [u32]) -> usize
         requires order { from ≤ to }
         requires few { to ≤ from + 256 }
@@ -154,36 +182,52 @@ impl<'t> TypeHeaders<'t> {
         requires room { length ids.old ≡ 256 }
         ensures room { length ids.new ≡ 256 }
         ensures within { result ≤ 256 }
-        ensures are { (table : Table)
+        ensures are { (table : Table) (marks : BeginningMarks)
             → AreHeadersOf table self.now
-            → AreIdsOfKinds table kinds.now from to (take result ids.new) }
+            → AreIdsByName table kinds.now marks from to (take result ids.new) }
     {
         let mut len = 0;
         for id in from..to {
-            ids[len] = id as u32;
-            len += count_of(self.is_of_kinds(kinds, id));
+            if self.is_of_kinds(kinds, id) {
+                ids[len] = id as u32;
+                len += 1;
+            }
         }
         len
     }
 
-    /// The kinds of the types from one id up to another, where void isn't among them, and all are
-    /// there.
-    fn kinds_between(&self, from: usize, to: usize) -> Option<&'t [BtfKind]>
+    /// The types from one id up to another, where void isn't among them, and all are there.
+    fn types_between(&self, from: usize, to: usize) -> Option<BlockTypes<'t>>
         requires { from ≤ to }
         ensures { IfSome result (λ types.
-            (from + length types.now ≡ to)
-            × ((table : Table) → AreHeadersOf table self.now → AreKindsFrom table from types.now)) }
+            (from + length types.kinds.now ≡ to)
+            × (length types.name_offsets.now ≡ length types.kinds.now)
+            × ((table : Table)
+            → AreHeadersOf table self.now
+            → AreTypesFrom table from types.kinds.now types.name_offsets.now)) }
     {
         if from == 0 {
             return None;
         }
-        self.kinds.get(from - 1..to - 1)
+        let kinds = self.kinds.get(from - 1..to - 1)?;
+        let name_offsets = self.name_offsets.get(from - 1..to - 1)?;
+        Some(BlockTypes {
+            kinds,
+            name_offsets,
+        })
     }
 
     /// Writes the ids of the types of some kinds from one id up to another, which begin and end a
     /// block, and answers how many they are. Of most blocks of a kernel's table no type is of the
     /// kinds of which few types are.
-    fn write_ids_of_kinds(&self, kinds: &[bool], from: usize, to: usize, ids: &mut [u32]) -> usize
+    fn write_block(
+        &self,
+        kinds: &[bool],
+        names: &NameBeginnings,
+        from: usize,
+        to: usize,
+        ids: &mut [u32],
+    ) -> usize
         requires order { from ≤ to }
         requires few { to ≤ from + 256 }
         requires countable { to ≤ 2 ^ 32 }
@@ -192,34 +236,15 @@ impl<'t> TypeHeaders<'t> {
         ensures within { result ≤ 256 }
         ensures are { (table : Table)
             → AreHeadersOf table self.now
-            → AreIdsOfKinds table kinds.now from to (take result ids.new) }
+            → AreIdsByName table kinds.now names.now from to (take result ids.new) }
     {
-        match self.kinds_between(from, to) {
-            Some(types) if !has_any(kinds, types) => 0,
-            Some(types) => write_ids(kinds, types, from, ids),
-            None => self.write_one_by_one(kinds, from, to, ids),
+        match self.types_between(from, to) {
+            Some(types) if !has_any(kinds, types.kinds) => 0,
+            Some(types) if self.are_texts => {
+                write_ids(kinds, names, types, self.strings, from, ids)
+            }
+            _ => self.write_one_by_one(kinds, from, to, ids),
         }
-    }
-
-    /// Writes those of some ids whose names may begin as one of some names does, by two bytes, and
-    /// answers how many they are.
-    fn write_ids_by_name(&self, names: &NameBeginnings, of_kinds: &[u32], ids: &mut [u32]) -> usize
-        requires few { length of_kinds.now ≤ 256 }
-        requires room { length ids.old ≡ 256 }
-        ensures room { length ids.new ≡ 256 }
-        ensures within { result ≤ 256 }
-        ensures are { (table : Table) (kinds : List Bool) (from to : ℕ)
-            → from ≤ to
-            → AreHeadersOf table self.now
-            → AreIdsOfKinds table kinds from to of_kinds.now
-            → AreIdsByName table kinds names.now from to (take result ids.new) }
-    {
-        let mut len = 0;
-        for id in of_kinds {
-            ids[len] = *id;
-            len += count_of(self.may_begin(*id as usize, names));
-        }
-        len
     }
 
     /// Notes the ids of the types of some kinds from one id up to another, which begin and end a
@@ -239,7 +264,6 @@ impl<'t> TypeHeaders<'t> {
             → AreHeadersOf table self.now
             → AreIdsByName table kinds.now names.now from to block.new }
     {
-        let count = self.write_ids_of_kinds(kinds, from, to, &mut block.of_kinds);
-        block.len = self.write_ids_by_name(names, &block.of_kinds[..count], &mut block.ids);
+        block.len = self.write_block(kinds, names, from, to, &mut block.ids);
     }
 }

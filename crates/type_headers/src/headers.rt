@@ -28,10 +28,10 @@ pub struct TypeHeaders<'t> {
     /// The kinds from id 1 on.
     pub(crate) kinds: &'t [BtfKind],
     /// The offsets of names from id 1 on.
-    name_offsets: &'t [u32],
-    strings: &'t [u8],
+    pub(crate) name_offsets: &'t [u32],
+    pub(crate) strings: &'t [u8],
     /// Whether each byte of the strings is known to begin a text.
-    are_texts: bool,
+    pub(crate) are_texts: bool,
 }
 
 impl<'t> Model for TypeHeaders<'t> {
@@ -83,24 +83,6 @@ impl<'t> TypeHeaders<'t> {
         }
         let offset = self.name_offsets.get(id - 1).copied()?;
         bytes_from(self.strings, offset as usize)
-    }
-
-    /// Whether the name of the type of an id may begin as one of some names does, as its first two
-    /// bytes tell.
-    #[tactic(auto, using(crate::proofs::HeadersOf::has_other_pair))]
-    pub(crate) fn may_begin(&self, id: usize, names: &NameBeginnings) -> bool
-        ensures { (table : Table)
-            → AreHeadersOf table self.now
-            → result ≡ false
-            → BeginsOtherwise table names.now id }
-    {
-        if !self.are_texts {
-            return true;
-        }
-        match self.name_bytes(id) {
-            Some(bytes) => names.has_pair(bytes),
-            None => true,
-        }
     }
 
     /// Whether the name of the type of an id can be read, and begins as none of some names does.
