@@ -12,7 +12,7 @@ use object_parts::{Functions, Programs};
 use std::alloc::{AllocError, Global};
 
 /// Puts a value in place of another, which is dropped here alone.
-fn put<T: Drop>(place: &mut T, value: T)
+pub(crate) fn put<T: Drop>(place: &mut T, value: T)
     ensures { place.new ≡ value }
 {
     *place = value;
@@ -39,7 +39,7 @@ fn extension_again<'a>(extension: &Option<BtfExt<'a>>) -> Result<Option<BtfExt<'
 }
 
 /// An object of a file of which nothing else is read.
-fn unread<'a>(alloc: Global, file: ObjectFile<'a>) -> Object<'a>
+pub(crate) fn unread<'a>(alloc: Global, file: ObjectFile<'a>) -> Object<'a>
     ensures file { result.file ≡ file.entry }
     ensures programs { result.programs ≡ [] }
 {

@@ -26,6 +26,7 @@ ghost use Rattle.ebpf_object.specs.TextSections as code;
 ghost use Rattle.ebpf_object.specs.Rewriting.{AreAnswered, IsRefused, IsRewritten};
 ghost use Rattle.btf_records.specs.declared.error.BtfError.TheVariants as BtfError;
 
+use crate::copies::{put, unread};
 use crate::rewriting::rewrite;
 use crate::text_sections::text_sections;
 use crate::types::read_types;
@@ -208,6 +209,26 @@ impl<'a> Object<'a> {
         }
     }
 
+    /// Reads what the file holds, into an object that has nothing else yet.
+    fn read(&mut self) -> Result<(), ParseError>
+        requires { self.old.programs ≡ [] }
+        ensures value { OnOk result (IsParsed self.old.file self.new) }
+        ensures accepted { OnOk result (IsSound self.old.file) }
+        ensures refused { IfErr result (λ e. e ≢ OutOfMemory → HasObjectFault self.old.file e) }
+    {
+        let types = read_types(self.alloc, &self.file)?;
+        put(&mut self.btf, types.table);
+        put(&mut self.btf_ext, types.extension);
+        let externs = declared_externs(self.alloc, self.file.symbols(), &mut self.btf)?;
+        put(&mut self.externs, externs);
+        let code = read_code(self.alloc, &self.file, self.btf_ext.as_ref())?;
+        put(&mut self.functions, code.functions);
+        put(&mut self.programs, code.programs);
+        let maps = maps(self.alloc, &self.file, &self.btf)?;
+        put(&mut self.maps, maps);
+        Ok(())
+    }
+
     /// The object of a file: its types, maps, programs, functions and externs.
     ///
     /// # Errors
@@ -219,20 +240,9 @@ impl<'a> Object<'a> {
         ensures accepted { OnOk result (IsSound file.entry) }
         ensures refused { IfErr result (λ e. e ≢ OutOfMemory → HasObjectFault file.entry e) }
     {
-        let mut types = read_types(alloc, &file)?;
-        let externs = declared_externs(alloc, file.symbols(), &mut types.table)?;
-        let code = read_code(alloc, &file, types.extension.as_ref())?;
-        let maps = maps(alloc, &file, &types.table)?;
-        Ok(Object {
-            alloc,
-            file,
-            btf: types.table,
-            btf_ext: types.extension,
-            maps,
-            programs: code.programs,
-            functions: code.functions,
-            externs,
-        })
+        let mut object = unread(alloc, file);
+        object.read()?;
+        Ok(object)
     }
 
     /// Takes the maps away: the object has none then.

@@ -1,9 +1,9 @@
 //! What is told of what a kernel lacks.
 
-use crate::first_names::FirstNames;
 use crate::kernel_files::{KernelFiles, NO_TYPES};
 use crate::tables::table_of;
 use extern_resolution::KsymsError;
+use line_words::FirstNames;
 use object_externs::{Externs, read_externs};
 use object_file::ObjectFile;
 use relocation_errors::{BtfRelocationCause, BtfRelocationError};

@@ -4,7 +4,6 @@
 
 mod contents;
 mod definitions;
-mod first_names;
 mod functions;
 mod instructions;
 mod kernel_files;

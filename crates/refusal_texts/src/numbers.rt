@@ -1,8 +1,8 @@
 //! Maps without a number.
 
-use crate::first_names::{FirstNames, ShortName};
 use crate::tables::table_of;
 use btf_tables::Btf;
+use line_words::{FirstNames, ShortName};
 use object_file::ObjectFile;
 use object_maps::{Maps, read_maps};
 use settings::Settings;

@@ -10,9 +10,10 @@ const TOLD: usize = 10;
 const WHOLE: usize = 256;
 
 /// A name in double quotes; of a longer one its beginning, and its length.
-#[derive(Clone, Copy)]
-pub(crate) struct ShortName<'n> {
-    pub(crate) name: &'n str,
+#[derive(Clone, Copy, Debug)]
+pub struct ShortName<'n> {
+    /// The name.
+    pub name: &'n str,
 }
 
 impl<'n> fmt::Display for ShortName<'n> {
@@ -28,14 +29,15 @@ impl<'n> fmt::Display for ShortName<'n> {
 
 /// The first of some names, and how many more there are. An object of a megabyte can have thousands
 /// of names that are nearly as long as itself, since they may share their bytes.
-#[derive(Drop)]
-pub(crate) struct FirstNames<'n> {
+#[derive(Debug, Drop)]
+pub struct FirstNames<'n> {
     names: Vec<&'n str>,
     more: usize,
 }
 
 impl<'n> FirstNames<'n> {
-    pub(crate) fn new(alloc: Global) -> FirstNames<'n> {
+    /// No names.
+    pub fn new(alloc: Global) -> FirstNames<'n> {
         FirstNames {
             names: Vec::new(alloc),
             more: 0,
@@ -43,7 +45,7 @@ impl<'n> FirstNames<'n> {
     }
 
     /// Adds a name.
-    pub(crate) fn push(&mut self, name: &'n str) -> Result<(), AllocError> {
+    pub fn push(&mut self, name: &'n str) -> Result<(), AllocError> {
         if self.names.len() < TOLD {
             self.names.push(name)?;
         } else {
@@ -53,7 +55,7 @@ impl<'n> FirstNames<'n> {
     }
 
     /// Whether there are two names or more.
-    pub(crate) fn are_several(&self) -> bool {
+    pub fn are_several(&self) -> bool {
         self.names.len() > 1
     }
 }
