@@ -5,13 +5,12 @@
 
 mod changes;
 mod counts;
-mod error;
 mod planning;
 mod refused_lines;
 mod texts;
 
 use counts::Counts;
-pub use error::ChangesError;
+use exercise_errors::ExerciseError;
 use load_plan::Endianness;
 use planning::{changed_object_counts, changed_types_counts};
 use refused_lines::print_refused_lines;
@@ -19,8 +18,8 @@ use std::env::Args;
 use std::fs;
 use texts::{changed_text_counts, count_refused_texts};
 
-fn next_word(words: &mut Args) -> Result<String, ChangesError> {
-    words.next().ok_or(ChangesError::Usage)
+fn next_word(words: &mut Args) -> Result<String, ExerciseError> {
+    words.next().ok_or(ExerciseError::Usage)
 }
 
 /// Prints what runs came to, and how many came to a plan where that is asked for.
@@ -29,7 +28,7 @@ fn print_counts(
     what: &str,
     counts: Counts,
     shows_plans: bool,
-) -> Result<(), ChangesError> {
+) -> Result<(), ExerciseError> {
     println!(rt;
         "{} of {} runs on {what} end with a plan or a refusal",
         counts.answered(),
@@ -48,16 +47,16 @@ fn print_counts(
 }
 
 /// The byte order of a word.
-fn order_of(word: &str) -> Result<Endianness, ChangesError> {
+fn order_of(word: &str) -> Result<Endianness, ExerciseError> {
     match word {
         "little" => Ok(Endianness::Little),
         "big" => Ok(Endianness::Big),
-        _ => Err(ChangesError::Usage),
+        _ => Err(ExerciseError::Usage),
     }
 }
 
 /// The bytes of the files that the words name.
-fn read_files(rt: &HostRuntime, words: &mut Args) -> Result<Vec<Vec<u8>>, ChangesError> {
+fn read_files(rt: &HostRuntime, words: &mut Args) -> Result<Vec<Vec<u8>>, ExerciseError> {
     let mut files = Vec::new(rt.alloc());
     for name in words {
         files.push(fs::read(rt, name.as_str())?)?;
@@ -72,7 +71,7 @@ fn count_all(
     maps: &str,
     words: &mut Args,
     shows_plans: bool,
-) -> Result<(), ChangesError> {
+) -> Result<(), ExerciseError> {
     let mut object = fs::read(rt, next_word(words)?.as_str())?;
     let order = order_of(next_word(words)?.as_str())?;
     let mut types = read_files(rt, words)?;
@@ -86,7 +85,7 @@ fn count_all(
 }
 
 /// Counts over the plan's text that a word names.
-fn count_texts(rt: &HostRuntime, words: &mut Args) -> Result<(), ChangesError> {
+fn count_texts(rt: &HostRuntime, words: &mut Args) -> Result<(), ExerciseError> {
     let mut text = fs::read(rt, next_word(words)?.as_str())?;
     let fronts = count_refused_texts(rt.alloc(), text.as_slice());
     println!(rt;
@@ -105,7 +104,7 @@ fn count_texts(rt: &HostRuntime, words: &mut Args) -> Result<(), ChangesError> {
 /// Counts over what the words name, and prints what it comes to: `[--plans] MAP[,MAP].. OBJECT
 /// little|big [TYPES..]`, maps that get a number, the object's file, the byte order of the kernel's
 /// types and their files. With `--plans` how many plans there are is printed too.
-pub fn print_changed_plans(rt: &HostRuntime, words: &mut Args) -> Result<(), ChangesError> {
+pub fn print_changed_plans(rt: &HostRuntime, words: &mut Args) -> Result<(), ExerciseError> {
     let first = next_word(words)?;
     if first.as_str() == "--plans" {
         let maps = next_word(words)?;
@@ -116,13 +115,13 @@ pub fn print_changed_plans(rt: &HostRuntime, words: &mut Args) -> Result<(), Cha
 
 /// Reads the text of a plan, whose file a word names, cut off and changed in one byte, and prints
 /// what that comes to.
-pub fn print_changed_texts(rt: &HostRuntime, words: &mut Args) -> Result<(), ChangesError> {
+pub fn print_changed_texts(rt: &HostRuntime, words: &mut Args) -> Result<(), ExerciseError> {
     count_texts(rt, words)
 }
 
 /// Prints for each byte of the text of a plan, whose file a word names, the lines at which it is
 /// refused with each other value of the byte.
-pub fn print_changed_lines(rt: &HostRuntime, words: &mut Args) -> Result<(), ChangesError> {
+pub fn print_changed_lines(rt: &HostRuntime, words: &mut Args) -> Result<(), ExerciseError> {
     let mut text = fs::read(rt, next_word(words)?.as_str())?;
     print_refused_lines(rt, text.as_mut_slice())
 }

@@ -1,6 +1,6 @@
 //! The lines at which a plan's text is refused with one byte changed.
 
-use crate::error::ChangesError;
+use exercise_errors::ExerciseError;
 use load_plan::{Plan, PlanReadError};
 use std::alloc::{AllocError, Global};
 
@@ -77,7 +77,7 @@ fn lines_at(alloc: Global, text: &mut [u8], at: usize) -> Result<String, AllocEr
 
 /// Prints for each byte of a text a line: the lines at which it is refused with each other value of
 /// that byte, the values rising, 0 where it is a plan's text.
-pub(crate) fn print_refused_lines(rt: &HostRuntime, text: &mut [u8]) -> Result<(), ChangesError> {
+pub(crate) fn print_refused_lines(rt: &HostRuntime, text: &mut [u8]) -> Result<(), ExerciseError> {
     for at in 0..text.len() {
         let lines = lines_at(rt.alloc(), text, at)?;
         println!(rt; "{at}:{lines}")?;

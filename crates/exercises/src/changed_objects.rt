@@ -3,7 +3,8 @@
 
 use ebpf_object::{Object, ParseError};
 use elf64::ElfError;
-use measures::{ExerciseError, read_next};
+use exercise_errors::ExerciseError;
+use measures::read_next;
 use std::alloc::Global;
 use std::env::Args;
 

@@ -26,9 +26,10 @@ mod relocated_objects;
 mod rewritten_tables;
 mod thousand_structs;
 
-use changed_plans::{ChangesError, print_changed_lines, print_changed_plans, print_changed_texts};
+use changed_plans::{print_changed_lines, print_changed_plans, print_changed_texts};
+use exercise_errors::ExerciseError;
 use library_example::{ExampleError, print_object_and_plan};
-use measures::{ExerciseError, measure_matching, measure_object, measure_symbols, measure_types};
+use measures::{measure_matching, measure_object, measure_symbols, measure_types};
 use std::env;
 use std::env::Args;
 use std::fmt::Display;
@@ -48,14 +49,6 @@ fn status_of(rt: &HostRuntime, answer: Result<(), ExerciseError>) -> ExitCode {
     }
 }
 
-/// The status of an exercise on changed plans; its error is printed.
-fn status_of_changes(rt: &HostRuntime, answer: Result<(), ChangesError>) -> ExitCode {
-    match answer {
-        Ok(()) => ExitCode::SUCCESS,
-        Err(error) => failed(rt, &error, error.status()),
-    }
-}
-
 /// The status of the example of the library's use; its error is printed.
 fn status_of_example(rt: &HostRuntime, answer: Result<(), ExampleError>) -> ExitCode {
     match answer {
@@ -69,9 +62,9 @@ fn run(rt: &HostRuntime, exercise: &str, words: &mut Args) -> ExitCode {
     match exercise {
         "memory-calls" => memory_calls::run(rt),
         "changed-bytes" => status_of(rt, changed_objects::run(rt, words)),
-        "changed-plans" => status_of_changes(rt, print_changed_plans(rt, words)),
-        "changed-texts" => status_of_changes(rt, print_changed_texts(rt, words)),
-        "changed-lines" => status_of_changes(rt, print_changed_lines(rt, words)),
+        "changed-plans" => status_of(rt, print_changed_plans(rt, words)),
+        "changed-texts" => status_of(rt, print_changed_texts(rt, words)),
+        "changed-lines" => status_of(rt, print_changed_lines(rt, words)),
         "library-example" => status_of_example(rt, print_object_and_plan(rt, words)),
         "linkers" => status_of(rt, linked_objects::run(rt, words)),
         "matchings" => status_of(rt, matchings::run(rt, words)),

@@ -1,7 +1,7 @@
 //! Type relocations over random tables of types, beside the plain definitions.
 
 use compared_matches::{SORTS, Tally, compare_rounds};
-use measures::ExerciseError;
+use exercise_errors::ExerciseError;
 use std::env::Args;
 
 /// Prints which sorts of answers never came, or how often each did.

@@ -10,7 +10,8 @@ use crate::object_steps::{
 };
 use btf::{Btf, Endianness};
 use ebpf_object::Object;
-use measures::{ExerciseError, read_next};
+use exercise_errors::ExerciseError;
+use measures::read_next;
 use std::alloc::Global;
 use std::env::Args;
 use std::fs;

@@ -1,6 +1,6 @@
 //! Files that the words name.
 
-use crate::error::ExerciseError;
+use exercise_errors::ExerciseError;
 use std::env::Args;
 use std::fs;
 

@@ -1,7 +1,6 @@
 //! How long the libraries' calls take, for the program of exercises.
 #![tactic(auto)]
 
-mod error;
 mod files;
 mod maps;
 mod matching;
@@ -10,7 +9,6 @@ mod symbols;
 mod times;
 mod types;
 
-pub use error::ExerciseError;
 pub use files::read_next;
 pub use matching::measure_matching;
 pub use objects::measure_object;

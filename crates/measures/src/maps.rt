@@ -1,12 +1,12 @@
 //! Measures how long it takes to put values into an object's maps, and their numbers into its
 //! slots.
 
-use crate::error::ExerciseError;
 use crate::objects::{Call, measure_call};
 use crate::times::micros;
 use ebpf_object::{
     EbpfSectionKind, GlobalValues, Maps, NumberedMap, Object, ObjectFile, ParseError, ReadSymbol,
 };
+use exercise_errors::ExerciseError;
 use std::alloc::{AllocError, Global};
 use std::collections::BTreeSet;
 use std::time::Instant;

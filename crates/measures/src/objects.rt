@@ -1,10 +1,10 @@
 //! How long it takes to parse an object, to link to each of its programs the functions that it
 //! leads to, and to put values into its maps and their numbers into its slots.
 
-use crate::error::ExerciseError;
 use crate::maps::{measure_values, put_values, write_numbers};
 use crate::times::{micros, print_times};
 use ebpf_object::{GlobalValues, Object};
+use exercise_errors::ExerciseError;
 use std::env::Args;
 use std::fs;
 use std::time::Instant;

@@ -1,8 +1,8 @@
 //! How long it takes to find addresses in a text of kernel symbols, beside a plain split of its
 //! lines into words.
 
-use crate::error::ExerciseError;
 use crate::times::{micros, print_times};
+use exercise_errors::ExerciseError;
 use kernel_symbols::{Addresses, read_addresses};
 use std::alloc::{AllocError, Global};
 use std::env::Args;

@@ -1,6 +1,6 @@
 //! Times that are measured.
 
-use crate::error::ExerciseError;
+use exercise_errors::ExerciseError;
 use std::time::Instant;
 
 /// The microseconds since a moment.

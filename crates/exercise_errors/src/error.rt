@@ -1,7 +1,7 @@
 //! Why an exercise or a measure ends early.
 
-use btf::BtfError;
-use ebpf_object::ParseError;
+use btf_records::BtfError;
+use ebpf_items::ParseError;
 use relocation_errors::{EbpfRelocationError, RelocationError};
 use std::alloc::{AllocError, AllocFailed};
 use std::io;

@@ -1,0 +1,6 @@
+//! Why exercises and measures end early.
+#![tactic(auto)]
+
+mod error;
+
+pub use error::ExerciseError;
