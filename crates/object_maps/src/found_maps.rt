@@ -46,6 +46,7 @@ impl<'a> FoundMaps<'a> {
     pub(crate) fn rising(&self)
         ensures { IsStrictlySortedBy (slice_cmp nat_cmp) (map (λ e. e.0) self.now) }
     {
+        // For the proof, which knows the list only where it is read.
         let _entries = &self.entries;
     }
 
