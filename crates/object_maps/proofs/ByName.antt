@@ -87,9 +87,9 @@ pub rising_entered : {V : Type 0} (es found : List (List ℕ × V)) → IsRising
 rising_entered es [] rising = rising
 rising_entered es (f ∷ found) rising = rising_entered (with_entry es f) found (rising_inserted f.0 f.1 es rising)
 
-rising-none : (V : Type 0) → IsRising {V = V} []
+pub rising_none : (V : Type 0) → IsRising {V = V} []
 unfolding IsStrictlySortedBy
-rising-none V = tt
+rising_none V = tt
 
 -- ---- what stands by a name
 
@@ -164,10 +164,10 @@ at-inserted : {V : Type 0} (name k : List ℕ) (v : V) (es : List (List ℕ × V
 at-inserted name k v [] = head name (k, v) []
 at-inserted name k v (e ∷ es) = placed (order k e.0) name k v e es refl (at-inserted name k v es)
 
-in-turn : {X : Type 0} (found : Option X) (b : Bool) (v : X) (rest : Option X) → option_or found (cond b (Some v) rest) ≡ option_or (option_or found (cond b (Some v) None)) rest
-in-turn (Some f) b v rest = refl
-in-turn None true v rest = refl
-in-turn None false v rest = refl
+pub in_turn : {X : Type 0} (found : Option X) (b : Bool) (v : X) (rest : Option X) → option_or found (cond b (Some v) rest) ≡ option_or (option_or found (cond b (Some v) None)) rest
+in_turn (Some f) b v rest = refl
+in_turn None true v rest = refl
+in_turn None false v rest = refl
 
 -- the last of those entered, or else what stood there
 pub at_entered : {V : Type 0} (name : List ℕ) (es found : List (List ℕ × V)) → at name (fold with_entry es found) ≡ option_or (last_value name found) (at name es)
@@ -175,7 +175,7 @@ at_entered name es [] = refl
 at_entered name es (f ∷ found) =
     at_entered name (with_entry es f) found
     ∙ ap (option_or (last_value name found)) (at-inserted name f.0 f.1 es)
-    ∙ in-turn (last_value name found) (bytes_eq name f.0) f.1 (at name es)
+    ∙ in_turn (last_value name found) (bytes_eq name f.0) f.1 (at name es)
 
 -- ---- lists of rising names with the same values by name
 
@@ -259,7 +259,7 @@ module _ {V W S : Type 0} (given : List ℕ → Option S) (view : V → S → W)
 
   last-entered : (name : List ℕ) (es : List (List ℕ × V)) → last_value name (fold with_entry [] es) ≡ last_value name es
   last-entered name es =
-      last-rising name (fold with_entry [] es) (rising_entered [] es (rising-none V))
+      last-rising name (fold with_entry [] es) (rising_entered [] es (rising_none V))
       ∙ at_entered name [] es
       ∙ or_none (last_value name es)
 

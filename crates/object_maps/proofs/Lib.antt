@@ -1,6 +1,7 @@
 pub mod ByName
 pub mod Defined
 pub mod Entered
+pub mod FoundMaps
 pub mod KnownMaps
 pub mod Left
 pub mod Names

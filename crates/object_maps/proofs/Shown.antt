@@ -1,11 +1,10 @@
 -- The entries of maps by name, as contracts see them.
 use Rattle.std.proofs.Common.{◌≡◌, ℕ, Bool, true, false, cond, List, [], ◌∷◌, Option, Some, None, map, refl, ap, ◌∙◌}
 use Rattle.std.specs.Borrow.{Bor}
-use Rattle.std.specs.declared.cmp.Ordering.{Ordering}
-use Rattle.std.specs.declared.cmp.Ordering.TheVariants.{Less, Equal, Greater}
-use Rattle.std.specs.Ordering.{nat_cmp, match_ordering, is_eq}
+use Rattle.std.specs.declared.cmp.Ordering.TheVariants.{Less}
+use Rattle.std.specs.Ordering.{nat_cmp, is_eq}
 use Rattle.std.specs.Cmp.Lexicographic.{slice_cmp}
-use Rattle.std.specs.BTreeMap.{insert_entry, is_at}
+use Rattle.std.specs.BTreeMap.{is_at}
 use Rattle.std.specs.List.{AllByRecursion}
 use Rattle.std.specs.List.Sorted.{IsStrictlySortedBy}
 use Rattle.std.specs.List.{AllZip}
@@ -13,19 +12,7 @@ use Rattle.std.specs.Map.{lookup}
 use Rattle.std.specs.Option.{option_copied, option_map}
 use Rattle.ebpf_items.specs.Maps.{MapView, map_view}
 use Rattle.ebpf_items.specs.declared.maps.Map.{Map}
-use Rattle.object_maps.specs.Found.{with_map}
 use Rattle.object_maps.specs.Maps.{shown}
-
-shown-match : (o : Ordering) (a b c : List (Bor (List ℕ) × Map)) → shown (match_ordering o a b c) ≡ match_ordering o (shown a) (shown b) (shown c)
-shown-match Less a b c = refl
-shown-match Equal a b c = refl
-shown-match Greater a b c = refl
-
-pub shown-insert : (entries : List (Bor (List ℕ) × Map)) (name : Bor (List ℕ)) (m : Map) → shown (insert_entry (λ x y. slice_cmp nat_cmp x.now y.now) entries name m) ≡ with_map (shown entries) (name.now, map_view m)
-shown-insert [] name m = refl
-shown-insert (e ∷ es) name m =
-    shown-match (slice_cmp nat_cmp name.now e.0.now) ((name, m) ∷ e ∷ es) ((e.0, m) ∷ es) (e ∷ insert_entry (λ x y. slice_cmp nat_cmp x.now y.now) es name m)
-    ∙ ap (λ (rest : List (List ℕ × MapView)). match_ordering (slice_cmp nat_cmp name.now e.0.now) ((name.now, map_view m) ∷ (e.0.now, map_view e.1) ∷ shown es) ((e.0.now, map_view m) ∷ shown es) ((e.0.now, map_view e.1) ∷ rest)) (shown-insert es name m)
 
 -- each name is below those after it
 below-shown : (name : List ℕ) (entries : List (Bor (List ℕ) × Map)) → AllByRecursion (λ y. slice_cmp nat_cmp name y.now ≡ Less) (map (λ e. e.0) entries) → AllByRecursion (λ y. slice_cmp nat_cmp name y ≡ Less) (map (λ e. e.0) (shown entries))

@@ -12,14 +12,14 @@ ghost use Rattle.object_maps.specs.Maps.{typed_faults, typed_maps};
 
 use crate::data_sections::DataSections;
 use crate::defined_maps::DefinedMaps;
-use crate::maps::Maps;
+use crate::found_maps::FoundMaps;
 use crate::named_symbols::NamedSymbols;
 use ebpf_items::{BtfMap, Map, ParseError};
 use map_definitions::BtfDefinition;
 use object_file::{ObjectFile, ReadSection};
 use std::alloc::Global;
 
-impl<'a> Maps<'a> {
+impl<'a> FoundMaps<'a> {
     /// Enters the map of a definition, under the symbol of its name.
     #[tactic(auto, unfolding(crate::specs::Found::entered))]
     fn enter_definition(
@@ -51,7 +51,7 @@ impl<'a> Maps<'a> {
             section.index(),
             index,
         );
-        self.insert(symbol.name(), Map::Btf(map))?;
+        self.push(symbol.name(), Map::Btf(map))?;
         Ok(())
     }
 

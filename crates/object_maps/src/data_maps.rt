@@ -7,7 +7,7 @@ ghost use Rattle.object_maps.specs.DataMaps.{data_contents, data_map_faults, dat
 ghost use Rattle.object_maps.specs.Faults.{Says};
 ghost use Rattle.object_maps.specs.Found.{entered};
 
-use crate::maps::Maps;
+use crate::found_maps::FoundMaps;
 use ebpf_items::{EbpfSectionKind, LegacyMap, Map, ParseError, PinningType, bpf_map_def};
 use object_file::ReadSection;
 use std::alloc::{AllocError, Global};
@@ -40,7 +40,7 @@ fn contents(alloc: Global, section: &ReadSection<'_>) -> Result<Vec<u8>, AllocEr
     }
 }
 
-impl<'a> Maps<'a> {
+impl<'a> FoundMaps<'a> {
     /// Enters the map of a section of variables.
     #[tactic(auto, unfolding(crate::specs::Found::entered))]
     pub(crate) fn read_data_map(
@@ -75,7 +75,7 @@ impl<'a> Maps<'a> {
             symbol_index: None,
             contents: contents(alloc, section)?,
         };
-        self.insert(section.name(), Map::Legacy(map))?;
+        self.push(section.name(), Map::Legacy(map))?;
         Ok(())
     }
 }

@@ -11,7 +11,7 @@ ghost use Rattle.object_maps.specs.Faults.{Says};
 ghost use Rattle.object_maps.specs.LegacyMaps.{is_map_symbol, legacy_map_faults, legacy_maps_faults, map_symbol_faults, symbol_words, legacy_map, legacy_maps};
 ghost use Rattle.object_maps.specs.Found.{entered};
 
-use crate::maps::Maps;
+use crate::found_maps::FoundMaps;
 use ebpf_items::{EbpfSectionKind, LegacyMap, Map, ParseError, bpf_map_def};
 use elf64::SymbolKind;
 use map_definitions::legacy_map_def;
@@ -56,7 +56,7 @@ fn symbol_def(section: &ReadSection<'_>, symbol: &ReadSymbol<'_>) -> Option<bpf_
     legacy_map_def(bytes)
 }
 
-impl<'a> Maps<'a> {
+impl<'a> FoundMaps<'a> {
     /// Enters the map of a symbol, where it is one.
     #[tactic(auto, unfolding(crate::specs::Found::entered))]
     fn read_legacy_map(
@@ -87,7 +87,7 @@ impl<'a> Maps<'a> {
             symbol_index: Some(symbol.view().index()),
             contents: Vec::new(alloc),
         };
-        self.insert(symbol.name(), Map::Legacy(map))?;
+        self.push(symbol.name(), Map::Legacy(map))?;
         Ok(())
     }
 

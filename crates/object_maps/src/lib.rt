@@ -7,6 +7,7 @@ mod data_maps;
 mod data_sections;
 mod defined_maps;
 mod entries;
+mod found_maps;
 mod legacy_maps;
 mod maps;
 mod named_symbols;

@@ -1,6 +1,6 @@
 //! Maps by name.
 
-ghost use Rattle.std.specs.Prelude.{◌≡◌, ◌≤◌, ◌+◌, ◌↔◌, [], length, map, IfOk, IsTrue, OnOk, OnErr};
+ghost use Rattle.std.specs.Prelude.{◌≡◌, ◌≤◌, ◌+◌, ◌↔◌, [], length, map, IfOk, IsTrue};
 ghost use Rattle.std.specs.BTreeMap.{is_at};
 ghost use Rattle.std.specs.Cmp.Lexicographic.{slice_cmp};
 ghost use Rattle.std.specs.List.Sorted.{IsStrictlySortedBy};
@@ -8,7 +8,7 @@ ghost use Rattle.std.specs.Map.{lookup};
 ghost use Rattle.std.specs.Option.{option_map};
 ghost use Rattle.std.specs.Ordering.{nat_cmp};
 ghost use Rattle.ebpf_items.specs.Maps.{map_view};
-ghost use Rattle.object_maps.specs.Found.{with_map};
+ghost use Rattle.object_maps.specs.Found.{entered};
 ghost use Rattle.object_maps.specs.Maps.{shown};
 ghost use Rattle.object_maps.specs.Overwritten.{HasRange, map_overwritten, with_bytes};
 
@@ -53,6 +53,19 @@ impl<'a> Maps<'a> {
         }
     }
 
+    /// The maps of these names, of several of one name the last.
+    #[tactic(auto, using(crate::proofs::FoundMaps::collected))]
+    pub(crate) fn from_entries(
+        alloc: Global,
+        entries: Vec<(&'a str, Map)>,
+    ) -> Result<Maps<'a>, AllocError>
+        ensures { IfOk result (λ maps. maps ≡ entered [] (shown entries.entry.items)) }
+    {
+        Ok(Maps {
+            entries: entries.into_iter().collect(alloc)?,
+        })
+    }
+
     /// How many maps there are.
     pub fn len(&self) -> usize
         ensures { result ≡ length self.now }
@@ -81,22 +94,6 @@ impl<'a> Maps<'a> {
         ensures rising { IsStrictlySortedBy (slice_cmp nat_cmp) (map (λ e. e.0) self.now) }
     {
         self.entries.iter()
-    }
-
-    /// That the names strictly rise by bytes.
-    pub(crate) fn rising(&self)
-        ensures { IsStrictlySortedBy (slice_cmp nat_cmp) (map (λ e. e.0) self.now) }
-    {
-        let _entries = self.iter();
-    }
-
-    /// Enters a map under a name, in place of an earlier one of that name.
-    pub(crate) fn insert(&mut self, name: &'a str, map: Map) -> Result<(), AllocError>
-        ensures ok { OnOk result (self.new ≡ with_map self.old (name.now, map_view map)) }
-        ensures err { OnErr result (self.new ≡ self.old) }
-    {
-        self.entries.insert(name, map)?;
-        Ok(())
     }
 
     /// Puts bytes over those of the map of a name, from a place on. The map is there, and has so

@@ -9,13 +9,14 @@ ghost use Rattle.object_maps.specs.Found.{AreLast, entered};
 ghost use Rattle.object_maps.specs.Maps.{HasMapsFault, found_maps, maps_faults, maps_of, section_faults, section_maps};
 
 use crate::data_sections::DataSections;
+use crate::found_maps::FoundMaps;
 use crate::maps::Maps;
 use btf_tables::Btf;
 use ebpf_items::{EbpfSectionKind, ParseError};
 use object_file::{ObjectFile, ReadSection};
 use std::alloc::Global;
 
-impl<'a> Maps<'a> {
+impl<'a> FoundMaps<'a> {
     /// Enters the maps of a section.
     #[tactic(auto, using(crate::proofs::Entered::entered_none), unfolding(crate::specs::Maps::section_faults, crate::specs::Maps::section_maps))]
     fn read_section(
@@ -83,9 +84,9 @@ fn maps_in<'a>(
     ensures accepted { OnOk result (maps_faults file.now types.old ≡ []) }
     ensures refused { IfErr result (λ e. e ≢ OutOfMemory → HasMapsFault file.now types.old e) }
 {
-    let mut maps = Maps::new(alloc);
-    maps.read_sections(alloc, file, types, file.sections())?;
-    Ok(maps)
+    let mut found = FoundMaps::new(alloc);
+    found.read_sections(alloc, file, types, file.sections())?;
+    Ok(found.into_maps(alloc)?)
 }
 
 /// The maps of an object file, with its type table, if it has one.

@@ -7,7 +7,7 @@ use Rattle.object_maps.specs.Found.{entered}
 use Rattle.object_maps.specs.Maps.{section_faults, section_maps}
 use Rattle.object_maps.proofs.Entered.{entered_step}
 use Rattle.object_maps.proofs.Sayings.{none_more, says_at}
-use Rattle.object_maps.proofs.maps.Maps.read_sections.Goals as goal
+use Rattle.object_maps.proofs.found_maps.FoundMaps.read_sections.Goals as goal
 
 pub returns-in_err-read_section-clause-refused : goal.returns-in_err-read_section-clause-refused
 returns-in_err-read_section-clause-refused c =

@@ -2,7 +2,7 @@ use Rattle.std.proofs.Common.{◌≡◌, take, [], flat_map}
 use Rattle.elf64.specs.Symbols.{symbols_of}
 use Rattle.object_maps.specs.Maps.{section_faults, section_maps}
 use Rattle.object_maps.specs.Found.{entered}
-use Rattle.object_maps.proofs.maps.Maps.read_sections.Given as goal
+use Rattle.object_maps.proofs.found_maps.FoundMaps.read_sections.Given as goal
 
 abbrev pub invariant-loop-section : goal.invariant-loop-section
 invariant-loop-section l = record {

@@ -1,7 +1,7 @@
 use Rattle.std.proofs.Common.{◌≡◌, flat_map}
 use Rattle.object_maps.specs.DefinedMaps.{all_unnamed_faults, defined_map, named_definitions}
 use Rattle.object_maps.specs.Found.{entered}
-use Rattle.object_maps.proofs.maps.Maps.enter_definitions.Given as goal
+use Rattle.object_maps.proofs.found_maps.FoundMaps.enter_definitions.Given as goal
 
 abbrev pub invariant-loop-name : goal.invariant-loop-name
 invariant-loop-name l = record {
