@@ -28,9 +28,10 @@ fn are_digits(word: &str) -> bool {
 }
 
 fn is_decimal(word: &str) -> bool {
-    match word.strip_prefix('0') {
-        Some(rest) => rest.is_empty(),
-        None => are_digits(word),
+    match word.as_bytes() {
+        [b'0'] => true,
+        [b'0', ..] => false,
+        _ => are_digits(word),
     }
 }
 
@@ -61,22 +62,50 @@ fn are_lines(text: &[u8]) -> bool {
     }
 }
 
-fn is_elf_fault(error: &PrepareError) -> bool {
-    matches!(error, PrepareError::Parse(ParseError::ElfError(_)))
+/// What comes of an object.
+#[derive(Clone, Copy)]
+enum Answer {
+    /// A plan whose text is made of lines of a plan.
+    Lines,
+    OtherText,
+    /// It is no ELF file.
+    NoFile,
+    NoMemory,
+    OtherFault,
 }
 
-fn is_want_of_memory(error: &PrepareError) -> bool {
-    matches!(
-        error,
-        PrepareError::OutOfMemory | PrepareError::Parse(ParseError::OutOfMemory)
-    )
+fn answer_of_plan(alloc: Global, plan: &Plan<'_>) -> Answer {
+    let mut out = Watched::new(Vec::new(alloc));
+    if plan.write(&mut out).is_ok() && are_lines(out.into_inner().as_slice()) {
+        Answer::Lines
+    } else {
+        Answer::OtherText
+    }
+}
+
+fn answer_of_fault(error: &PrepareError) -> Answer {
+    match error {
+        PrepareError::Parse(ParseError::ElfError(_)) => Answer::NoFile,
+        PrepareError::OutOfMemory | PrepareError::Parse(ParseError::OutOfMemory) => {
+            Answer::NoMemory
+        }
+        _ => Answer::OtherFault,
+    }
+}
+
+/// What comes of an object whose plan is made and dropped here.
+fn answer_of(alloc: Global, object: &[u8]) -> Answer {
+    match plan_of(alloc, object) {
+        Ok(plan) => answer_of_plan(alloc, &plan),
+        Err(error) => answer_of_fault(&error),
+    }
 }
 
 /// Whether bytes are refused since they are no ELF file.
 fn is_no_file(alloc: Global, object: &[u8]) -> bool {
-    match plan_of(alloc, object).err() {
-        Some(error) => is_elf_fault(&error),
-        None => false,
+    match answer_of(alloc, object) {
+        Answer::NoFile => true,
+        _ => false,
     }
 }
 
@@ -87,17 +116,11 @@ fn fronts(rt: HostRuntime) {
     }
 }
 
-/// Whether the text of a plan is made of lines of a plan.
-fn has_lines(alloc: Global, plan: &Plan<'_>) -> bool {
-    let mut out = Watched::new(Vec::new(alloc));
-    plan.write(&mut out).is_ok() && are_lines(out.into_inner().as_slice())
-}
-
 /// Whether an object is refused, or its plan is made of lines of a plan.
 fn is_sound(alloc: Global, object: &[u8]) -> bool {
-    match plan_of(alloc, object) {
-        Ok(plan) => has_lines(alloc, &plan),
-        Err(error) => !is_want_of_memory(&error),
+    match answer_of(alloc, object) {
+        Answer::Lines | Answer::NoFile | Answer::OtherFault => true,
+        Answer::OtherText | Answer::NoMemory => false,
     }
 }
 
