@@ -19,7 +19,7 @@ use std::marker::Model;
 
 /// What a `.BTF.ext` section says, over the section's bytes: records are read where they are asked
 /// for.
-#[derive(Debug, Drop)]
+#[derive(Debug)]
 pub struct BtfExt<'a> {
     /// The table's strings, which name the groups.
     strings: Strings<'a>,
@@ -28,6 +28,20 @@ pub struct BtfExt<'a> {
     lines: GroupList<'a>,
     line_names: GroupNames,
     relocations: GroupList<'a>,
+}
+
+impl<'a> Drop for BtfExt<'a> {
+    // One call wherever it is dropped, in place of one for each part.
+    fn drop(self) {
+        let BtfExt {
+            strings: _strings,
+            functions: _functions,
+            function_names: _function_names,
+            lines: _lines,
+            line_names: _line_names,
+            relocations: _relocations,
+        } = self;
+    }
 }
 
 impl<'a> Model for BtfExt<'a> {

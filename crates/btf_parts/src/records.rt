@@ -19,7 +19,7 @@ use std::collections::BTreeMap;
 use std::marker::Model;
 
 /// The records of the ids from 1 on, one after the other.
-#[derive(Debug, Drop)]
+#[derive(Debug)]
 pub struct TypeRecords<'a> {
     order: Endianness,
     bytes: ByteList<'a>,
@@ -31,6 +31,20 @@ pub struct TypeRecords<'a> {
     name_offsets: Vec<u32>,
     /// The enums that unions stand for, by id.
     fallbacks: BTreeMap<u32, Enum64Fallback>,
+}
+
+impl<'a> Drop for TypeRecords<'a> {
+    // One call wherever it is dropped, in place of one for each part.
+    fn drop(self) {
+        let TypeRecords {
+            order: _,
+            bytes: _bytes,
+            places: _places,
+            kinds: _kinds,
+            name_offsets: _name_offsets,
+            fallbacks: _fallbacks,
+        } = self;
+    }
 }
 
 impl<'a> Model for TypeRecords<'a> {

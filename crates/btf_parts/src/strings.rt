@@ -14,12 +14,23 @@ use string_table::LongTexts;
 
 /// The strings of a table: its texts by offset, each ended by a NUL. The bytes are borrowed from
 /// the section until some are added, and a text is found without a look at more than 256 bytes.
-#[derive(Debug, Drop)]
+#[derive(Debug)]
 pub struct Strings<'a> {
     bytes: ByteList<'a>,
     long_texts: LongTexts,
     /// Whether each byte is known to begin a text.
     are_texts: bool,
+}
+
+impl<'a> Drop for Strings<'a> {
+    // One call wherever it is dropped, in place of one for each part.
+    fn drop(self) {
+        let Strings {
+            bytes: _bytes,
+            long_texts: _long_texts,
+            are_texts: _,
+        } = self;
+    }
 }
 
 impl<'a> Model for Strings<'a> {

@@ -14,13 +14,26 @@ use std::marker::Model;
 
 /// A table of types and the strings that name them, over the bytes of the section that it was read
 /// from: types and strings are borrowed, each until some are added.
-#[derive(Debug, Drop)]
+#[derive(Debug)]
 pub struct Btf<'a> {
     pub(crate) records: TypeRecords<'a>,
     pub(crate) magic: u16,
     pub(crate) version: u8,
     pub(crate) flags: u8,
     pub(crate) strings: Strings<'a>,
+}
+
+impl<'a> Drop for Btf<'a> {
+    // One call wherever it is dropped, in place of one for each part.
+    fn drop(self) {
+        let Btf {
+            records: _records,
+            magic: _,
+            version: _,
+            flags: _,
+            strings: _strings,
+        } = self;
+    }
 }
 
 impl<'a> Model for Btf<'a> {

@@ -100,10 +100,20 @@ enum Body<'a> {
 
 /// The slots of a function: those of the file's bytes until one is written, and from then on a
 /// list of the function's own.
-#[derive(Debug, Drop)]
+#[derive(Debug)]
 pub struct Slots<'a> {
     alloc: Global,
     body: Body<'a>,
+}
+
+impl<'a> Drop for Slots<'a> {
+    // One call wherever it is dropped, in place of one for each part.
+    fn drop(self) {
+        let Slots {
+            alloc: _,
+            body: _body,
+        } = self;
+    }
 }
 
 impl<'a> Model for Slots<'a> {

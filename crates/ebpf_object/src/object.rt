@@ -48,7 +48,7 @@ use std::marker::Model;
 use std::mem;
 
 /// An object: what a file holds before anything is relocated. Each program's function is there.
-#[derive(Debug, Drop)]
+#[derive(Debug)]
 pub struct Object<'a> {
     pub(crate) alloc: Global,
     pub(crate) file: ObjectFile<'a>,
@@ -58,6 +58,22 @@ pub struct Object<'a> {
     pub(crate) programs: Programs<'a>,
     pub(crate) functions: Functions<'a>,
     pub(crate) externs: Externs<'a>,
+}
+
+impl<'a> Drop for Object<'a> {
+    // One call wherever it is dropped, in place of one for each part.
+    fn drop(self) {
+        let Object {
+            alloc: _,
+            file: _file,
+            btf: _btf,
+            btf_ext: _btf_ext,
+            maps: _maps,
+            programs: _programs,
+            functions: _functions,
+            externs: _externs,
+        } = self;
+    }
 }
 
 impl<'a> Model for Object<'a> {

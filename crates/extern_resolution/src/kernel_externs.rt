@@ -11,10 +11,20 @@ use std::marker::Model;
 
 /// What a kernel's table has of the functions and variables that externs with types are declared
 /// as. Its model is the kernel's table: what it holds decides no answer.
-#[derive(Debug, Drop)]
+#[derive(Debug)]
 pub struct KernelExterns<'k, 'n> {
     kernel: &'k Btf<'k>,
     records: KernelRecords<'n>,
+}
+
+impl<'k, 'n> Drop for KernelExterns<'k, 'n> {
+    // One call wherever it is dropped, in place of one for each part.
+    fn drop(self) {
+        let KernelExterns {
+            kernel: _,
+            records: _records,
+        } = self;
+    }
 }
 
 impl<'k, 'n> Model for KernelExterns<'k, 'n> {

@@ -31,10 +31,20 @@ impl Model for GlobalValue {
 }
 
 /// Values of global variables, by the names that these have in an object.
-#[derive(Debug, Drop)]
+#[derive(Debug)]
 pub struct GlobalValues {
     alloc: Global,
     values: BTreeMap<String, GlobalValue>,
+}
+
+impl Drop for GlobalValues {
+    // One call wherever it is dropped, in place of one for each part.
+    fn drop(self) {
+        let GlobalValues {
+            alloc: _,
+            values: _values,
+        } = self;
+    }
 }
 
 impl Model for GlobalValues {

@@ -39,7 +39,7 @@ const FEW: usize = 32;
 
 /// Searches for members in the structs and unions of one table. The members of one that is searched
 /// often are indexed; where that doesn't decide, their types are listed.
-#[derive(Debug, Drop)]
+#[derive(Debug)]
 pub struct MemberFinder<'t> {
     target: &'t Btf<'t>,
     /// How many searches there were in each struct or union without an index.
@@ -51,6 +51,20 @@ pub struct MemberFinder<'t> {
     /// How many members the indexes and the lists of types have together.
     indexed: usize,
     names: OwnNames<'t>,
+}
+
+impl<'t> Drop for MemberFinder<'t> {
+    // One call wherever it is dropped, in place of one for each part.
+    fn drop(self) {
+        let MemberFinder {
+            target: _,
+            searches: _searches,
+            indexes: _indexes,
+            types: _types,
+            indexed: _,
+            names: _names,
+        } = self;
+    }
 }
 
 impl<'t> Model for MemberFinder<'t> {

@@ -17,10 +17,20 @@ use std::collections::btree_map::Iter;
 use std::marker::Model;
 
 /// The externs of an object, by name, and what a rewriting of their section is handed.
-#[derive(Debug, Drop)]
+#[derive(Debug)]
 pub struct Externs<'a> {
     by_name: BTreeMap<&'a str, ExternDesc<'a>>,
     ksyms: Option<KsymsIds>,
+}
+
+impl<'a> Drop for Externs<'a> {
+    // One call wherever it is dropped, in place of one for each part.
+    fn drop(self) {
+        let Externs {
+            by_name: _by_name,
+            ksyms: _,
+        } = self;
+    }
 }
 
 impl<'a> Model for Externs<'a> {

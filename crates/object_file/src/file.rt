@@ -32,7 +32,7 @@ use std::collections::btree_map::{Iter, Range};
 use std::marker::Model;
 
 /// An ELF file whose sections and symbols could be read, and whose license and version are sound.
-#[derive(Debug, Drop)]
+#[derive(Debug)]
 pub struct ObjectFile<'a> {
     bytes: &'a [u8],
     elf: ElfFile<'a>,
@@ -41,6 +41,21 @@ pub struct ObjectFile<'a> {
     relocations: RelocationTable,
     license: &'a [u8],
     kernel_version: Option<u32>,
+}
+
+impl<'a> Drop for ObjectFile<'a> {
+    // One call wherever it is dropped, in place of one for each part.
+    fn drop(self) {
+        let ObjectFile {
+            bytes: _,
+            elf: _elf,
+            sections: _sections,
+            symbols: _symbols,
+            relocations: _relocations,
+            license: _,
+            kernel_version: _,
+        } = self;
+    }
 }
 
 impl<'a> Model for ObjectFile<'a> {

@@ -28,9 +28,16 @@ fn overwrite(map: &mut Map, start: usize, bytes: &[u8])
 }
 
 /// The maps of an object, by name.
-#[derive(Debug, Drop)]
+#[derive(Debug)]
 pub struct Maps<'a> {
     entries: BTreeMap<&'a str, Map>,
+}
+
+impl<'a> Drop for Maps<'a> {
+    // One call wherever it is dropped, in place of one for each part.
+    fn drop(self) {
+        let Maps { entries: _entries } = self;
+    }
 }
 
 impl<'a> Model for Maps<'a> {

@@ -15,9 +15,16 @@ use std::collections::btree_map::Iter;
 use std::marker::Model;
 
 /// The programs of an object, by name.
-#[derive(Debug, Drop)]
+#[derive(Debug)]
 pub struct Programs<'a> {
     entries: BTreeMap<&'a str, Program<'a>>,
+}
+
+impl<'a> Drop for Programs<'a> {
+    // One call wherever it is dropped, in place of one for each part.
+    fn drop(self) {
+        let Programs { entries: _entries } = self;
+    }
 }
 
 impl<'a> Model for Programs<'a> {

@@ -18,9 +18,16 @@ use std::collections::btree_map::Iter;
 use std::marker::Model;
 
 /// The functions of an object, by the index of their section and their address.
-#[derive(Debug, Drop)]
+#[derive(Debug)]
 pub struct Functions<'a> {
     entries: BTreeMap<(usize, u64), Function<'a>>,
+}
+
+impl<'a> Drop for Functions<'a> {
+    // One call wherever it is dropped, in place of one for each part.
+    fn drop(self) {
+        let Functions { entries: _entries } = self;
+    }
 }
 
 /// Whether some slot calls a helper that an older one can stand in for.

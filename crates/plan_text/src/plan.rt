@@ -375,7 +375,7 @@ pub struct PlanParts<'a> {
 /// What a loader hands to one kernel: the license, the kernel version that the object was made
 /// for, the kernel's features that were asked about, the types, and the maps and the programs, by
 /// name.
-#[derive(Debug, Drop)]
+#[derive(Debug)]
 pub struct Plan<'a> {
     license: CowSlice<'a, u8, Global>,
     version: Option<u32>,
@@ -383,6 +383,20 @@ pub struct Plan<'a> {
     type_bytes: Option<Vec<u8>>,
     maps: Vec<PlanMap<'a>>,
     programs: Vec<PlanProgram<'a>>,
+}
+
+impl<'a> Drop for Plan<'a> {
+    // One call wherever it is dropped, in place of one for each part.
+    fn drop(self) {
+        let Plan {
+            license: _license,
+            version: _,
+            features: _features,
+            type_bytes: _type_bytes,
+            maps: _maps,
+            programs: _programs,
+        } = self;
+    }
 }
 
 impl<'a> Model for Plan<'a> {

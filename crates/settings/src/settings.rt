@@ -12,11 +12,22 @@ use std::collections::BTreeMap;
 use std::marker::Model;
 
 /// Numbers of maps and values of global variables, by the names that these have in an object.
-#[derive(Debug, Drop)]
+#[derive(Debug)]
 pub struct Settings {
     alloc: Global,
     maps: BTreeMap<String, u32>,
     globals: GlobalValues,
+}
+
+impl Drop for Settings {
+    // One call wherever it is dropped, in place of one for each part.
+    fn drop(self) {
+        let Settings {
+            alloc: _,
+            maps: _maps,
+            globals: _globals,
+        } = self;
+    }
 }
 
 impl Model for Settings {

@@ -32,12 +32,23 @@ struct Stretch {
 
 /// Where the long texts of a string table stand, and where none begins, so that no long stretch is
 /// looked at again each time a text in it is read. The strings themselves stay with the caller.
-#[derive(Debug, Drop)]
+#[derive(Debug)]
 pub struct LongTexts {
     texts: Vec<LongText>,
     unreadable: Vec<Stretch>,
     /// The offset after the last NUL.
     end: usize,
+}
+
+impl Drop for LongTexts {
+    // One call wherever it is dropped, in place of one for each part.
+    fn drop(self) {
+        let LongTexts {
+            texts: _texts,
+            unreadable: _unreadable,
+            end: _,
+        } = self;
+    }
 }
 
 impl Model for LongTexts {

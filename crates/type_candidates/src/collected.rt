@@ -23,7 +23,7 @@ const ENUM64: usize = BtfKind::Enum64 as usize;
 
 /// The types of a kernel's tables that may be taken for wanted ones, found in one walk over each
 /// table.
-#[derive(Debug, Drop)]
+#[derive(Debug)]
 pub struct Candidates<'t, 'l> {
     targets: &'t [Btf<'t>],
     names: WantedNames<'l>,
@@ -35,6 +35,20 @@ pub struct Candidates<'t, 'l> {
     unreadable_in_first: [bool; 20],
     /// By the numbers of names, the types of wanted kinds.
     named: Vec<Places>,
+}
+
+impl<'t, 'l> Drop for Candidates<'t, 'l> {
+    // One call wherever it is dropped, in place of one for each part.
+    fn drop(self) {
+        let Candidates {
+            targets: _,
+            names: _names,
+            kinds: _,
+            unreadable: _,
+            unreadable_in_first: _,
+            named: _named,
+        } = self;
+    }
 }
 
 impl<'t, 'l> Model for Candidates<'t, 'l> {

@@ -26,7 +26,7 @@ use std::marker::Model;
 use type_candidates::{CandidateError, Candidates, KernelType, WantedType, candidates};
 
 /// An object's own types, and a kernel's, with the candidates of relocations.
-#[derive(Debug, Drop)]
+#[derive(Debug)]
 pub struct TypeMatcher<'m, 'c, 'l> {
     local: &'m Btf<'m>,
     targets: &'m [Btf<'m>],
@@ -40,6 +40,21 @@ pub struct TypeMatcher<'m, 'c, 'l> {
     /// string.
     paths: BTreeMap<(u32, u32), KnownPaths>,
     finders: TableFinders<'m>,
+}
+
+impl<'m, 'c, 'l> Drop for TypeMatcher<'m, 'c, 'l> {
+    // One call wherever it is dropped, in place of one for each part.
+    fn drop(self) {
+        let TypeMatcher {
+            local: _,
+            targets: _,
+            collected: _collected,
+            shared: _shared,
+            known: _known,
+            paths: _paths,
+            finders: _finders,
+        } = self;
+    }
 }
 
 impl<'m, 'c, 'l> Model for TypeMatcher<'m, 'c, 'l> {
