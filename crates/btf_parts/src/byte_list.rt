@@ -16,9 +16,16 @@ enum Body<'a> {
 }
 
 /// Bytes of a section until some are added, and from then on a list of the table's own.
-#[derive(Debug, Drop)]
+#[derive(Debug)]
 pub struct ByteList<'a> {
     body: Body<'a>,
+}
+
+impl<'a> Drop for ByteList<'a> {
+    // One call wherever it is dropped, in place of one for each part.
+    fn drop(self) {
+        let ByteList { body: _body } = self;
+    }
 }
 
 impl<'a> Model for ByteList<'a> {

@@ -13,10 +13,20 @@ use std::alloc::{AllocError, Global};
 use type_headers::TypeHeaders;
 
 /// The kernel's functions and variables that have the names of externs.
-#[derive(Debug, Drop)]
+#[derive(Debug)]
 pub(crate) struct KernelRecords<'n> {
     pub(crate) functions: NamedRecords<'n>,
     pub(crate) variables: NamedRecords<'n>,
+}
+
+impl<'n> Drop for KernelRecords<'n> {
+    // One call wherever it is dropped, in place of one for each part.
+    fn drop(self) {
+        let KernelRecords {
+            functions: _functions,
+            variables: _variables,
+        } = self;
+    }
 }
 
 impl<'n> KernelRecords<'n> {

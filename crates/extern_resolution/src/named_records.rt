@@ -17,7 +17,7 @@ use type_headers::NameBeginnings;
 const LONG: usize = 256;
 
 /// The first records of a kind that have wanted names, as far as a table was gone through.
-#[derive(Debug, Drop)]
+#[derive(Debug)]
 pub(crate) struct NamedRecords<'n> {
     pub(crate) kind: BtfKind,
     /// The id under each wanted name, where a record was met that has it.
@@ -28,6 +28,19 @@ pub(crate) struct NamedRecords<'n> {
     pub(crate) looked_up: BTreeSet<u32>,
     /// Whether a record was met whose name can't be read, which hides those after it.
     pub(crate) is_hidden: bool,
+}
+
+impl<'n> Drop for NamedRecords<'n> {
+    // One call wherever it is dropped, in place of one for each part.
+    fn drop(self) {
+        let NamedRecords {
+            kind: _kind,
+            ids: _ids,
+            beginnings: _beginnings,
+            looked_up: _looked_up,
+            is_hidden: _,
+        } = self;
+    }
 }
 
 /// Wants a name.

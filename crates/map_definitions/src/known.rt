@@ -33,11 +33,22 @@ pub(crate) struct KnownInner {
 }
 
 /// A type table, and what structs of it define.
-#[derive(Debug, Drop)]
+#[derive(Debug)]
 pub struct MapDefinitions<'t, 'b> {
     table: &'t Btf<'b>,
     known: BTreeMap<u32, KnownDefinition>,
     inner: BTreeMap<u32, KnownInner>,
+}
+
+impl<'t, 'b> Drop for MapDefinitions<'t, 'b> {
+    // One call wherever it is dropped, in place of one for each part.
+    fn drop(self) {
+        let MapDefinitions {
+            table: _,
+            known: _known,
+            inner: _inner,
+        } = self;
+    }
 }
 
 impl<'t, 'b> Model for MapDefinitions<'t, 'b> {

@@ -13,10 +13,20 @@ use member_search::MemberFinder;
 use std::marker::Model;
 
 /// Searches for paths in the types of one table, of which it keeps what later ones can use.
-#[derive(Debug, Drop)]
+#[derive(Debug)]
 pub struct PathFinder<'t> {
     members: MemberFinder<'t>,
     variants: VariantFinder<'t>,
+}
+
+impl<'t> Drop for PathFinder<'t> {
+    // One call wherever it is dropped, in place of one for each part.
+    fn drop(self) {
+        let PathFinder {
+            members: _members,
+            variants: _variants,
+        } = self;
+    }
 }
 
 impl<'t> Model for PathFinder<'t> {

@@ -22,13 +22,24 @@ const WALKS: u8 = 7;
 
 /// Searches for variants in the enums of one table. The variants of one that is searched often are
 /// gone over once.
-#[derive(Debug, Drop)]
+#[derive(Debug)]
 pub(crate) struct VariantFinder<'t> {
     target: &'t Btf<'t>,
     /// How many searches there were in each enum without an index, by the ids of the enums.
     searches: BTreeMap<u32, u8>,
     /// By the ids of the enums.
     indexes: BTreeMap<u32, VariantIndex>,
+}
+
+impl<'t> Drop for VariantFinder<'t> {
+    // One call wherever it is dropped, in place of one for each part.
+    fn drop(self) {
+        let VariantFinder {
+            target: _,
+            searches: _searches,
+            indexes: _indexes,
+        } = self;
+    }
 }
 
 impl<'t> Model for VariantFinder<'t> {

@@ -18,11 +18,21 @@ const MOST_COMPARED: usize = 32;
 
 /// The types of all members, by the hashes of their names, in a struct or union and in those of its
 /// members without names.
-#[derive(Debug, Drop)]
+#[derive(Debug)]
 pub(crate) struct MemberTypes {
     by_hash: BTreeMap<u64, BTreeSet<u32>>,
     /// How many types they are together.
     count: usize,
+}
+
+impl Drop for MemberTypes {
+    // One call wherever it is dropped, in place of one for each part.
+    fn drop(self) {
+        let MemberTypes {
+            by_hash: _by_hash,
+            count: _,
+        } = self;
+    }
 }
 
 /// Structs and unions to which members without names lead.

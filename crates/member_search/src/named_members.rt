@@ -20,7 +20,7 @@ pub(crate) struct NamedMember {
 }
 
 /// Members by hashes of their names, in the order in which the walk came to them.
-#[derive(Debug, Drop)]
+#[derive(Debug)]
 pub(crate) struct NamedMembers {
     /// The first of each hash.
     pub(crate) first: BTreeMap<u64, NamedMember>,
@@ -28,6 +28,17 @@ pub(crate) struct NamedMembers {
     pub(crate) later: BTreeMap<u64, Vec<NamedMember>>,
     /// How many first members would take as much memory.
     count: usize,
+}
+
+impl Drop for NamedMembers {
+    // One call wherever it is dropped, in place of one for each part.
+    fn drop(self) {
+        let NamedMembers {
+            first: _first,
+            later: _later,
+            count: _,
+        } = self;
+    }
 }
 
 /// Whether the struct or union of the member that was listed last is open. A search that has left it

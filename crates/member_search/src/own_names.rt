@@ -31,13 +31,24 @@ pub(crate) struct NameHashes {
 }
 
 /// The names of the members of structs and unions into which searches in one table often come.
-#[derive(Debug, Drop)]
+#[derive(Debug)]
 pub(crate) struct OwnNames<'t> {
     target: &'t Btf<'t>,
     /// How often searches came into each that isn't listed.
     visits: BTreeMap<u32, u8>,
     /// By the ids of structs and unions.
     listed: BTreeMap<u32, NameHashes>,
+}
+
+impl<'t> Drop for OwnNames<'t> {
+    // One call wherever it is dropped, in place of one for each part.
+    fn drop(self) {
+        let OwnNames {
+            target: _,
+            visits: _visits,
+            listed: _listed,
+        } = self;
+    }
 }
 
 impl<'t> Model for OwnNames<'t> {

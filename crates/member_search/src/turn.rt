@@ -32,12 +32,22 @@ pub(crate) struct Frame {
 }
 
 /// What a search remembers between turns.
-#[derive(Debug, Drop)]
+#[derive(Debug)]
 pub(crate) struct Memory {
     /// The structs and unions around the innermost, which is being looked at.
     pub(crate) outer: Stack,
     /// Those that were searched and hold nothing.
     pub(crate) nothing: EmptyTypes,
+}
+
+impl Drop for Memory {
+    // One call wherever it is dropped, in place of one for each part.
+    fn drop(self) {
+        let Memory {
+            outer: _outer,
+            nothing: _nothing,
+        } = self;
+    }
 }
 
 /// What a turn gives.

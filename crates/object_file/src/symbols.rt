@@ -15,10 +15,20 @@ use std::alloc::{AllocError, Global};
 use std::collections::BTreeMap;
 
 /// The symbols of a file, and those that lie in a section by the section's index.
-#[derive(Debug, Drop)]
+#[derive(Debug)]
 pub(crate) struct SymbolTable<'a> {
     pub(crate) all: Vec<ReadSymbol<'a>>,
     by_section: BTreeMap<usize, Vec<ReadSymbol<'a>>>,
+}
+
+impl<'a> Drop for SymbolTable<'a> {
+    // One call wherever it is dropped, in place of one for each part.
+    fn drop(self) {
+        let SymbolTable {
+            all: _all,
+            by_section: _by_section,
+        } = self;
+    }
 }
 
 impl<'a> SymbolTable<'a> {

@@ -139,12 +139,24 @@ pub(crate) struct KnownMaps<'a, 't> {
 /// A type table, its sections of variables by name, and what they define as maps, read once for
 /// each name that sections of the object have. These names are told apart by their lengths first:
 /// those that are ends of one long text are costly to compare.
-#[derive(Debug, Drop)]
+#[derive(Debug)]
 pub(crate) struct DataSections<'a, 't, 'b> {
     table: &'t Btf<'b>,
     index: SectionIndex<'t>,
     definitions: MapDefinitions<'t, 'b>,
     known: BTreeMap<(usize, &'a str), KnownMaps<'a, 't>>,
+}
+
+impl<'a, 't, 'b> Drop for DataSections<'a, 't, 'b> {
+    // One call wherever it is dropped, in place of one for each part.
+    fn drop(self) {
+        let DataSections {
+            table: _,
+            index: _index,
+            definitions: _definitions,
+            known: _known,
+        } = self;
+    }
 }
 
 impl<'a, 't, 'b> Model for DataSections<'a, 't, 'b> {

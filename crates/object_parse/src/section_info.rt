@@ -66,10 +66,20 @@ pub(crate) struct KnownInfo<'a, 'e> {
 
 /// What an extension says of sections, read once for each name. Names are told apart by their
 /// lengths first: those that are ends of one long text are costly to compare.
-#[derive(Debug, Drop)]
+#[derive(Debug)]
 pub(crate) struct SectionInfos<'a, 'e> {
     extension: Option<&'e BtfExt<'e>>,
     known: BTreeMap<(usize, &'a str), KnownInfo<'a, 'e>>,
+}
+
+impl<'a, 'e> Drop for SectionInfos<'a, 'e> {
+    // One call wherever it is dropped, in place of one for each part.
+    fn drop(self) {
+        let SectionInfos {
+            extension: _extension,
+            known: _known,
+        } = self;
+    }
 }
 
 impl<'a, 'e> Model for SectionInfos<'a, 'e> {

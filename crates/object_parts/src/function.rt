@@ -13,7 +13,7 @@ use std::marker::Model;
 pub const SLOT_SIZE: u64 = 8;
 
 /// A function of an object.
-#[derive(Debug, Drop)]
+#[derive(Debug)]
 pub struct Function<'a> {
     /// The address (`st_value`).
     pub address: u64,
@@ -37,6 +37,24 @@ pub struct Function<'a> {
     /// The kernel tables in which its type relocations have their first matches; of a linked
     /// program those of all functions that it has copies of.
     pub matched_tables: MatchedTables,
+}
+
+impl<'a> Drop for Function<'a> {
+    // One call wherever it is dropped, in place of one for each part.
+    fn drop(self) {
+        let Function {
+            address: _,
+            name: _,
+            section_index: _,
+            section_offset: _,
+            instructions: _instructions,
+            func_info: _func_info,
+            line_info: _line_info,
+            func_info_rec_size: _,
+            line_info_rec_size: _,
+            matched_tables: _matched_tables,
+        } = self;
+    }
 }
 
 impl<'a> Model for Function<'a> {

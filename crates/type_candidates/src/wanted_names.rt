@@ -15,13 +15,24 @@ use std::marker::Model;
 use type_headers::NameBeginnings;
 
 /// Names without flavours, each with a number of its own.
-#[derive(Debug, Drop)]
+#[derive(Debug)]
 pub(crate) struct WantedNames<'l> {
     numbers: BTreeMap<&'l str, usize>,
     /// How many bytes the names have.
     lengths: BTreeSet<usize>,
     /// How a text of such a name can begin.
     beginnings: NameBeginnings,
+}
+
+impl<'l> Drop for WantedNames<'l> {
+    // One call wherever it is dropped, in place of one for each part.
+    fn drop(self) {
+        let WantedNames {
+            numbers: _numbers,
+            lengths: _lengths,
+            beginnings: _beginnings,
+        } = self;
+    }
 }
 
 impl<'l> Model for WantedNames<'l> {

@@ -18,11 +18,21 @@ use std::marker::Model;
 use type_candidates::KernelType;
 
 /// Searches for paths in a kernel's tables; what was kept of one serves the next search in it.
-#[derive(Debug, Drop)]
+#[derive(Debug)]
 pub(crate) struct TableFinders<'m> {
     targets: &'m [Btf<'m>],
     /// By the numbers of the tables, counted from 0.
     finders: BTreeMap<usize, PathFinder<'m>>,
+}
+
+impl<'m> Drop for TableFinders<'m> {
+    // One call wherever it is dropped, in place of one for each part.
+    fn drop(self) {
+        let TableFinders {
+            targets: _,
+            finders: _finders,
+        } = self;
+    }
 }
 
 impl<'m> Model for TableFinders<'m> {
