@@ -15,7 +15,7 @@ import shutil
 import stat
 import tempfile
 
-# The programs whose words are options too; each word of another program may name a file.
+# The programs whose words are options too; each word of another program may name a file, or say what it does.
 WITH_OPTIONS = ("bpf_prepare", "inspect_object")
 # The options before a file, and those before another word.
 FILE_OPTIONS = (b"--types", b"--symbols", b"--settings")
@@ -134,9 +134,14 @@ class Handed:
         self.words = list(words)
         self.folder = os.path.abspath(folder)
         for at, before in file_places(program, words):
-            self.words[at] = words[at][:before] + self.path_of(words[at][before:])
+            if program in WITH_OPTIONS or self.may_name(words[at]):
+                self.words[at] = words[at][:before] + self.path_of(words[at][before:])
         # `rt try` takes no others.
         self.are_texts = all(map(is_text, self.words))
+
+    def may_name(self, word):
+        """Whether a word of a program whose words may say something else names a file: it is there, or in a folder."""
+        return b"/" in word or os.path.lexists(os.path.join(self.folder, word))
 
     def path_of(self, word):
         """The path by which a file goes."""
