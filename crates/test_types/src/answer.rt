@@ -89,6 +89,8 @@ fn is_text(outcome: Result<&str, BtfError>, wanted: &str) -> Answer {
 /// What a table is asked.
 #[derive(Clone, Copy)]
 pub(crate) enum Question {
+    /// How many types there are, void among them.
+    Count,
     Resolve(u32),
     Size(u32),
     SizeIn32Bits(u32),
@@ -104,6 +106,7 @@ pub(crate) enum Question {
 impl Question {
     pub(crate) fn ask(self, table: &Btf<'_>) -> Answer {
         match self {
+            Question::Count => Answer::Size(table.types().count() as u64),
             Question::Resolve(type_id) => id(table.resolve_type(type_id)),
             Question::Size(type_id) => size(table.type_size(type_id)),
             Question::SizeIn32Bits(type_id) => id(table.type_size_u32(type_id)),

@@ -122,19 +122,26 @@ fn lattice_section(rt: &impl Abort, alloc: Global, order: Endianness, last: u32)
 }
 
 /// Compares the first types of two tables.
-fn compare(one: &Btf<'_>, other: &Btf<'_>) -> Answer {
+fn compare<'t>(one: &Btf<'t>, other: &Btf<'t>) -> Answer {
     yes_or_no(types_are_compatible(one, 1, other, 1))
+}
+
+/// Compares a lattice that ends at void and one that ends at a pointer.
+fn check_lattices(rt: &impl Abort, [one, other]: &[Btf<'_>; 2]) {
+    assert!(rt; compare(one, one) == Answer::Yes);
+    assert!(rt; compare(other, other) == Answer::MaximumTypeDepthReached(1));
+    assert!(rt; compare(one, other) == Answer::No);
 }
 
 #[test]
 fn a_lattice_of_signatures_is_quick(rt: HostRuntime) {
     let to_void = lattice_section(&rt, rt.alloc(), Endianness::Little, 0);
     let to_pointer = lattice_section(&rt, rt.alloc(), Endianness::Big, 41);
-    let one = parse(&rt, rt.alloc(), to_void.as_slice(), Endianness::Little);
-    let other = parse(&rt, rt.alloc(), to_pointer.as_slice(), Endianness::Big);
-    assert!(rt; compare(&one, &one) == Answer::Yes);
-    assert!(rt; compare(&other, &other) == Answer::MaximumTypeDepthReached(1));
-    assert!(rt; compare(&one, &other) == Answer::No);
+    let tables = [
+        parse(&rt, rt.alloc(), to_void.as_slice(), Endianness::Little),
+        parse(&rt, rt.alloc(), to_pointer.as_slice(), Endianness::Big),
+    ];
+    check_lattices(&rt, &tables);
 }
 
 /// An INT and 32 ARRAYs, each of the one before.

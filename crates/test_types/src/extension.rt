@@ -3,7 +3,7 @@
 use crate::answer::Answer;
 use crate::sections::{ORDERS, parse, push_words};
 use btf::{
-    Btf, BtfExt, Endianness, FuncSecInfo, LineSecInfo, SecInfo, bpf_func_info, bpf_line_info,
+    BtfError, BtfExt, Endianness, FuncSecInfo, LineSecInfo, SecInfo, bpf_func_info, bpf_line_info,
 };
 use btf_records::push_half_word;
 use std::alloc::{AllocError, Global};
@@ -187,39 +187,34 @@ fn section(alloc: Global, order: Endianness, words: &[u32]) -> Result<Vec<u8>, A
     Ok(out)
 }
 
-fn table(rt: &impl Abort, alloc: Global) -> Btf<'static> {
-    parse(rt, alloc, &TABLE, Endianness::Little)
-}
-
-fn is_read(
+/// What becomes of a section beside the table.
+fn parsed<'a>(
     rt: &impl Abort,
     alloc: Global,
     order: Endianness,
-    table: &Btf<'_>,
-    bytes: &[u8],
-    row: &Row,
-) -> bool {
-    match BtfExt::parse(alloc, bytes, order, table) {
-        Ok(extension) => {
-            check_groups(rt, &extension, row);
-            check_copy(rt, &extension, row);
-            true
-        }
-        Err(_) => false,
-    }
+    bytes: &'a [u8],
+) -> Result<BtfExt<'a>, BtfError> {
+    let table = parse(rt, alloc, &TABLE, Endianness::Little);
+    BtfExt::parse(alloc, bytes, order, &table)
 }
 
-fn check_row(rt: &impl Abort, alloc: Global, order: Endianness, table: &Btf<'_>, row: &Row) {
+/// A section that is read.
+fn extension<'a>(rt: &impl Abort, alloc: Global, order: Endianness, bytes: &'a [u8]) -> BtfExt<'a> {
+    parsed(rt, alloc, order, bytes).expect(rt, "a section")
+}
+
+fn check_row(rt: &impl Abort, alloc: Global, order: Endianness, row: &Row) {
     let bytes = section(alloc, order, row.words).expect(rt, "a section");
-    assert!(rt; is_read(rt, alloc, order, table, bytes.as_slice(), row));
+    let extension = extension(rt, alloc, order, bytes.as_slice());
+    check_groups(rt, &extension, row);
+    check_copy(rt, &extension, row);
 }
 
 #[test]
 fn sections_are_read(rt: HostRuntime) {
-    let table = table(&rt, rt.alloc());
     for order in ORDERS {
         for row in &ROWS {
-            check_row(&rt, rt.alloc(), order, &table, row);
+            check_row(&rt, rt.alloc(), order, row);
         }
     }
 }
@@ -308,34 +303,27 @@ static BYTES: [(&[u8], Answer); 4] = [
 ];
 
 /// The size of a section's records of functions, or why the section is refused.
-fn func_size(alloc: Global, order: Endianness, table: &Btf<'_>, bytes: &[u8]) -> Answer {
-    match BtfExt::parse(alloc, bytes, order, table) {
+fn func_size(rt: &impl Abort, alloc: Global, order: Endianness, bytes: &[u8]) -> Answer {
+    match parsed(rt, alloc, order, bytes) {
         Ok(extension) => Answer::Size(extension.func_info_rec_size() as u64),
         Err(error) => Answer::refused(&error),
     }
 }
 
-fn check_refused(
-    rt: &impl Abort,
-    alloc: Global,
-    order: Endianness,
-    table: &Btf<'_>,
-    (words, wanted): (&[u32], Answer),
-) {
+fn check_refused(rt: &impl Abort, alloc: Global, order: Endianness, words: &[u32], wanted: Answer) {
     let bytes = section(alloc, order, words).expect(rt, "a section");
-    assert!(rt; func_size(alloc, order, table, bytes.as_slice()) == wanted);
+    assert!(rt; func_size(rt, alloc, order, bytes.as_slice()) == wanted);
 }
 
 #[test]
 fn sections_are_refused(rt: HostRuntime) {
-    let table = table(&rt, rt.alloc());
     for order in ORDERS {
-        for case in &REFUSED {
-            check_refused(&rt, rt.alloc(), order, &table, *case);
+        for (words, wanted) in &REFUSED {
+            check_refused(&rt, rt.alloc(), order, words, *wanted);
         }
     }
     for (bytes, wanted) in &BYTES {
-        assert!(rt; func_size(rt.alloc(), Endianness::Little, &table, bytes) == *wanted);
+        assert!(rt; func_size(&rt, rt.alloc(), Endianness::Little, bytes) == *wanted);
     }
 }
 
@@ -381,23 +369,17 @@ fn writes_lines(alloc: Global, extension: &BtfExt<'_>) -> bool {
     }
 }
 
-fn is_written(alloc: Global, order: Endianness, table: &Btf<'_>, bytes: &[u8]) -> bool {
-    match BtfExt::parse(alloc, bytes, order, table) {
-        Ok(extension) => writes_funcs(alloc, &extension) && writes_lines(alloc, &extension),
-        Err(_) => false,
-    }
-}
-
-fn check_written(rt: &impl Abort, alloc: Global, order: Endianness, table: &Btf<'_>) {
+fn check_written(rt: &impl Abort, alloc: Global, order: Endianness) {
     let bytes = section(alloc, order, WHOLE).expect(rt, "a section");
-    assert!(rt; is_written(alloc, order, table, bytes.as_slice()));
+    let extension = extension(rt, alloc, order, bytes.as_slice());
+    assert!(rt; writes_funcs(alloc, &extension));
+    assert!(rt; writes_lines(alloc, &extension));
 }
 
 #[test]
 fn records_are_written_low_byte_first(rt: HostRuntime) {
-    let table = table(&rt, rt.alloc());
     for order in ORDERS {
-        check_written(&rt, rt.alloc(), order, &table);
+        check_written(&rt, rt.alloc(), order);
     }
 }
 

@@ -182,10 +182,15 @@ fn is_written_as(table: &Btf<'_>, bytes: &[u8]) -> bool {
     }
 }
 
+/// Whether a table that isn't needed any more is written as these bytes.
+fn is_written(table: Btf<'_>, bytes: &[u8]) -> bool {
+    is_written_as(&table, bytes)
+}
+
 /// Whether a copy of a table is written as these bytes.
 fn copy_is_written_as(table: &Btf<'_>, bytes: &[u8]) -> bool {
     match table.try_clone() {
-        Ok(copy) => is_written_as(&copy, bytes),
+        Ok(copy) => is_written(copy, bytes),
         Err(_) => false,
     }
 }
@@ -206,14 +211,14 @@ fn check_normal(rt: &impl Abort, alloc: Global, order: Endianness) {
     let bytes = section(alloc, order, &WORDS, &[0], &[]).expect(rt, "a section");
     let normal = section(alloc, order, &NORMAL, &[0], &[]).expect(rt, "a section");
     let table = parse(rt, alloc, bytes.as_slice(), order);
-    assert!(rt; is_written_as(&table, normal.as_slice()));
+    assert!(rt; is_written(table, normal.as_slice()));
 }
 
 #[test]
 fn sections_are_read_and_written(rt: HostRuntime) {
     let table = parse(&rt, rt.alloc(), &INT_SECTION, Endianness::Little);
-    assert!(rt; is_written_as(&table, &INT_SECTION));
     assert!(rt; copy_is_written_as(&table, &INT_SECTION));
+    assert!(rt; is_written(table, &INT_SECTION));
     for order in ORDERS {
         check_normal(&rt, rt.alloc(), order);
     }
@@ -245,17 +250,26 @@ static GROWN: [(Question, Answer); 3] = [
 fn grow(rt: &impl Abort, table: &mut Btf<'_>) {
     assert!(rt; id(table.add_string("x")) == Answer::Id(5));
     assert!(rt; id(table.add_type(BtfType::Ptr(Ptr::new(0, 1)))) == Answer::Id(2));
-    assert!(rt; is_written_as(table, &GROWN_SECTION));
     ask(rt, "a grown table", table, &GROWN);
 }
 
-/// Whether the name of an `int` is read as this text.
-fn int_is_named(table: &Btf<'_>, wanted: &str) -> bool {
-    match table.type_name(&int(1)) {
+/// Whether the name of a record is read as this text.
+fn is_named(table: &Btf<'_>, t: &BtfType, wanted: &str) -> bool {
+    match table.type_name(t) {
         Ok(text) => text == wanted,
         Err(_) => false,
     }
 }
+
+/// Whether the name of an `int` is read as this text.
+fn int_is_named(table: &Btf<'_>, wanted: &str) -> bool {
+    is_named(table, &int(1), wanted)
+}
+
+static ADDED: [(Question, Answer); 2] = [
+    (Question::Text(1, "int"), Answer::Yes),
+    (Question::Count, Answer::Size(2)),
+];
 
 #[test]
 fn a_table_grows(rt: HostRuntime) {
@@ -265,10 +279,10 @@ fn a_table_grows(rt: HostRuntime) {
     assert!(rt; id(table.add_string("int")) == Answer::Id(1));
     assert!(rt; id(table.add_type(int(1))) == Answer::Id(1));
     assert!(rt; is_written_as(&table, &INT_SECTION));
-    assert!(rt; Question::Text(1, "int").ask(&table) == Answer::Yes);
     assert!(rt; int_is_named(&table, "int"));
-    assert!(rt; table.types().count() == 2);
+    ask(&rt, "a table with an int", &table, &ADDED);
     grow(&rt, &mut table);
+    assert!(rt; is_written(table, &GROWN_SECTION));
 }
 
 // A table that borrows a section, and a copy of it that goes on to borrow it.
@@ -277,7 +291,8 @@ fn a_borrowed_table_grows(rt: HostRuntime) {
     let mut table = parse(&rt, rt.alloc(), &INT_SECTION, Endianness::Little);
     let copy = table.try_clone().expect(&rt, "a copy");
     grow(&rt, &mut table);
-    assert!(rt; is_written_as(&copy, &INT_SECTION));
+    assert!(rt; is_written(table, &GROWN_SECTION));
+    assert!(rt; is_written(copy, &INT_SECTION));
 }
 
 /// A union that stands for an enum without variants.
@@ -301,6 +316,11 @@ fn stands_for_enum(table: &Btf<'_>) -> bool {
     let stands = t.enum64_fallback().is_some();
     drop(t);
     stands
+}
+
+/// Whether the record of id 1 of a table that isn't needed any more stands for an enum.
+fn stood_for_enum(table: Btf<'_>) -> bool {
+    stands_for_enum(&table)
 }
 
 /// Whether a union stands for an enum.
@@ -328,7 +348,7 @@ fn copy_stands_for_enum(alloc: Global, table: &Btf<'_>) -> bool {
 /// Whether the record of id 1 of a copy of the table stands for an enum.
 fn stands_in_copy(table: &Btf<'_>) -> bool {
     match table.try_clone() {
-        Ok(copy) => stands_for_enum(&copy),
+        Ok(copy) => stood_for_enum(copy),
         Err(_) => false,
     }
 }
@@ -337,9 +357,9 @@ fn stands_in_copy(table: &Btf<'_>) -> bool {
 fn a_union_keeps_its_enum(rt: HostRuntime) {
     let mut table = Btf::new(rt.alloc()).expect(&rt, "a table");
     assert!(rt; id(table.add_type(union_for_enum(rt.alloc()))) == Answer::Id(1));
-    assert!(rt; stands_for_enum(&table));
     assert!(rt; copy_stands_for_enum(rt.alloc(), &table));
     assert!(rt; stands_in_copy(&table));
+    assert!(rt; stood_for_enum(table));
 }
 
 /// The words of 1,000 STRUCTs of one member.
@@ -351,12 +371,19 @@ fn structs(rt: &impl Abort, alloc: Global) -> Vec<u32> {
     words
 }
 
+static STRUCTS: [(Question, Answer); 2] = [
+    (Question::Count, Answer::Size(1001)),
+    (Question::Size(1000), Answer::Size(4)),
+];
+
 #[test]
 fn a_thousand_structs(rt: HostRuntime) {
     let words = structs(&rt, rt.alloc());
-    let bytes = section(rt.alloc(), Endianness::Little, words.as_slice(), &[0], &[]);
-    let bytes = bytes.expect(&rt, "a section");
-    let table = parse(&rt, rt.alloc(), bytes.as_slice(), Endianness::Little);
-    assert!(rt; table.types().count() == 1001);
-    assert!(rt; Question::Size(1000).ask(&table) == Answer::Size(4));
+    let case = Case {
+        title: "a thousand structs",
+        words: words.as_slice(),
+        strings: &[0],
+        asked: &STRUCTS,
+    };
+    ask_case(&rt, rt.alloc(), &case);
 }
