@@ -110,21 +110,35 @@ pub(crate) fn sanitize(
 
 /// Whether these are the questions that were asked, with their answers.
 pub(crate) fn are_answers(
-    outcome: &Result<Answers, BtfError>,
+    outcome: Result<Answers, BtfError>,
     wanted: &[(BtfFeature, bool)],
 ) -> bool {
     match outcome {
         Ok(answers) => answers.as_slice() == wanted,
-        Err(_) => false,
+        Err(_error) => false,
     }
 }
 
-/// Whether a table is written as a section.
-pub(crate) fn is_written_as(table: &Btf<'_>, section: &[u8]) -> bool {
+/// The table of a section.
+pub(crate) fn parse<'a>(
+    rt: &impl Abort,
+    alloc: Global,
+    section: &'a [u8],
+    order: Endianness,
+) -> Btf<'a> {
+    Btf::parse(alloc, section, order).expect(rt, "a table")
+}
+
+fn is_written_as(table: &Btf<'_>, section: &[u8]) -> bool {
     match table.to_bytes() {
         Ok(written) => written.as_slice() == section,
         Err(_) => false,
     }
+}
+
+/// Whether a table that isn't needed any more is written as a section.
+pub(crate) fn is_written(table: Btf<'_>, section: &[u8]) -> bool {
+    is_written_as(&table, section)
 }
 
 /// Whether the table of a section becomes that of another, as its case says.
@@ -135,11 +149,10 @@ fn becomes(
     case: &Case,
     [before, after]: [&[u8]; 2],
 ) -> bool {
-    let Ok(mut table) = Btf::parse(alloc, before, order) else {
-        return false;
-    };
+    let mut table = parse(rt, alloc, before, order);
     let outcome = sanitize(rt, alloc, &mut table, &SIZES, case.ksyms, case.granted);
-    are_answers(&outcome, case.answers) && is_written_as(&table, after)
+    let is_asked = are_answers(outcome, case.answers);
+    is_written(table, after) && is_asked
 }
 
 fn is_rewritten(rt: &impl Abort, alloc: Global, order: Endianness, case: &Case) -> bool {

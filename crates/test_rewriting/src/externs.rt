@@ -1,11 +1,11 @@
 //! The section `.ksyms`.
 
-use crate::case::{ALL, Case, check, is_written_as};
+use crate::case::{ALL, Case, check, is_written, parse};
 use crate::sections::{
     DATASEC, DATASEC_1, DATASEC_2, ENUM, EXTERN, FUNC, GLOBAL, INT, ORDERS, PROTO, PROTO_1,
     SIGNED_INT, STRUCT_2, TYPEDEF, VAR,
 };
-use btf::{Btf, BtfFeature, Endianness, fixup_ksyms_datasec};
+use btf::{BtfFeature, Endianness, fixup_ksyms_datasec};
 use sample_tables::section;
 use std::alloc::Global;
 use std::process::Abort;
@@ -76,19 +76,29 @@ static STEPS: [Step; 4] = [
 ];
 
 /// Whether the table of a section becomes that of another, as its step says.
-fn becomes(alloc: Global, order: Endianness, step: &Step, [before, after]: [&[u8]; 2]) -> bool {
-    let Ok(mut table) = Btf::parse(alloc, before, order) else {
-        return false;
-    };
-    let outcome = fixup_ksyms_datasec(&mut table, step.section, step.placeholder);
-    outcome.is_ok() && is_written_as(&table, after)
+fn becomes(
+    rt: &impl Abort,
+    alloc: Global,
+    order: Endianness,
+    step: &Step,
+    [before, after]: [&[u8]; 2],
+) -> bool {
+    let mut table = parse(rt, alloc, before, order);
+    let is_stepped = fixup_ksyms_datasec(&mut table, step.section, step.placeholder).is_ok();
+    is_written(table, after) && is_stepped
 }
 
 fn is_stepped(rt: &impl Abort, alloc: Global, order: Endianness, step: &Step) -> bool {
     let before = section(alloc, order, step.types, &STRINGS, &[]).expect(rt, "a section");
     let after = section(alloc, order, step.stepped, &STRINGS, step.added);
     let after = after.expect(rt, "a section");
-    becomes(alloc, order, step, [before.as_slice(), after.as_slice()])
+    becomes(
+        rt,
+        alloc,
+        order,
+        step,
+        [before.as_slice(), after.as_slice()],
+    )
 }
 
 fn check_step(rt: &impl Abort, alloc: Global, step: &Step) {

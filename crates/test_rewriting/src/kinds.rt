@@ -1,6 +1,6 @@
 //! Records of kinds without a section or a function.
 
-use crate::case::{ALL, Case, SIZES, check, sanitize};
+use crate::case::{ALL, Case, SIZES, check, parse, sanitize};
 use crate::sections::{
     ALL_ONES, ARRAY, CONST, DATASEC, DATASEC_1, DECL_TAG, ENUM_1, ENUM64, ENUM64_1, FLOAT, FWD,
     INT, ORDERS, PROTO, PTR, RESTRICT, SIGNED, SIGNED_1, SIGNED64_2, STRUCT, STRUCT_1, TYPE_TAG,
@@ -197,15 +197,28 @@ const ENUMS_KEPT: [Option<(bool, u64)>; 4] = [
     None,
 ];
 
+/// Whether the records of a table stand for enums with these variants.
+fn has_enums(table: &Btf<'_>, wanted: &[Option<(bool, u64)>; 4]) -> bool {
+    enums(table) == *wanted
+}
+
+/// Whether the records of a table that isn't needed any more stand for the enums.
+fn keeps_enums(table: Btf<'_>) -> bool {
+    has_enums(&table, &ENUMS_KEPT)
+}
+
+/// Whether a table is rewritten where nothing is granted.
+fn is_sanitized(rt: &impl Abort, alloc: Global, table: &mut Btf<'_>) -> bool {
+    sanitize(rt, alloc, table, &SIZES, None, &[]).is_ok()
+}
+
 fn check_enums(rt: &impl Abort, alloc: Global, order: Endianness) {
     let bytes = section(alloc, order, &ENUMS_OF_64_BITS, b"\0e\0a\0b\0", &[]);
     let bytes = bytes.expect(rt, "a section");
-    let Ok(mut table) = Btf::parse(alloc, bytes.as_slice(), order) else {
-        panic!(rt; "a table");
-    };
-    assert!(rt; enums(&table) == NO_ENUMS);
-    assert!(rt; sanitize(rt, alloc, &mut table, &SIZES, None, &[]).is_ok());
-    assert!(rt; enums(&table) == ENUMS_KEPT);
+    let mut table = parse(rt, alloc, bytes.as_slice(), order);
+    assert!(rt; has_enums(&table, &NO_ENUMS));
+    assert!(rt; is_sanitized(rt, alloc, &mut table));
+    assert!(rt; keeps_enums(table));
 }
 
 #[test]

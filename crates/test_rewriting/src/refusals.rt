@@ -1,6 +1,6 @@
 //! Tables that are refused, and stay as they were.
 
-use crate::case::{ALL, SIZES, is_written_as, sanitize};
+use crate::case::{ALL, SIZES, is_written, parse, sanitize};
 use crate::sections::{DATASEC, DATASEC_1, DATASEC_2, ENUM, EXTERN, GLOBAL, INT, ORDERS, VAR};
 use btf::{Btf, BtfError, BtfFeature, Endianness, KsymsIds, fixup_ksyms_datasec};
 use sample_tables::section;
@@ -9,7 +9,7 @@ use std::process::Abort;
 
 /// Why a table is refused.
 #[derive(Clone, Copy, PartialEq)]
-enum Refusal<'e> {
+pub(crate) enum Refusal<'e> {
     InvalidDatasec,
     InvalidStringOffset(usize),
     UnknownBtfType(u32),
@@ -198,9 +198,10 @@ static EXTERNS: [Refused; 6] = [
     },
 ];
 
-fn is_refusal(error: Option<&BtfError>, wanted: Refusal<'static>) -> bool {
+/// Whether this is why a table is refused.
+pub(crate) fn is_refusal(error: Option<BtfError>, wanted: Refusal<'static>) -> bool {
     match error {
-        Some(error) => Refusal::of(error) == wanted,
+        Some(error) => Refusal::of(&error) == wanted,
         None => false,
     }
 }
@@ -210,7 +211,7 @@ fn is_step_refused(table: &mut Btf<'_>, refused: &Refused) -> bool {
     match refused.ksyms {
         Some((id, placeholder)) => {
             let outcome = fixup_ksyms_datasec(table, id, placeholder);
-            is_refusal(outcome.as_ref().err(), refused.refusal)
+            is_refusal(outcome.err(), refused.refusal)
         }
         None => true,
     }
@@ -218,9 +219,7 @@ fn is_step_refused(table: &mut Btf<'_>, refused: &Refused) -> bool {
 
 fn is_refused(rt: &impl Abort, alloc: Global, order: Endianness, refused: &Refused) -> bool {
     let bytes = section(alloc, order, refused.types, &STRINGS, &[]).expect(rt, "a section");
-    let Ok(mut table) = Btf::parse(alloc, bytes.as_slice(), order) else {
-        return false;
-    };
+    let mut table = parse(rt, alloc, bytes.as_slice(), order);
     let outcome = sanitize(
         rt,
         alloc,
@@ -229,9 +228,9 @@ fn is_refused(rt: &impl Abort, alloc: Global, order: Endianness, refused: &Refus
         refused.ksyms,
         refused.granted,
     );
-    is_refusal(outcome.as_ref().err(), refused.refusal)
-        && is_step_refused(&mut table, refused)
-        && is_written_as(&table, bytes.as_slice())
+    let is_refused = is_refusal(outcome.err(), refused.refusal);
+    let is_step_refused = is_step_refused(&mut table, refused);
+    is_written(table, bytes.as_slice()) && is_refused && is_step_refused
 }
 
 /// Rewrites a table that is refused, in both byte orders.

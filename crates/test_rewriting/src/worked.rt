@@ -1,7 +1,8 @@
 //! Worked sections, before and after.
 
-use crate::case::{are_answers, is_written_as, sanitize};
-use btf::{Answers, Btf, BtfError, BtfFeature, Endianness};
+use crate::case::{are_answers, is_written, parse, sanitize};
+use crate::refusals::{Refusal, is_refusal};
+use btf::{BtfFeature, Endianness};
 use std::alloc::Global;
 use std::process::Abort;
 
@@ -77,11 +78,10 @@ static WORKED: [Worked; 2] = [
 ];
 
 fn is_rewritten(rt: &impl Abort, alloc: Global, worked: &Worked) -> bool {
-    let Ok(mut table) = Btf::parse(alloc, worked.before, Endianness::Little) else {
-        return false;
-    };
+    let mut table = parse(rt, alloc, worked.before, Endianness::Little);
     let outcome = sanitize(rt, alloc, &mut table, worked.sizes, None, worked.granted);
-    are_answers(&outcome, worked.answers) && is_written_as(&table, worked.after)
+    let is_asked = are_answers(outcome, worked.answers);
+    is_written(table, worked.after) && is_asked
 }
 
 fn check(rt: &impl Abort, alloc: Global, worked: &Worked) {
@@ -95,20 +95,12 @@ fn sections_are_rewritten(rt: HostRuntime) {
     }
 }
 
-fn names_bss(outcome: &Result<Answers, BtfError>) -> bool {
-    match outcome {
-        Err(BtfError::UnknownSectionSize { section_name }) => section_name.as_str() == ".bss",
-        _ => false,
-    }
-}
-
 /// Whether a section whose size isn't known is refused, and its table stays.
 fn is_refused(rt: &impl Abort, alloc: Global) -> bool {
-    let Ok(mut table) = Btf::parse(alloc, &EMPTY, Endianness::Little) else {
-        return false;
-    };
+    let mut table = parse(rt, alloc, &EMPTY, Endianness::Little);
     let outcome = sanitize(rt, alloc, &mut table, &[], None, &GRANTED);
-    names_bss(&outcome) && is_written_as(&table, &EMPTY)
+    let is_refused = is_refusal(outcome.err(), Refusal::UnknownSectionSize(".bss"));
+    is_written(table, &EMPTY) && is_refused
 }
 
 #[test]
