@@ -6,7 +6,7 @@ here, and goes by its descriptor.
 The program that `rt try` builds runs in a folder of its own and has no descriptors of the caller's. Each file that can be
 opened is opened here and goes by a path to its descriptor in /proc; a pipe and the like is read whole into a file first.
 A file that can't be opened goes by a path on which the program fails with the same error. Lines that name such paths are
-turned back, so that they name files as the caller did.
+turned back, so that they name files as the caller did. Where words may say something else too, one that names nothing stays.
 """
 
 import fcntl
