@@ -1,6 +1,6 @@
 -- Maps as they are found, which are put in order of names once.
-use Rattle.std.proofs.Common.{◌≡◌, ℕ, Bool, true, false, cond, List, [], ◌∷◌, ◌++◌, map, Option, Some, None, refl, ap, sym, ◌∙◌}
-use Rattle.std.specs.Prelude.{fold, bytes_eq}
+use Rattle.std.proofs.Common.{◌≡◌, ℕ, Bool, true, false, cond, List, [], ◌∷◌, ◌++◌, map, Option, Some, None, Result, Ok, Err, refl, ap, sym, ◌∙◌}
+use Rattle.std.specs.Prelude.{fold, bytes_eq, IfOk}
 use Rattle.std.specs.Borrow.{Bor}
 use Rattle.std.specs.BTreeMap.{BTreeMap, IsFromIterResult}
 use Rattle.std.specs.Cmp.Lexicographic.{slice_cmp}
@@ -15,6 +15,8 @@ use Rattle.std.proofs.lemmas.List.{map-append}
 use Rattle.std.proofs.lemmas.Map.Text.{is_eq-slice_cmp}
 use Rattle.ebpf_items.specs.Maps.{MapView, map_view}
 use Rattle.ebpf_items.specs.declared.maps.Map.{Map}
+use Rattle.text_order.specs.Orders.{HasLast}
+use Rattle.text_order.specs.Runs.{last_of}
 use Rattle.object_maps.specs.Found.{entered, with_map}
 use Rattle.object_maps.specs.Maps.{entry_shown, shown}
 use Rattle.object_maps.proofs.ByName.{alike, at_entered, fold_append, in_turn, last_value, rising_entered, rising_none, with_entry}
@@ -68,3 +70,29 @@ collected entries maps is =
     ∙ ap (option_map map_view) (is.0 name)
     ∙ last-updated name (λ _. None) entries
     ∙ sym (at_entered q [] (shown entries)))
+
+-- ---- put in order by texts before
+
+last-shown : (name : List ℕ) (entries : List (Bor (List ℕ) × Map)) → last_value name (shown entries) ≡ option_map map_view (last_of name entries)
+unfolding last_of
+last-shown name [] = refl
+last-shown name (e ∷ es) = ap (λ o. option_or o (cond (bytes_eq name e.0.now) (Some (map_view e.1)) None)) (last-shown name es) ∙ by (last_of name es) (is_eq (slice_cmp nat_cmp name e.0.now)) (sym (is_eq-slice_cmp name e.0.now)) where
+  by : (rest : Option Map) (test : Bool) → bytes_eq name e.0.now ≡ test → option_or (option_map map_view rest) (cond (bytes_eq name e.0.now) (Some (map_view e.1)) None) ≡ option_map map_view (option_or rest (cond test (Some e.1) None))
+  by (Some m) test is = refl
+  by None true is = ap (λ t. cond t (Some (map_view e.1)) None) is
+  by None false is = ap (λ t. cond t (Some (map_view e.1)) None) is
+
+pub ordered_entered : (entries ordered : List (Bor (List ℕ) × Map)) → HasLast entries ordered → entered [] (shown ordered) ≡ entered [] (shown entries)
+unfolding entered
+ordered_entered entries ordered h =
+    alike (fold with_entry [] (shown ordered)) (fold with_entry [] (shown entries))
+    (rising_entered [] (shown ordered) (rising_none MapView))
+    (rising_entered [] (shown entries) (rising_none MapView))
+    (λ q.
+    at_entered q [] (shown ordered)
+    ∙ ap (λ o. option_or o None) (last-shown q ordered ∙ ap (option_map map_view) (h.each q) ∙ sym (last-shown q entries))
+    ∙ sym (at_entered q [] (shown entries)))
+
+pub put_in_order : {V E : Type 0} (view : V → List (List ℕ × MapView)) (r : Result V E) (entries ordered : List (Bor (List ℕ) × Map)) (found : List (List ℕ × MapView)) → entered [] (shown entries) ≡ found → HasLast entries ordered → IfOk r (λ v. view v ≡ entered [] (shown ordered)) → IfOk r (λ v. view v ≡ found)
+put_in_order view (Ok v) entries ordered found is last made = made ∙ ordered_entered entries ordered last ∙ is
+put_in_order view (Err e) entries ordered found is last made = tt

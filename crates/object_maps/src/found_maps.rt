@@ -10,13 +10,15 @@ ghost use Rattle.object_maps.specs.Found.{with_map};
 use crate::maps::Maps;
 use ebpf_items::Map;
 use std::alloc::{AllocError, Global};
+use std::collections::VecDeque;
 use std::marker::Model;
+use text_order::in_text_order;
 
 /// Maps as they are found, which contracts see by name. They are put in order of names once, when
 /// all are found: names that are ends of one long text are costly to compare.
 #[derive(Debug, Drop)]
 pub(crate) struct FoundMaps<'a> {
-    entries: Vec<(&'a str, Map)>,
+    entries: VecDeque<(&'a str, Map)>,
 }
 
 impl<'a> Model for FoundMaps<'a> {
@@ -37,7 +39,7 @@ impl<'a> FoundMaps<'a> {
         ensures { result ≡ [] }
     {
         FoundMaps {
-            entries: Vec::new(alloc),
+            entries: VecDeque::new(alloc),
         }
     }
 
@@ -56,7 +58,7 @@ impl<'a> FoundMaps<'a> {
         ensures ok { OnOk result (self.new ≡ with_map self.old (name.now, map_view map)) }
         ensures err { OnErr result (self.new ≡ self.old) }
     {
-        self.entries.push((name, map))?;
+        self.entries.push_back((name, map))?;
         Ok(())
     }
 
@@ -64,6 +66,8 @@ impl<'a> FoundMaps<'a> {
     pub(crate) fn into_maps(self, alloc: Global) -> Result<Maps<'a>, AllocError>
         ensures { IfOk result (λ maps. maps ≡ self.entry) }
     {
-        Maps::from_entries(alloc, self.entries)
+        let FoundMaps { entries } = self;
+        let ordered = in_text_order(alloc, entries)?;
+        Maps::from_entries(alloc, ordered)
     }
 }

@@ -1,0 +1,3 @@
+pub mod Shared
+pub mod Compared
+pub mod Merging
