@@ -13,6 +13,7 @@ mod own_names;
 mod search;
 mod stack;
 mod turn;
+mod visits;
 
 pub use finder::MemberFinder;
 pub use laws::{nesting_never_decides, searches_rest};
