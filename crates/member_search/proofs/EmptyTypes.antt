@@ -1,10 +1,7 @@
 -- What is known of structs and unions that hold nothing.
 use Rattle.std.proofs.Common.{◌≡◌, ℕ, zero, suc, ◌+◌, ◌<◌, ◌≤◌, ◌⊎◌, inl, inr, Bool, true, false, cond, List, [], ◌∷◌, ◌++◌, length, None, Some, Ok, Option, Result, refl, sym, ap, subst, ◌∙◌, arith}
 use Rattle.std.proofs.lemmas.Bool.Decides.{nat_tests}
-use Rattle.std.proofs.lemmas.Grind.{common_steps}
 use Rattle.std.specs.Prelude.{◌==◌, ◌||◌, slice_get}
-use Rattle.std.specs.BTreeMap.{is_at}
-use Rattle.std.specs.Ordering.{nat_cmp}
 use Rattle.access_paths.specs.declared.error.AccessError.{AccessError}
 use Rattle.btf_records.specs.Fields.{members_of}
 use Rattle.btf_records.specs.declared.item.BtfMember.{BtfMember}
@@ -24,12 +21,6 @@ use Rattle.member_search.proofs.Rests.{after_next, skipping}
 use Rattle.member_search.proofs.Turns.{among-ids, ids-pushed}
 
 -- ---- sets
-
-same_test : (id k : ℕ) → is_at (nat_cmp id) k ≡ (k == id)
-same_test id k = grind (arith, common_steps, nat_tests)
-
-pub notes-one : (before after : List ℕ) (id : ℕ) → ((k : ℕ) → is_noted after k ≡ cond (is_at (nat_cmp id) k) true (is_noted before k)) → NotesOne before after id
-notes-one before after id h = record { each = λ k. h k ∙ rw (same_test id k) refl }
 
 same_number : (k y : ℕ) → (k == y) ≡ true → k ≡ y
 same_number k y e = grind (arith, nat_tests)

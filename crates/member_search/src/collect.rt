@@ -26,8 +26,8 @@ fn collecting_turn(
     visits: &mut Visits,
     named: &mut NamedMembers,
 ) -> Result<Turn, AccessError>
-    ensures walks { IfOk result (WalksOn target.now visits.old memory.old.nothing
-        memory.old.outer frame named.old memory.new.nothing memory.new.outer named.new) }
+    ensures walks { IfOk result (WalksOn target.now visits.old memory.old.nothing.keys
+        memory.old.outer frame named.old memory.new.nothing.keys memory.new.outer named.new) }
     ensures visits { IfOk result (λ _. visits.new ≡ visits.old) }
     ensures same { IfErr result (λ e. e ≢ TypeError OutOfMemory → named.new ≡ named.old) }
     ensures refused { IfErr result (λ e.

@@ -3,7 +3,6 @@
 #![tactic(auto)]
 
 mod collect;
-mod empty_types;
 mod finder;
 mod laws;
 mod member_index;

@@ -61,10 +61,8 @@ impl Visits {
     pub(crate) fn is_within(&self, member: NamedMember) -> bool
         ensures { result ≡ is_within self.now member }
     {
-        match self.open.get(member.found.parts.saturating_sub(1)) {
-            Some(visit) => *visit == member.visit,
-            None => false,
-        }
+        let around = member.found.parts.saturating_sub(1);
+        self.open.get(around) == Some(&member.visit)
     }
 
     /// Counts the turns in a struct or union that is left with members skipped, as it was before.

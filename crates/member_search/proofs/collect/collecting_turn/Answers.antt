@@ -8,7 +8,7 @@ pub returns-in_err-t-clause-refused : goal.returns-in_err-t-clause-refused
 returns-in_err-t-clause-refused c = unknown-err _ c.args.target.now c.args.memory.now.outer c.args.frame c.in_err-t.field-0.0 c.in_err-t.ensures.0 c.in_err-t.ensures.1 c.from_residual.ensures.1
 
 pub returns-in_default-clause-walks : goal.returns-in_default-clause-walks
-returns-in_default-clause-walks c = walks-left c.args.target.now c.args.visits.now c.args.memory.now.nothing c.args.memory.now.outer c.args.frame c.in_ok-t.t c.args.named.now c.in_ok-turn.turn _ _ c.in_ok-t.ensures c.in_default.ensures.value c.in_ok-turn.ensures
+returns-in_default-clause-walks c = walks-left c.args.target.now c.args.visits.now c.args.memory.now.nothing.keys c.args.memory.now.outer c.args.frame c.in_ok-t.t c.args.named.now c.in_ok-turn.turn _ _ c.in_ok-t.ensures c.in_default.ensures.value c.in_ok-turn.ensures
 
 pub returns-in_err-name-clause-refused : goal.returns-in_err-name-clause-refused
 returns-in_err-name-clause-refused c =
@@ -36,7 +36,7 @@ returns-then-is_empty-clause-walks c =
       reads = c.in_ok-name.ensures;
     } in
     let empty = is-empty c.in_ok-name.name.now c.is_empty.result c.is_empty.ensures c.if-is_empty.true in
-    walks-nameless-ok _ c.args.target.now c.args.visits.now c.args.memory.now.nothing c.args.memory.now.outer c.args.frame c.in_ok-t.t c.in-Some.member c.member_here-here.result c.in_ok-name.name.now c.args.named.now c.in_ok-seen.seen _ _ at_m empty c.in_ok-seen.ensures.value c.follow.ensures.over
+    walks-nameless-ok _ c.args.target.now c.args.visits.now c.args.memory.now.nothing.keys c.args.memory.now.outer c.args.frame c.in_ok-t.t c.in-Some.member c.member_here-here.result c.in_ok-name.name.now c.args.named.now c.in_ok-seen.seen _ _ at_m empty c.in_ok-seen.ensures.value c.follow.ensures.over
 
 pub returns-then-is_empty-clause-refused : goal.returns-then-is_empty-clause-refused
 returns-then-is_empty-clause-refused c =
@@ -60,6 +60,6 @@ returns-clause-walks c =
       reads = c.in_ok-name.ensures;
     } in
     let some = not-empty c.in_ok-name.name.now c.is_empty.result c.is_empty.ensures c.if-is_empty.false in
-    walks-named c.args.target.now c.args.visits.now c.args.memory.now.nothing c.args.memory.now.outer c.args.frame c.in_ok-t.t c.in-Some.member c.member_here-here.result c.in_ok-name.name.now c.args.named.now _ c.in_ok-skipped.skipped at_m some
+    walks-named c.args.target.now c.args.visits.now c.args.memory.now.nothing.keys c.args.memory.now.outer c.args.frame c.in_ok-t.t c.in-Some.member c.member_here-here.result c.in_ok-name.name.now c.args.named.now _ c.in_ok-skipped.skipped at_m some
     (entered-so c.args.visits.now c.name_hash.result c.in_ok-name.name.now c.in-Some.member c.member_here-here.result c.innermost.result c.args.named.now _ c.innermost.ensures c.name_hash.ensures c.in_ok-skipped.ensures.enters)
     (skips-so c.args.visits.now c.name_hash.result c.in_ok-name.name.now c.args.named.now c.in_ok-skipped.skipped c.name_hash.ensures c.in_ok-skipped.ensures.skipped)
