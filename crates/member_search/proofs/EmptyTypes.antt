@@ -1,10 +1,7 @@
 -- What is known of structs and unions that hold nothing.
 use Rattle.std.proofs.Common.{◌≡◌, ℕ, zero, suc, ◌+◌, ◌<◌, ◌≤◌, ◌⊎◌, inl, inr, Bool, true, false, cond, List, [], ◌∷◌, ◌++◌, length, None, Some, Ok, Option, Result, refl, sym, ap, subst, ◌∙◌, arith}
 use Rattle.std.proofs.lemmas.Bool.Decides.{nat_tests}
-use Rattle.std.proofs.lemmas.Grind.{common_steps}
 use Rattle.std.specs.Prelude.{◌==◌, ◌||◌, slice_get}
-use Rattle.std.specs.BTreeMap.{is_at}
-use Rattle.std.specs.Ordering.{nat_cmp}
 use Rattle.access_paths.specs.declared.error.AccessError.{AccessError}
 use Rattle.btf_records.specs.Fields.{members_of}
 use Rattle.btf_records.specs.declared.item.BtfMember.{BtfMember}
@@ -25,12 +22,6 @@ use Rattle.member_search.proofs.Turns.{among-ids, ids-pushed}
 
 -- ---- sets
 
-same_test : (id k : ℕ) → is_at (nat_cmp id) k ≡ (k == id)
-same_test id k = grind (arith, common_steps, nat_tests)
-
-pub notes-one : (before after : List ℕ) (id : ℕ) → ((k : ℕ) → is_noted after k ≡ cond (is_at (nat_cmp id) k) true (is_noted before k)) → NotesOne before after id
-notes-one before after id h = record { each = λ k. h k ∙ rw (same_test id k) refl }
-
 same_number : (k y : ℕ) → (k == y) ≡ true → k ≡ y
 same_number k y e = grind (arith, nat_tests)
 
@@ -41,10 +32,10 @@ or_else : (b c : Bool) → cond b true c ≡ false → c ≡ false
 or_else true c e = absurd cc
 or_else false c e = e
 
-pub noted-self : (before after : List ℕ) (id : ℕ) → NotesOne before after id → is_noted after id ≡ true
+noted-self : (before after : List ℕ) (id : ℕ) → NotesOne before after id → is_noted after id ≡ true
 noted-self before after id h = h.each id ∙ rw (self id) refl
 
-pub noted-kept : (before after : List ℕ) (id k : ℕ) → NotesOne before after id → is_noted before k ≡ true → is_noted after k ≡ true
+noted-kept : (before after : List ℕ) (id k : ℕ) → NotesOne before after id → is_noted before k ≡ true → is_noted after k ≡ true
 noted-kept before after id k h e = h.each k ∙ by (k == id) (is_noted before k) e where
   by : (b c : Bool) → c ≡ true → cond b true c ≡ true
   by true c e = refl
@@ -62,13 +53,13 @@ noted-either before after id k h e = h.each k ∙ by (k == id) (is_noted before 
 apart-less : (before after open_ids : List ℕ) (id : ℕ) → NotesOne before after id → AreApart after open_ids → AreApart before open_ids
 apart-less before after open_ids id h apart = record { each = λ k e. or_else (k == id) (is_noted before k) (sym (h.each k) ∙ apart.each k e) }
 
-pub apart-push : (noted open_ids : List ℕ) (id : ℕ) → AreApart noted open_ids → is_noted noted id ≡ false → AreApart noted (open_ids ++ id ∷ [])
+apart-push : (noted open_ids : List ℕ) (id : ℕ) → AreApart noted open_ids → is_noted noted id ≡ false → AreApart noted (open_ids ++ id ∷ [])
 apart-push noted open_ids id apart fresh = record { each = λ k e. by k (is_among open_ids k) refl (sym (among-push open_ids id k) ∙ e) } where
   by : (k : ℕ) (b : Bool) → is_among open_ids k ≡ b → (is_among open_ids k || (id == k)) ≡ true → is_noted noted k ≡ false
   by k true is e = apart.each k is
   by k false is e = let last : (id == k) ≡ true = rw is at e in subst (λ (j : ℕ). is_noted noted j ≡ false) (same_number id k last) fresh
 
-pub apart-pop : (before after open_ids : List ℕ) (id : ℕ) → NotesOne before after id → AreApart before (open_ids ++ id ∷ []) → is_among open_ids id ≡ false → AreApart after open_ids
+apart-pop : (before after open_ids : List ℕ) (id : ℕ) → NotesOne before after id → AreApart before (open_ids ++ id ∷ []) → is_among open_ids id ≡ false → AreApart after open_ids
 apart-pop before after open_ids id h apart once = record { each = λ k e. h.each k ∙ by k (k == id) refl e (apart.each k (among-kept open_ids id k e)) } where
   by : (k : ℕ) (b : Bool) → (k == id) ≡ b → is_among open_ids k ≡ true → is_noted before k ≡ false → cond b true (is_noted before k) ≡ false
   by k true is e fresh = absurd (let there : is_among open_ids id ≡ true = subst (λ (j : ℕ). is_among open_ids j ≡ true) (same_number k id is) e in cc)
@@ -233,11 +224,6 @@ sound-skips search noted outer g f sound =
       passed = record { members = λ clean t known. absurd (let no : true ≡ false = clean in cc) };
       around = (around-pop search noted outer g f.type_id sound.around).0;
     }
-
--- it is open once
-pub left-once : (search : Search) (noted : List ℕ) (outer : List Frame) (g f : Frame) → IsSound search noted (outer ++ g ∷ []) f → is_among (opened outer g) f.type_id ≡ false
-left-once search noted outer g f sound =
-    not-twice (most_open search.target) (opened outer g) f.type_id (subst (λ (xs : List ℕ). AreFew search.target (xs ++ f.type_id ∷ [])) (ids-pushed outer g) sound.few)
 
 pub sound-first : (search : Search) (root : ℕ) (bits : Option ℕ) (t : BtfType) → type_by_id search.target root ≡ Some t → IsSound search [] [] (inside root bits)
 sound-first search root bits t known =

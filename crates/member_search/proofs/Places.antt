@@ -1,122 +1,167 @@
 -- Where a walk is, to a member that a search has found to be incompatible.
-use Rattle.std.proofs.Common.{◌≡◌, ℕ, zero, suc, ◌+◌, ◌<◌, ◌⊎◌, inl, inr, Bool, true, false, List, [], ◌∷◌, ◌++◌, length, take, Some, Option, Result, refl, sym, ap, subst, ◌∙◌, arith}
+use Rattle.std.proofs.Common.{◌≡◌, ℕ, zero, suc, ◌+◌, ◌<◌, ◌≤◌, Bool, true, false, List, [], ◌∷◌, ◌++◌, length, take, None, Some, Option, Result, refl, sym, ap, subst, ◌∙◌, arith}
 use Rattle.std.proofs.lemmas.Bool.Decides.{nat_tests}
 use Rattle.std.proofs.lemmas.Grind.{common_steps}
 use Rattle.std.proofs.lemmas.List.{take-append-le, take_all}
-use Rattle.std.proofs.lemmas.Option.{slice_get_within}
-use Rattle.std.specs.Prelude.{◌==◌, ◌||◌, slice_get}
+use Rattle.std.specs.Prelude.{◌==◌, ◌-◌, nat_lt, if◌then◌else◌, slice_get, unwrap_or}
 use Rattle.access_paths.specs.declared.error.AccessError.{AccessError}
-use Rattle.member_search.specs.Collecting.{IsPast, IsWithin, moved_frame, moved_stack}
-use Rattle.member_search.specs.EmptyTypes.{AreApart, is_noted}
 use Rattle.member_looks.specs.Looks.{Search}
-use Rattle.member_search.specs.Namesakes.{is_skipped}
-use Rattle.member_search.specs.Searches.{is_among}
-use Rattle.member_search.specs.Stacks.{ids, is_open, opened, stack_value}
+use Rattle.member_search.specs.Collecting.{AreBefore, IsBefore, moved_frame, moved_stack, value_past, walk_value}
+use Rattle.member_search.specs.Stacks.{stack_value}
+use Rattle.member_search.specs.Visits.{followed, innermost, is_number, is_within}
+use Rattle.member_search.specs.declared.named_members.NamedMember.{NamedMember}
 use Rattle.member_search.specs.declared.search.Found.{Found}
 use Rattle.member_search.specs.declared.turn.Frame.{Frame}
-use Rattle.member_search.proofs.Free.{among-push}
 use Rattle.member_search.proofs.Followed.{value-skipping}
 use Rattle.member_search.proofs.Moved.{pushed}
 use Rattle.member_search.proofs.Rests.{after_next, skipping}
-use Rattle.member_search.proofs.Turns.{among-ids, ids-pushed, length-opened}
 
 -- ---- lists
-
-get-left : {A : Type 0} (xs : List A) (y : A) (k : ℕ) (x : A) → slice_get xs k ≡ Some x → slice_get (xs ++ y ∷ []) k ≡ Some x
-get-left [] y k x e = absurd cc
-get-left (z ∷ xs) y zero x e = e
-get-left (z ∷ xs) y (suc k) x e = get-left xs y k x e
 
 pub get-last : {A : Type 0} (xs : List A) (y : A) → slice_get (xs ++ y ∷ []) (length xs) ≡ Some y
 get-last [] y = refl
 get-last (z ∷ xs) y = get-last xs y
 
-get-either : {A : Type 0} (xs : List A) (y : A) (k : ℕ) (x : A) → slice_get (xs ++ y ∷ []) k ≡ Some x → (slice_get xs k ≡ Some x) ⊎ ((k ≡ length xs) × (y ≡ x))
-get-either [] y zero x e = inr (refl, cc)
-get-either [] y (suc k) x e = absurd cc
-get-either (z ∷ xs) y zero x e = inl e
-get-either (z ∷ xs) y (suc k) x e = by (get-either xs y k x e) where
-  by : (slice_get xs k ≡ Some x) ⊎ ((k ≡ length xs) × (y ≡ x)) → (slice_get xs k ≡ Some x) ⊎ ((suc k ≡ suc (length xs)) × (y ≡ x))
-  by (inl h) = inl h
-  by (inr h) = inr (ap suc h.0, h.1)
+get-taken : (xs : List ℕ) (n k v : ℕ) → slice_get (take n xs) k ≡ Some v → slice_get xs k ≡ Some v
+get-taken xs zero k v e = absurd cc
+get-taken [] (suc n) k v e = absurd cc
+get-taken (x ∷ xs) (suc n) zero v e = e
+get-taken (x ∷ xs) (suc n) (suc k) v e = get-taken xs n k v e
 
--- ---- turns in the struct or union of the member
+apart : (n v : ℕ) → v < n → (n == v) ≡ false
+apart n v lt = grind (arith, nat_tests)
 
--- the innermost goes on
-pub within-on : (s : Search) (bits : Option ℕ) (value : Result (Option Found) AccessError) (outer : List Frame) (f : Frame) (last : Found) → IsWithin s bits value outer f last → IsWithin s bits value outer (after_next f) last
-within-on s bits value outer f last h = record { around = h.around; here = h.here; gives = h.gives }
+within-more : (xs : List ℕ) (n v k : ℕ) → v < n → is_number v (slice_get (xs ++ n ∷ []) k) ≡ is_number v (slice_get xs k)
+within-more [] n v zero lt = apart n v lt
+within-more [] n v (suc k) lt = refl
+within-more (x ∷ xs) n v zero lt = refl
+within-more (x ∷ xs) n v (suc k) lt = within-more xs n v k lt
+
+within-taken : (xs : List ℕ) (n v k : ℕ) → k < n → is_number v (slice_get (take n xs) k) ≡ is_number v (slice_get xs k)
+within-taken xs zero v k lt = absurd (omega (arith, lt))
+within-taken [] (suc n) v k lt = refl
+within-taken (x ∷ xs) (suc n) v zero lt = refl
+within-taken (x ∷ xs) (suc n) v (suc k) lt = within-taken xs n v k (omega (arith, lt))
+
+past-taken : (xs : List ℕ) (n v k : ℕ) → n ≤ k → is_number v (slice_get (take n xs) k) ≡ false
+past-taken xs zero v k le = refl
+past-taken [] (suc n) v k le = refl
+past-taken (x ∷ xs) (suc n) v zero le = absurd (omega (arith, le))
+past-taken (x ∷ xs) (suc n) v (suc k) le = past-taken xs n v k (omega (arith, le))
+
+past-all : (xs : List ℕ) (v k : ℕ) → length xs ≤ k → is_number v (slice_get xs k) ≡ false
+past-all [] v k le = refl
+past-all (x ∷ xs) v zero le = absurd (omega (arith, le))
+past-all (x ∷ xs) v (suc k) le = past-all xs v k (omega (arith, le))
+
+same : (k : ℕ) → (k == k) ≡ true
+same k = grind (arith, nat_tests)
+
+-- the innermost visit goes on
+pub within-innermost : (xs : List ℕ) (k : ℕ) → length xs ≡ k + 1 → is_number (innermost xs) (slice_get xs k) ≡ true
+within-innermost xs k len = by xs k len (omega (arith, len)) where
+  at : (xs : List ℕ) (k d : ℕ) → length xs ≡ k + 1 → is_number (unwrap_or (slice_get xs k) d) (slice_get xs k) ≡ true
+  at [] k d len = absurd (omega (arith, len))
+  at (x ∷ xs) zero d len = same x
+  at (x ∷ xs) (suc k) d len = at xs k d (omega (arith, len))
+
+  by : (xs : List ℕ) (k : ℕ) → length xs ≡ k + 1 → length xs - 1 ≡ k → is_number (innermost xs) (slice_get xs k) ≡ true
+  by xs k len is = subst (λ (j : ℕ). is_number (unwrap_or (slice_get xs j) 0) (slice_get xs k) ≡ true) (sym is) (at xs k 0 len)
+
+-- ---- visits
+
+pub before-later : (now : ℕ) (last : Option NamedMember) → IsBefore now last → IsBefore (now + 1) last
+before-later now None h = tt
+before-later now (Some m) h = omega (arith, h)
+
+pub innermost-before : (now : ℕ) (xs : List ℕ) (k : ℕ) → length xs ≡ k + 1 → AreBefore now xs → innermost xs < now
+innermost-before now xs k len h = by (slice_get xs (length xs - 1)) refl where
+  some : (xs : List ℕ) (k : ℕ) → k < length xs → slice_get xs k ≡ None → ⊥
+  some [] k lt e = omega (arith, lt)
+  some (x ∷ xs) zero lt e = absurd cc
+  some (x ∷ xs) (suc k) lt e = some xs k (omega (arith, lt)) e
+
+  by : (o : Option ℕ) → slice_get xs (length xs - 1) ≡ o → unwrap_or o 0 < now
+  by None e = absurd (some xs (length xs - 1) (omega (arith, len)) e)
+  by (Some v) e = h.each (length xs - 1) v e
+
+-- where as many are open as before
+pub followed-same : (xs : List ℕ) (k now : ℕ) → length xs ≡ k + 1 → followed xs k now ≡ xs
+followed-same xs k now len = take-append-le (k + 1) xs (now ∷ []) (omega (arith, len)) ∙ take_all (k + 1) xs (omega (arith, len))
+
+pub followed-in : (xs : List ℕ) (k now : ℕ) → length xs ≡ k → followed xs k now ≡ xs ++ now ∷ []
+followed-in xs k now len =
+    let more : length (xs ++ now ∷ []) ≡ length xs + 1 = grind (arith, common_steps) in
+    take_all (k + 1) (xs ++ now ∷ []) (omega (arith, len, more))
+
+pub followed-left : (xs : List ℕ) (k now : ℕ) → length xs ≡ k + 2 → followed xs k now ≡ take (k + 1) xs
+followed-left xs k now len = take-append-le (k + 1) xs (now ∷ []) (omega (arith, len))
+
+pub before-more : (now : ℕ) (xs : List ℕ) → AreBefore now xs → AreBefore (now + 1) xs
+before-more now xs h = record { each = λ k v e. let lt = h.each k v e in omega (arith, lt) }
+
+pub before-in : (now : ℕ) (xs : List ℕ) → AreBefore now xs → AreBefore (now + 1) (xs ++ now ∷ [])
+before-in now xs h = record { each = by xs h.each } where
+  by : (xs : List ℕ) → ((k v : ℕ) → slice_get xs k ≡ Some v → v < now) → (k v : ℕ) → slice_get (xs ++ now ∷ []) k ≡ Some v → v < now + 1
+  by [] h zero v e = let is : now ≡ v = cc in omega (arith, is)
+  by [] h (suc k) v e = absurd cc
+  by (x ∷ xs) h zero v e = let lt = h zero v e in omega (arith, lt)
+  by (x ∷ xs) h (suc k) v e = by xs (λ j w g. h (suc j) w g) k v e
+
+pub before-left : (now n : ℕ) (xs : List ℕ) → AreBefore now xs → AreBefore (now + 1) (take n xs)
+before-left now n xs h = record { each = λ k v e. let lt = h.each k v (get-taken xs n k v e) in omega (arith, lt) }
+
+-- ---- what a search gives
+
+chosen : {A : Type 0} (value a b c d : A) (test more : Bool) → more ≡ test → (test ≡ true → a ≡ c) → b ≡ d → value ≡ (if test then a else b) → value ≡ (if more then c else d)
+chosen value a b c d true more is inside outside h = rw is (h ∙ inside refl)
+chosen value a b c d false more is inside outside h = rw is (h ∙ outside)
+
+-- where the innermost goes on as another
+pub place-on : (s : Search) (bits : Option ℕ) (value : Result (Option Found) AccessError) (visits : List ℕ) (outer : List Frame) (f g : Frame) (last : Option NamedMember) → walk_value outer f s bits ≡ walk_value outer g s bits → value ≡ value_past s bits visits outer f last → value ≡ value_past s bits visits outer g last
+place-on s bits value visits outer f g None go h = h ∙ go
+place-on s bits value visits outer f g (Some m) go h = chosen value _ _ _ _ (is_within visits m) (is_within visits m) refl (λ _. refl) go h
 
 -- another one is entered
-pub within-in : (s : Search) (bits : Option ℕ) (value : Result (Option Found) AccessError) (outer : List Frame) (f g : Frame) (last : Found) → IsWithin s bits value outer f last → IsWithin s bits value (outer ++ after_next f ∷ []) g last
-within-in s bits value outer f g last h =
-    let len = length-opened outer f in
-    let inside : h.around < length (opened outer f) = slice_get_within (opened outer f) h.around last.place.type_id h.here in
-    record {
-      around = h.around;
-      here = subst (λ (xs : List ℕ). slice_get (xs ++ g.type_id ∷ []) h.around ≡ Some last.place.type_id) (sym (ids-pushed outer (after_next f))) (get-left (opened outer f) g.type_id h.around last.place.type_id h.here);
-      gives = h.gives ∙ ap (λ (fs : List Frame). stack_value s (moved_stack bits fs)) (sym (take-append-le h.around outer (after_next f ∷ []) (omega arith)));
-    }
+pub place-in : (s : Search) (bits : Option ℕ) (value : Result (Option Found) AccessError) (visits : List ℕ) (now : ℕ) (outer : List Frame) (f g : Frame) (last : Option NamedMember) → length visits ≡ length outer + 1 → IsBefore now last → walk_value outer f s bits ≡ walk_value (outer ++ after_next f ∷ []) g s bits
+    → value ≡ value_past s bits visits outer f last → value ≡ value_past s bits (visits ++ now ∷ []) (outer ++ after_next f ∷ []) g last
+place-in s bits value visits now outer f g None len before go h = h ∙ go
+place-in s bits value visits now outer f g (Some m) len before go h = chosen value _ _ _ _ (is_within visits m) (is_within (visits ++ now ∷ []) m) (within-more visits now m.visit (m.found.parts - 1) before) inside go h where
+  by : (lt : Bool) → nat_lt (m.found.parts - 1) (length visits) ≡ lt → is_within visits m ≡ true → m.found.parts - 1 < length visits
+  by true lt is = grind (arith, nat_tests)
+  by false lt is =
+      let le : length visits ≤ m.found.parts - 1 = grind (arith, nat_tests) in
+      let no : true ≡ false = sym is ∙ past-all visits m.visit (m.found.parts - 1) le in
+      absurd cc
+
+  inside : is_within visits m ≡ true → stack_value s (moved_stack bits (take (m.found.parts - 1) outer)) ≡ stack_value s (moved_stack bits (take (m.found.parts - 1) (outer ++ after_next f ∷ [])))
+  inside is =
+      let lt = by (nat_lt (m.found.parts - 1) (length visits)) refl is in
+      ap (λ (fs : List Frame). stack_value s (moved_stack bits fs)) (sym (take-append-le (m.found.parts - 1) outer (after_next f ∷ []) (omega (arith, lt, len))))
 
 -- the innermost is left
-pub within-left : (s : Search) (bits : Option ℕ) (value : Result (Option Found) AccessError) (incomplete noted : List ℕ) (rest : List Frame) (g f : Frame) (skipped : Bool) (last : Found) → (is_noted noted f.type_id ≡ true) ⊎ (is_noted incomplete f.type_id ≡ true) → IsWithin s bits value (rest ++ g ∷ []) f last
-    → IsWithin s bits value rest (skipping skipped g) last ⊎ IsPast s bits value incomplete noted rest (skipping skipped g) last
-within-left s bits value incomplete noted rest g f skipped last kept h = by (get-either (opened rest g) f.type_id h.around last.place.type_id here) where
-  here : slice_get (opened rest g ++ f.type_id ∷ []) h.around ≡ Some last.place.type_id
-  here = subst (λ (xs : List ℕ). slice_get (xs ++ f.type_id ∷ []) h.around ≡ Some last.place.type_id) (ids-pushed rest g) h.here
+pub place-left : (s : Search) (bits : Option ℕ) (value : Result (Option Found) AccessError) (visits : List ℕ) (rest : List Frame) (p f : Frame) (flag : Bool) (last : Option NamedMember) → walk_value (rest ++ p ∷ []) f s bits ≡ walk_value rest (skipping flag p) s bits
+    → value ≡ value_past s bits visits (rest ++ p ∷ []) f last → value ≡ value_past s bits (take (length rest + 1) visits) rest (skipping flag p) last
+place-left s bits value visits rest p f flag None go h = h ∙ go
+place-left s bits value visits rest p f flag (Some m) go h = by (nat_lt (m.found.parts - 1) (length rest + 1)) refl where
+  k : ℕ
+  k = m.found.parts - 1
 
-  by : (slice_get (opened rest g) h.around ≡ Some last.place.type_id) ⊎ ((h.around ≡ length (opened rest g)) × (f.type_id ≡ last.place.type_id)) → IsWithin s bits value rest (skipping skipped g) last ⊎ IsPast s bits value incomplete noted rest (skipping skipped g) last
-  by (inl e) =
-      let len = length-opened rest g in
-      let inside : h.around < length (opened rest g) = slice_get_within (opened rest g) h.around last.place.type_id e in
-      inl (record {
-        around = h.around;
-        here = e;
-        gives = h.gives ∙ ap (λ (fs : List Frame). stack_value s (moved_stack bits fs)) (take-append-le h.around rest (g ∷ []) (omega arith));
-      })
-  by (inr e) =
-      let len = length-opened rest g in
-      let same : length (rest ++ g ∷ []) ≡ length rest + 1 = grind (arith, common_steps) in
-      let is_all : take h.around (rest ++ g ∷ []) ≡ rest ++ g ∷ [] = take_all h.around (rest ++ g ∷ []) (omega (arith, e.0)) in
-      inr (record {
-        left = subst (λ (id : ℕ). (is_noted noted id ≡ true) ⊎ (is_noted incomplete id ≡ true)) e.1 kept;
-        gives = h.gives ∙ (ap (λ (fs : List Frame). stack_value s (moved_stack bits fs)) is_all ∙ (ap (stack_value s) (pushed bits rest g) ∙ sym (value-skipping s (moved_stack bits rest) skipped (moved_frame bits g))));
-      })
+  all : length rest + 1 ≤ k → stack_value s (moved_stack bits (take k (rest ++ p ∷ []))) ≡ walk_value rest (skipping flag p) s bits
+  all le =
+      let more : length (rest ++ p ∷ []) ≡ length rest + 1 = grind (arith, common_steps) in
+      let is_all : take k (rest ++ p ∷ []) ≡ rest ++ p ∷ [] = take_all k (rest ++ p ∷ []) (omega (arith, le, more)) in
+      ap (λ (fs : List Frame). stack_value s (moved_stack bits fs)) is_all ∙ (ap (stack_value s) (pushed bits rest p) ∙ sym (value-skipping s (moved_stack bits rest) flag (moved_frame bits p)))
 
--- ---- what is open
+  past : (test : Bool) → length rest + 1 ≤ k → value ≡ (if test then stack_value s (moved_stack bits (take k (rest ++ p ∷ []))) else walk_value (rest ++ p ∷ []) f s bits) → value ≡ walk_value rest (skipping flag p) s bits
+  past true le h = h ∙ all le
+  past false le h = h ∙ go
 
-or_true : (a b : Bool) → a ≡ true → (a || b) ≡ true
-or_true true b e = refl
-or_true false b e = absurd cc
-
-or_right : (a b : Bool) → b ≡ true → (a || b) ≡ true
-or_right true b e = refl
-or_right false b e = e
-
-self : (k : ℕ) → (k == k) ≡ true
-self k = grind (arith, nat_tests)
-
-among-get : (xs : List ℕ) (k x : ℕ) → slice_get xs k ≡ Some x → is_among xs x ≡ true
-among-get [] k x e = absurd cc
-among-get (y ∷ ys) zero x e = let same : y ≡ x = cc in or_true (y == x) (is_among ys x) (subst (λ (z : ℕ). (z == x) ≡ true) (sym same) (self x))
-among-get (y ∷ ys) (suc k) x e = or_right (y == x) (is_among ys x) (among-get ys k x e)
-
--- a member is skipped where the struct or union of the one listed last is open
-skips-open : (outer : List Frame) (f : Frame) (last here : Found) → here.place.type_id ≡ f.type_id → is_skipped outer last here ≡ is_among (opened outer f) last.place.type_id
-skips-open outer f last here is =
-    let left = last.place.type_id in
-    sym (among-push (ids outer) f.type_id left ∙ (ap (λ (b : Bool). b || (f.type_id == left)) (among-ids outer left) ∙ ap (λ (id : ℕ). is_open outer left || (id == left)) (sym is)))
-
-pub not-within : (s : Search) (bits : Option ℕ) (value : Result (Option Found) AccessError) (outer : List Frame) (f : Frame) (last here : Found) → here.place.type_id ≡ f.type_id → is_skipped outer last here ≡ false → IsWithin s bits value outer f last → ⊥
-not-within s bits value outer f last here is test h =
-    let there : is_skipped outer last here ≡ true = skips-open outer f last here is ∙ among-get (opened outer f) h.around last.place.type_id h.here in
-    let no : true ≡ false = sym there ∙ test in
-    absurd cc
-
-pub not-past : (incomplete noted : List ℕ) (outer : List Frame) (f : Frame) (last here : Found) → here.place.type_id ≡ f.type_id → is_skipped outer last here ≡ true → AreApart noted (opened outer f) → AreApart incomplete (opened outer f)
-    → (is_noted noted last.place.type_id ≡ true) ⊎ (is_noted incomplete last.place.type_id ≡ true) → ⊥
-not-past incomplete noted outer f last here is skips apart aside (inl e) =
-    let fresh : is_noted noted last.place.type_id ≡ false = apart.each last.place.type_id (sym (skips-open outer f last here is) ∙ skips) in
-    absurd cc
-not-past incomplete noted outer f last here is skips apart aside (inr e) =
-    let fresh : is_noted incomplete last.place.type_id ≡ false = aside.each last.place.type_id (sym (skips-open outer f last here is) ∙ skips) in
-    absurd cc
+  by : (lt : Bool) → nat_lt k (length rest + 1) ≡ lt → value ≡ value_past s bits (take (length rest + 1) visits) rest (skipping flag p) (Some m)
+  by true lt =
+      let less : k < length rest + 1 = grind (arith, nat_tests) in
+      chosen value _ _ _ _ (is_within visits m) (is_within (take (length rest + 1) visits) m) (within-taken visits (length rest + 1) m.visit k less)
+      (λ _. ap (λ (fs : List Frame). stack_value s (moved_stack bits fs)) (take-append-le k rest (p ∷ []) (omega (arith, less)))) go h
+  by false lt =
+      let le : length rest + 1 ≤ k = grind (arith, nat_tests) in
+      rw (past-taken visits (length rest + 1) m.visit k le) (past (is_within visits m) le h)

@@ -9,3 +9,4 @@ pub mod Namesakes
 pub mod OwnNames
 pub mod Searches
 pub mod Stacks
+pub mod Visits

@@ -1,14 +1,12 @@
 -- Members of one hash that a walk has come to.
-use Rattle.std.specs.Prelude.{◌≡◌, ℕ, ◌-◌, ◌==◌, ◌||◌, Bool, false, cond, List, [], ◌∷◌, ◌++◌, length, Option, None, Some, slice_get, unwrap_or, if◌then◌else◌}
+use Rattle.std.specs.Prelude.{◌≡◌, ℕ, ◌-◌, Bool, false, cond, List, [], ◌∷◌, ◌++◌, length, Option, None, Some, slice_get, unwrap_or, if◌then◌else◌}
 use Rattle.std.specs.BTreeMap.{is_at}
 use Rattle.std.specs.Map.{lookup}
 use Rattle.std.specs.Option.{option_map_or}
 use Rattle.std.specs.Ordering.{nat_cmp}
-use Rattle.member_search.specs.Stacks.{is_open}
+use Rattle.member_search.specs.Visits.{is_within}
 use Rattle.member_search.specs.declared.named_members.NamedMember.{NamedMember}
 use Rattle.member_search.specs.declared.named_members.NamedMembers.{NamedMembers}
-use Rattle.member_search.specs.declared.search.Found.{Found}
-use Rattle.member_search.specs.declared.turn.Frame.{Frame}
 
 -- in the order of the walk
 pub record Namesakes : Type 0 where
@@ -49,33 +47,27 @@ last_from (Some first) later = Some (unwrap_or (slice_get later (length later - 
 abbrev pub last_of : Namesakes → Option NamedMember
 last_of known = last_from known.first known.later
 
--- the struct or union of the one that was listed last is open: a search that has left it there
--- doesn't come to this one
-abbrev pub is_skipped : List Frame → Found → Found → Bool
-is_skipped outer last here =
-    is_open outer last.place.type_id || (here.place.type_id == last.place.type_id)
-
--- after the one that was listed last
-abbrev pub skips_after : List Frame → NamedMember → Option NamedMember → Bool
-skips_after outer m None = false
-skips_after outer m (Some last) = is_skipped outer last.found m.found
+-- in the visit to the struct or union of the one that was listed last: a search that has left it
+-- there doesn't come to this one
+abbrev pub skips_after : List ℕ → Option NamedMember → Bool
+skips_after visits None = false
+skips_after visits (Some last) = is_within visits last
 
 -- what a member adds that the walk comes to, after the one that was listed last
-abbrev pub entered_after : List Frame → NamedMember → Namesakes → Option NamedMember → Namesakes
-entered_after outer m known None = record known { first = Some m }
-entered_after outer m known (Some last) =
-    if is_skipped outer last.found m.found then known
-    else record known { later = known.later ++ m ∷ [] }
+abbrev pub entered_after : List ℕ → NamedMember → Namesakes → Option NamedMember → Namesakes
+entered_after visits m known None = record known { first = Some m }
+entered_after visits m known (Some last) =
+    if is_within visits last then known else record known { later = known.later ++ m ∷ [] }
 
-abbrev pub entered_to : List Frame → NamedMember → Namesakes → Namesakes
-entered_to outer m known = entered_after outer m known (last_of known)
+abbrev pub entered_to : List ℕ → NamedMember → Namesakes → Namesakes
+entered_to visits m known = entered_after visits m known (last_of known)
 
 -- those of other hashes stay
-pub record Enters (outer : List Frame) (hash : ℕ) (m : NamedMember) (old new : NamedMembers)
+pub record Enters (visits : List ℕ) (hash : ℕ) (m : NamedMember) (old new : NamedMembers)
     : Type 0 where
   pub each : (other : ℕ)
       → namesakes_of new other
-      ≡ cond (is_at (nat_cmp hash) other) (entered_to outer m (namesakes_of old other))
+      ≡ cond (is_at (nat_cmp hash) other) (entered_to visits m (namesakes_of old other))
       (namesakes_of old other)
 
 -- one more is listed after the others of its hash

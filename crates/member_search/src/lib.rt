@@ -3,7 +3,6 @@
 #![tactic(auto)]
 
 mod collect;
-mod empty_types;
 mod finder;
 mod laws;
 mod member_index;
@@ -13,6 +12,7 @@ mod own_names;
 mod search;
 mod stack;
 mod turn;
+mod visits;
 
 pub use finder::MemberFinder;
 pub use laws::{nesting_never_decides, searches_rest};

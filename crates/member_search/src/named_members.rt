@@ -1,10 +1,10 @@
 //! Members to which a walk over a struct or union has come, by hashes of their names.
 
 ghost use Rattle.std.specs.Prelude.{◌≡◌, IfOk, OnOk};
-ghost use Rattle.member_search.specs.Namesakes.{AddsLater, AreFresh, Enters, is_skipped, last_of, namesakes_of, skips_after};
+ghost use Rattle.member_search.specs.Namesakes.{AddsLater, AreFresh, Enters, last_of, namesakes_of, skips_after};
 
 use crate::search::Found;
-use crate::stack::Stack;
+use crate::visits::Visits;
 use std::alloc::{AllocError, Global};
 use std::collections::BTreeMap;
 
@@ -17,6 +17,8 @@ pub(crate) struct NamedMember {
     /// Where its name stands in the strings.
     pub(crate) name_offset: u32,
     pub(crate) found: Found,
+    /// The visit to its struct or union in which the walk came to it.
+    pub(crate) visit: usize,
 }
 
 /// Members by hashes of their names, in the order in which the walk came to them.
@@ -39,14 +41,6 @@ impl Drop for NamedMembers {
             count: _,
         } = self;
     }
-}
-
-/// Whether the struct or union of the member that was listed last is open. A search that has left it
-/// there doesn't come to this one.
-fn is_skipped(outer: &Stack, last: Found, here: Found) -> bool
-    ensures { result ≡ is_skipped outer.now last here }
-{
-    outer.contains(last.place.type_id) || here.place.type_id == last.place.type_id
 }
 
 impl NamedMembers {
@@ -87,24 +81,24 @@ impl NamedMembers {
         Ok(())
     }
 
-    /// Lists a member, unless a search that has found those before to be incompatible doesn't come
-    /// to it here; whether it is skipped so. `outer` are the structs and unions around its own.
+    /// Lists a member; whether it is skipped, where the visit to the struct or union of the last one
+    /// of its hash goes on: a search that has found those before to be incompatible has left it there.
     pub(crate) fn enter(
         &mut self,
         hash: u64,
         member: NamedMember,
-        outer: &Stack,
+        visits: &Visits,
     ) -> Result<bool, AllocError>
-        ensures enters { OnOk result (Enters outer.now hash member self.old self.new) }
+        ensures enters { OnOk result (Enters visits.now hash member self.old self.new) }
         ensures skipped { IfOk result (λ skipped.
-            skipped ≡ skips_after outer.now member (last_of (namesakes_of self.old hash))) }
+            skipped ≡ skips_after visits.now (last_of (namesakes_of self.old hash))) }
     {
         let Some(last) = self.last(hash) else {
             self.first.insert(hash, member)?;
             self.count = self.count.saturating_add(1);
             return Ok(false);
         };
-        let skipped = is_skipped(outer, last.found, member.found);
+        let skipped = visits.is_within(last);
         if !skipped {
             self.add_later(hash, member)?;
         }

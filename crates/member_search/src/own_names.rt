@@ -171,7 +171,7 @@ impl<'t> OwnNames<'t> {
         memory: &mut Memory,
     ) -> Result<Turn, AccessError>
         requires hash { hash ≡ name_hash name.now }
-        requires sound { IsSound (searched local.now type_id name.now self.old) memory.old.nothing
+        requires sound { IsSound (searched local.now type_id name.now self.old) memory.old.nothing.keys
             memory.old.outer frame }
         ensures same { self.new ≡ self.old }
         ensures turn { IfOk result (λ turn.
@@ -179,7 +179,7 @@ impl<'t> OwnNames<'t> {
             (memory.old.outer ++ frame ∷ []) (found_of turn)
             (memory.new.outer ++ frames_of turn)) }
         ensures sound { IfOk result (λ turn.
-            IsSoundTurn (searched local.now type_id name.now self.old) turn memory.new.nothing
+            IsSoundTurn (searched local.now type_id name.now self.old) turn memory.new.nothing.keys
             memory.new.outer) }
         ensures refused { IfErr result (λ e.
             e ≢ TypeError OutOfMemory

@@ -9,7 +9,6 @@ ghost use Rattle.access_paths.specs.declared.error.AccessError.TheVariants.{BtfE
 ghost use Rattle.btf_records.specs.Fields.{members_of};
 ghost use Rattle.btf_records.specs.declared.error.BtfError.TheVariants.{OutOfMemory};
 
-use crate::empty_types::EmptyTypes;
 use crate::search::Found;
 use crate::stack::Stack;
 use access_paths::{AccessError, Place, bits_after};
@@ -18,6 +17,7 @@ use btf_records::BtfMember;
 use btf_tables::Btf;
 use member_looks::{Look, look_at};
 use std::alloc::{AllocError, Global};
+use std::collections::BTreeSet;
 
 /// A struct or union whose members are being looked at.
 #[derive(Clone, Copy, Debug)]
@@ -36,8 +36,8 @@ pub(crate) struct Frame {
 pub(crate) struct Memory {
     /// The structs and unions around the innermost, which is being looked at.
     pub(crate) outer: Stack,
-    /// Those that were searched and hold nothing.
-    pub(crate) nothing: EmptyTypes,
+    /// The ids of those that were searched and hold nothing.
+    pub(crate) nothing: BTreeSet<u32>,
 }
 
 impl Drop for Memory {
@@ -64,11 +64,11 @@ pub(crate) enum Turn {
 impl Memory {
     pub(crate) fn new(alloc: Global) -> Memory
         ensures outer { result.outer ≡ [] }
-        ensures nothing { result.nothing ≡ [] }
+        ensures nothing { result.nothing.keys ≡ [] }
     {
         Memory {
             outer: Stack::new(alloc),
-            nothing: EmptyTypes::new(alloc),
+            nothing: BTreeSet::new(alloc),
         }
     }
 }
@@ -128,10 +128,10 @@ fn enter(
     innermost: Frame,
     memory: &mut Memory,
 ) -> Result<Turn, AccessError>
-    requires { is_noted memory.old.nothing type_id ≡ false }
+    requires { is_noted memory.old.nothing.keys type_id ≡ false }
     ensures entered { IfOk result (λ turn.
-        IsEntered target.now type_id bits innermost memory.old.outer memory.old.nothing turn
-        memory.new.outer memory.new.nothing) }
+        IsEntered target.now type_id bits innermost memory.old.outer memory.old.nothing.keys turn
+        memory.new.outer memory.new.nothing.keys) }
     ensures refused { IfErr result (λ e.
         e ≢ TypeError OutOfMemory
         → (e ≡ MaximumNestingLevelReached)
@@ -148,8 +148,8 @@ fn enter(
 /// Goes on around a struct or union that was the innermost, which holds nothing.
 pub(crate) fn leave(left: Frame, memory: &mut Memory) -> Result<Turn, AllocError>
     ensures { IfOk result (λ turn.
-        IsLeft left memory.old.outer memory.old.nothing turn memory.new.outer
-        memory.new.nothing) }
+        IsLeft left memory.old.outer memory.old.nothing.keys turn memory.new.outer
+        memory.new.nothing.keys) }
 {
     match memory.outer.pop() {
         Some(frame) if left.skipped => Ok(Turn::On(Frame {
@@ -157,7 +157,7 @@ pub(crate) fn leave(left: Frame, memory: &mut Memory) -> Result<Turn, AllocError
             ..frame
         })),
         Some(frame) => {
-            memory.nothing.note(left.type_id)?;
+            memory.nothing.insert(left.type_id)?;
             Ok(Turn::On(frame))
         }
         None => Ok(Turn::Over),
@@ -173,8 +173,8 @@ pub(crate) fn follow(
     memory: &mut Memory,
 ) -> Result<Turn, AccessError>
     ensures over { IfOk result (λ turn.
-        IsFollowed target.now seen here after memory.old.outer memory.old.nothing turn
-        memory.new.outer memory.new.nothing) }
+        IsFollowed target.now seen here after memory.old.outer memory.old.nothing.keys turn
+        memory.new.outer memory.new.nothing.keys) }
     ensures refused { IfErr result (λ e.
         e ≢ TypeError OutOfMemory
         → IsTooDeep target.now seen (memory.old.outer ++ after ∷ []) e) }
@@ -187,7 +187,7 @@ pub(crate) fn follow(
         }
         Look::Here => Ok(Turn::Found(here)),
         Look::Inside(inside) => {
-            if memory.nothing.contains(inside) {
+            if memory.nothing.contains(&inside) {
                 return Ok(Turn::On(after));
             }
             enter(target, inside, here.bits, after, memory)
@@ -204,14 +204,14 @@ pub(crate) fn next_turn<'t>(
     frame: Frame,
     memory: &mut Memory,
 ) -> Result<Turn, AccessError>
-    requires { IsSound (searched local.now type_id name.now target.now) memory.old.nothing
+    requires { IsSound (searched local.now type_id name.now target.now) memory.old.nothing.keys
         memory.old.outer frame }
     ensures turn { IfOk result (λ turn.
         IsTurn (searched local.now type_id name.now target.now)
         (memory.old.outer ++ frame ∷ []) (found_of turn)
         (memory.new.outer ++ frames_of turn)) }
     ensures sound { IfOk result (λ turn.
-        IsSoundTurn (searched local.now type_id name.now target.now) turn memory.new.nothing
+        IsSoundTurn (searched local.now type_id name.now target.now) turn memory.new.nothing.keys
         memory.new.outer) }
     ensures refused { IfErr result (λ e.
         e ≢ TypeError OutOfMemory

@@ -1,6 +1,6 @@
-use Rattle.std.proofs.Common.{◌≡◌, ◌+◌, length, refl, arith}
+use Rattle.std.proofs.Common.{◌≡◌, ◌+◌, length, arith}
 use Rattle.std.proofs.lemmas.Grind.{common_steps}
-use Rattle.member_search.proofs.Collected.{IsSeen, deep-err, entered-so, entered_as, followed-less-ok, inside-err, is-empty, left-less, named-less, not-empty, skips-so, unknown-err, unread-err, walks-left, walks-named, walks-nameless-ok}
+use Rattle.member_search.proofs.Collected.{IsSeen, deep-err, entered-so, inside-err, is-empty, not-empty, skips-so, unknown-err, unread-err, walks-left, walks-named, walks-nameless-ok}
 use Rattle.member_search.proofs.Followed.{same-member}
 use Rattle.member_search.proofs.collect.collecting_turn.Goals as goal
 
@@ -8,10 +8,7 @@ pub returns-in_err-t-clause-refused : goal.returns-in_err-t-clause-refused
 returns-in_err-t-clause-refused c = unknown-err _ c.args.target.now c.args.memory.now.outer c.args.frame c.in_err-t.field-0.0 c.in_err-t.ensures.0 c.in_err-t.ensures.1 c.from_residual.ensures.1
 
 pub returns-in_default-clause-walks : goal.returns-in_default-clause-walks
-returns-in_default-clause-walks c = walks-left c.args.target.now c.args.incomplete.now c.args.memory.now.nothing c.args.memory.now.outer c.args.frame c.in_ok-t.t c.args.named.now c.in_ok-turn.turn _ _ _ c.in_ok-t.ensures c.in_default.ensures.value c.in_ok-note_incomplete.ensures c.in_ok-turn.ensures
-
-pub returns-in_default-clause-smaller : goal.returns-in_default-clause-smaller
-returns-in_default-clause-smaller c = λ _. left-less c.args.target.now c.args.frame c.args.memory.now.outer c.args.frame c.args.memory.now.nothing c.in_ok-turn.turn _ _ c.in_ok-turn.ensures
+returns-in_default-clause-walks c = walks-left c.args.target.now c.args.visits.now c.args.memory.now.nothing.keys c.args.memory.now.outer c.args.frame c.in_ok-t.t c.args.named.now c.in_ok-turn.turn _ _ c.in_ok-t.ensures c.in_default.ensures.value c.in_ok-turn.ensures
 
 pub returns-in_err-name-clause-refused : goal.returns-in_err-name-clause-refused
 returns-in_err-name-clause-refused c =
@@ -39,11 +36,7 @@ returns-then-is_empty-clause-walks c =
       reads = c.in_ok-name.ensures;
     } in
     let empty = is-empty c.in_ok-name.name.now c.is_empty.result c.is_empty.ensures c.if-is_empty.true in
-    walks-nameless-ok _ c.args.target.now c.args.incomplete.now c.args.memory.now.nothing c.args.memory.now.outer c.args.frame c.in_ok-t.t c.in-Some.member c.member_here-here.result c.in_ok-name.name.now c.args.named.now c.in_ok-seen.seen _ _ at_m empty c.in_ok-seen.ensures.value c.follow.ensures.over
-
-pub returns-then-is_empty-clause-smaller : goal.returns-then-is_empty-clause-smaller
-returns-then-is_empty-clause-smaller c =
-    followed-less-ok c.args.target.now c.args.memory.now.outer c.args.frame c.in_ok-t.t c.in-Some.member c.in_ok-seen.seen _ c.args.memory.now.nothing _ _ _ c.in_ok-t.ensures c.in-Some.ensures.value c.follow.ensures.over
+    walks-nameless-ok _ c.args.target.now c.args.visits.now c.args.memory.now.nothing.keys c.args.memory.now.outer c.args.frame c.in_ok-t.t c.in-Some.member c.member_here-here.result c.in_ok-name.name.now c.args.named.now c.in_ok-seen.seen _ _ at_m empty c.in_ok-seen.ensures.value c.follow.ensures.over
 
 pub returns-then-is_empty-clause-refused : goal.returns-then-is_empty-clause-refused
 returns-then-is_empty-clause-refused c =
@@ -67,9 +60,6 @@ returns-clause-walks c =
       reads = c.in_ok-name.ensures;
     } in
     let some = not-empty c.in_ok-name.name.now c.is_empty.result c.is_empty.ensures c.if-is_empty.false in
-    walks-named c.args.target.now c.args.incomplete.now c.args.memory.now.nothing c.args.memory.now.outer c.args.frame c.in_ok-t.t c.in-Some.member c.member_here-here.result c.in_ok-name.name.now c.args.named.now _ c.in_ok-skipped.skipped at_m some
-    (entered-so c.args.memory.now.outer c.args.memory.now.outer c.name_hash.result c.in_ok-name.name.now _ c.args.named.now _ refl c.name_hash.ensures c.in_ok-skipped.ensures.enters)
-    (skips-so c.args.memory.now.outer c.args.memory.now.outer c.name_hash.result c.in_ok-name.name.now (entered_as c.in-Some.member c.member_here-here.result) c.args.named.now c.in_ok-skipped.skipped refl c.name_hash.ensures c.in_ok-skipped.ensures.skipped)
-
-pub returns-clause-smaller : goal.returns-clause-smaller
-returns-clause-smaller c = λ _. named-less c.args.target.now c.args.memory.now.outer c.args.frame c.in_ok-t.t c.in-Some.member _ c.in_ok-t.ensures c.in-Some.ensures.value
+    walks-named c.args.target.now c.args.visits.now c.args.memory.now.nothing.keys c.args.memory.now.outer c.args.frame c.in_ok-t.t c.in-Some.member c.member_here-here.result c.in_ok-name.name.now c.args.named.now _ c.in_ok-skipped.skipped at_m some
+    (entered-so c.args.visits.now c.name_hash.result c.in_ok-name.name.now c.in-Some.member c.member_here-here.result c.innermost.result c.args.named.now _ c.innermost.ensures c.name_hash.ensures c.in_ok-skipped.ensures.enters)
+    (skips-so c.args.visits.now c.name_hash.result c.in_ok-name.name.now c.args.named.now c.in_ok-skipped.skipped c.name_hash.ensures c.in_ok-skipped.ensures.skipped)

@@ -15,7 +15,7 @@ returns-in_err-_root-clause-refused c =
 pub loop-memory-init : goal.loop-memory-init
 loop-memory-init c =
     let search = searched c.args.local.now c.args.type_id c.args.name.now c.args.target.now in
-    let first = begins search c.args.root c.args.bits _ c.new-memory.result.outer c.new-memory.result.nothing c.entered-frame.result c.new-memory.ensures.outer c.new-memory.ensures.nothing c.entered-frame.ensures.value c.in_ok-_root.ensures in
+    let first = begins search c.args.root c.args.bits _ c.new-memory.result.outer c.new-memory.result.nothing.keys c.entered-frame.result c.new-memory.ensures.outer c.new-memory.ensures.nothing c.entered-frame.ensures.value c.in_ok-_root.ensures in
     record { same = first.same; sound = first.sound }
 
 pub returns-in-Over-clause-value : goal.returns-in-Over-clause-value

@@ -16,12 +16,12 @@ returns-in_err-t-clause-refused c =
 pub returns-in_default-clause-turn : goal.returns-in_default-clause-turn
 returns-in_default-clause-turn c =
     let search = searched c.args.local.now c.args.type_id c.args.name.now c.args.target.now in
-    (done search c.args.memory.now.outer c.args.frame c.in_ok-t.t c.args.memory.now.nothing c.in_ok-turn.turn _ _ c.requires c.in_ok-t.ensures c.in_default.ensures.value c.in_ok-turn.ensures).0
+    (done search c.args.memory.now.outer c.args.frame c.in_ok-t.t c.args.memory.now.nothing.keys c.in_ok-turn.turn _ _ c.requires c.in_ok-t.ensures c.in_default.ensures.value c.in_ok-turn.ensures).0
 
 pub returns-in_default-clause-sound : goal.returns-in_default-clause-sound
 returns-in_default-clause-sound c =
     let search = searched c.args.local.now c.args.type_id c.args.name.now c.args.target.now in
-    (done search c.args.memory.now.outer c.args.frame c.in_ok-t.t c.args.memory.now.nothing c.in_ok-turn.turn _ _ c.requires c.in_ok-t.ensures c.in_default.ensures.value c.in_ok-turn.ensures).1
+    (done search c.args.memory.now.outer c.args.frame c.in_ok-t.t c.args.memory.now.nothing.keys c.in_ok-turn.turn _ _ c.requires c.in_ok-t.ensures c.in_default.ensures.value c.in_ok-turn.ensures).1
 
 pub returns-in_err-seen-clause-refused : goal.returns-in_err-seen-clause-refused
 returns-in_err-seen-clause-refused c =

@@ -19,7 +19,7 @@ pub loop-memory-init : goal.loop-memory-init
 loop-memory-init c =
     let search = searched c.args.local.now c.args.type_id c.args.name.now c.args.self.now in
     let known : type_by_id c.args.self.now c.args.root ≡ Some c.in_ok-_root._root = subst (λ (t : Table). type_by_id t c.args.root ≡ Some c.in_ok-_root._root) c.target-target.ensures c.in_ok-_root.ensures in
-    let first = begins search c.args.root c.args.bits c.in_ok-_root._root c.new-memory.result.outer c.new-memory.result.nothing c.entered-frame.result c.new-memory.ensures.outer c.new-memory.ensures.nothing c.entered-frame.ensures.value known in
+    let first = begins search c.args.root c.args.bits c.in_ok-_root._root c.new-memory.result.outer c.new-memory.result.nothing.keys c.entered-frame.result c.new-memory.ensures.outer c.new-memory.ensures.nothing c.entered-frame.ensures.value known in
     record { names = refl; same = first.same; sound = first.sound }
 
 pub returns-in-Over-clause-value : goal.returns-in-Over-clause-value
@@ -27,6 +27,6 @@ returns-in-Over-clause-value c =
     let l = c.loop-memory in
     let turn = c.in_ok-found.field-0 in
     let new = c.next_turn.new.memory in
-    ended (searched c.args.local.now c.args.type_id c.args.name.now c.args.self.now) _ (l.memory.outer ++ l.frame ∷ []) turn new.outer new.nothing c.in-Over.is
+    ended (searched c.args.local.now c.args.type_id c.args.name.now c.args.self.now) _ (l.memory.outer ++ l.frame ∷ []) turn new.outer new.nothing.keys c.in-Over.is
     (subst (λ (t : Table). IsTurn (searched c.args.local.now c.args.type_id c.args.name.now t) (l.memory.outer ++ l.frame ∷ []) (found_of turn) (new.outer ++ frames_of turn)) l.invariant.names c.in_ok-found.ensures.turn)
-    (subst (λ (t : Table). IsSoundTurn (searched c.args.local.now c.args.type_id c.args.name.now t) turn new.nothing new.outer) l.invariant.names c.in_ok-found.ensures.sound) l.invariant.same
+    (subst (λ (t : Table). IsSoundTurn (searched c.args.local.now c.args.type_id c.args.name.now t) turn new.nothing.keys new.outer) l.invariant.names c.in_ok-found.ensures.sound) l.invariant.same

@@ -8,7 +8,7 @@ abbrev pub invariant-loop-memory : goal.invariant-loop-memory
 invariant-loop-memory l = record {
   names : l.self ≡ l.fn.self;
   same : stack_value (searched l.local l.type_id l.name l.fn.self) (l.memory.outer ++ l.frame ∷ []) ≡ member_found (searched l.local l.type_id l.name l.fn.self) l.root l.fn.bits;
-  sound : IsSound (searched l.local l.type_id l.name l.fn.self) l.memory.nothing l.memory.outer l.frame;
+  sound : IsSound (searched l.local l.type_id l.name l.fn.self) l.memory.nothing.keys l.memory.outer l.frame;
 }
 
 abbrev pub decreases-loop-memory : goal.decreases-loop-memory

@@ -15,8 +15,8 @@ next_turn-requires c =
     let below = c.args.memory.now.outer in
     let same = c.self.view_is ∙ c.in_ok-count_visit.ensures in
     let skips : Skips c.args.self.now c.args.hash f further = subst (λ (t : Table). Skips t c.args.hash f further) c.in_ok-count_visit.ensures c.skip-further.ensures in
-    subst (λ (t : Table). IsSound (searched c.args.local.now c.args.type_id c.args.name.now t) c.args.memory.now.nothing below further) (sym same)
-    (skipped c.args.local.now c.args.type_id c.args.name.now c.args.self.now c.args.hash c.args.memory.now.nothing below f further c.requires.hash c.requires.sound skips).sound
+    subst (λ (t : Table). IsSound (searched c.args.local.now c.args.type_id c.args.name.now t) c.args.memory.now.nothing.keys below further) (sym same)
+    (skipped c.args.local.now c.args.type_id c.args.name.now c.args.self.now c.args.hash c.args.memory.now.nothing.keys below f further c.requires.hash c.requires.sound skips).sound
 
 pub returns-clause-turn : goal.returns-clause-turn
 returns-clause-turn c =
@@ -25,8 +25,8 @@ returns-clause-turn c =
     let below = c.args.memory.now.outer in
     let same = c.self.view_is ∙ c.in_ok-count_visit.ensures in
     let skips : Skips c.args.self.now c.args.hash f further = subst (λ (t : Table). Skips t c.args.hash f further) c.in_ok-count_visit.ensures c.skip-further.ensures in
-    turned_from (searched c.args.local.now c.args.type_id c.args.name.now c.args.self.now) c.args.memory.now.nothing below f further c.next_turn.result c.next_turn.new.memory.outer
-    (skipped c.args.local.now c.args.type_id c.args.name.now c.args.self.now c.args.hash c.args.memory.now.nothing below f further c.requires.hash c.requires.sound skips)
+    turned_from (searched c.args.local.now c.args.type_id c.args.name.now c.args.self.now) c.args.memory.now.nothing.keys below f further c.next_turn.result c.next_turn.new.memory.outer
+    (skipped c.args.local.now c.args.type_id c.args.name.now c.args.self.now c.args.hash c.args.memory.now.nothing.keys below f further c.requires.hash c.requires.sound skips)
     (subst (λ (t : Table). IfOk c.next_turn.result (λ turn. IsTurn (searched c.args.local.now c.args.type_id c.args.name.now t) (below ++ further ∷ []) (found_of turn) (c.next_turn.new.memory.outer ++ frames_of turn))) same c.next_turn.ensures.turn)
 
 pub returns-clause-refused : goal.returns-clause-refused
@@ -36,6 +36,6 @@ returns-clause-refused c =
     let below = c.args.memory.now.outer in
     let same = c.self.view_is ∙ c.in_ok-count_visit.ensures in
     let skips : Skips c.args.self.now c.args.hash f further = subst (λ (t : Table). Skips t c.args.hash f further) c.in_ok-count_visit.ensures c.skip-further.ensures in
-    refused_from (searched c.args.local.now c.args.type_id c.args.name.now c.args.self.now) c.args.memory.now.nothing below f further c.next_turn.result
-    (skipped c.args.local.now c.args.type_id c.args.name.now c.args.self.now c.args.hash c.args.memory.now.nothing below f further c.requires.hash c.requires.sound skips)
+    refused_from (searched c.args.local.now c.args.type_id c.args.name.now c.args.self.now) c.args.memory.now.nothing.keys below f further c.next_turn.result
+    (skipped c.args.local.now c.args.type_id c.args.name.now c.args.self.now c.args.hash c.args.memory.now.nothing.keys below f further c.requires.hash c.requires.sound skips)
     (subst (λ (t : Table). IfErr c.next_turn.result (λ e. e ≢ TypeError OutOfMemory → stack_value (searched c.args.local.now c.args.type_id c.args.name.now t) (below ++ further ∷ []) ≡ Err e)) same c.next_turn.ensures.refused)
