@@ -1,5 +1,5 @@
-//! Tests of string tables, ELF files, kinds of sections and programs, watched readers and writers,
-//! instructions and maps.
+//! Tests of string tables, values in order of texts, ELF files, kinds of sections and programs,
+//! watched readers and writers, instructions and maps.
 #![tactic(auto)]
 
 #[cfg(test)]
@@ -12,3 +12,5 @@ mod kinds;
 mod readers_and_writers;
 #[cfg(test)]
 mod string_tables;
+#[cfg(test)]
+mod text_orders;
