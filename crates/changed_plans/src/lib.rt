@@ -10,17 +10,13 @@ mod refused_lines;
 mod texts;
 
 use counts::Counts;
-use exercise_errors::ExerciseError;
+use exercise_words::{ExerciseError, next_word, read_next};
 use load_plan::Endianness;
 use planning::{changed_object_counts, changed_types_counts};
 use refused_lines::print_refused_lines;
 use std::env::Args;
 use std::fs;
 use texts::{changed_text_counts, count_refused_texts};
-
-fn next_word(words: &mut Args) -> Result<String, ExerciseError> {
-    words.next().ok_or(ExerciseError::Usage)
-}
 
 /// Prints what runs came to, and how many came to a plan where that is asked for.
 fn print_counts(
@@ -72,7 +68,7 @@ fn count_all(
     words: &mut Args,
     shows_plans: bool,
 ) -> Result<(), ExerciseError> {
-    let mut object = fs::read(rt, next_word(words)?.as_str())?;
+    let mut object = read_next(rt, words)?;
     let order = order_of(next_word(words)?.as_str())?;
     let mut types = read_files(rt, words)?;
     let counts = changed_object_counts(rt.alloc(), maps, &mut object, &types, order)?;
@@ -86,7 +82,7 @@ fn count_all(
 
 /// Counts over the plan's text that a word names.
 fn count_texts(rt: &HostRuntime, words: &mut Args) -> Result<(), ExerciseError> {
-    let mut text = fs::read(rt, next_word(words)?.as_str())?;
+    let mut text = read_next(rt, words)?;
     let fronts = count_refused_texts(rt.alloc(), text.as_slice());
     println!(rt;
         "{fronts} of {} fronts are refused at the line after their last whole one",
@@ -122,6 +118,6 @@ pub fn print_changed_texts(rt: &HostRuntime, words: &mut Args) -> Result<(), Exe
 /// Prints for each byte of the text of a plan, whose file a word names, the lines at which it is
 /// refused with each other value of the byte.
 pub fn print_changed_lines(rt: &HostRuntime, words: &mut Args) -> Result<(), ExerciseError> {
-    let mut text = fs::read(rt, next_word(words)?.as_str())?;
+    let mut text = read_next(rt, words)?;
     print_refused_lines(rt, text.as_mut_slice())
 }

@@ -1,6 +1,6 @@
 //! The lines at which a plan's text is refused with one byte changed.
 
-use exercise_errors::ExerciseError;
+use exercise_words::ExerciseError;
 use load_plan::{Plan, PlanReadError};
 use std::alloc::{AllocError, Global};
 

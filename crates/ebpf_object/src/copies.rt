@@ -2,21 +2,10 @@
 
 ghost use Rattle.std.specs.Prelude.{◌≡◌, [], IfOk, OnOk};
 
-use crate::object::Object;
+use crate::object::{Object, put, unread};
 use btf_extension::BtfExt;
 use btf_tables::Btf;
-use object_externs::Externs;
-use object_file::ObjectFile;
-use object_maps::Maps;
-use object_parts::{Functions, Programs};
-use std::alloc::{AllocError, Global};
-
-/// Puts a value in place of another, which is dropped here alone.
-pub(crate) fn put<T: Drop>(place: &mut T, value: T)
-    ensures { place.new ≡ value }
-{
-    *place = value;
-}
+use std::alloc::AllocError;
 
 /// A table again, if there is one.
 fn table_again<'a>(table: &Option<Btf<'a>>) -> Result<Option<Btf<'a>>, AllocError>
@@ -35,23 +24,6 @@ fn extension_again<'a>(extension: &Option<BtfExt<'a>>) -> Result<Option<BtfExt<'
     match extension {
         Some(extension) => Ok(Some(extension.try_clone()?)),
         None => Ok(None),
-    }
-}
-
-/// An object of a file of which nothing else is read.
-pub(crate) fn unread<'a>(alloc: Global, file: ObjectFile<'a>) -> Object<'a>
-    ensures file { result.file ≡ file.entry }
-    ensures programs { result.programs ≡ [] }
-{
-    Object {
-        alloc,
-        file,
-        btf: None,
-        btf_ext: None,
-        maps: Maps::new(alloc),
-        programs: Programs::new(alloc),
-        functions: Functions::new(alloc),
-        externs: Externs::none(alloc),
     }
 }
 

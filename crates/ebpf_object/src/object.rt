@@ -26,7 +26,6 @@ ghost use Rattle.ebpf_object.specs.TextSections as code;
 ghost use Rattle.ebpf_object.specs.Rewriting.{AreAnswered, IsRefused, IsRewritten};
 ghost use Rattle.btf_records.specs.declared.error.BtfError.TheVariants as BtfError;
 
-use crate::copies::{put, unread};
 use crate::rewriting::rewrite;
 use crate::text_sections::text_sections;
 use crate::types::read_types;
@@ -94,6 +93,30 @@ impl<'a> Model for Object<'a> {
         } };
 
     ghost invariant = { λ o. HaveFunctions o.programs o.functions };
+}
+
+/// Puts a value in place of another, which is dropped here alone.
+pub(crate) fn put<T: Drop>(place: &mut T, value: T)
+    ensures { place.new ≡ value }
+{
+    *place = value;
+}
+
+/// An object of a file of which nothing else is read.
+pub(crate) fn unread<'a>(alloc: Global, file: ObjectFile<'a>) -> Object<'a>
+    ensures file { result.file ≡ file.entry }
+    ensures programs { result.programs ≡ [] }
+{
+    Object {
+        alloc,
+        file,
+        btf: None,
+        btf_ext: None,
+        maps: Maps::new(alloc),
+        programs: Programs::new(alloc),
+        functions: Functions::new(alloc),
+        externs: Externs::none(alloc),
+    }
 }
 
 /// The maps of a file whose types are these.

@@ -2,7 +2,7 @@
 //! are alike.
 
 use ebpf_object::{Object, bpf_insn};
-use exercise_errors::ExerciseError;
+use exercise_words::ExerciseError;
 use plain_linker::plain_slots;
 use std::alloc::Global;
 use std::collections::BTreeSet;

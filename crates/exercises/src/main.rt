@@ -27,7 +27,7 @@ mod rewritten_tables;
 mod thousand_structs;
 
 use changed_plans::{print_changed_lines, print_changed_plans, print_changed_texts};
-use exercise_errors::ExerciseError;
+use exercise_words::ExerciseError;
 use library_example::{ExampleError, print_object_and_plan};
 use measures::{measure_matching, measure_object, measure_symbols, measure_types};
 use std::env;

@@ -1,7 +1,7 @@
 //! Type relocations over random tables of types, beside the plain definitions.
 
 use compared_matches::{SORTS, Tally, compare_rounds};
-use exercise_errors::ExerciseError;
+use exercise_words::{ExerciseError, next_word};
 use std::env::Args;
 
 /// Prints which sorts of answers never came, or how often each did.
@@ -20,9 +20,7 @@ fn print_sorts(rt: &HostRuntime, tally: &Tally, shows_counts: bool) -> Result<()
 /// Compares over as many random objects as the first word says. A second word, `counts`, asks how
 /// often each sort of answers came.
 pub(crate) fn run(rt: &HostRuntime, words: &mut Args) -> Result<(), ExerciseError> {
-    let Some(word) = words.next() else {
-        return Err(ExerciseError::Usage);
-    };
+    let word = next_word(words)?;
     let rounds: u64 = word.parse().map_err(|_| ExerciseError::Usage)?;
     let shows_counts = words.next().is_some();
     let tally = compare_rounds(rt.alloc(), rounds)?;

@@ -5,7 +5,7 @@ use ebpf_object::{
     BtfRelocationCause, BtfRelocationError, Function, GlobalValues, KsymsError, Maps, NumberedMap,
     Object, ParseError, Watched,
 };
-use exercise_errors::ExerciseError;
+use exercise_words::ExerciseError;
 use relocation_errors::{EbpfRelocationError, RelocationError};
 use std::alloc::{AllocError, Global};
 use std::collections::BTreeSet;

@@ -1,7 +1,6 @@
 //! How long the libraries' calls take, for the program of exercises.
 #![tactic(auto)]
 
-mod files;
 mod maps;
 mod matching;
 mod objects;
@@ -9,7 +8,6 @@ mod symbols;
 mod times;
 mod types;
 
-pub use files::read_next;
 pub use matching::measure_matching;
 pub use objects::measure_object;
 pub use symbols::measure_symbols;

@@ -6,7 +6,7 @@ use crate::times::micros;
 use ebpf_object::{
     EbpfSectionKind, GlobalValues, Maps, NumberedMap, Object, ObjectFile, ParseError, ReadSymbol,
 };
-use exercise_errors::ExerciseError;
+use exercise_words::ExerciseError;
 use std::alloc::{AllocError, Global};
 use std::collections::BTreeSet;
 use std::time::Instant;

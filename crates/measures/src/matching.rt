@@ -2,11 +2,10 @@
 //! object's own types are these types too, with the access strings added, so that each relocation
 //! is for a type or a member that is there.
 
-use crate::files::read_next;
 use crate::times::{micros, print_times};
 use btf::{Btf, BtfError, BtfKind, Endianness};
 use ebpf_items::RelocationKind;
-use exercise_errors::ExerciseError;
+use exercise_words::{ExerciseError, read_next};
 use std::alloc::AllocError;
 use std::env::Args;
 use std::time::Instant;

@@ -4,7 +4,7 @@
 use crate::maps::{measure_values, put_values, write_numbers};
 use crate::times::{micros, print_times};
 use ebpf_object::{GlobalValues, Object};
-use exercise_errors::ExerciseError;
+use exercise_words::{ExerciseError, next_word};
 use std::env::Args;
 use std::fs;
 use std::time::Instant;
@@ -167,9 +167,7 @@ fn measure(rt: &HostRuntime, bytes: &[u8], most: usize) -> Result<(), ExerciseEr
 /// Measures the object of the file that the first word names; the next one says how many variables
 /// get values.
 pub fn measure_object(rt: &HostRuntime, words: &mut Args) -> Result<(), ExerciseError> {
-    let Some(file) = words.next() else {
-        return Err(ExerciseError::Usage);
-    };
+    let file = next_word(words)?;
     let most = most_variables(words.next())?;
     let bytes = fs::read(rt, file.as_str())?;
     measure(rt, bytes.as_slice(), most)

@@ -2,7 +2,7 @@
 //! lines into words.
 
 use crate::times::{micros, print_times};
-use exercise_errors::ExerciseError;
+use exercise_words::{ExerciseError, next_word};
 use kernel_symbols::{Addresses, read_addresses};
 use std::alloc::{AllocError, Global};
 use std::env::Args;
@@ -99,9 +99,7 @@ fn measure(rt: &HostRuntime, text: &str, words: &mut Args) -> Result<(), Exercis
 
 /// Reads the file of the first word, and finds the names of the other words.
 pub fn measure_symbols(rt: &HostRuntime, words: &mut Args) -> Result<(), ExerciseError> {
-    let Some(file) = words.next() else {
-        return Err(ExerciseError::Usage);
-    };
+    let file = next_word(words)?;
     let text = fs::read_to_string(rt, file.as_str())?;
     measure(rt, text.as_str(), words)
 }

@@ -1,6 +1,6 @@
 //! Times that are measured.
 
-use exercise_errors::ExerciseError;
+use exercise_words::ExerciseError;
 use std::time::Instant;
 
 /// The microseconds since a moment.

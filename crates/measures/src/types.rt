@@ -1,10 +1,9 @@
 //! How long it takes to parse a file of type information, to write the table again, to rewrite it
 //! to what a kernel grants, and to find structs in it by name.
 
-use crate::files::read_next;
 use crate::times::{micros, print_times};
 use btf::{Btf, BtfError, BtfKind, Endianness, fixup_and_sanitize, fixup_ksyms_datasec};
-use exercise_errors::ExerciseError;
+use exercise_words::{ExerciseError, read_next};
 use std::alloc::Global;
 use std::collections::BTreeMap;
 use std::env::Args;

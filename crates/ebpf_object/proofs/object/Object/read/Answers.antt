@@ -1,10 +1,16 @@
-use Rattle.std.proofs.Common.{subst, ap, sym, ◌∙◌}
+use Rattle.std.proofs.Common.{List, Option, refl, subst, ap, sym, ◌∙◌}
 use Rattle.std.proofs.lemmas.Result.{err_from_is_err_and}
-use Rattle.std.specs.Option.{IsSomeAnd, option_map}
+use Rattle.std.specs.Option.{IsSomeAnd, option_map, option_map_or}
 use Rattle.std.specs.Prelude.{IfSome}
 use Rattle.btf_parts.specs.Faultless.{IsFaultless as AreFaultless}
 use Rattle.object_externs.specs.Faults.{ExternsFault}
-use Rattle.object_externs.specs.Types.{SaysOfTypes, completed}
+use Rattle.btf_extension.specs.Extensions.{Extension}
+use Rattle.btf_tables.specs.Tables.{Table}
+use Rattle.elf64.specs.Symbols.{Symbol, symbols_of}
+use Rattle.object_externs.specs.Externs.{externs_of}
+use Rattle.object_externs.specs.Types.{SaysOfTypes, completed, no_externs}
+use Rattle.object_parse.specs.Functions.{functions_of}
+use Rattle.ebpf_object.specs.Types.{HoldsRecords}
 use Rattle.object_maps.specs.Maps.{HasMapsFault, maps_faults}
 use Rattle.ebpf_object.proofs.Faultless.{externs-fault, map-fault, sound}
 use Rattle.ebpf_object.proofs.object.Object.read.Goals as goal
@@ -40,4 +46,23 @@ returns-clause-accepted c =
           c.in_ok-code.ensures.accepted (ap (maps_faults c.self.inside.file) (sym whole) ∙ c.in_ok-maps.ensures.accepted)
           (subst (λ symbols. IfSome c.in_ok-types.types.table (λ t. AreFaultless (ExternsFault symbols t))) c.symbols.ensures.value
           (subst (λ table. IfSome table (λ t. AreFaultless (ExternsFault c.symbols.result.now t))) c.put.ensures c.in_ok-externs.ensures.accepted));
+    })
+
+pub returns-clause-value : goal.returns-clause-value
+returns-clause-value c =
+    let file = c.self.inside.file in
+    rw (← c.self.view_is)
+    (record {
+      table = c.in_ok-types.types.table;
+      holds = c.in_ok-types.ensures.table;
+      same_file = refl;
+      types = c.in_ok-externs.ensures.completed ∙ ap (option_map completed) c.put.ensures;
+      extension = subst (λ (x : Option Extension). HoldsRecords file c.in_ok-types.types.table x) (sym c.put-2.ensures) c.in_ok-types.ensures.extension;
+      maps = c.put-6.ensures ∙ c.in_ok-maps.ensures.value;
+      programs = c.put-5.ensures ∙ c.in_ok-code.ensures.programs;
+      functions = c.put-4.ensures ∙ c.in_ok-code.ensures.functions ∙ ap (functions_of file) c.as_ref.ensures.value;
+      externs =
+          c.put-3.ensures ∙ c.in_ok-externs.ensures.value
+          ∙ ap (λ (symbols : List Symbol). option_map_or (externs_of symbols) c.put.new.place no_externs) c.symbols.ensures.value
+          ∙ ap (λ (t : Option Table). option_map_or (externs_of (symbols_of file)) t no_externs) c.put.ensures;
     })
