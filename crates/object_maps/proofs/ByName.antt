@@ -28,7 +28,7 @@ Above name es = AllByRecursion (λ y. order name y ≡ Less) (map (λ e. e.0) es
 abbrev pub IsRising : {V : Type 0} → List (List ℕ × V) → Type 0
 IsRising es = IsStrictlySortedBy order (map (λ e. e.0) es)
 
-same_text : (a b : List ℕ) → bytes_eq a b ≡ true → a ≡ b
+pub same_text : (a b : List ℕ) → bytes_eq a b ≡ true → a ≡ b
 same_text a b h = (bytes_eq-Decides a b).0 h
 
 text-self : (a : List ℕ) → bytes_eq a a ≡ true
@@ -124,11 +124,11 @@ only-one true o v none = ap (λ p. option_or p (Some v)) (none refl)
 only-one false o v none = or_none o
 
 -- of names that rise there is one of each
-last-rising : {V : Type 0} (name : List ℕ) (es : List (List ℕ × V)) → IsRising es → last_value name es ≡ at name es
+pub last_rising : {V : Type 0} (name : List ℕ) (es : List (List ℕ × V)) → IsRising es → last_value name es ≡ at name es
 unfolding IsStrictlySortedBy
-last-rising name [] rising = refl
-last-rising name (e ∷ es) rising =
-    ap (λ o. option_or o (cond (bytes_eq name e.0) (Some e.1) None)) (last-rising name es rising.1)
+last_rising name [] rising = refl
+last_rising name (e ∷ es) rising =
+    ap (λ o. option_or o (cond (bytes_eq name e.0) (Some e.1) None)) (last_rising name es rising.1)
     ∙ only-one (bytes_eq name e.0) (at name es) e.1 (past-head name e es rising.0)
     ∙ sym (head name e es)
 
@@ -218,10 +218,10 @@ alike {V} (x ∷ xs) (y ∷ ys) one other h =
 
 -- ---- what is made of them by name
 
-last-append : {V : Type 0} (name : List ℕ) (a b : List (List ℕ × V)) → last_value name (a ++ b) ≡ option_or (last_value name b) (last_value name a)
-last-append name [] b = sym (or_none (last_value name b))
-last-append name (e ∷ a) b =
-    ap (λ o. option_or o (cond (bytes_eq name e.0) (Some e.1) None)) (last-append name a b)
+pub last_append : {V : Type 0} (name : List ℕ) (a b : List (List ℕ × V)) → last_value name (a ++ b) ≡ option_or (last_value name b) (last_value name a)
+last_append name [] b = sym (or_none (last_value name b))
+last_append name (e ∷ a) b =
+    ap (λ o. option_or o (cond (bytes_eq name e.0) (Some e.1) None)) (last_append name a b)
     ∙ or-or (last_value name b) (last_value name a) (cond (bytes_eq name e.0) (Some e.1) None)
 
 module _ {V W S : Type 0} (given : List ℕ → Option S) (view : V → S → W) where
@@ -253,13 +253,13 @@ module _ {V W S : Type 0} (given : List ℕ → Option S) (view : V → S → W)
   last-made : (name : List ℕ) (es : List (List ℕ × V)) → last_value name (flat_map made es) ≡ with_given (given name) (last_value name es)
   last-made name [] = refl
   last-made name (e ∷ es) =
-      last-append name (made e) (flat_map made es)
+      last_append name (made e) (flat_map made es)
       ∙ ap₂ option_or (last-made name es) (one-made (given e.0) (bytes_eq name e.0) name e refl ∙ by-name (bytes_eq name e.0) name e refl)
       ∙ given-or (given name) (last_value name es) (cond (bytes_eq name e.0) (Some e.1) None)
 
   last-entered : (name : List ℕ) (es : List (List ℕ × V)) → last_value name (fold with_entry [] es) ≡ last_value name es
   last-entered name es =
-      last-rising name (fold with_entry [] es) (rising_entered [] es (rising_none V))
+      last_rising name (fold with_entry [] es) (rising_entered [] es (rising_none V))
       ∙ at_entered name [] es
       ∙ or_none (last_value name es)
 

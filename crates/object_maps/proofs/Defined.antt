@@ -2,12 +2,9 @@
 use Rattle.std.proofs.Common.{◌≡◌, ◌≢◌, ℕ, ◌+◌, ◌<◌, List, [], ◌∷◌, ◌++◌, take, length, get_or, flat_map, map, Contains, refl, ap, ap₂, sym, ◌∙◌, subst, arith, ⊎_elim}
 use Rattle.std.specs.Prelude.{fold, Result, Ok, Err}
 use Rattle.std.specs.Borrow.{Bor}
-use Rattle.std.specs.BTreeMap.{insert_entry}
 use Rattle.std.specs.Cmp.Lexicographic.{slice_cmp}
 use Rattle.std.specs.List.Sorted.{IsStrictlySortedBy}
-use Rattle.std.specs.Ordering.{match_ordering, nat_cmp}
-use Rattle.std.specs.declared.cmp.Ordering.{Ordering}
-use Rattle.std.specs.declared.cmp.Ordering.TheVariants.{Less, Equal, Greater}
+use Rattle.std.specs.Ordering.{nat_cmp}
 use Rattle.std.proofs.lemmas.Grind.{flat_map-append}
 use Rattle.std.proofs.lemmas.List.{append-nil}
 use Rattle.std.proofs.lemmas.List.Elements.{Contains-append_left, Contains-append_right, Contains-append_cases}
@@ -24,13 +21,15 @@ use Rattle.elf64.specs.Sections.{Section}
 use Rattle.elf64.specs.Symbols.{Symbol}
 use Rattle.map_definitions.specs.Definitions.{Definition, IsFaultAmong, defined, definition_of, map_variable, refusals}
 use Rattle.map_definitions.specs.declared.definition.BtfDefinition.{BtfDefinition}
+use Rattle.text_order.specs.Orders.{HasLast, texts_of}
 use Rattle.object_maps.specs.BtfMaps.{entries_faults, entries_maps, entry_faults, entry_map, named_faults, named_maps, symbol_named, variable_faults, variable_map}
 use Rattle.object_maps.specs.DataSections.{sections_named}
-use Rattle.object_maps.specs.DefinedMaps.{all_defined, all_struct_faults, all_unnamed_faults, by_name, defined_after, defined_map, entries_defined, entries_struct_faults, entry_defined, entry_struct_faults, named_definitions, symbol_view, unnamed_faults, variable_defined, variable_struct_faults, with_definition}
+use Rattle.object_maps.specs.DefinedMaps.{all_defined, all_struct_faults, all_unnamed_faults, by_name, defined_after, defined_map, entries_defined, entries_struct_faults, entry_defined, entry_struct_faults, named_definition, named_definitions, symbol_view, unnamed_faults, variable_defined, variable_struct_faults, with_definition}
 use Rattle.object_maps.specs.Faults.{MapFault, Says, struct_fault}
 use Rattle.object_maps.specs.Found.{entered}
 use Rattle.object_maps.specs.LegacyMaps.{section_name}
 use Rattle.object_maps.proofs.ByName.{fold_append, fold_step, held_entered, made_once, none_entered, none_left, with_entry}
+use Rattle.object_maps.proofs.Ordered.{one_entered, ordered_entered}
 use Rattle.object_maps.proofs.Sayings.{definition_said, says_more}
 
 pub defined_none : (maps : List (List ℕ × Definition)) → defined_after maps [] ≡ maps
@@ -45,18 +44,16 @@ pub defined_step : {X : Type 0} (start before after : List (List ℕ × Definiti
 unfolding defined_after
 defined_step start before after f xs i x within is held step = fold_step start before after f xs i x within is held step
 
--- ---- as a map has them
+-- ---- as they are found
 
-named-match : (o : Ordering) (a b c : List (Bor (List ℕ) × BtfDefinition)) → named_definitions (match_ordering o a b c) ≡ match_ordering o (named_definitions a) (named_definitions b) (named_definitions c)
-named-match Less a b c = refl
-named-match Equal a b c = refl
-named-match Greater a b c = refl
+pub one_defined : (entries : List (Bor (List ℕ) × BtfDefinition)) (e : Bor (List ℕ) × BtfDefinition) → defined_after [] (named_definitions (entries ++ e ∷ [])) ≡ with_definition (defined_after [] (named_definitions entries)) (named_definition e)
+unfolding defined_after
+one_defined entries e = one_entered definition_of entries e
 
-pub named_insert : (entries : List (Bor (List ℕ) × BtfDefinition)) (name : Bor (List ℕ)) (d : BtfDefinition) → named_definitions (insert_entry (λ x y. slice_cmp nat_cmp x.now y.now) entries name d) ≡ with_definition (named_definitions entries) (name.now, definition_of d)
-named_insert [] name d = refl
-named_insert (e ∷ es) name d =
-    named-match (slice_cmp nat_cmp name.now e.0.now) ((name, d) ∷ e ∷ es) ((e.0, d) ∷ es) (e ∷ insert_entry (λ x y. slice_cmp nat_cmp x.now y.now) es name d)
-    ∙ ap (λ (rest : List (List ℕ × Definition)). match_ordering (slice_cmp nat_cmp name.now e.0.now) ((name.now, definition_of d) ∷ (e.0.now, definition_of e.1) ∷ named_definitions es) ((e.0.now, definition_of d) ∷ named_definitions es) ((e.0.now, definition_of e.1) ∷ rest)) (named_insert es name d)
+-- put in order of names
+pub ordered_defined : (entries ordered : List (Bor (List ℕ) × BtfDefinition)) → IsStrictlySortedBy (slice_cmp nat_cmp) (texts_of ordered) → HasLast entries ordered → named_definitions ordered ≡ defined_after [] (named_definitions entries)
+unfolding defined_after
+ordered_defined entries ordered rising last = ordered_entered definition_of entries ordered rising last
 
 -- ---- lists made of lists
 

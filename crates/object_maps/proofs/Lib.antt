@@ -5,7 +5,9 @@ pub mod FoundMaps
 pub mod KnownMaps
 pub mod Left
 pub mod Names
+pub mod Places
 pub mod Sayings
 pub mod Shown
 pub mod Unreadable
 pub mod Overwriting
+pub mod Ordered

@@ -29,10 +29,6 @@ says_left few others e h = says_more few (few ++ others) e (λ f. Contains-appen
 pub says_right : (others few : List MapFault) (e : ParseError) → Says few e → Says (others ++ few) e
 says_right others few e h = says_more few (others ++ few) e (λ f. Contains-append_right others few f) h
 
--- of the first item that is left
-pub says_first : {X : Type 0} (faults : X → List MapFault) (x : X) (rest : List X) (all : List MapFault) (e : ParseError) → flat_map faults (x ∷ rest) ≡ all → Says (faults x) e → Says all e
-says_first faults x rest all e is h = let P : List MapFault → Type 0 = λ l. Says l e in subst P is (says_left (faults x) (flat_map faults rest) e h)
-
 -- of the item at an index
 pub says_at : {X : Type 0} (faults : X → List MapFault) (xs : List X) (i : ℕ) (x : X) (e : ParseError) → i < length xs → x ≡ get_or xs i x → Says (faults x) e → Says (flat_map faults xs) e
 says_at faults [] i x e within is h = absurd (omega arith)

@@ -71,7 +71,7 @@ impl<'a> FoundMaps<'a> {
         ensures refused { IfErr result (λ e.
             e ≢ OutOfMemory → Says (all_unnamed_faults symbols.now maps.now) e) }
     {
-        for (name, definition) in maps.iter() {
+        for (name, definition) in maps.entries() {
             self.enter_definition(alloc, section, symbols, name, definition)?;
         }
         Ok(())

@@ -7,7 +7,7 @@ ghost use Rattle.object_maps.specs.DataSections.{is_data_section, name_faults};
 ghost use Rattle.object_maps.specs.DefinedMaps.{IsDefinedIn, all_struct_faults, by_name, defined_after, entries_defined, entries_struct_faults, entry_defined, entry_struct_faults};
 ghost use Rattle.object_maps.specs.Faults.{Says};
 
-use crate::defined_maps::DefinedMaps;
+use crate::defined_maps::{DefinedMaps, FoundDefinitions};
 use crate::entries::Entries;
 use btf_encoding::TypeRef;
 use btf_records::{BtfError, BtfKind, DataSecEntry};
@@ -70,7 +70,7 @@ fn read_entry<'t>(
     alloc: Global,
     definitions: &mut MapDefinitions<'t, '_>,
     entry: DataSecEntry,
-    maps: &mut DefinedMaps<'t>,
+    maps: &mut FoundDefinitions<'t>,
 ) -> Result<(), ParseError>
     ensures value { OnOk result
         (maps.new ≡ defined_after maps.old (entry_defined definitions.old entry)) }
@@ -81,7 +81,7 @@ fn read_entry<'t>(
 {
     let variable = map_variable(definitions.table(), entry.btf_type)?;
     let definition = definitions.read(alloc, variable.name, variable.struct_id)?;
-    maps.insert(variable.name, definition)?;
+    maps.push(variable.name, definition)?;
     Ok(())
 }
 
@@ -91,7 +91,7 @@ fn read_entries<'t>(
     alloc: Global,
     definitions: &mut MapDefinitions<'t, '_>,
     section: &TypeRef<'_>,
-    maps: &mut DefinedMaps<'t>,
+    maps: &mut FoundDefinitions<'t>,
 ) -> Result<(), ParseError>
     ensures value { OnOk result
         (maps.new ≡ defined_after maps.old (entries_defined definitions.old section.now)) }
@@ -112,7 +112,7 @@ fn read_sections<'t>(
     alloc: Global,
     definitions: &mut MapDefinitions<'t, '_>,
     sections: &[TypeRef<'_>],
-    maps: &mut DefinedMaps<'t>,
+    maps: &mut FoundDefinitions<'t>,
 ) -> Result<(), ParseError>
     ensures value { OnOk result
         (maps.new
@@ -220,11 +220,16 @@ impl<'a, 't, 'b> DataSections<'a, 't, 'b> {
             e ≢ OutOfMemory → Says (all_struct_faults self.old name.now) e) }
         ensures same { self.new ≡ self.old }
     {
-        let mut maps = DefinedMaps::new(alloc);
+        let mut found = FoundDefinitions::new(alloc);
         if let Some(sections) = self.index.by_name.get(name) {
-            read_sections(alloc, &mut self.definitions, sections.as_slice(), &mut maps)?;
+            read_sections(
+                alloc,
+                &mut self.definitions,
+                sections.as_slice(),
+                &mut found,
+            )?;
         }
-        Ok(maps)
+        Ok(found.into_defined(alloc)?)
     }
 
     /// What the sections of a name define: what is kept of them, which no longer is then, or else

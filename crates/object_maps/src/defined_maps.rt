@@ -1,19 +1,75 @@
 //! What sections of a type table define, by the names of maps.
 
-ghost use Rattle.std.specs.Prelude.{◌≡◌, [], OnOk};
+ghost use Rattle.std.specs.Prelude.{◌≡◌, [], IfOk, OnErr, OnOk};
 ghost use Rattle.map_definitions.specs.Definitions.{definition_of};
 ghost use Rattle.object_maps.specs.DefinedMaps.{named_definitions, with_definition};
 
 use map_definitions::BtfDefinition;
 use std::alloc::{AllocError, Global};
-use std::collections::BTreeMap;
-use std::collections::btree_map::Iter;
+use std::collections::VecDeque;
 use std::marker::Model;
+use text_order::in_text_order;
 
-/// What sections of a type table define, by the names of maps.
+/// Definitions in the order in which they are found. Contracts see them sorted by name, the last of
+/// each name alone; they are sorted once, when all are found, since names with long common prefixes
+/// are costly to compare.
+#[derive(Debug, Drop)]
+pub(crate) struct FoundDefinitions<'t> {
+    entries: VecDeque<(&'t str, BtfDefinition)>,
+}
+
+impl<'t> Model for FoundDefinitions<'t> {
+    ghost use Rattle.std.specs.Prelude.{ℕ, List, []};
+    ghost use Rattle.map_definitions.specs.Definitions.{Definition};
+    ghost use Rattle.object_maps.specs.DefinedMaps.{defined_after, named_definitions};
+
+    ghost Value = { List (List ℕ × Definition) };
+
+    ghost view = { λ m. defined_after [] (named_definitions m.entries.items) };
+}
+
+impl<'t> FoundDefinitions<'t> {
+    /// No definitions.
+    #[tactic(auto, using(crate::proofs::Defined::defined_none))]
+    pub(crate) fn new(alloc: Global) -> FoundDefinitions<'t>
+        ensures { result ≡ [] }
+    {
+        FoundDefinitions {
+            entries: VecDeque::new(alloc),
+        }
+    }
+
+    /// Adds a map's definition under its name, which stands in place of an earlier one of that
+    /// name.
+    #[tactic(auto, using(crate::proofs::Defined::one_defined))]
+    pub(crate) fn push(
+        &mut self,
+        name: &'t str,
+        definition: BtfDefinition,
+    ) -> Result<(), AllocError>
+        ensures ok { OnOk result
+            (self.new ≡ with_definition self.old (name.now, definition_of definition)) }
+        ensures err { OnErr result (self.new ≡ self.old) }
+    {
+        self.entries.push_back((name, definition))?;
+        Ok(())
+    }
+
+    /// The definitions in order of names.
+    pub(crate) fn into_defined(self, alloc: Global) -> Result<DefinedMaps<'t>, AllocError>
+        ensures { IfOk result (λ defined. defined ≡ self.entry) }
+    {
+        let FoundDefinitions { entries } = self;
+        Ok(DefinedMaps {
+            entries: in_text_order(alloc, entries)?,
+        })
+    }
+}
+
+/// What sections of a type table define, sorted by the names of maps.
 #[derive(Debug, Drop)]
 pub(crate) struct DefinedMaps<'t> {
-    by_name: BTreeMap<&'t str, BtfDefinition>,
+    entries: Vec<(&'t str, BtfDefinition)>,
 }
 
 impl<'t> Model for DefinedMaps<'t> {
@@ -23,36 +79,14 @@ impl<'t> Model for DefinedMaps<'t> {
 
     ghost Value = { List (List ℕ × Definition) };
 
-    ghost view = { λ m. named_definitions m.by_name.entries };
+    ghost view = { λ m. named_definitions m.entries.items };
 }
 
 impl<'t> DefinedMaps<'t> {
-    /// No maps.
-    pub(crate) fn new(alloc: Global) -> DefinedMaps<'t>
-        ensures { result ≡ [] }
-    {
-        DefinedMaps {
-            by_name: BTreeMap::new(alloc),
-        }
-    }
-
-    /// Enters a map's definition under its name, in place of an earlier one of that name.
-    pub(crate) fn insert(
-        &mut self,
-        name: &'t str,
-        definition: BtfDefinition,
-    ) -> Result<(), AllocError>
-        ensures { OnOk result
-            (self.new ≡ with_definition self.old (name.now, definition_of definition)) }
-    {
-        self.by_name.insert(name, definition)?;
-        Ok(())
-    }
-
     /// The definitions with their names.
-    pub(crate) fn iter(&self) -> Iter<'_, &'t str, BtfDefinition>
-        ensures { named_definitions result ≡ self.now }
+    pub(crate) fn entries(&self) -> &[(&'t str, BtfDefinition)]
+        ensures { named_definitions result.now ≡ self.now }
     {
-        self.by_name.iter()
+        self.entries.as_slice()
     }
 }

@@ -14,8 +14,9 @@ use std::collections::VecDeque;
 use std::marker::Model;
 use text_order::in_text_order;
 
-/// Maps as they are found, which contracts see by name. They are put in order of names once, when
-/// all are found: names that are ends of one long text are costly to compare.
+/// Maps in the order in which they are found. Contracts see them sorted by name, the last of each
+/// name alone; they are sorted once, when all are found, since names with long common prefixes are
+/// costly to compare.
 #[derive(Debug, Drop)]
 pub(crate) struct FoundMaps<'a> {
     entries: VecDeque<(&'a str, Map)>,
@@ -68,6 +69,6 @@ impl<'a> FoundMaps<'a> {
     {
         let FoundMaps { entries } = self;
         let ordered = in_text_order(alloc, entries)?;
-        Maps::from_entries(alloc, ordered)
+        Ok(Maps::from_entries(ordered))
     }
 }

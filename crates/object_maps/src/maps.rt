@@ -8,15 +8,14 @@ ghost use Rattle.std.specs.Map.{lookup};
 ghost use Rattle.std.specs.Option.{option_map};
 ghost use Rattle.std.specs.Ordering.{nat_cmp};
 ghost use Rattle.ebpf_items.specs.Maps.{map_view};
-ghost use Rattle.object_maps.specs.Found.{entered};
 ghost use Rattle.object_maps.specs.Maps.{shown};
 ghost use Rattle.object_maps.specs.Overwritten.{HasRange, map_overwritten, with_bytes};
+ghost use Rattle.text_order.specs.Orders.{texts_of};
 
 use ebpf_items::Map;
 use std::alloc::{AllocError, Global};
-use std::collections::BTreeMap;
-use std::collections::btree_map::Iter;
 use std::marker::Model;
+use text_order::{Iter, place_of};
 
 /// Puts bytes over those of a map, from a place on.
 fn overwrite(map: &mut Map, start: usize, bytes: &[u8])
@@ -27,10 +26,10 @@ fn overwrite(map: &mut Map, start: usize, bytes: &[u8])
     contents[start..start + bytes.len()].copy_from_slice(bytes);
 }
 
-/// The maps of an object, by name.
+/// The maps of an object, kept as a list sorted by name.
 #[derive(Debug)]
 pub struct Maps<'a> {
-    entries: BTreeMap<&'a str, Map>,
+    entries: Vec<(&'a str, Map)>,
 }
 
 impl<'a> Drop for Maps<'a> {
@@ -42,35 +41,37 @@ impl<'a> Drop for Maps<'a> {
 
 impl<'a> Model for Maps<'a> {
     ghost use Rattle.std.specs.Prelude.{ℕ, List};
+    ghost use Rattle.std.specs.Cmp.Lexicographic.{slice_cmp};
+    ghost use Rattle.std.specs.List.Sorted.{IsStrictlySortedBy};
+    ghost use Rattle.std.specs.Ordering.{nat_cmp};
     ghost use Rattle.ebpf_items.specs.Maps.{MapView};
     ghost use Rattle.object_maps.specs.Maps.{shown};
+    ghost use Rattle.text_order.specs.Orders.{texts_of};
 
     ghost Value = { List (List ℕ × MapView) };
 
-    ghost view = { λ m. shown m.entries.entries };
+    ghost view = { λ m. shown m.entries.items };
+
+    ghost invariant = { λ m. IsStrictlySortedBy (slice_cmp nat_cmp) (texts_of m.entries.items) };
 }
 
 impl<'a> Maps<'a> {
     /// No maps.
+    #[tactic(auto, using(crate::proofs::Shown::none_rising))]
     pub fn new(alloc: Global) -> Maps<'a>
         ensures { result ≡ [] }
     {
         Maps {
-            entries: BTreeMap::new(alloc),
+            entries: Vec::new(alloc),
         }
     }
 
-    /// The maps of these names, of several of one name the last.
-    #[tactic(auto, using(crate::proofs::FoundMaps::collected))]
-    pub(crate) fn from_entries(
-        alloc: Global,
-        entries: Vec<(&'a str, Map)>,
-    ) -> Result<Maps<'a>, AllocError>
-        ensures { IfOk result (λ maps. maps ≡ entered [] (shown entries.entry.items)) }
+    /// The maps of these names, which strictly rise by bytes.
+    pub(crate) fn from_entries(entries: Vec<(&'a str, Map)>) -> Maps<'a>
+        requires { IsStrictlySortedBy (slice_cmp nat_cmp) (texts_of entries.items) }
+        ensures { result ≡ shown entries.entry.items }
     {
-        Ok(Maps {
-            entries: entries.into_iter().collect(alloc)?,
-        })
+        Maps { entries }
     }
 
     /// How many maps there are.
@@ -92,15 +93,16 @@ impl<'a> Maps<'a> {
         ensures { option_map (λ m. map_view m.now) result
             ≡ lookup (is_at (slice_cmp nat_cmp name.now)) self.now }
     {
-        self.entries.get(name)
+        let place = place_of(&self.entries, name)?;
+        Some(&self.entries[place].1)
     }
 
     /// The maps with their names, which strictly rise by bytes.
-    pub fn iter(&self) -> Iter<'_, &'a str, Map>
+    pub fn iter(&self) -> Iter<'_, 'a, Map>
         ensures value { shown result ≡ self.now }
         ensures rising { IsStrictlySortedBy (slice_cmp nat_cmp) (map (λ e. e.0) self.now) }
     {
-        self.entries.iter()
+        Iter::new(&self.entries)
     }
 
     /// Puts bytes over those of the map of a name, from a place on. The map is there, and has so
@@ -109,8 +111,8 @@ impl<'a> Maps<'a> {
         requires { HasRange self.old name.now start (length bytes.now) }
         ensures { self.new ≡ with_bytes self.old name.now start bytes.now }
     {
-        if let Some(map) = self.entries.get_mut(name) {
-            overwrite(map, start, bytes);
+        if let Some(place) = place_of(&self.entries, name) {
+            overwrite(&mut self.entries[place].1, start, bytes);
         }
     }
 

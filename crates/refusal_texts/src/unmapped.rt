@@ -4,24 +4,24 @@ use crate::names::SectionName;
 use object_file::ObjectFile;
 use settings::Settings;
 use std::alloc::{AllocError, Global};
-use std::collections::BTreeMap;
+use text_order::{TextMap, TextMapBuilder};
 
 /// The indexes of the sections that symbols lie in, 0 for none, by their names: of some of one name
 /// that of the last.
 fn sections_by_name<'a>(
     alloc: Global,
     file: &ObjectFile<'a>,
-) -> Result<BTreeMap<&'a str, usize>, AllocError> {
-    let mut sections = BTreeMap::new(alloc);
+) -> Result<TextMap<'a, usize>, AllocError> {
+    let mut sections = TextMapBuilder::new(alloc);
     for symbol in file.symbols() {
         sections.insert(symbol.name(), symbol.view().section_index().unwrap_or(0))?;
     }
-    Ok(sections)
+    sections.build(alloc)
 }
 
 /// The name of the first variable with a value that lies in the section of an index.
 fn variable_in<'s>(
-    sections: &BTreeMap<&str, usize>,
+    sections: &TextMap<'_, usize>,
     index: usize,
     settings: &'s Settings,
 ) -> Option<&'s str> {

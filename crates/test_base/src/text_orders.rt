@@ -3,7 +3,7 @@
 use std::alloc::{AllocError, Global};
 use std::collections::VecDeque;
 use std::test::Fail;
-use text_order::in_text_order;
+use text_order::{TextMap, TextMapBuilder, in_text_order, place_of};
 
 const ENTRIES: [(&str, u32); 11] = [
     ("ab", 1),
@@ -73,5 +73,74 @@ fn ends_of_a_long_text(rt: HostRuntime) -> Result<(), Fail> {
         numbers.push(number)?;
     }
     assert!(rt; numbers.as_slice() == [1, 2, 3, 4, 5].as_slice());
+    Ok(())
+}
+
+#[test]
+fn the_place_of_each_text(rt: HostRuntime) -> Result<(), Fail> {
+    let ordered = in_text_order(rt.alloc(), listed(rt.alloc(), &ENTRIES)?)?;
+    for (place, (text, _)) in ORDERED.iter().enumerate() {
+        assert!(rt; place_of(ordered.as_slice(), text) == Some(place));
+    }
+    Ok(())
+}
+
+#[test]
+fn no_place_of_other_texts(rt: HostRuntime) -> Result<(), Fail> {
+    let ordered = in_text_order(rt.alloc(), listed(rt.alloc(), &ENTRIES)?)?;
+    for text in ["aa", "aaba", "aba", "abb", "ac", "ba", "è", "éé"] {
+        assert!(rt; place_of(ordered.as_slice(), text).is_none());
+    }
+    let none = in_text_order(rt.alloc(), listed(rt.alloc(), &[])?)?;
+    assert!(rt; place_of(none.as_slice(), "").is_none());
+    Ok(())
+}
+
+#[test]
+fn places_of_ends_of_a_long_text(rt: HostRuntime) -> Result<(), Fail> {
+    let mut text = String::new(rt.alloc());
+    for _ in 0..10_000u32 {
+        text.push('b')?;
+    }
+    let mut list = VecDeque::new(rt.alloc());
+    for (start, number) in [(9_999, 0), (5_904, 1), (4_000, 2), (1, 3)] {
+        list.push_back((text.as_str().get(start..).unwrap_or(""), number))?;
+    }
+    let ordered = in_text_order(rt.alloc(), list)?;
+    for (place, start) in [9_999, 5_904, 4_000, 1].iter().enumerate() {
+        let end = text.as_str().get(*start..).unwrap_or("");
+        assert!(rt; place_of(ordered.as_slice(), end) == Some(place));
+    }
+    for start in [0, 5_903, 5_905] {
+        let end = text.as_str().get(start..).unwrap_or("");
+        assert!(rt; place_of(ordered.as_slice(), end).is_none());
+    }
+    Ok(())
+}
+
+#[test]
+fn values_that_are_entered_by_text(rt: HostRuntime) -> Result<(), Fail> {
+    let mut builder = TextMapBuilder::new(rt.alloc());
+    for (text, number) in ENTRIES {
+        builder.insert(text, number)?;
+    }
+    let map = builder.build(rt.alloc())?;
+    assert!(rt; map.len() == ORDERED.len());
+    for ((text, number), (expected_text, expected_number)) in map.iter().zip(ORDERED.iter()) {
+        assert!(rt; text == expected_text && number == expected_number);
+    }
+    for (text, number) in ORDERED {
+        assert!(rt; map.get(text).copied() == Some(number));
+    }
+    assert!(rt; map.get("aa").is_none());
+    let copy = map.try_clone()?;
+    assert!(rt; copy.len() == map.len() && copy.get("b").copied() == Some(8));
+    Ok(())
+}
+
+#[test]
+fn no_values_by_text(rt: HostRuntime) -> Result<(), Fail> {
+    let map: TextMap<'_, u32> = TextMap::new(rt.alloc());
+    assert!(rt; map.is_empty() && map.get("").is_none());
     Ok(())
 }

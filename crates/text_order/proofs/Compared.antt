@@ -10,6 +10,7 @@ use Rattle.std.specs.declared.cmp.Ordering.TheVariants.{Less, Equal, Greater}
 use Rattle.text_order.specs.Beginnings.{shared}
 use Rattle.text_order.specs.Runs.{AreNext, IsNext}
 use Rattle.text_order.specs.declared.run.Item.{Item}
+use Rattle.text_order.proofs.Shared.{differ, equal_cmp}
 
 pub shared_sym : (a b : List ℕ) → shared a b ≡ shared b a
 unfolding shared
@@ -42,14 +43,8 @@ pub record IsLesser (x a b : List ℕ) : Type 0 where
   pub less : Less ≡ slice_cmp nat_cmp a b
   pub shares : shared x b ≡ shared a b
 
-equal_cmp : (x y : ℕ) → (x == y) ≡ true → nat_cmp x y ≡ Equal
-equal_cmp x y is = grind (arith, nat_tests)
-
 same : (x y : ℕ) → (x == y) ≡ true → x ≡ y
 same x y is = grind (arith, nat_tests)
-
-differ : (x y : ℕ) → (x == y) ≡ false → is_eq (nat_cmp x y) ≡ false
-differ x y is = grind (arith, nat_tests)
 
 first_less : (o rest : Ordering) → is_eq o ≡ false → ordering_then o rest ≡ Less → o ≡ Less
 first_less Less rest is less = refl

@@ -1,3 +1,6 @@
+pub mod Built
+pub mod ByText
+pub mod Searches
 pub mod Shared
 pub mod Compared
 pub mod Merging

@@ -15,8 +15,8 @@ use Rattle.std.specs.Ordering.{is_eq, nat_cmp}
 use Rattle.std.specs.declared.cmp.Ordering.{Ordering}
 use Rattle.std.specs.declared.cmp.Ordering.TheVariants.{Less, Equal, Greater}
 use Rattle.text_order.specs.Beginnings.{shared}
-use Rattle.text_order.specs.Orders.{HasLast, entry_of, texts_of}
-use Rattle.text_order.specs.Runs.{AreMerging, AreNext, IsMerged, IsNext, IsRun, IsRunOf, Merges, here, last_of, last_text, value_among, value_in, with_shared}
+use Rattle.text_order.specs.Orders.{HasLast, last_of, texts_of}
+use Rattle.text_order.specs.Runs.{AreMerging, AreNext, IsMerged, IsNext, IsRun, IsRunOf, Merges, entry_of, here, last_text, value_among, value_in, with_shared}
 use Rattle.text_order.specs.declared.run.Item.{Item}
 use Rattle.text_order.proofs.Compared.{shared_sym, turned_back}
 
@@ -51,11 +51,11 @@ module _ {T : Type 0} where
 
   -- ---- values
 
-  or-assoc : (a b c : Option T) → option_or (option_or a b) c ≡ option_or a (option_or b c)
+  pub or-assoc : (a b c : Option T) → option_or (option_or a b) c ≡ option_or a (option_or b c)
   or-assoc None b c = refl
   or-assoc (Some x) b c = refl
 
-  or-none : (a : Option T) → option_or a None ≡ a
+  pub or-none : (a : Option T) → option_or a None ≡ a
   or-none None = refl
   or-none (Some x) = refl
 

@@ -53,10 +53,10 @@ shared_drop (suc k) (x ∷ a) (y ∷ b) le = by (x == y) le (shared_drop k a b) 
   by true le rest = let r = rest (omega (arith, le)) in omega (arith, r)
   by false le rest = absurd (omega (arith, le))
 
-equal_cmp : (x y : ℕ) → (x == y) ≡ true → nat_cmp x y ≡ Equal
+pub equal_cmp : (x y : ℕ) → (x == y) ≡ true → nat_cmp x y ≡ Equal
 equal_cmp x y is = grind (arith, nat_tests)
 
-differ : (x y : ℕ) → (x == y) ≡ false → is_eq (nat_cmp x y) ≡ false
+pub differ : (x y : ℕ) → (x == y) ≡ false → is_eq (nat_cmp x y) ≡ false
 differ x y is = grind (arith, nat_tests)
 
 other_then : (o rest : Ordering) → is_eq o ≡ false → ordering_then o rest ≡ o
@@ -104,11 +104,11 @@ both_end a b n is past_a past_b = sym (ordering_at_shared a b ∙ rw (← is, sl
 pub alike_yes : (n : ℕ) (a b : List ℕ) (test : Bool) → n ≤ length a → n ≤ length b → test ≡ bytes_eq (take n a) (take n b) → test ≡ true → n ≤ shared a b
 alike_yes n a b test in_a in_b is holds = shared_from_same n a b in_a in_b (sym is ∙ holds)
 
+pub below_or_not : (m k : ℕ) → (m < k) ⊎ (k ≤ m)
+below_or_not m k = grind arith
+
 pub alike_no : (n : ℕ) (a b : List ℕ) (test : Bool) → test ≡ bytes_eq (take n a) (take n b) → test ≡ false → shared a b < n
 alike_no n a b test is fails = by (below_or_not (shared a b) n) where
-  below_or_not : (m k : ℕ) → (m < k) ⊎ (k ≤ m)
-  below_or_not m k = grind arith
-
   by : (shared a b < n) ⊎ (n ≤ shared a b) → shared a b < n
   by (inl less) = less
   by (inr le) = absurd (let holds : test ≡ true = is ∙ same_from_shared n a b le in let wrong : false ≡ true = sym fails ∙ holds in cc)

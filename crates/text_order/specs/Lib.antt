@@ -1,3 +1,4 @@
 pub mod Beginnings
 pub mod Orders
 pub mod Runs
+pub mod Searches

@@ -1,16 +1,32 @@
 -- Values in the order of their texts.
-use Rattle.std.specs.Prelude.{◌≡◌, ℕ, List, map}
+use Rattle.std.specs.Prelude.{◌≡◌, ℕ, cond, List, [], ◌∷◌, fold, map, Option, None, Some}
 use Rattle.std.specs.Borrow.{Bor}
-use Rattle.text_order.specs.Runs.{last_of}
-use Rattle.text_order.specs.declared.run.Item.{Item}
+use Rattle.std.specs.BTreeMap.{insert_entry, is_at}
+use Rattle.std.specs.Cmp.Lexicographic.{slice_cmp}
+use Rattle.std.specs.Option.{option_or}
+use Rattle.std.specs.Ordering.{nat_cmp}
 
 abbrev pub texts_of : {T : Type 0} → List (Bor (List ℕ) × T) → List (List ℕ)
 texts_of entries = map (λ e. e.0.now) entries
 
--- an item without what its text shares
-abbrev pub entry_of : {T : Type 0} → Item T → Bor (List ℕ) × T
-entry_of i = (i.text, i.value)
+-- the value of a text among entries, of several the last
+unfoldable pub last_of : {T : Type 0} → List ℕ → List (Bor (List ℕ) × T) → Option T
+last_of text [] = None
+last_of text (e ∷ es) =
+    option_or (last_of text es) (cond (is_at (slice_cmp nat_cmp text) e.0.now) (Some e.1) None)
 
--- the value of each text is the last one of it among entries
+-- each text has the value that it has last among entries, and none where they haven't it
 pub record HasLast {T : Type 0} (entries ordered : List (Bor (List ℕ) × T)) : Type 0 where
   pub each : (text : List ℕ) → last_of text ordered ≡ last_of text entries
+
+-- entries with their texts as bytes
+abbrev pub by_text : {T : Type 0} → List (Bor (List ℕ) × T) → List (List ℕ × T)
+by_text entries = map (λ e. (e.0.now, e.1)) entries
+
+-- values in the order of their texts, with one more in place of an earlier one of its text
+abbrev pub with_entry : {T : Type 0} → List (List ℕ × T) → List ℕ × T → List (List ℕ × T)
+with_entry values e = insert_entry (slice_cmp nat_cmp) values e.0 e.1
+
+-- the entries of a map after these were inserted one by one
+unfoldable pub entered : {T : Type 0} → List (List ℕ × T) → List (List ℕ × T)
+entered entries = fold with_entry [] entries

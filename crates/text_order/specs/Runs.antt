@@ -7,6 +7,7 @@ use Rattle.std.specs.Option.{option_or}
 use Rattle.std.specs.Ordering.{nat_cmp}
 use Rattle.std.specs.declared.cmp.Ordering.TheVariants.{Less}
 use Rattle.text_order.specs.Beginnings.{shared}
+use Rattle.text_order.specs.Orders.{last_of}
 use Rattle.text_order.specs.declared.run.Item.{Item}
 
 -- an item may come after this text, or be the first
@@ -76,14 +77,12 @@ pub record IsMerged {T : Type 0} (left right run : List (Item T)) : Type 0 where
       → value_in text run
       ≡ option_or (value_in text right) (value_in text left)
 
--- the value of a text among entries, of several the last
-unfoldable pub last_of : {T : Type 0} → List ℕ → List (Bor (List ℕ) × T) → Option T
-last_of text [] = None
-last_of text (e ∷ es) =
-    option_or (last_of text es) (cond (is_at (slice_cmp nat_cmp text) e.0.now) (Some e.1) None)
-
 -- a run has the values of entries
 pub record IsRunOf {T : Type 0} (entries : List (Bor (List ℕ) × T)) (run : List (Item T))
     : Type 0 where
   pub rises : IsRun None run
   pub values : (text : List ℕ) → value_in text run ≡ last_of text entries
+
+-- an item without what its text shares
+abbrev pub entry_of : {T : Type 0} → Item T → Bor (List ℕ) × T
+entry_of i = (i.text, i.value)

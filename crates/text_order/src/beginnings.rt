@@ -10,7 +10,7 @@ use std::cmp::Ordering;
 /// So many bytes at most are compared at once.
 const MOST_AT_ONCE: usize = 4096;
 
-/// Whether two texts share so many bytes at their beginnings.
+/// Whether two texts share so many bytes or more at their beginnings.
 fn begin_alike(one: &[u8], other: &[u8], count: usize) -> bool
     ensures yes { result ≡ true → count ≤ shared one.now other.now }
     ensures no { result ≡ false → shared one.now other.now < count }

@@ -4,7 +4,8 @@ ghost use Rattle.std.specs.Prelude.{◌≡◌, map, IfOk};
 ghost use Rattle.std.specs.Cmp.Lexicographic.{slice_cmp};
 ghost use Rattle.std.specs.List.Sorted.{IsStrictlySortedBy};
 ghost use Rattle.std.specs.Ordering.{nat_cmp};
-ghost use Rattle.text_order.specs.Orders.{HasLast, entry_of, texts_of};
+ghost use Rattle.text_order.specs.Orders.{HasLast, texts_of};
+ghost use Rattle.text_order.specs.Runs.{entry_of};
 
 use crate::run::{Item, run_of};
 use std::alloc::{AllocError, Global};

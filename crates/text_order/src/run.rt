@@ -3,7 +3,6 @@
 ghost use Rattle.std.specs.Prelude.{◌≡◌, ◌+◌, ◌<◌, ◌⊎◌, [], ◌++◌, None, true, false, take, drop, length, IfOk, OnOk};
 ghost use Rattle.std.specs.Cmp.Lexicographic.{slice_cmp};
 ghost use Rattle.std.specs.Ordering.{nat_cmp};
-ghost use Rattle.std.specs.VecDeque.{deque_len};
 ghost use Rattle.text_order.specs.Beginnings.{shared};
 ghost use Rattle.text_order.specs.Runs.{AreMerging, AreNext, IsMerged, IsRun, IsRunOf, Merges, with_shared};
 
@@ -16,7 +15,7 @@ use std::collections::VecDeque;
 #[derive(Debug, Drop)]
 pub(crate) struct Item<'a, T> {
     pub(crate) text: &'a str,
-    /// How many bytes the text shares with the one before.
+    /// How many bytes the text shares with the one before, 0 where there is none.
     pub(crate) shared: usize,
     pub(crate) value: T,
 }
@@ -118,7 +117,7 @@ fn merge_first<'a, T: Drop>(
 }
 
 /// The run of the items of two; of two of one text the second run's.
-pub(crate) fn merged<'a, T: Drop>(
+fn merged<'a, T: Drop>(
     alloc: Global,
     left: &mut VecDeque<Item<'a, T>>,
     right: &mut VecDeque<Item<'a, T>>,

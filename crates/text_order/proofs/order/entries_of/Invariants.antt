@@ -1,5 +1,5 @@
 use Rattle.std.proofs.Common.{◌≡◌, ◌++◌, length, map}
-use Rattle.text_order.specs.Orders.{entry_of}
+use Rattle.text_order.specs.Runs.{entry_of}
 use Rattle.text_order.proofs.order.entries_of.Given as goal
 
 abbrev pub invariant-loop-item : goal.invariant-loop-item

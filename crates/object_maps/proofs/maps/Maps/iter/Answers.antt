@@ -1,5 +1,5 @@
-use Rattle.object_maps.proofs.Shown.{shown-rising}
+use Rattle.object_maps.proofs.Shown.{shown_rising}
 use Rattle.object_maps.proofs.maps.Maps.iter.Goals as goal
 
 pub returns-clause-rising : goal.returns-clause-rising
-returns-clause-rising c = rw (← c.self.view_is) (shown-rising c.self.inside.entries.entries c.iter.ensures.ordered)
+returns-clause-rising c = rw (← c.self.view_is) (shown_rising c.self.inside.entries.items c.self.invariant)

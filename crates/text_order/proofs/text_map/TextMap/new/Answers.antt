@@ -1,0 +1,5 @@
+use Rattle.text_order.proofs.Searches.{none_rise}
+use Rattle.text_order.proofs.text_map.TextMap.new.Goals as goal
+
+pub invariant_of-result : goal.invariant_of-result
+invariant_of-result g c = none_rise c.new.result.items c.new.ensures.items

@@ -1,0 +1,48 @@
+//! Values and their texts one after the other.
+
+ghost use Rattle.std.specs.Prelude.{◌≡◌};
+ghost use Rattle.std.specs.Iterator.{item_count};
+ghost use Rattle.std.specs.Map.Iter.{TakesFirst, deref_pair};
+
+use std::marker::Model;
+use std::slice;
+
+/// The values of a list with their texts, one after the other.
+#[derive(Debug, Drop)]
+pub struct Iter<'m, 'a, T> {
+    left: slice::Iter<'m, (&'a str, T)>,
+}
+
+impl<'m, 'a, T> Model for Iter<'m, 'a, T> {
+    ghost use Rattle.std.specs.Prelude.{ℕ, List};
+    ghost use Rattle.std.specs.Borrow.{Bor};
+    ghost use Rattle.std.specs.Slice.Iter.{iter_rest};
+
+    ghost Value = { List (Bor (List ℕ) × T) };
+
+    ghost view = { λ i. iter_rest i.left };
+}
+
+impl<'m, 'a, T> Iter<'m, 'a, T> {
+    /// The entries of a list.
+    pub fn new(entries: &'m [(&'a str, T)]) -> Iter<'m, 'a, T>
+        ensures { result ≡ entries.now }
+    {
+        Iter {
+            left: entries.iter(),
+        }
+    }
+}
+
+impl<'m, 'a, T> Iterator for Iter<'m, 'a, T> {
+    type Item = (&'m &'a str, &'m T);
+
+    ghost next_gives = { TakesFirst deref_pair };
+
+    ghost remaining = { item_count (λ left. left) };
+
+    fn next(&mut self) -> Option<(&'m &'a str, &'m T)> {
+        let entry = self.left.next()?;
+        Some((&entry.0, &entry.1))
+    }
+}
