@@ -15,3 +15,4 @@ pub use btf_records::{
 };
 pub use btf_rewriting::{Answers, KsymsIds, fixup_and_sanitize, fixup_ksyms_datasec};
 pub use btf_tables::{Btf, Types, essential_name};
+pub use text_order::{TextMap, TextMapBuilder};

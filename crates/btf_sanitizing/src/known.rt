@@ -12,7 +12,7 @@ use crate::answers::{Answers, is_granted};
 use btf_encoding::TypeRef;
 use btf_parts::{Strings, TypeRecords};
 use btf_records::{BtfError, BtfFeature};
-use std::collections::BTreeMap;
+use text_order::TextMap;
 
 /// What is granted, the table's strings and types, and what an object says of its sections and
 /// symbols.
@@ -22,14 +22,14 @@ pub struct Known<'t, 'm, 'n> {
     pub strings: &'t Strings<'t>,
     pub types: &'t TypeRecords<'t>,
     /// The sizes of the object's sections in bytes, by name.
-    pub sizes: &'m BTreeMap<&'n str, u64>,
+    pub sizes: &'m TextMap<'n, u64>,
     /// The offsets of its symbols in their sections, by name.
-    pub offsets: &'m BTreeMap<&'n str, u64>,
+    pub offsets: &'m TextMap<'n, u64>,
 }
 
 /// The number under a name.
-fn number_named(numbers: &BTreeMap<&str, u64>, name: &str) -> Option<u64>
-    ensures { result ≡ number_named numbers.now.entries name.now }
+fn number_named(numbers: &TextMap<'_, u64>, name: &str) -> Option<u64>
+    ensures { result ≡ number_named numbers.now name.now }
 {
     numbers.get(name).copied()
 }

@@ -3,13 +3,12 @@
 
 use crate::tally::Tally;
 use access_paths::{AccessError, Subject, subject_of};
-use btf::{Btf, BtfError, BtfFeature, BtfKind, Endianness, TypeRef, fixup_and_sanitize};
+use btf::{Btf, BtfError, BtfFeature, BtfKind, Endianness, TextMap, TypeRef, fixup_and_sanitize};
 use ebpf_items::RelocationKind;
 use member_search::{Found, MemberFinder, find_member};
 use plain_matching::{Answer, Fault, plain_member, plain_outcome};
 use sample_tables::{Dice, Texts, random_types, section};
 use std::alloc::{AllocError, Global};
-use std::collections::BTreeMap;
 use type_match::{
     RelocationOutcome, TypeMatcher, TypeRelocation, TypeRelocationError, relocation_outcome,
 };
@@ -290,8 +289,8 @@ fn compare_tables<'m>(
 
 /// Makes unions of the 64-bit enums of a table, where that can be done.
 fn deny_enum64(alloc: Global, table: &mut Btf<'_>) {
-    let sizes: BTreeMap<&str, u64> = BTreeMap::new(alloc);
-    let offsets: BTreeMap<&str, u64> = BTreeMap::new(alloc);
+    let sizes = TextMap::new(alloc);
+    let offsets = TextMap::new(alloc);
     let _answers = fixup_and_sanitize(table, &sizes, &offsets, None, |feature| {
         feature != BtfFeature::Enum64
     });

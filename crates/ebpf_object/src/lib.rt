@@ -27,9 +27,10 @@ pub use object_externs::{ExternDesc, Externs};
 pub use object_file::{ObjectFile, ReadSection, ReadSymbol, unnamed_symbol};
 pub use object_maps::Maps;
 pub use object_parse::{function_without_code, name_at};
-pub use object_parts::{Function, Functions, Program, Programs};
+pub use object_parts::{Function, Functions, Program, Programs, ProgramsBuilder};
 pub use relocation_errors::{
     BtfRelocationCause, BtfRelocationError, EbpfRelocationError, RelocationError, RelocationPlace,
 };
 pub use slot_relocation::NumberedMap;
+pub use text_order::{TextMap, TextMapBuilder};
 pub use type_relocation::Candidates;

@@ -1,9 +1,8 @@
 //! A table, rewritten by both calls that do: what becomes of it, where memory is refused that it is
 //! as it was.
 
-use btf::{Btf, BtfError, Endianness, fixup_and_sanitize, fixup_ksyms_datasec};
+use btf::{Btf, BtfError, Endianness, TextMap, fixup_and_sanitize, fixup_ksyms_datasec};
 use std::alloc::Global;
-use std::collections::BTreeMap;
 use std::process::ExitCode;
 
 /// An integer of 8 bytes, the extern variable `v` of it, and the section `.ksyms` with that
@@ -61,7 +60,7 @@ fn step(alloc: Global) -> Result<&'static str, BtfError> {
 /// The step, and then the records for a kernel that grants nothing.
 fn rewriting(alloc: Global) -> Result<&'static str, BtfError> {
     let mut table = Btf::parse(alloc, &SECTION, Endianness::Little)?;
-    let numbers: BTreeMap<&str, u64> = BTreeMap::new(alloc);
+    let numbers = TextMap::new(alloc);
     let ksyms = Some((3, None));
     let answer = fixup_and_sanitize(&mut table, &numbers, &numbers, ksyms, |_feature| false).map(
         |_answers| (),

@@ -9,7 +9,7 @@ use btf_tables::Btf;
 use extern_resolution::{KernelExterns, KsymsError, resolve_externs_among};
 use object_externs::{ExternDesc, Externs};
 use std::alloc::{AllocError, Global};
-use std::collections::BTreeMap;
+use text_order::TextMapBuilder;
 use watched::Watched;
 
 /// Whether a kernel has an extern.
@@ -38,11 +38,12 @@ fn as_weak<'a>(desc: &ExternDesc<'a>) -> Result<ExternDesc<'a>, AllocError>
 fn all_weak<'a>(alloc: Global, externs: &Externs<'a>) -> Result<Externs<'a>, AllocError>
     ensures { IfOk result (λ weak. weak ≡ all_weak externs.now) }
 {
-    let mut by_name = BTreeMap::new(alloc);
+    let mut by_name = TextMapBuilder::new(alloc);
     for (name, desc) in externs.iter() {
         let weak = as_weak(desc)?;
         by_name.insert(*name, weak)?;
     }
+    let by_name = by_name.build(alloc)?;
     Ok(externs.replaced(by_name))
 }
 

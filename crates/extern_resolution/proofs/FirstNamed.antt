@@ -1,5 +1,5 @@
 -- What records say of names, one record after another.
-use Rattle.std.proofs.Common.{◌≡◌, ◌≢◌, ℕ, zero, suc, ◌+◌, ◌-◌, ◌<◌, All, Bool, true, false, cond, List, [], ◌∷◌, length, Option, None, Some, Bor, refl, ap, sym, ◌∙◌, subst, arith, below_more, inl, inr, nat_eq, nat_lt}
+use Rattle.std.proofs.Common.{◌≡◌, ◌≢◌, ℕ, zero, suc, ◌+◌, ◌-◌, ◌<◌, All, Bool, true, false, cond, List, [], ◌∷◌, length, Option, None, Some, refl, ap, sym, ◌∙◌, subst, arith, below_more, inl, inr, nat_eq, nat_lt}
 use Rattle.std.specs.Prelude.{IfSome}
 use Rattle.std.proofs.lemmas.Bool.Decides.{nat_tests}
 use Rattle.std.proofs.lemmas.List.Elements.{All-head, All-nil, All-tail, All-weaker}
@@ -41,9 +41,9 @@ said_at kernel kind name (Some found) h = says_begun kernel kind name found h
 -- nothing was gone through
 pub said_begun : (kernel : Table) (r : NamedRecords) → IsBegun r → AreSaid kernel r 0
 said_begun kernel r begun = record {
-  each = λ name. rw begun.readable (said_at kernel r.kind name (under r name) (begun.fresh name));
-  looked_up = rw begun.none (All-nil (IsLookedUp kernel.strings r.ids.entries));
-  beginnings = begun.beginnings;
+  each = λ name. rw begun.readable (said_at kernel r.kind name (under r name) (begun.names.fresh name));
+  looked_up = rw begun.none (All-nil (IsLookedUp kernel.strings r.ids));
+  beginnings = begun.names.beginnings;
 }
 
 says_more : (kernel : Table) (kind : BtfKind) (below : ℕ) (hidden : Bool) (name : List ℕ) (found : Option ℕ) → Says kernel kind below hidden name found → (found ≡ None → hidden ≡ false → IsNotNamed kernel name kind below) → Says kernel kind (below + 1) hidden name found
@@ -80,18 +80,18 @@ among : (P : ℕ → Type 0) (offset : ℕ) (others : List ℕ) → All P others
 among P offset [] all any = absurd cc
 among P offset (o ∷ os) all any = any_by P offset o os (is_at (nat_cmp offset) o) refl (All-head P o os all) (among P offset os (All-tail P o os all)) any
 
-other_name : (entries : List (Bor (List ℕ) × Option ℕ)) (name : List ℕ) (text : Option (List ℕ)) → IsSomeAnd text (λ n. ids_under entries n ≢ Some None) → ids_under entries name ≡ Some None → IsSomeAnd text (λ n. n ≢ name)
+other_name : (entries : List (List ℕ × Option ℕ)) (name : List ℕ) (text : Option (List ℕ)) → IsSomeAnd text (λ n. ids_under entries n ≢ Some None) → ids_under entries name ≡ Some None → IsSomeAnd text (λ n. n ≢ name)
 other_name entries name None looked vacant = absurd looked
 other_name entries name (Some n) looked vacant = λ same. looked (ap (ids_under entries) same ∙ vacant)
 
 -- its name isn't wanted, or was looked up
-pub passed_there : (kernel : Table) (r : NamedRecords) (below : ℕ) (t : BtfType) → AreSaid kernel r below → type_by_id kernel below ≡ Some t → IsLookedUp kernel.strings r.ids.entries (name_offset_of t) → AreSaid kernel r (below + 1)
+pub passed_there : (kernel : Table) (r : NamedRecords) (below : ℕ) (t : BtfType) → AreSaid kernel r below → type_by_id kernel below ≡ Some t → IsLookedUp kernel.strings r.ids (name_offset_of t) → AreSaid kernel r (below + 1)
 passed_there kernel r below t said here looked =
-    said_more kernel r below said (λ name vacant shown. rw here (λ is. other_name r.ids.entries name (text_at kernel.strings (name_offset_of t)) looked vacant))
+    said_more kernel r below said (λ name vacant shown. rw here (λ is. other_name r.ids name (text_at kernel.strings (name_offset_of t)) looked vacant))
 
 pub looked_up_there : (kernel : Table) (r : NamedRecords) (below : ℕ) (t : BtfType) → AreSaid kernel r below → type_by_id kernel below ≡ Some t → list_any (is_at (nat_cmp (name_offset_of t))) r.looked_up.keys ≡ true → AreSaid kernel r (below + 1)
 looked_up_there kernel r below t said here any =
-    passed_there kernel r below t said here (among (IsLookedUp kernel.strings r.ids.entries) (name_offset_of t) r.looked_up.keys said.looked_up any)
+    passed_there kernel r below t said here (among (IsLookedUp kernel.strings r.ids) (name_offset_of t) r.looked_up.keys said.looked_up any)
 
 -- ---- a name that is entered
 
@@ -105,7 +105,7 @@ entered_closed id None is = absurd cc
 entered_closed id (Some None) is = absurd cc
 entered_closed id (Some (Some first)) is = absurd cc
 
-module _ (text : List ℕ) (id : ℕ) (old new : List (Bor (List ℕ) × Option ℕ)) (put : (other : List ℕ) → ids_under new other ≡ cond (bytes_eq text other) (entered id (ids_under old text)) (ids_under old other)) where
+module _ (text : List ℕ) (id : ℕ) (old new : List (List ℕ × Option ℕ)) (put : (other : List ℕ) → ids_under new other ≡ cond (bytes_eq text other) (entered id (ids_under old text)) (ids_under old other)) where
   -- under each name
   under_name : (P : Option (Option ℕ) → Type 0) (other : List ℕ) → (text ≡ other → P (entered id (ids_under old text))) → (text ≢ other → P (ids_under old other)) → P (ids_under new other)
   under_name P other same differs = subst P (sym (put other)) (at (bytes_eq text other) refl)
@@ -120,7 +120,7 @@ module _ (text : List ℕ) (id : ℕ) (old new : List (Bor (List ℕ) × Option 
   closed_here : ids_under new text ≢ Some None
   closed_here = under_name (λ o. o ≢ Some None) text (λ same. entered_closed id (ids_under old text)) (λ differs. absurd (differs refl))
 
-still_looked_up : (text : List ℕ) (id : ℕ) (old new : List (Bor (List ℕ) × Option ℕ)) (strings : List ℕ) (offset : ℕ) → ((other : List ℕ) → ids_under new other ≡ cond (bytes_eq text other) (entered id (ids_under old text)) (ids_under old other)) → IsLookedUp strings old offset → IsLookedUp strings new offset
+still_looked_up : (text : List ℕ) (id : ℕ) (old new : List (List ℕ × Option ℕ)) (strings : List ℕ) (offset : ℕ) → ((other : List ℕ) → ids_under new other ≡ cond (bytes_eq text other) (entered id (ids_under old text)) (ids_under old other)) → IsLookedUp strings old offset → IsLookedUp strings new offset
 still_looked_up text id old new strings offset put = at (text_at strings offset)
   where
     at : (o : Option (List ℕ)) → IsSomeAnd o (λ n. ids_under old n ≢ Some None) → IsSomeAnd o (λ n. ids_under new n ≢ Some None)
@@ -144,14 +144,14 @@ says_other kernel kind below text other t o here name differs says = said_more_a
 -- a record whose name is entered where it is wanted
 pub entered_there : (kernel : Table) (old new : NamedRecords) (below : ℕ) (t : BtfType) (text : List ℕ) → AreSaid kernel old below → old.is_hidden ≡ false → type_by_id kernel below ≡ Some t → kind_of_type t ≡ old.kind → text_at kernel.strings (name_offset_of t) ≡ Some text → new.kind ≡ old.kind → new.is_hidden ≡ old.is_hidden → new.beginnings ≡ old.beginnings → IsNoted old.looked_up.keys new.looked_up.keys (name_offset_of t) → ((other : List ℕ) → under new other ≡ cond (bytes_eq text other) (entered below (under old text)) (under old other)) → AreSaid kernel new (below + 1)
 entered_there kernel old new below t text said shown here is name same_kind same_hidden same_first noted put = rw (same_kind, same_hidden ∙ shown, same_first) (record {
-  each = λ other. under_name text below old.ids.entries new.ids.entries put (λ o. IfSome o (Says kernel old.kind (below + 1) false other)) other
+  each = λ other. under_name text below old.ids new.ids put (λ o. IfSome o (Says kernel old.kind (below + 1) false other)) other
       (λ same. subst (λ (n : List ℕ). IfSome (entered below (under old text)) (Says kernel old.kind (below + 1) false n)) same (says_entered kernel old.kind below text t (under old text) here is name (vacant text)))
       (λ differs. says_other kernel old.kind below text other t (under old other) here name differs (vacant other));
-  looked_up = all_noted (IsLookedUp kernel.strings new.ids.entries) old.looked_up.keys new.looked_up.keys (name_offset_of t) noted
-      (All-weaker (IsLookedUp kernel.strings old.ids.entries) (IsLookedUp kernel.strings new.ids.entries) (λ offset h. still_looked_up text below old.ids.entries new.ids.entries kernel.strings offset put h) old.looked_up.keys said.looked_up)
-      (rw name (closed_here text below old.ids.entries new.ids.entries put));
+  looked_up = all_noted (IsLookedUp kernel.strings new.ids) old.looked_up.keys new.looked_up.keys (name_offset_of t) noted
+      (All-weaker (IsLookedUp kernel.strings old.ids) (IsLookedUp kernel.strings new.ids) (λ offset h. still_looked_up text below old.ids new.ids kernel.strings offset put h) old.looked_up.keys said.looked_up)
+      (rw name (closed_here text below old.ids new.ids put));
   beginnings = record {
-    each = λ other. under_name text below old.ids.entries new.ids.entries put (λ o. IfSome o (λ _. MayBegin old.beginnings other)) other
+    each = λ other. under_name text below old.ids new.ids put (λ o. IfSome o (λ _. MayBegin old.beginnings other)) other
         (λ same. subst (λ (n : List ℕ). IfSome (entered below (under old text)) (λ _. MayBegin old.beginnings n)) same (entered_first below (under old text) (MayBegin old.beginnings text) (said.beginnings.each text)))
         (λ differs. said.beginnings.each other);
   };
@@ -210,6 +210,6 @@ written_entered : (id : ℕ) (found : Option ℕ) → Some (option_or found (Som
 written_entered id None = refl
 written_entered id (Some first) = refl
 
-pub entered_under : (name other : List ℕ) (id : ℕ) (found written : Option ℕ) (old new : List (Bor (List ℕ) × Option ℕ)) → Some found ≡ ids_under old name → written ≡ option_or found (Some id) → ids_under new other ≡ cond (bytes_eq name other) (Some written) (ids_under old other) → ids_under new other ≡ cond (bytes_eq name other) (entered id (ids_under old name)) (ids_under old other)
+pub entered_under : (name other : List ℕ) (id : ℕ) (found written : Option ℕ) (old new : List (List ℕ × Option ℕ)) → Some found ≡ ids_under old name → written ≡ option_or found (Some id) → ids_under new other ≡ cond (bytes_eq name other) (Some written) (ids_under old other) → ids_under new other ≡ cond (bytes_eq name other) (entered id (ids_under old name)) (ids_under old other)
 entered_under name other id found written old new known is put =
     put ∙ ap (λ (o : Option (Option ℕ)). cond (bytes_eq name other) o (ids_under old other)) (ap (λ (w : Option ℕ). Some w) is ∙ written_entered id found ∙ ap (entered id) known)

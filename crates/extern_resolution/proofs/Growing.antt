@@ -1,16 +1,14 @@
 -- A map that is filled in the order of its keys.
 use Rattle.std.proofs.Common.{◌≡◌, ℕ, List, [], ◌∷◌, ◌++◌, map, refl, ap, sym, ◌∙◌, subst, append_assoc, append-nil}
 use Rattle.std.specs.BTreeMap.{insert_entry}
-use Rattle.std.specs.Borrow.{Bor}
 use Rattle.std.specs.Cmp.Lexicographic.{nat_list_cmp_total, slice_cmp}
 use Rattle.std.specs.List.{AllByRecursion, AllZip}
 use Rattle.std.specs.List.Sorted.{IsStrictlySortedBy}
 use Rattle.std.specs.Ordering.{match_ordering, nat_cmp, ordering_reverse}
 use Rattle.std.specs.declared.cmp.Ordering.{Ordering}
-use Rattle.std.specs.declared.cmp.Ordering.TheVariants.{Less, Equal, Greater}
+use Rattle.std.specs.declared.cmp.Ordering.TheVariants.{Less, Greater}
 use Rattle.extern_resolution.specs.Steps.{Grows}
 use Rattle.object_externs.specs.Externs.{ExternContent}
-use Rattle.object_externs.specs.Names.{by_bytes}
 
 last_below : (x n : List ℕ) (e : ExternContent) (front rest : List (List ℕ × ExternContent)) → AllByRecursion (λ y. slice_cmp nat_cmp x y ≡ Less) (map (λ e. e.0) (front ++ (n, e) ∷ rest)) → slice_cmp nat_cmp x n ≡ Less
 last_below x n e [] rest all = all.0
@@ -50,23 +48,8 @@ grows_more R named all rest more done n e v sorted next before r =
 pub grows_none : (R : (List ℕ × ExternContent) → (List ℕ × ExternContent) → Type 0) (all : List (List ℕ × ExternContent)) → Grows R all all []
 grows_none R all = record { front = []; split = refl; each = tt }
 
--- ---- entries by the bytes of their names
-
-matched : (o : Ordering) (a b c : List (Bor (List ℕ) × ExternContent)) → by_bytes (match_ordering o a b c) ≡ match_ordering o (by_bytes a) (by_bytes b) (by_bytes c)
-matched Less a b c = refl
-matched Equal a b c = refl
-matched Greater a b c = refl
-
-inserted : (entries : List (Bor (List ℕ) × ExternContent)) (name : Bor (List ℕ)) (value : ExternContent) → by_bytes (insert_entry (λ x y. slice_cmp nat_cmp x.now y.now) entries name value) ≡ insert_entry (slice_cmp nat_cmp) (by_bytes entries) name.now value
-inserted [] name value = refl
-inserted (e ∷ es) name value =
-    matched (slice_cmp nat_cmp name.now e.0.now) ((name, value) ∷ e ∷ es) ((e.0, value) ∷ es) (e ∷ insert_entry (λ x y. slice_cmp nat_cmp x.now y.now) es name value)
-    ∙ ap (λ (rest : List (List ℕ × ExternContent)). match_ordering (slice_cmp nat_cmp name.now e.0.now) ((name.now, value) ∷ (e.0.now, e.1) ∷ by_bytes es) ((e.0.now, value) ∷ by_bytes es) ((e.0.now, e.1) ∷ rest)) (inserted es name value)
-
-pub grows_by : (R : (List ℕ × ExternContent) → (List ℕ × ExternContent) → Type 0) → ((p q : List ℕ × ExternContent) → R p q → q.0 ≡ p.0) → (all rest more : List (List ℕ × ExternContent)) (old new : List (Bor (List ℕ) × ExternContent)) (name : Bor (List ℕ)) (e v : ExternContent) → IsStrictlySortedBy (slice_cmp nat_cmp) (map (λ e. e.0) all) → rest ≡ (name.now, e) ∷ more → Grows R all rest (by_bytes old) → R (name.now, e) (name.now, v) → new ≡ insert_entry (λ x y. slice_cmp nat_cmp x.now y.now) old name v → Grows R all more (by_bytes new)
-grows_by R named all rest more old new name e v sorted next before r is =
-    let shown : by_bytes new ≡ insert_entry (slice_cmp nat_cmp) (by_bytes old) name.now v = ap by_bytes is ∙ inserted old name v in
-    subst (Grows R all more) (sym shown) (grows_more R named all rest more (by_bytes old) name.now e v sorted next before r)
+pub grows_by : (R : (List ℕ × ExternContent) → (List ℕ × ExternContent) → Type 0) → ((p q : List ℕ × ExternContent) → R p q → q.0 ≡ p.0) → (all rest more old new : List (List ℕ × ExternContent)) (n : List ℕ) (e v : ExternContent) → IsStrictlySortedBy (slice_cmp nat_cmp) (map (λ e. e.0) all) → rest ≡ (n, e) ∷ more → Grows R all rest old → R (n, e) (n, v) → new ≡ insert_entry (slice_cmp nat_cmp) old n v → Grows R all more new
+grows_by R named all rest more old new n e v sorted next before r is = subst (Grows R all more) (sym is) (grows_more R named all rest more old n e v sorted next before r)
 
 pub grown : (R : (List ℕ × ExternContent) → (List ℕ × ExternContent) → Type 0) (all rest done : List (List ℕ × ExternContent)) → rest ≡ [] → Grows R all rest done → AllZip R all done
 grown R all rest done none before =

@@ -7,5 +7,6 @@ pub mod Growing
 pub mod NamesBegin
 pub mod NothingLeft
 pub mod PassedTypes
+pub mod Placed
 pub mod SaidBlocks
 pub mod Seeking

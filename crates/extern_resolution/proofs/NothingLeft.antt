@@ -2,7 +2,6 @@
 use Rattle.std.proofs.Common.{◌≡◌, ℕ, Bool, true, false, cond, not, List, [], ◌∷◌, Option, None, Some, refl}
 use Rattle.std.specs.Prelude.{IfSome}
 use Rattle.std.specs.BTreeMap.{is_at}
-use Rattle.std.specs.Borrow.{Bor}
 use Rattle.std.specs.Cmp.Lexicographic.{slice_cmp}
 use Rattle.std.specs.Ordering.{nat_cmp}
 use Rattle.btf_records.specs.declared.kind.BtfKind.{BtfKind}
@@ -35,10 +34,10 @@ met_at : (test : Bool) (id : Option ℕ) (rest : Option (Option ℕ)) → (id �
 met_at true id rest some met = λ e. some (let same : id ≡ None = cc in same)
 met_at false id rest some met = met
 
-met_by : (name : List ℕ) (entries : List (Bor (List ℕ) × Option ℕ)) → is_any_left entries ≡ false → IsMet (ids_under entries name)
+met_by : (name : List ℕ) (entries : List (List ℕ × Option ℕ)) → is_any_left entries ≡ false → IsMet (ids_under entries name)
 met_by name [] none = λ e. absurd cc
 met_by name ((key, None) ∷ entries) none = absurd cc
-met_by name ((key, Some id) ∷ entries) none = met_at (is_at (slice_cmp nat_cmp name) key.now) (Some id) (ids_under entries name) (λ e. absurd cc) (met_by name entries none)
+met_by name ((key, Some id) ∷ entries) none = met_at (is_at (slice_cmp nat_cmp name) key) (Some id) (ids_under entries name) (λ e. absurd cc) (met_by name entries none)
 
 met_says : (kernel : Table) (kind : BtfKind) (hides : Bool) (name : List ℕ) (found : Option (Option ℕ)) (below end : ℕ) → IsMet found → IfSome found (Says kernel kind below hides name) → IfSome found (Says kernel kind end hides name)
 met_says kernel kind hides name None below end met says = tt
@@ -46,11 +45,11 @@ met_says kernel kind hides name (Some None) below end met says = absurd (met ref
 met_says kernel kind hides name (Some (Some id)) below end met says = says
 
 -- each wanted name has an id
-pub all_met : (kernel : Table) (r : NamedRecords) → not (is_any_left r.ids.entries) ≡ true → NothingIsLeft kernel r
+pub all_met : (kernel : Table) (r : NamedRecords) → not (is_any_left r.ids) ≡ true → NothingIsLeft kernel r
 all_met kernel r all = record {
   anywhere = λ below end said. record {
     beginnings = said.beginnings;
-    each = λ name. met_says kernel r.kind r.is_hidden name (under r name) below end (met_by name r.ids.entries (none_left (is_any_left r.ids.entries) all)) (said.each name);
+    each = λ name. met_says kernel r.kind r.is_hidden name (under r name) below end (met_by name r.ids (none_left (is_any_left r.ids) all)) (said.each name);
     looked_up = said.looked_up;
   };
 }

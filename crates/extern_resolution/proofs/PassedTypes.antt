@@ -1,5 +1,5 @@
 -- Types that aren't wanted, as their kinds and the beginnings of their names tell.
-use Rattle.std.proofs.Common.{◌≡◌, ◌≢◌, ℕ, ◌+◌, Bool, true, false, List, Option, None, Some, Bor, refl, sym, ap, ◌∙◌, inl, inr}
+use Rattle.std.proofs.Common.{◌≡◌, ◌≢◌, ℕ, ◌+◌, Bool, true, false, List, Option, None, Some, refl, sym, ap, ◌∙◌, inl, inr}
 use Rattle.std.specs.Prelude.{IfSome, slice_index_or}
 use Rattle.std.specs.Option.{IsSomeAnd, option_map_or}
 use Rattle.btf_records.specs.Fields.{kind_of_type, name_offset_of}
@@ -19,12 +19,12 @@ unwanted_by : (found : Option (Option ℕ)) (Begins : Type 0) → IfSome found (
 unwanted_by None Begins has isnt = λ is. cc
 unwanted_by (Some f) Begins has isnt = absurd (isnt has)
 
-looked_up : (entries : List (Bor (List ℕ) × Option ℕ)) (marks : BeginningMarks) (text : Option (List ℕ)) → AreBeginnings entries marks → IsSomeAnd text (λ t. MayBegin marks t → ⊥) → IsSomeAnd text (λ name. ids_under entries name ≢ Some None)
+looked_up : (entries : List (List ℕ × Option ℕ)) (marks : BeginningMarks) (text : Option (List ℕ)) → AreBeginnings entries marks → IsSomeAnd text (λ t. MayBegin marks t → ⊥) → IsSomeAnd text (λ name. ids_under entries name ≢ Some None)
 looked_up entries marks None are begins = absurd begins
 looked_up entries marks (Some name) are begins = unwanted_by (ids_under entries name) (MayBegin marks name) (are.each name) begins
 
 said_on : (kernel : Table) (r : NamedRecords) (id : ℕ) (t : BtfType) → AreSaid kernel r id → type_by_id kernel id ≡ Some t → IsSomeAnd (text_at kernel.strings (name_offset_of t)) (λ text. MayBegin r.beginnings text → ⊥) → AreSaid kernel r (id + 1)
-said_on kernel r id t said here begins = passed_there kernel r id t said here (looked_up r.ids.entries r.beginnings (text_at kernel.strings (name_offset_of t)) said.beginnings begins)
+said_on kernel r id t said here begins = passed_there kernel r id t said here (looked_up r.ids r.beginnings (text_at kernel.strings (name_offset_of t)) said.beginnings begins)
 
 type_otherwise : (kernel : Table) (r : NamedRecords) (id : ℕ) (t : Option BtfType) → AreSaid kernel r id → type_by_id kernel id ≡ t → IsSomeAnd t (λ t. IsSomeAnd (text_at kernel.strings (name_offset_of t)) (λ text. MayBegin r.beginnings text → ⊥)) → AreSaid kernel r (id + 1)
 type_otherwise kernel r id None said here begins = absurd begins

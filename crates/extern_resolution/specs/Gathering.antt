@@ -1,10 +1,11 @@
 -- What was gathered of the kernel's table, of functions and variables.
-use Rattle.std.specs.Prelude.{◌≡◌, ℕ, List, ◌++◌, None}
+use Rattle.std.specs.Prelude.{◌≡◌, ℕ, List, ◌++◌, Option, None}
 use Rattle.std.specs.List.{AllByRecursion}
 use Rattle.btf_records.specs.declared.kind.BtfKind.TheVariants as kinds
 use Rattle.btf_tables.specs.Tables.{Table}
-use Rattle.extern_resolution.specs.Wanted.{AreSaid, IsBegun, IsEntryWanted, SameNames, under}
+use Rattle.extern_resolution.specs.Wanted.{AreFresh, AreSaid, IsBegun, IsEntryWanted, IsEntryWantedIn, SameNames, under}
 use Rattle.extern_resolution.specs.declared.kernel_records.KernelRecords.{KernelRecords}
+use Rattle.extern_resolution.specs.declared.kernel_records.WantedRecords.{WantedRecords}
 use Rattle.extern_resolution.specs.declared.named_records.NamedRecords.{NamedRecords}
 use Rattle.object_externs.specs.Externs.{ExternContent}
 
@@ -42,17 +43,22 @@ pub record AreEntriesWanted (table : Table) (r : KernelRecords)
   pub each : AllByRecursion (IsEntryWanted table r) externs
 
 -- the names of those before the rest are wanted
-pub record AreWantedBefore (table : Table) (r : KernelRecords)
+pub record AreWantedBefore (table : Table) (functions variables : List (List ℕ × Option ℕ))
     (all rest : List (List ℕ × ExternContent)) : Type 0 where
   pub front : List (List ℕ × ExternContent)
   pub split : all ≡ front ++ rest
-  pub each : AllByRecursion (IsEntryWanted table r) front
+  pub each : AllByRecursion (IsEntryWantedIn table functions variables) front
+
+-- names are fresh: none has an id, and each begins as is marked
+pub record AreWantedFresh (wanted : WantedRecords) : Type 0 where
+  pub functions : AreFresh wanted.functions.names wanted.functions.beginnings
+  pub variables : AreFresh wanted.variables.names wanted.variables.beginnings
 
 -- one more extern's name is wanted, and those that were are
-pub record WantsEntry (table : Table) (old new : KernelRecords) (entry : List ℕ × ExternContent)
+pub record WantsEntry (table : Table) (old new : WantedRecords) (entry : List ℕ × ExternContent)
     : Type 0 where
-  pub begun : AreBegun old → AreBegun new
-  pub wanted : IsEntryWanted table new entry
+  pub fresh : AreWantedFresh old → AreWantedFresh new
+  pub wanted : IsEntryWantedIn table new.functions.names new.variables.names entry
   pub kept : (other : List ℕ × ExternContent)
-      → IsEntryWanted table old other
-      → IsEntryWanted table new other
+      → IsEntryWantedIn table old.functions.names old.variables.names other
+      → IsEntryWantedIn table new.functions.names new.variables.names other

@@ -2,15 +2,57 @@
 
 ghost use Rattle.std.specs.Prelude.{◌≡◌, ◌+◌, length, true, IfOk, OnOk};
 ghost use Rattle.std.specs.Option.{option_copied};
-ghost use Rattle.extern_resolution.specs.Gathering.{AreAllSaid, AreBegun, AreEntriesWanted, AreNoneWanted, SameWanted, WantsEntry};
+ghost use Rattle.extern_resolution.specs.Gathering.{AreAllSaid, AreBegun, AreEntriesWanted, AreNoneWanted, AreWantedFresh, SameWanted, WantsEntry};
 ghost use Rattle.extern_resolution.specs.Wanted.{AreKnown, IsEntryWanted, id_of};
 
-use crate::named_records::NamedRecords;
+use crate::named_records::{NamedRecords, WantedNames};
 use btf_records::BtfKind;
 use btf_tables::{Btf, essential_name};
 use object_externs::{ExternDesc, Externs};
 use std::alloc::{AllocError, Global};
 use type_headers::TypeHeaders;
+
+/// The functions and variables that are wanted, before a table is gone through.
+#[derive(Debug, Drop)]
+pub(crate) struct WantedRecords<'n> {
+    pub(crate) functions: WantedNames<'n>,
+    pub(crate) variables: WantedNames<'n>,
+}
+
+impl<'n> WantedRecords<'n> {
+    /// No name is wanted.
+    fn new(alloc: Global) -> WantedRecords<'n>
+        ensures { AreWantedFresh result }
+    {
+        WantedRecords {
+            functions: WantedNames::new(alloc),
+            variables: WantedNames::new(alloc),
+        }
+    }
+
+    /// Wants the name of an extern with a type: of a function without its flavour, of a variable
+    /// whole.
+    fn want(
+        &mut self,
+        table: &Btf<'_>,
+        name: &'n str,
+        desc: &ExternDesc<'_>,
+    ) -> Result<(), AllocError>
+        ensures { OnOk result (WantsEntry table.now self.old self.new (name.now, desc.now)) }
+    {
+        if desc.type_id.is_none() {
+            return Ok(());
+        }
+        let Ok(t) = table.type_by_id(desc.btf_id) else {
+            return Ok(());
+        };
+        match t.kind() {
+            BtfKind::Func => self.functions.want(essential_name(name)),
+            BtfKind::Var => self.variables.want(name),
+            _ => Ok(()),
+        }
+    }
+}
 
 /// The kernel's functions and variables that have the names of externs.
 #[derive(Debug)]
@@ -41,27 +83,21 @@ impl<'n> KernelRecords<'n> {
         }
     }
 
-    /// Wants the name of an extern with a type: of a function without its flavour, of a variable
-    /// whole.
-    fn want(
-        &mut self,
-        table: &Btf<'_>,
-        name: &'n str,
-        desc: &ExternDesc<'_>,
-    ) -> Result<(), AllocError>
-        ensures { OnOk result (WantsEntry table.now self.old self.new (name.now, desc.now)) }
+    /// The names of these are wanted.
+    fn from_names(alloc: Global, wanted: WantedRecords<'n>) -> Result<KernelRecords<'n>, AllocError>
+        requires { AreWantedFresh wanted }
+        ensures begun { IfOk result AreBegun }
+        ensures functions { IfOk result (λ r. r.functions.ids ≡ wanted.entry.functions.names) }
+        ensures variables { IfOk result (λ r. r.variables.ids ≡ wanted.entry.variables.names) }
     {
-        if desc.type_id.is_none() {
-            return Ok(());
-        }
-        let Ok(t) = table.type_by_id(desc.btf_id) else {
-            return Ok(());
-        };
-        match t.kind() {
-            BtfKind::Func => self.functions.want(essential_name(name)),
-            BtfKind::Var => self.variables.want(name),
-            _ => Ok(()),
-        }
+        let WantedRecords {
+            functions,
+            variables,
+        } = wanted;
+        Ok(KernelRecords {
+            functions: NamedRecords::from_names(alloc, BtfKind::Func, functions)?,
+            variables: NamedRecords::from_names(alloc, BtfKind::Var, variables)?,
+        })
     }
 
     /// Whether the name of an extern is wanted, or need not be.
@@ -130,10 +166,11 @@ fn wanted_records<'n>(
     ensures wanted { IfOk result (λ records.
         AreEntriesWanted table.now records externs.now.by_name) }
 {
-    let mut records = KernelRecords::new(alloc);
+    let mut wanted = WantedRecords::new(alloc);
     for (name, desc) in externs.iter() {
-        records.want(table, name, desc)?;
+        wanted.want(table, name, desc)?;
     }
+    let records = KernelRecords::from_names(alloc, wanted)?;
     Ok(records)
 }
 

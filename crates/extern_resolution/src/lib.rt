@@ -6,6 +6,7 @@ mod addressed;
 mod error;
 mod kernel_externs;
 mod kernel_records;
+mod named_ids;
 mod named_records;
 mod records;
 mod resolving;

@@ -1,27 +1,59 @@
 //! The records of a kernel's table that have wanted names.
 
-ghost use Rattle.std.specs.Prelude.{◌≡◌, ◌+◌, ◌||◌, ℕ, List, None, Some, false, true, if◌then◌else◌, is_some, IfOk, OnOk};
-ghost use Rattle.std.specs.Str.{bytes_eq};
+ghost use Rattle.std.specs.Prelude.{◌≡◌, ◌+◌, ℕ, List, None, Some, false, true, is_some, IfOk, OnOk};
 ghost use Rattle.btf_tables.specs.Tables.{Table, type_by_id};
 ghost use Rattle.extern_resolution.specs.Gathering.{NothingIsLeft};
-ghost use Rattle.extern_resolution.specs.Wanted.{AreSaid, IsBegun, IsNoted, SameNames, Wants, entered, id_under, ids_under, is_any_left, under};
+ghost use Rattle.extern_resolution.specs.Wanted.{AreFresh, AreSaid, IsBegun, IsNoted, SameNames, Wants, id_under, ids_under, under};
 
+use crate::named_ids::NamedIds;
 use btf_encoding::TypeRef;
 use btf_records::BtfKind;
 use btf_tables::Btf;
 use std::alloc::{AllocError, Global};
-use std::collections::{BTreeMap, BTreeSet};
+use std::collections::BTreeSet;
+use text_order::TextMapBuilder;
 use type_headers::NameBeginnings;
 
 /// Names of at least this many bytes are looked up once.
 const LONG: usize = 256;
+
+/// Names that are wanted, before a table is gone through.
+#[derive(Debug, Drop)]
+pub(crate) struct WantedNames<'n> {
+    /// The names, each without an id.
+    pub(crate) names: TextMapBuilder<'n, Option<u32>>,
+    /// Their beginnings.
+    pub(crate) beginnings: NameBeginnings,
+}
+
+impl<'n> WantedNames<'n> {
+    /// No name is wanted.
+    pub(crate) fn new(alloc: Global) -> WantedNames<'n>
+        ensures { AreFresh result.names result.beginnings }
+    {
+        WantedNames {
+            names: TextMapBuilder::new(alloc),
+            beginnings: NameBeginnings::new(),
+        }
+    }
+
+    /// Wants a name.
+    #[tactic(auto, using(crate::proofs::NamesBegin::wants))]
+    pub(crate) fn want(&mut self, name: &'n str) -> Result<(), AllocError>
+        ensures { OnOk result (Wants self.old self.new name.now) }
+    {
+        self.beginnings.mark(name);
+        self.names.insert(name, None)?;
+        Ok(())
+    }
+}
 
 /// The first records of a kind that have wanted names, as far as a table was gone through.
 #[derive(Debug)]
 pub(crate) struct NamedRecords<'n> {
     pub(crate) kind: BtfKind,
     /// The id under each wanted name, where a record was met that has it.
-    pub(crate) ids: BTreeMap<&'n str, Option<u32>>,
+    pub(crate) ids: NamedIds<'n>,
     /// The beginnings of the wanted names.
     pub(crate) beginnings: NameBeginnings,
     /// The offsets of long names that were looked up.
@@ -40,30 +72,6 @@ impl<'n> Drop for NamedRecords<'n> {
             looked_up: _looked_up,
             is_hidden: _,
         } = self;
-    }
-}
-
-/// Wants a name.
-fn want<'n>(ids: &mut BTreeMap<&'n str, Option<u32>>, name: &'n str) -> Result<(), AllocError>
-    ensures { OnOk result
-        ((other : List ℕ)
-        → ids_under ids.new.entries other
-        ≡ (if bytes_eq name.now other then Some None else ids_under ids.old.entries other)) }
-{
-    ids.insert(name, None)?;
-    Ok(())
-}
-
-/// Enters the id of a record under its name, where that is wanted and has none.
-fn enter(ids: &mut BTreeMap<&str, Option<u32>>, name: &str, id: u32)
-    ensures { (other : List ℕ)
-        → ids_under ids.new.entries other
-        ≡ (if bytes_eq name.now other
-        then entered id (ids_under ids.old.entries name.now)
-        else ids_under ids.old.entries other) }
-{
-    if let Some(found) = ids.get_mut(name) {
-        *found = found.or(Some(id));
     }
 }
 
@@ -86,20 +94,32 @@ impl<'n> NamedRecords<'n> {
     {
         NamedRecords {
             kind,
-            ids: BTreeMap::new(alloc),
+            ids: NamedIds::new(alloc),
             beginnings: NameBeginnings::new(),
             looked_up: BTreeSet::new(alloc),
             is_hidden: false,
         }
     }
 
-    /// Wants a name, before the table is gone through.
-    #[tactic(auto, using(crate::proofs::NamesBegin::one_more))]
-    pub(crate) fn want(&mut self, name: &'n str) -> Result<(), AllocError>
-        ensures { OnOk result (Wants self.old self.new name.now) }
+    /// These names are wanted.
+    pub(crate) fn from_names(
+        alloc: Global,
+        kind: BtfKind,
+        wanted: WantedNames<'n>,
+    ) -> Result<NamedRecords<'n>, AllocError>
+        requires { AreFresh wanted.names wanted.beginnings }
+        ensures kind { IfOk result (λ r. r.kind ≡ kind) }
+        ensures begun { IfOk result IsBegun }
+        ensures names { IfOk result (λ r. r.ids ≡ wanted.entry.names) }
     {
-        self.beginnings.mark(name);
-        want(&mut self.ids, name)
+        let WantedNames { names, beginnings } = wanted;
+        Ok(NamedRecords {
+            kind,
+            ids: NamedIds::from_names(alloc, names)?,
+            beginnings,
+            looked_up: BTreeSet::new(alloc),
+            is_hidden: false,
+        })
     }
 
     /// Takes the record of an id, after those of lesser ids.
@@ -128,7 +148,7 @@ impl<'n> NamedRecords<'n> {
             self.is_hidden = true;
             return Ok(());
         };
-        enter(&mut self.ids, name, id);
+        self.ids.enter(name, id);
         note(&mut self.looked_up, name, offset)?;
         Ok(())
     }
@@ -138,32 +158,20 @@ impl<'n> NamedRecords<'n> {
         self.ids.len()
     }
 
-    /// Whether some wanted name has no id yet.
-    fn is_any_left(&self) -> bool
-        ensures { result ≡ is_any_left self.now.ids.entries }
-    {
-        for (_name, id) in self.ids.iter() {
-            if id.is_none() {
-                return true;
-            }
-        }
-        false
-    }
-
     /// Whether no later record of the table can say more: each wanted name has the id of its first
     /// record, or a name that can't be read hides what comes after it.
     #[tactic(auto, using(crate::proofs::NothingLeft::hidden, crate::proofs::NothingLeft::all_met))]
     pub(crate) fn is_settled(&self) -> bool
         ensures { (kernel : Table) → result ≡ true → NothingIsLeft kernel self.now }
     {
-        self.is_hidden || !self.is_any_left()
+        self.is_hidden || !self.ids.is_any_left()
     }
 
     /// Whether a name is wanted.
     pub(crate) fn is_wanted(&self, name: &str) -> bool
         ensures { result ≡ is_some (under self.now name.now) }
     {
-        self.ids.contains_key(name)
+        self.ids.get(name).is_some()
     }
 
     /// The id under a name.

@@ -15,8 +15,8 @@ use crate::typed::typed_externs;
 use btf_tables::Btf;
 use object_externs::{ExternDesc, Externs};
 use std::alloc::Global;
-use std::collections::BTreeMap;
 use std::io::BufRead;
+use text_order::TextMap;
 use watched::Watched;
 
 /// The externs of an object with a table, resolved.
@@ -27,12 +27,12 @@ fn resolved<'a, R: BufRead>(
     kernel: Option<&Btf<'_>>,
     symbols: &mut Watched<R>,
     shared: Option<&KernelExterns<'_, '_>>,
-) -> Result<BTreeMap<&'a str, ExternDesc<'a>>, KsymsError>
+) -> Result<TextMap<'a, ExternDesc<'a>>, KsymsError>
     requires { IfSome (option_copied shared) (λ k. option_copied kernel ≡ Some k) }
     ensures resolved { IfOk result (λ new.
         AreResolved table.now (option_copied kernel.entry) (R.remaining (watched_inner symbols.old))
         (has_failed symbols.new) externs.now
-        (record externs.now { by_name = by_bytes new.entries })) }
+        (record externs.now { by_name = by_bytes new })) }
     ensures refused { IfErr result (λ f.
         f ≢ OutOfMemory
         → CannotResolve table.now (option_copied kernel.entry)

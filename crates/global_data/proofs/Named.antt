@@ -2,15 +2,16 @@
 use Rattle.std.proofs.Common.{◌≡◌, ℕ, ◌+◌, ◌<◌, Bool, true, false, cond, List, [], ◌∷◌, ◌++◌, take, length, get_or, Option, Some, refl, ap, sym, ◌∙◌, reverse, subst, is_some}
 use Rattle.std.specs.Prelude.{find, bytes_eq}
 use Rattle.std.specs.Borrow.{Bor}
-use Rattle.std.specs.BTreeMap.{BTreeMap, UpdatesBy, is_at}
+use Rattle.std.specs.BTreeMap.{is_at}
 use Rattle.std.specs.Cmp.Lexicographic.{slice_cmp}
 use Rattle.std.specs.Map.{lookup}
 use Rattle.std.specs.Option.{option_copied, option_map_or}
 use Rattle.std.specs.Ordering.{nat_cmp, is_eq}
 use Rattle.std.proofs.lemmas.List.{reverse-append, take_more}
-use Rattle.std.proofs.lemmas.Map.Text.{btree_map_updates_str, is_eq-slice_cmp}
+use Rattle.std.proofs.lemmas.Map.Text.{is_eq-slice_cmp}
 use Rattle.std.proofs.lemmas.Slice.Eq.{bytes_eq-Decides}
 use Rattle.elf64.specs.Symbols.{Symbol}
+use Rattle.text_order.specs.Orders.{value_of}
 use Rattle.object_maps.specs.BtfMaps.{has_symbol_name, symbol_named}
 use Rattle.global_values.specs.Content.{GlobalContent}
 use Rattle.global_data.specs.GlobalSymbols.{AreGlobalSymbols, AreSet, IsSet}
@@ -28,12 +29,12 @@ copied-by true s held found e = refl
 copied-by false s held found e = e
 
 -- one more symbol, which takes the place of an earlier one of its name
-pub set-more : (globals : List (List ℕ × GlobalContent)) (before later : BTreeMap (Bor (List ℕ)) (Bor Symbol)) (symbols : List Symbol) (i : ℕ) (key : Bor (List ℕ)) (s : Bor Symbol) → i < length symbols → s.now ≡ get_or symbols i s.now → s.now.name ≡ Some key.now → UpdatesBy (λ x y. slice_cmp nat_cmp x.now y.now) (λ k. slice_cmp nat_cmp key.now k.now) before later (Some s) → AreGlobalSymbols globals (take i symbols) before → AreGlobalSymbols globals (take (i + 1) symbols) later
-set-more globals before later symbols i key s within is named updates held = record {
+pub set-more : (globals : List (List ℕ × GlobalContent)) (before later : List (List ℕ × Bor Symbol)) (symbols : List Symbol) (i : ℕ) (key : List ℕ) (s : Bor Symbol) → i < length symbols → s.now ≡ get_or symbols i s.now → s.now.name ≡ Some key → ((name : List ℕ) → value_of name later ≡ cond (bytes_eq key name) (Some s) (value_of name before)) → AreGlobalSymbols globals (take i symbols) before → AreGlobalSymbols globals (take (i + 1) symbols) later
+set-more globals before later symbols i key s within is named each held = record {
   at = λ name set.
-      ap option_copied (btree_map_updates_str key.now before later (Some s) updates name)
-      ∙ copied-by (bytes_eq key.now name) s _ (symbol_named (take i symbols) name) (held.at name set)
-      ∙ ap (λ test. cond test (Some s.now) (symbol_named (take i symbols) name)) (sym (tested s.now key.now name named))
+      ap option_copied (each name)
+      ∙ copied-by (bytes_eq key name) s _ (symbol_named (take i symbols) name) (held.at name set)
+      ∙ ap (λ test. cond test (Some s.now) (symbol_named (take i symbols) name)) (sym (tested s.now key name named))
       ∙ sym (last-of symbols i s.now name within is);
 }
 
@@ -45,7 +46,7 @@ other globals key name true is unset set =
     let not-set : is_some (lookup (is_at (slice_cmp nat_cmp name)) globals) ≡ false = subst P ((bytes_eq-Decides key name).0 is) unset in
     absurd (cc)
 
-pub set-same : (globals : List (List ℕ × GlobalContent)) (by_name : BTreeMap (Bor (List ℕ)) (Bor Symbol)) (symbols : List Symbol) (i : ℕ) (key : List ℕ) (s : Symbol) → i < length symbols → s ≡ get_or symbols i s → s.name ≡ Some key → is_some (lookup (is_at (slice_cmp nat_cmp key)) globals) ≡ false → AreGlobalSymbols globals (take i symbols) by_name → AreGlobalSymbols globals (take (i + 1) symbols) by_name
+pub set-same : (globals : List (List ℕ × GlobalContent)) (by_name : List (List ℕ × Bor Symbol)) (symbols : List Symbol) (i : ℕ) (key : List ℕ) (s : Symbol) → i < length symbols → s ≡ get_or symbols i s → s.name ≡ Some key → is_some (lookup (is_at (slice_cmp nat_cmp key)) globals) ≡ false → AreGlobalSymbols globals (take i symbols) by_name → AreGlobalSymbols globals (take (i + 1) symbols) by_name
 set-same globals by_name symbols i key s within is named unset held = record {
   at = λ name set.
       held.at name set

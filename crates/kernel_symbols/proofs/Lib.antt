@@ -1,4 +1,5 @@
 pub mod BlockLemmas
+pub mod Placed
 pub mod ReaderLemmas
 pub mod SaidLemmas
 pub mod TextLemmas

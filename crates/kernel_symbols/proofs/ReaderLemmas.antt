@@ -109,7 +109,7 @@ refused_later known left failed one two e p refuses = record {
 
 -- ---- the end
 
-pub finished : (old : Reading) (found : Addresses) → length old.partial.items ≡ 0 → found.by_name.entries ≡ entries_of old → Finishes old found
+pub finished : (old : Reading) (found : Addresses) → length old.partial.items ≡ 0 → found.by_name ≡ entries_of old → Finishes old found
 finished old found none same = record {
   settled = λ text read.
       let all : lines_of text ≡ read.lines = ap lines_of (read.begun ∙ ap (λ (l : List ℕ). text_of read.lines ++ l) (empty old.partial.items none)) ∙ lines_front read.lines [] read.whole ∙ ap (λ (l : List (List ℕ)). read.lines ++ l) no_lines ∙ append-nil read.lines in
@@ -124,11 +124,11 @@ finished old found none same = record {
 last_line : (old : Reading) (text : List ℕ) (read : HasRead text old) → 0 < length old.partial.items → lines_of text ≡ read.lines ++ old.partial.items ∷ []
 last_line old text read some = ap lines_of read.begun ∙ lines_front read.lines old.partial.items read.whole ∙ ap (λ (l : List (List ℕ)). read.lines ++ l) (one_line old.partial.items read.open_line some)
 
-pub finished_line : (old : Reading) (found : Addresses) (line : List ℕ) → 0 < length old.partial.items → line ≡ old.partial.items → TakesLine (entries_of old) found.by_name.entries line → Finishes old found
+pub finished_line : (old : Reading) (found : Addresses) (line : List ℕ) → 0 < length old.partial.items → line ≡ old.partial.items → TakesLine (entries_of old) found.by_name line → Finishes old found
 finished_line old found line some is takes = record {
   settled = λ text read.
       let all : lines_of text ≡ read.lines ++ line ∷ [] = last_line old text read some ∙ ap (λ (l : List ℕ). read.lines ++ l ∷ []) (sym is) in
-      subst (AreSettled found.by_name.entries) (sym all) (takes.settled read.lines read.settled);
+      subst (AreSettled found.by_name) (sym all) (takes.settled read.lines read.settled);
   names = takes.names;
 }
 
@@ -144,7 +144,7 @@ cannot_finish old line e some is refuses = record {
 true_false : true ≡ false → ⊥
 true_false h = absurd cc
 
-faultless : (names : List (Bor (List ℕ))) (entries : List (Bor (List ℕ) × Wanted)) (text : List ℕ) → AreSettled entries (lines_of text) → ((name : List ℕ) → is_some (under entries name) ≡ is_among names name) → (e : SymbolsError) → TextFault false (IsAmong names) text e → ⊥
+faultless : (names : List (Bor (List ℕ))) (entries : List (List ℕ × Wanted)) (text : List ℕ) → AreSettled entries (lines_of text) → ((name : List ℕ) → is_some (under entries name) ≡ is_among names name) → (e : SymbolsError) → TextFault false (IsAmong names) text e → ⊥
 faultless names entries text settled among (error.Access x) h = elim h [ inl f ↦ true_false (sym f) | inr f ↦ true_false (sym f ∙ settled.texts) ]
 faultless names entries text settled among (error.UnreadableAddress name) h = at (under entries name.now) (among name.now ∙ h.0) (settled.found name.now)
   where
@@ -162,7 +162,7 @@ faultless names entries text settled among (error.Ambiguous name first second) h
         true_false (sym equal ∙ h.1.2)
 faultless names entries text settled among error.OutOfMemory h = h
 
-address_at : (found : Addresses) (name text : List ℕ) (o : Option Wanted) → under found.by_name.entries name ≡ o → is_some o ≡ true → IfSome o (IsSettledAs name (lines_of text)) → address_under found name ≡ address_of name text
+address_at : (found : Addresses) (name text : List ℕ) (o : Option Wanted) → under found.by_name name ≡ o → is_some o ≡ true → IfSome o (IsSettledAs name (lines_of text)) → address_under found name ≡ address_of name text
 unfolding address_of
 address_at found name text None known some settled = absurd (true_false (sym some))
 address_at found name text (Some w) known some settled = rw known settled.1.first
@@ -170,12 +170,12 @@ address_at found name text (Some w) known some settled = rw known settled.1.firs
 pub all_found : (names : List (Bor (List ℕ))) (known : Option (List ℕ)) (one two : Reading) (found : Addresses) → AreWanted names (entries_of one) → HasRead [] one → ReadsWhole known one two → Finishes two found → AreAddresses names known found
 all_found names known one two found wanted begun reads finishes =
     let settled = finishes.settled reads.text (reads.taken.after [] begun) in
-    let among : (name : List ℕ) → is_some (under found.by_name.entries name) ≡ is_among names name = λ name. finishes.names.same name ∙ reads.taken.names.same name ∙ wanted.among name in
+    let among : (name : List ℕ) → is_some (under found.by_name name) ≡ is_among names name = λ name. finishes.names.same name ∙ reads.taken.names.same name ∙ wanted.among name in
     record {
       text = reads.text;
       given = reads.given;
-      faultless = faultless names found.by_name.entries reads.text settled among;
-      value = λ name h. address_at found name reads.text (under found.by_name.entries name) refl (among name ∙ h) (settled.found name);
+      faultless = faultless names found.by_name reads.text settled among;
+      value = λ name h. address_at found name reads.text (under found.by_name name) refl (among name ∙ h) (settled.found name);
     }
 
 pub fault_read : (names : List (Bor (List ℕ))) (known : Option (List ℕ)) (failed : Bool) (one : Reading) (e : SymbolsError) → e ≢ error.OutOfMemory → AreWanted names (entries_of one) → HasRead [] one → RefusesReader known failed one e → ReaderFault names known failed e

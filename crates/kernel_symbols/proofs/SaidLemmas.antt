@@ -1,5 +1,5 @@
 -- What lines say of a name.
-use Rattle.std.proofs.Common.{◌≡◌, ℕ, Bool, true, false, cond, ◌||◌, List, [], ◌∷◌, ◌++◌, Option, None, Some, Ok, Err, refl, ap, sym, ◌∙◌, subst, arith, append-nil, Bor}
+use Rattle.std.proofs.Common.{◌≡◌, ℕ, Bool, true, false, cond, ◌||◌, List, [], ◌∷◌, ◌++◌, Option, None, Some, Ok, Err, refl, ap, sym, ◌∙◌, subst, arith, append-nil}
 use Rattle.std.specs.Prelude.{◌==◌, IfSome, is_some, slice_get, is_none}
 use Rattle.std.specs.List.{list_any}
 use Rattle.std.specs.Cmp.Lexicographic.{same_text}
@@ -179,7 +179,7 @@ unsaid name lines line (Some w) nothing before =
     (before.0, subst (λ (s : List (Option ℕ)). IsSettled s w.address) (sym same) before.1)
 
 -- a line of fewer than three words says nothing
-pub short_line : (entries : List (Bor (List ℕ) × Wanted)) (line : List ℕ) → is_utf8 line ≡ true → first_and_third (words_of line) ≡ None → TakesLine entries entries line
+pub short_line : (entries : List (List ℕ × Wanted)) (line : List ℕ) → is_utf8 line ≡ true → first_and_third (words_of line) ≡ None → TakesLine entries entries line
 short_line entries line text short = record {
   settled = λ lines before. record {
     texts = foreign_more lines line text before.texts;
@@ -189,7 +189,7 @@ short_line entries line text short = record {
 }
 
 -- a line of a name that isn't wanted
-pub other_line : (entries : List (Bor (List ℕ) × Wanted)) (line word name : List ℕ) → is_utf8 line ≡ true → first_and_third (words_of line) ≡ Some (word, name) → under entries name ≡ None → TakesLine entries entries line
+pub other_line : (entries : List (List ℕ × Wanted)) (line word name : List ℕ) → is_utf8 line ≡ true → first_and_third (words_of line) ≡ Some (word, name) → under entries name ≡ None → TakesLine entries entries line
 other_line entries line word name text says unwanted = record {
   settled = λ lines before. record {
     texts = foreign_more lines line text before.texts;
@@ -206,7 +206,7 @@ other_line entries line word name text says unwanted = record {
     at other lines false equal before = unsaid other lines line (under entries other) (ap (said_by other) says ∙ ap (λ (b : Bool). cond b (address_in word ∷ []) []) equal) before
 
 -- a line of a wanted name
-pub wanted_line : (old new : List (Bor (List ℕ) × Wanted)) (line word name : List ℕ) (w : Wanted) (address : Option ℕ) → is_utf8 line ≡ true → first_and_third (words_of line) ≡ Some (word, name) → under old name ≡ Some w → Ok address ≡ settled w (address_in word) → ((other : List ℕ) → under new other ≡ cond (bytes_eq name other) (with_address address (under old name)) (under old other)) → TakesLine old new line
+pub wanted_line : (old new : List (List ℕ × Wanted)) (line word name : List ℕ) (w : Wanted) (address : Option ℕ) → is_utf8 line ≡ true → first_and_third (words_of line) ≡ Some (word, name) → under old name ≡ Some w → Ok address ≡ settled w (address_in word) → ((other : List ℕ) → under new other ≡ cond (bytes_eq name other) (with_address address (under old name)) (under old other)) → TakesLine old new line
 wanted_line old new line word name w address text says known is put = record {
   settled = λ lines before. record {
     texts = foreign_more lines line text before.texts;
@@ -234,7 +234,7 @@ wanted_line old new line word name w address text says known is put = record {
     at other lines false equal before settled_before = unsaid other lines line (under old other) (ap (said_by other) says ∙ ap (λ (b : Bool). cond b (address_in word ∷ []) []) equal) before
 
 -- a line of a wanted name that is refused
-pub refused_line : (old : List (Bor (List ℕ) × Wanted)) (line word name : List ℕ) (w : Wanted) (e : SymbolsError) → first_and_third (words_of line) ≡ Some (word, name) → under old name ≡ Some w → Err e ≡ settled w (address_in word) → bytes_eq name name ≡ true → RefusesLine old line e
+pub refused_line : (old : List (List ℕ × Wanted)) (line word name : List ℕ) (w : Wanted) (e : SymbolsError) → first_and_third (words_of line) ≡ Some (word, name) → under old name ≡ Some w → Err e ≡ settled w (address_in word) → bytes_eq name name ≡ true → RefusesLine old line e
 refused_line old line word name w e says known is equal = record {
   stands = λ _ failed lines more before.
       let settled_before : IsSettledAs name lines w = subst (λ (o : Option Wanted). IfSome o (IsSettledAs name lines)) known (before.found name) in

@@ -1,7 +1,7 @@
 -- Wanted names.
 use Rattle.std.proofs.Common.{◌≡◌, ℕ, ◌+◌, ◌<◌, ◌⊎◌, Bool, true, false, cond, ◌||◌, List, [], length, take, get_or, set, inl, inr, Option, None, Some, Bor, refl, ap, sym, ◌∙◌, subst, arith, Result, Ok, Err}
 use Rattle.std.specs.Prelude.{IfSome, is_some}
-use Rattle.std.specs.Result.{IfErr, IsErrAnd, OnErr, OnOk}
+use Rattle.std.specs.Result.{IfErr, IsErrAnd}
 use Rattle.std.specs.Cmp.Lexicographic.{same_text}
 use Rattle.std.specs.Str.{bytes_eq}
 use Rattle.kernel_symbols.specs.Reading.{AreWanted, HasNoAddress, IsAfter, IsSettledAs}
@@ -18,7 +18,7 @@ pub passed_on : {T : Type 0} (result : Result T SymbolsError) (e : SymbolsError)
 passed_on (Ok x) e P h p = tt
 passed_on (Err f) e P h p = subst P (sym h) p
 
-pub put_under : (name other : List ℕ) (address : Option ℕ) (w : Wanted) (old new : List (Bor (List ℕ) × Wanted)) → Some w ≡ under old name → under new other ≡ cond (bytes_eq name other) (Some (record { name = w.name; address = address })) (under old other) → under new other ≡ cond (bytes_eq name other) (with_address address (under old name)) (under old other)
+pub put_under : (name other : List ℕ) (address : Option ℕ) (w : Wanted) (old new : List (List ℕ × Wanted)) → Some w ≡ under old name → under new other ≡ cond (bytes_eq name other) (Some (record { name = w.name; address = address })) (under old other) → under new other ≡ cond (bytes_eq name other) (with_address address (under old name)) (under old other)
 put_under name other address w old new known put = put ∙ ap (λ (o : Option Wanted). cond (bytes_eq name other) o (under old other)) (ap (with_address address) known)
 
 pub entered_under : (name key other : List ℕ) (w old new : Option Wanted) → key ≡ name → new ≡ cond (bytes_eq key other) w old → new ≡ cond (bytes_eq name other) w old
@@ -31,7 +31,7 @@ set_there marks at other within (inl same) = rw same (get_or-set_same marks at t
 set_there marks at other within (inr there) = elim (cases_eq other at) [ inl same ↦ rw same (get_or-set_same marks at true false within) | inr apart ↦ get_or-set_other marks at other true false apart ∙ there ]
 
 -- a name is marked once it is wanted
-marked_more : (name : List ℕ) (w : Wanted) (marks : List Bool) (old new : List (Bor (List ℕ) × Wanted)) (at : ℕ) → at ≡ mark name → at < 256 → ((other : List ℕ) → under new other ≡ cond (bytes_eq name other) (Some w) (under old other)) → AreMarked old marks → AreMarked new (set marks at true)
+pub marked_more : (name : List ℕ) (w : Wanted) (marks : List Bool) (old new : List (List ℕ × Wanted)) (at : ℕ) → at ≡ mark name → at < 256 → ((other : List ℕ) → under new other ≡ cond (bytes_eq name other) (Some w) (under old other)) → AreMarked old marks → AreMarked new (set marks at true)
 marked_more name w marks old new at marked within put before = record {
   long = length-set marks at true ∙ before.long;
   each = λ other known. set_there marks at (mark other) (omega (arith, within, before.long)) (by other (bytes_eq name other) refl (sym (ap is_some (put other)) ∙ known));
@@ -41,21 +41,21 @@ marked_more name w marks old new at marked within put before = record {
     by other true equal known = inl (ap mark (sym (same_text name other (sym equal))) ∙ sym marked)
     by other false equal known = inr (before.each other known)
 
--- a further mark hides no name
-marked_besides : (marks : List Bool) (old new : List (Bor (List ℕ) × Wanted)) (at : ℕ) → at < 256 → new ≡ old → AreMarked old marks → AreMarked new (set marks at true)
-marked_besides marks old new at within same before = rw same (record {
-  long = length-set marks at true ∙ before.long;
-  each = λ other known. set_there marks at (mark other) (omega (arith, within, before.long)) (inr (before.each other known));
-})
+-- an address is put in place under a wanted name
+pub marked_still : (name : List ℕ) (was w : Wanted) (old new : List (List ℕ × Wanted)) (marks : List Bool) → Some was ≡ under old name → ((other : List ℕ) → under new other ≡ cond (bytes_eq name other) (Some w) (under old other)) → AreMarked old marks → AreMarked new marks
+marked_still name was w old new marks here put before = record { long = before.long; each = λ other known. before.each other (by other (bytes_eq name other) refl (sym (ap is_some (put other)) ∙ known)) }
+  where
+    by : (other : List ℕ) (e : Bool) → bytes_eq name other ≡ e → is_some (cond e (Some w) (under old other)) ≡ true → is_some (under old other) ≡ true
+    by other true equal known = sym (ap is_some (here ∙ ap (under old) (same_text name other (sym equal))))
+    by other false equal known = known
 
-pub marked : {T E : Type 0} (r : Result T E) (name : List ℕ) (w : Wanted) (marks : List Bool) (old new : List (Bor (List ℕ) × Wanted)) (at : ℕ) → at ≡ mark name → at < 256 → OnOk r ((other : List ℕ) → under new other ≡ cond (bytes_eq name other) (Some w) (under old other)) → OnErr r (new ≡ old) → AreMarked old marks → AreMarked new (set marks at true)
-marked (Ok x) name w marks old new at is within put same before = marked_more name w marks old new at is within put before
-marked (Err x) name w marks old new at is within put same before = marked_besides marks old new at within same before
+pub none_marked : (marks : List Bool) → length marks ≡ 256 → AreMarked [] marks
+none_marked marks long = record { long = long; each = λ name known. absurd cc }
 
 -- ---- the names, one after another
 
 -- nothing is said by no lines
-pub begun : (entries : List (Bor (List ℕ) × Wanted)) (partial : List ℕ) → partial ≡ [] → HasNoAddress entries → IsAfter [] entries partial
+pub begun : (entries : List (List ℕ × Wanted)) (partial : List ℕ) → partial ≡ [] → HasNoAddress entries → IsAfter [] entries partial
 begun entries partial none fresh = record {
   lines = [];
   begun = sym none;
@@ -84,7 +84,7 @@ no_address name other n old new here is before = rw is (at (bytes_eq name other)
     at true equal = (here ∙ same_text name other (sym equal), refl)
     at false equal = before
 
-pub wanted_more : (names : List (Bor (List ℕ))) (k : ℕ) (d n : Bor (List ℕ)) (old new : List (Bor (List ℕ) × Wanted)) → k < length names → get_or names k d ≡ n → ((other : List ℕ) → under new other ≡ cond (bytes_eq n.now other) (Some (record { name = n; address = None })) (under old other)) → AreWanted (take k names) old → HasNoAddress old → AreWanted (take (k + 1) names) new × HasNoAddress new
+pub wanted_more : (names : List (Bor (List ℕ))) (k : ℕ) (d n : Bor (List ℕ)) (old new : List (List ℕ × Wanted)) → k < length names → get_or names k d ≡ n → ((other : List ℕ) → under new other ≡ cond (bytes_eq n.now other) (Some (record { name = n; address = None })) (under old other)) → AreWanted (take k names) old → HasNoAddress old → AreWanted (take (k + 1) names) new × HasNoAddress new
 wanted_more names k d n old new within here put among none = (
   record { among = λ name. wanted_at n.now name _ (under old name) (under new name) (is_among (take k names) name) true (put name) refl (among.among name) ∙ sym (list_any_more (λ n. bytes_eq n.now name) names k d within ∙ ap (λ (x : Bor (List ℕ)). is_among (take k names) name || bytes_eq x.now name) here) },
   record { none = λ name. no_address n.now name n (under old name) (under new name) refl (put name) (none.none name) },

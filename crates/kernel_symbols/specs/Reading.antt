@@ -12,7 +12,7 @@ use Rattle.kernel_symbols.specs.declared.reading.Reading.{Reading}
 use Rattle.kernel_symbols.specs.declared.wanted.Addresses.{Addresses}
 use Rattle.kernel_symbols.specs.declared.wanted.Wanted.{Wanted}
 
-abbrev pub IsWantedIn : List (Bor (List ℕ) × Wanted) → List ℕ → Type 0
+abbrev pub IsWantedIn : List (List ℕ × Wanted) → List ℕ → Type 0
 IsWantedIn entries name = IsSome (under entries name)
 
 -- the address is the only one that lines say
@@ -25,17 +25,17 @@ abbrev pub IsSettledAs : List ℕ → List (List ℕ) → Wanted → Type 0
 IsSettledAs name lines w = (w.name.now ≡ name) × IsSettled (said name lines) w.address
 
 -- each wanted name has the address that these lines say
-pub record AreSettled (entries : List (Bor (List ℕ) × Wanted)) (lines : List (List ℕ))
+pub record AreSettled (entries : List (List ℕ × Wanted)) (lines : List (List ℕ))
     : Type 0 where
   pub texts : list_any is_foreign lines ≡ false
   pub found : (name : List ℕ) → IfSome (under entries name) (IsSettledAs name lines)
 
 -- these names are wanted, and no others
-pub record AreWanted (names : List (Bor (List ℕ))) (entries : List (Bor (List ℕ) × Wanted))
+pub record AreWanted (names : List (Bor (List ℕ))) (entries : List (List ℕ × Wanted))
     : Type 0 where
   pub among : (name : List ℕ) → is_some (under entries name) ≡ is_among names name
 
-pub record HasNoAddress (entries : List (Bor (List ℕ) × Wanted)) : Type 0 where
+pub record HasNoAddress (entries : List (List ℕ × Wanted)) : Type 0 where
   pub none : (name : List ℕ)
       → IfSome (under entries name) (λ w. (w.name.now ≡ name) × (w.address ≡ None))
 
@@ -51,16 +51,16 @@ settled w None = Err (UnreadableAddress w.name)
 settled w (Some address) = if address == 0 then Ok w.address else settled_beside w address w.address
 
 -- the same names are wanted
-pub record SameNames (old new : List (Bor (List ℕ) × Wanted)) : Type 0 where
+pub record SameNames (old new : List (List ℕ × Wanted)) : Type 0 where
   pub same : (name : List ℕ) → is_some (under new name) ≡ is_some (under old name)
 
 -- one more line is taken
-pub record TakesLine (old new : List (Bor (List ℕ) × Wanted)) (line : List ℕ) : Type 0 where
+pub record TakesLine (old new : List (List ℕ × Wanted)) (line : List ℕ) : Type 0 where
   pub settled : (lines : List (List ℕ)) → AreSettled old lines → AreSettled new (lines ++ line ∷ [])
   pub names : SameNames old new
 
 -- one more line is refused: the fault stands whatever lines come after it
-pub record RefusesLine (old : List (Bor (List ℕ) × Wanted)) (line : List ℕ) (e : SymbolsError)
+pub record RefusesLine (old : List (List ℕ × Wanted)) (line : List ℕ) (e : SymbolsError)
     : Type 0 where
   pub stands : e ≢ OutOfMemory
       → (failed : Bool) (lines more : List (List ℕ))
@@ -84,7 +84,7 @@ text_of [] = []
 text_of (line ∷ lines) = line ++ 10 ∷ text_of lines
 
 -- so much of a text was taken: lines, and the beginning of another
-pub record IsAfter (text : List ℕ) (entries : List (Bor (List ℕ) × Wanted)) (partial : List ℕ)
+pub record IsAfter (text : List ℕ) (entries : List (List ℕ × Wanted)) (partial : List ℕ)
     : Type 0 where
   pub lines : List (List ℕ)
   pub begun : text ≡ text_of lines ++ partial
@@ -92,7 +92,7 @@ pub record IsAfter (text : List ℕ) (entries : List (Bor (List ℕ) × Wanted))
   pub open_line : IsUnbroken partial
   pub settled : AreSettled entries lines
 
-abbrev pub entries_of : Reading → List (Bor (List ℕ) × Wanted)
+abbrev pub entries_of : Reading → List (List ℕ × Wanted)
 entries_of r = r.by_name
 
 abbrev pub HasRead : List ℕ → Reading → Type 0
@@ -145,8 +145,8 @@ pub record RefusesReader (known : Option (List ℕ)) (failed : Bool) (old : Read
 pub record Finishes (old : Reading) (found : Addresses) : Type 0 where
   pub settled : (text : List ℕ)
       → HasRead text old
-      → AreSettled found.by_name.entries (lines_of text)
-  pub names : SameNames (entries_of old) found.by_name.entries
+      → AreSettled found.by_name (lines_of text)
+  pub names : SameNames (entries_of old) found.by_name
 
 pub record CannotFinish (old : Reading) (e : SymbolsError) : Type 0 where
   pub stands : e ≢ OutOfMemory
@@ -164,7 +164,7 @@ pub record ReaderFault (names : List (Bor (List ℕ))) (known : Option (List ℕ
 
 -- the address that was found under a name
 abbrev pub address_under : Addresses → List ℕ → Option ℕ
-address_under a name = option_and_then (λ w. w.address) (under a.by_name.entries name)
+address_under a name = option_and_then (λ w. w.address) (under a.by_name name)
 
 -- the reader's text has no fault, and each of the names has the address that it says
 pub record AreAddresses (names : List (Bor (List ℕ))) (known : Option (List ℕ)) (found : Addresses)

@@ -1,16 +1,12 @@
 -- Wanted names, and marks of names, by which most names of a text need no look-up.
 use Rattle.std.specs.Prelude.{◌≡◌, ℕ, ◌+◌, ◌-◌, ◌*◌, ◌%◌, Bool, true, false, List, length, slice_index, slice_index_or, Option, is_some}
-use Rattle.std.specs.BTreeMap.{is_at}
-use Rattle.std.specs.Borrow.{Bor}
-use Rattle.std.specs.Cmp.Lexicographic.{slice_cmp}
-use Rattle.std.specs.Map.{lookup}
 use Rattle.std.specs.Option.{option_map}
-use Rattle.std.specs.Ordering.{nat_cmp}
+use Rattle.text_order.specs.Orders.{value_of}
 use Rattle.kernel_symbols.specs.declared.wanted.Wanted.{Wanted}
 
 -- what is known under a name
-abbrev pub under : List (Bor (List ℕ) × Wanted) → List ℕ → Option Wanted
-under entries name = lookup (is_at (λ key. slice_cmp nat_cmp name key.now)) entries
+abbrev pub under : List (List ℕ × Wanted) → List ℕ → Option Wanted
+under entries name = value_of name entries
 
 -- a wanted name with this address
 abbrev pub with_address : Option ℕ → Option Wanted → Option Wanted
@@ -21,7 +17,7 @@ abbrev pub mark : List ℕ → ℕ
 mark name = length name % 32 * 8 + slice_index name (length name - 1) % 8
 
 -- each wanted name is marked
-pub record AreMarked (entries : List (Bor (List ℕ) × Wanted)) (is_wanted : List Bool) : Type 0 where
+pub record AreMarked (entries : List (List ℕ × Wanted)) (is_wanted : List Bool) : Type 0 where
   pub long : length is_wanted ≡ 256
   pub each : (name : List ℕ)
       → is_some (under entries name) ≡ true

@@ -35,17 +35,6 @@ fn line_end(bytes: &[u8]) -> Option<usize>
     memchr(b'\n', bytes)
 }
 
-/// The names as wanted symbols without an address.
-fn wanted<'a>(alloc: Global, names: &[&'a str]) -> Result<WantedByName<'a>, AllocError>
-    ensures { IfOk result (λ by_name. AreWanted names.now by_name × HasNoAddress by_name) }
-{
-    let mut by_name = WantedByName::new(alloc);
-    for name in names {
-        by_name.want(name)?;
-    }
-    Ok(by_name)
-}
-
 impl<'a> Reading<'a> {
     /// Nothing was read.
     fn new(alloc: Global, names: &[&'a str]) -> Result<Reading<'a>, AllocError>
@@ -53,7 +42,7 @@ impl<'a> Reading<'a> {
         ensures begun { IfOk result (λ reading. HasRead [] reading) }
     {
         Ok(Reading {
-            by_name: wanted(alloc, names)?,
+            by_name: WantedByName::of(alloc, names)?,
             partial: Vec::new(alloc),
         })
     }

@@ -3,8 +3,8 @@
 ghost use Rattle.std.specs.Prelude.{◌≡◌, ℕ, List, None};
 ghost use Rattle.kernel_symbols.specs.Reading.{address_under};
 
+use crate::wanted_names::WantedByName;
 use std::alloc::Global;
-use std::collections::BTreeMap;
 
 /// A wanted symbol, and its address as far as it was found.
 #[derive(Clone, Copy, Debug, Drop)]
@@ -16,7 +16,7 @@ pub(crate) struct Wanted<'a> {
 /// The addresses of wanted symbols.
 #[derive(Debug, Drop)]
 pub struct Addresses<'a> {
-    pub(crate) by_name: BTreeMap<&'a [u8], Wanted<'a>>,
+    pub(crate) by_name: WantedByName<'a>,
 }
 
 impl<'a> Addresses<'a> {
@@ -25,7 +25,7 @@ impl<'a> Addresses<'a> {
         ensures { (name : List ℕ) → address_under result name ≡ None }
     {
         Addresses {
-            by_name: BTreeMap::new(alloc),
+            by_name: WantedByName::none(alloc),
         }
     }
 

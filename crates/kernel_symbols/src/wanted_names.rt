@@ -1,13 +1,14 @@
 //! Wanted symbols by name.
 
-ghost use Rattle.std.specs.Prelude.{◌≡◌, ◌<◌, ℕ, List, [], None, Some, if◌then◌else◌, OnErr, OnOk};
+ghost use Rattle.std.specs.Prelude.{◌≡◌, ◌<◌, ℕ, List, [], None, Some, if◌then◌else◌, IfOk, OnOk};
 ghost use Rattle.std.specs.Str.{bytes_eq};
-ghost use Rattle.kernel_symbols.specs.Wanted.{mark, under, with_address};
+ghost use Rattle.kernel_symbols.specs.Reading.{AreWanted, HasNoAddress};
+ghost use Rattle.kernel_symbols.specs.Wanted.{AreMarked, mark, under, with_address};
 
 use crate::wanted::{Addresses, Wanted};
 use std::alloc::{AllocError, Global};
-use std::collections::BTreeMap;
 use std::marker::Model;
+use text_order::{TextMapBuilder, place_of};
 
 /// How many marks there are.
 const MARKS: usize = 256;
@@ -25,10 +26,10 @@ fn mark(name: &[u8]) -> usize
     name.len() % 32 * 8 + usize::from(last % 8)
 }
 
-/// Wanted symbols by name.
-#[derive(Drop)]
+/// Wanted symbols by name, as a list sorted by name.
+#[derive(Debug, Drop)]
 pub(crate) struct WantedByName<'a> {
-    by_name: BTreeMap<&'a [u8], Wanted<'a>>,
+    entries: Vec<(&'a str, Wanted<'a>)>,
     /// Whether a wanted name has each mark. Most names of a text have a mark that none has, and
     /// need no look-up.
     is_wanted: [bool; MARKS],
@@ -36,70 +37,92 @@ pub(crate) struct WantedByName<'a> {
 
 impl<'a> Model for WantedByName<'a> {
     ghost use Rattle.std.specs.Prelude.{ℕ, List};
-    ghost use Rattle.std.specs.Borrow.{Bor};
+    ghost use Rattle.std.specs.Cmp.Lexicographic.{slice_cmp};
+    ghost use Rattle.std.specs.List.Sorted.{IsStrictlySortedBy};
+    ghost use Rattle.std.specs.Ordering.{nat_cmp};
+    ghost use Rattle.text_order.specs.Orders.{by_text, texts_of};
     ghost use Rattle.kernel_symbols.specs.Wanted.{AreMarked};
     ghost use Rattle.kernel_symbols.specs.declared.wanted.Wanted.{Wanted};
 
-    ghost Value = { List (Bor (List ℕ) × Wanted) };
+    ghost Value = { List (List ℕ × Wanted) };
 
-    ghost view = { λ w. w.by_name.entries };
+    ghost view = { λ w. by_text w.entries.items };
 
-    ghost invariant = { λ w. AreMarked w.by_name.entries w.is_wanted };
+    ghost invariant = { λ w.
+        IsStrictlySortedBy (slice_cmp nat_cmp) (texts_of w.entries.items)
+        × AreMarked (by_text w.entries.items) w.is_wanted };
 }
 
-/// Puts a symbol in place under its name.
-fn want<'a>(by_name: &mut BTreeMap<&'a [u8], Wanted<'a>>, name: &'a str) -> Result<(), AllocError>
+/// Wants a name.
+fn want<'a>(
+    names: &mut TextMapBuilder<'a, Wanted<'a>>,
+    is_wanted: &mut [bool; MARKS],
+    name: &'a str,
+) -> Result<(), AllocError>
+    requires { AreMarked names.old is_wanted.old }
+    ensures marked { OnOk result (AreMarked names.new is_wanted.new) }
     ensures wanted { OnOk result
         ((other : List ℕ)
-        → under by_name.new.entries other
+        → under names.new other
         ≡ (if bytes_eq name.now other
         then Some (record { name = name.entry; address = None })
-        else under by_name.old.entries other)) }
-    ensures kept { OnErr result (by_name.new.entries ≡ by_name.old.entries) }
+        else under names.old other)) }
 {
     let wanted = Wanted {
         name,
         address: None,
     };
-    by_name.insert(name.as_bytes(), wanted)?;
+    is_wanted[mark(name.as_bytes())] = true;
+    names.insert(name, wanted)?;
     Ok(())
 }
 
-/// Puts an address in place under a name.
-fn put(by_name: &mut BTreeMap<&[u8], Wanted<'_>>, name: &[u8], address: Option<u64>)
-    ensures { (other : List ℕ)
-        → under by_name.new.entries other
-        ≡ (if bytes_eq name.now other
-        then with_address address (under by_name.old.entries name.now)
-        else under by_name.old.entries other) }
+/// Writes an address.
+fn put(wanted: &mut Wanted<'_>, address: Option<u64>)
+    ensures { wanted.new ≡ record { name = wanted.old.name; address = address } }
 {
-    if let Some(wanted) = by_name.get_mut(name) {
-        wanted.address = address;
-    }
+    wanted.address = address;
 }
 
 impl<'a> WantedByName<'a> {
     /// No symbol is wanted.
-    pub(crate) fn new(alloc: Global) -> WantedByName<'a>
+    #[tactic(auto, using(crate::proofs::Placed::none_rising))]
+    pub(crate) fn none(alloc: Global) -> WantedByName<'a>
         ensures { result ≡ [] }
     {
         WantedByName {
-            by_name: BTreeMap::new(alloc),
+            entries: Vec::new(alloc),
             is_wanted: [false; MARKS],
         }
     }
 
-    /// Wants a name.
-    pub(crate) fn want(&mut self, name: &'a str) -> Result<(), AllocError>
-        ensures { OnOk result
-            ((other : List ℕ)
-            → under self.new other
-            ≡ (if bytes_eq name.now other
-            then Some (record { name = name.entry; address = None })
-            else under self.old other)) }
+    /// Wanted symbols, which are put in order of their names once.
+    fn from_names(
+        alloc: Global,
+        names: TextMapBuilder<'a, Wanted<'a>>,
+        is_wanted: [bool; MARKS],
+    ) -> Result<WantedByName<'a>, AllocError>
+        requires { AreMarked names is_wanted }
+        ensures { IfOk result (λ by_name. by_name ≡ names.entry) }
     {
-        self.is_wanted[mark(name.as_bytes())] = true;
-        want(&mut self.by_name, name)
+        let ordered = names.build(alloc)?;
+        let mut entries = Vec::new(alloc);
+        for (name, wanted) in ordered.iter() {
+            entries.push((*name, *wanted))?;
+        }
+        Ok(WantedByName { entries, is_wanted })
+    }
+
+    /// These names as wanted symbols without an address.
+    pub(crate) fn of(alloc: Global, names: &[&'a str]) -> Result<WantedByName<'a>, AllocError>
+        ensures { IfOk result (λ by_name. AreWanted names.now by_name × HasNoAddress by_name) }
+    {
+        let mut wanted = TextMapBuilder::new(alloc);
+        let mut is_wanted = [false; MARKS];
+        for name in names {
+            want(&mut wanted, &mut is_wanted, name)?;
+        }
+        WantedByName::from_names(alloc, wanted, is_wanted)
     }
 
     /// What is known under a name.
@@ -109,7 +132,8 @@ impl<'a> WantedByName<'a> {
         if !self.is_wanted[mark(name)] {
             return None;
         }
-        self.by_name.get(name).copied()
+        let place = place_of(&self.entries, name)?;
+        Some(self.entries[place].1)
     }
 
     /// Puts an address in place under a name.
@@ -120,15 +144,15 @@ impl<'a> WantedByName<'a> {
             then with_address address (under self.old name.now)
             else under self.old other) }
     {
-        put(&mut self.by_name, name, address);
+        if let Some(place) = place_of(&self.entries, name) {
+            put(&mut self.entries[place].1, address);
+        }
     }
 
     /// The addresses, as far as they were found.
     pub(crate) fn into_addresses(self) -> Addresses<'a>
-        ensures { result.by_name.entries ≡ self.entry }
+        ensures { result.by_name ≡ self.entry }
     {
-        Addresses {
-            by_name: self.by_name,
-        }
+        Addresses { by_name: self }
     }
 }

@@ -2,10 +2,9 @@
 //! to what a kernel grants, and to find structs in it by name.
 
 use crate::times::{micros, print_times};
-use btf::{Btf, BtfError, BtfKind, Endianness, fixup_and_sanitize, fixup_ksyms_datasec};
+use btf::{Btf, BtfError, BtfKind, Endianness, TextMap, fixup_and_sanitize, fixup_ksyms_datasec};
 use exercise_words::{ExerciseError, read_next};
 use std::alloc::Global;
-use std::collections::BTreeMap;
 use std::env::Args;
 use std::time::Instant;
 
@@ -67,7 +66,7 @@ fn measure_writing(rt: &HostRuntime, table: &Btf<'_>) -> Result<(), ExerciseErro
 
 /// Rewrites a table for a kernel that grants all features, or none.
 fn rewrite(alloc: Global, table: &mut Btf<'_>, is_granted: bool) -> Result<(), BtfError> {
-    let numbers: BTreeMap<&str, u64> = BTreeMap::new(alloc);
+    let numbers = TextMap::new(alloc);
     let _answers = fixup_and_sanitize(table, &numbers, &numbers, None, |_feature| is_granted)?;
     Ok(())
 }

@@ -17,7 +17,7 @@ use btf_records::{BtfError, BtfKind, DataSecEntry};
 use btf_tables::{Btf, essential_name};
 use object_file::ReadSymbol;
 use std::alloc::Global;
-use std::collections::BTreeMap;
+use text_order::{TextMap, TextMapBuilder};
 
 /// The type of what a record declares, after modifiers; a variable of void has none.
 fn declared_type(table: &Btf<'_>, t: &TypeRef<'_>) -> Result<Option<u32>, BtfError>
@@ -83,14 +83,13 @@ fn read_record<'a>(
 
 /// Enters the extern that an entry declares, in place of an earlier one of its name.
 fn enter<'a>(
-    externs: &mut BTreeMap<&'a str, ExternDesc<'a>>,
+    externs: &mut TextMapBuilder<'a, ExternDesc<'a>>,
     symbols: &SymbolNames<'_, 'a>,
     table: &Btf<'_>,
     entry: &DataSecEntry,
 ) -> Result<(), BtfError>
     ensures externs { OnOk result
-        (by_bytes externs.new.entries
-        ≡ with_extern symbols.now table.now (by_bytes externs.old.entries) entry.now) }
+        (externs.new ≡ with_extern symbols.now table.now externs.old entry.now) }
     ensures refused { IfErr result (λ e.
         e ≢ OutOfMemory → EntryFault symbols.now table.now entry.now e) }
     ensures accepted { OnOk result (IsFaultless (EntryFault symbols.now table.now entry.now)) }
@@ -107,19 +106,20 @@ pub(crate) fn read_entries<'a>(
     symbols: &SymbolNames<'_, 'a>,
     table: &Btf<'_>,
     entries: &[DataSecEntry],
-) -> Result<BTreeMap<&'a str, ExternDesc<'a>>, BtfError>
+) -> Result<TextMap<'a, ExternDesc<'a>>, BtfError>
     ensures value { IfOk result (λ externs.
-        by_bytes externs.entries ≡ fold (with_extern symbols.now table.now) [] entries.now) }
+        by_bytes externs ≡ fold (with_extern symbols.now table.now) [] entries.now) }
     ensures refused { IfErr result (λ e.
         e ≢ OutOfMemory → Any (λ entry. EntryFault symbols.now table.now entry e) entries.now) }
     ensures accepted { OnOk result
         (IsFaultless (λ e. Any (λ entry. EntryFault symbols.now table.now entry e) entries.now)) }
 {
-    let mut externs = BTreeMap::new(alloc);
+    let mut externs = TextMapBuilder::new(alloc);
     for entry in entries {
         enter(&mut externs, symbols, table, entry)?;
     }
-    Ok(externs)
+    let by_name = externs.build(alloc)?;
+    Ok(by_name)
 }
 
 /// Whether an entry names a function.

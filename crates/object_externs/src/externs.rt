@@ -12,14 +12,13 @@ ghost use Rattle.object_externs.specs.Names.{by_bytes};
 use crate::extern_desc::ExternDesc;
 use btf_ksyms::KsymsIds;
 use std::alloc::{AllocError, Global};
-use std::collections::BTreeMap;
-use std::collections::btree_map::Iter;
 use std::marker::Model;
+use text_order::{Iter, TextMap};
 
 /// The externs of an object, by name, and what a rewriting of their section is handed.
 #[derive(Debug)]
 pub struct Externs<'a> {
-    by_name: BTreeMap<&'a str, ExternDesc<'a>>,
+    by_name: TextMap<'a, ExternDesc<'a>>,
     ksyms: Option<KsymsIds>,
 }
 
@@ -39,7 +38,7 @@ impl<'a> Model for Externs<'a> {
 
     ghost Value = { ExternsContent };
 
-    ghost view = { λ e. record { by_name = by_bytes e.by_name.entries; ksyms = e.ksyms } };
+    ghost view = { λ e. record { by_name = by_bytes e.by_name; ksyms = e.ksyms } };
 }
 
 impl<'a> Externs<'a> {
@@ -48,17 +47,14 @@ impl<'a> Externs<'a> {
         ensures { result ≡ record { by_name = []; ksyms = None } }
     {
         Externs {
-            by_name: BTreeMap::new(alloc),
+            by_name: TextMap::new(alloc),
             ksyms: None,
         }
     }
 
     /// These externs.
-    pub(crate) fn new(
-        by_name: BTreeMap<&'a str, ExternDesc<'a>>,
-        ksyms: Option<KsymsIds>,
-    ) -> Externs<'a>
-        ensures { result ≡ record { by_name = by_bytes by_name.entry.entries; ksyms = ksyms } }
+    pub(crate) fn new(by_name: TextMap<'a, ExternDesc<'a>>, ksyms: Option<KsymsIds>) -> Externs<'a>
+        ensures { result ≡ record { by_name = by_bytes by_name.entry; ksyms = ksyms } }
     {
         Externs { by_name, ksyms }
     }
@@ -86,7 +82,7 @@ impl<'a> Externs<'a> {
     }
 
     /// The externs with their names, which strictly rise by bytes.
-    pub fn iter(&self) -> Iter<'_, &'a str, ExternDesc<'a>>
+    pub fn iter(&self) -> Iter<'_, 'a, ExternDesc<'a>>
         ensures value { by_bytes result ≡ self.now.by_name }
         ensures rising { IsStrictlySortedBy (slice_cmp nat_cmp) (map (λ e. e.0) self.now.by_name) }
     {
@@ -126,8 +122,8 @@ impl<'a> Externs<'a> {
     }
 
     /// The externs with these in place of their own, for the same section.
-    pub fn replaced(&self, by_name: BTreeMap<&'a str, ExternDesc<'a>>) -> Externs<'a>
-        ensures { result ≡ record self.now { by_name = by_bytes by_name.entry.entries } }
+    pub fn replaced(&self, by_name: TextMap<'a, ExternDesc<'a>>) -> Externs<'a>
+        ensures { result ≡ record self.now { by_name = by_bytes by_name.entry } }
     {
         Externs {
             by_name,
@@ -136,10 +132,10 @@ impl<'a> Externs<'a> {
     }
 
     /// Puts these in place of the externs, for the same section.
-    pub fn set_by_name(&mut self, by_name: BTreeMap<&'a str, ExternDesc<'a>>)
-        ensures { self.new ≡ record self.old { by_name = by_bytes by_name.entry.entries } }
+    pub fn set_by_name(&mut self, by_name: TextMap<'a, ExternDesc<'a>>)
+        ensures { self.new ≡ record self.old { by_name = by_bytes by_name.entry } }
     {
-        self.by_name = by_name;
+        *self = self.replaced(by_name);
     }
 
     /// The same externs.
@@ -147,7 +143,7 @@ impl<'a> Externs<'a> {
         ensures { IfOk result (λ externs. externs ≡ self.now) }
     {
         Ok(Externs {
-            by_name: self.by_name.clone()?,
+            by_name: self.by_name.try_clone()?,
             ksyms: self.ksyms,
         })
     }

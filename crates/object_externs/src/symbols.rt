@@ -1,14 +1,14 @@
 //! Symbols by name.
 
 ghost use Rattle.std.specs.Prelude.{◌≡◌, ℕ, List, Some, if◌then◌else◌, option_copied, IfOk, IfSome, OnOk};
-ghost use Rattle.object_externs.specs.Names.{AreByName, symbol_under};
+ghost use Rattle.object_externs.specs.Names.{AreByName, by_bytes, symbol_under};
 ghost use Rattle.object_externs.specs.Symbols.{is_extern_symbol, is_named, symbol_named};
 
 use elf64::{SymbolKind, SymbolView};
 use object_file::ReadSymbol;
 use std::alloc::{AllocError, Global};
-use std::collections::BTreeMap;
 use std::marker::Model;
+use text_order::{TextMap, TextMapBuilder};
 
 /// Whether a symbol stands for something outside the object: it lies in no section, defines
 /// nothing, and is of no kind.
@@ -24,32 +24,32 @@ pub fn is_extern_symbol(symbol: &SymbolView<'_>) -> bool
 #[derive(Drop)]
 pub(crate) struct SymbolNames<'s, 'a> {
     symbols: &'s [ReadSymbol<'a>],
-    by_name: BTreeMap<&'a str, &'s ReadSymbol<'a>>,
+    by_name: TextMap<'a, &'s ReadSymbol<'a>>,
 }
 
 impl<'s, 'a> Model for SymbolNames<'s, 'a> {
     ghost use Rattle.std.specs.Prelude.{List};
     ghost use Rattle.elf64.specs.Symbols.{Symbol};
-    ghost use Rattle.object_externs.specs.Names.{AreByName};
+    ghost use Rattle.object_externs.specs.Names.{AreByName, by_bytes};
 
     ghost Value = { List Symbol };
 
     ghost view = { λ s. s.symbols.now };
 
-    ghost invariant = { λ s. AreByName s.symbols.now s.by_name.entries };
+    ghost invariant = { λ s. AreByName s.symbols.now (by_bytes s.by_name) };
 }
 
 /// Enters a symbol under its name, in place of an earlier one.
 fn enter<'s, 'a>(
-    by_name: &mut BTreeMap<&'a str, &'s ReadSymbol<'a>>,
+    by_name: &mut TextMapBuilder<'a, &'s ReadSymbol<'a>>,
     symbol: &'s ReadSymbol<'a>,
 ) -> Result<(), AllocError>
     ensures { OnOk result
         ((name : List ℕ)
-        → symbol_under by_name.new.entries name
+        → symbol_under by_name.new name
         ≡ (if is_named name symbol.now
         then Some symbol.now
-        else symbol_under by_name.old.entries name)) }
+        else symbol_under by_name.old name)) }
 {
     by_name.insert(symbol.name(), symbol)?;
     Ok(())
@@ -59,16 +59,16 @@ fn enter<'s, 'a>(
 fn by_name<'s, 'a>(
     alloc: Global,
     symbols: &'s [ReadSymbol<'a>],
-) -> Result<BTreeMap<&'a str, &'s ReadSymbol<'a>>, AllocError>
-    ensures { IfOk result (λ by_name. AreByName symbols.now by_name.entries) }
+) -> Result<TextMap<'a, &'s ReadSymbol<'a>>, AllocError>
+    ensures { IfOk result (λ by_name. AreByName symbols.now (by_bytes by_name)) }
 {
-    let mut by_name = BTreeMap::new(alloc);
+    let mut by_name = TextMapBuilder::new(alloc);
     let mut left = symbols.len();
     while left > 0 {
         left -= 1;
         enter(&mut by_name, &symbols[left])?;
     }
-    Ok(by_name)
+    by_name.build(alloc)
 }
 
 impl<'s, 'a> SymbolNames<'s, 'a> {

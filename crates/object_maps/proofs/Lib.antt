@@ -7,6 +7,7 @@ pub mod Left
 pub mod Names
 pub mod Places
 pub mod Sayings
+pub mod SectionPlaces
 pub mod Shown
 pub mod Unreadable
 pub mod Overwriting

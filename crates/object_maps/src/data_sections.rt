@@ -1,68 +1,22 @@
-//! The sections of variables of a type table by name.
+//! What the sections of variables of a type table define.
 
 ghost use Rattle.std.specs.Prelude.{◌≡◌, ◌≢◌, [], Some, flat_map, IfOk, IfErr, OnOk};
-ghost use Rattle.std.specs.Option.{option_or};
 ghost use Rattle.ebpf_items.specs.declared.error.ParseError.TheVariants.{OutOfMemory};
-ghost use Rattle.object_maps.specs.DataSections.{is_data_section, name_faults};
+ghost use Rattle.object_maps.specs.DataSections.{name_faults};
 ghost use Rattle.object_maps.specs.DefinedMaps.{IsDefinedIn, all_struct_faults, by_name, defined_after, entries_defined, entries_struct_faults, entry_defined, entry_struct_faults};
 ghost use Rattle.object_maps.specs.Faults.{Says};
 
 use crate::defined_maps::{DefinedMaps, FoundDefinitions};
 use crate::entries::Entries;
+use crate::section_index::SectionIndex;
 use btf_encoding::TypeRef;
-use btf_records::{BtfError, BtfKind, DataSecEntry};
+use btf_records::{BtfError, DataSecEntry};
 use btf_tables::Btf;
 use ebpf_items::ParseError;
 use map_definitions::{MapDefinitions, map_variable};
 use std::alloc::{AllocError, Global};
 use std::collections::BTreeMap;
 use std::marker::Model;
-
-/// Sections of variables by name, and where a name stands that can't be read.
-#[derive(Debug, Drop)]
-struct SectionIndex<'t> {
-    by_name: BTreeMap<&'t str, Vec<TypeRef<'t>>>,
-    unreadable: Option<u32>,
-}
-
-impl<'t> SectionIndex<'t> {
-    ghost use Rattle.object_maps.specs.SectionIndexes.{AddsSection, IsIndexOf};
-
-    fn add(&mut self, name: &'t str, section: TypeRef<'t>) -> Result<(), AllocError>
-        ensures { OnOk result (AddsSection self.old self.new name.now section.entry) }
-    {
-        self.by_name.entry(name)?.or_default().push(section)?;
-        Ok(())
-    }
-
-    /// Keeps where a name stands that can't be read, unless one is kept.
-    fn note_unreadable(&mut self, offset: u32)
-        ensures { self.new
-            ≡ record self.old { unreadable = option_or self.old.unreadable (Some offset) } }
-    {
-        self.unreadable = self.unreadable.or(Some(offset));
-    }
-
-    #[tactic(auto, using(crate::proofs::Unreadable::noted))]
-    fn of_table(alloc: Global, table: &'t Btf<'_>) -> Result<SectionIndex<'t>, AllocError>
-        ensures { IfOk result (λ index. IsIndexOf index table.now) }
-    {
-        let mut index = SectionIndex {
-            by_name: BTreeMap::new(alloc),
-            unreadable: None,
-        };
-        for t in table.types() {
-            if !is_data_section(&t) {
-                continue;
-            }
-            match table.string_at(t.name_offset()) {
-                Ok(name) => index.add(name, t)?,
-                Err(_error) => index.note_unreadable(t.name_offset()),
-            }
-        }
-        Ok(index)
-    }
-}
 
 /// Enters what the variable of an entry defines.
 #[tactic(auto, unfolding(crate::specs::DefinedMaps::defined_after))]
@@ -176,12 +130,6 @@ impl<'a, 't, 'b> Model for DataSections<'a, 't, 'b> {
         × AreKnown d.table.now (values_of d.known.entries) };
 }
 
-fn is_data_section(t: &TypeRef<'_>) -> bool
-    ensures { result ≡ is_data_section t.now }
-{
-    t.kind() == BtfKind::DataSec
-}
-
 impl<'a, 't, 'b> DataSections<'a, 't, 'b> {
     #[tactic(auto, using(crate::proofs::KnownMaps::none_known))]
     pub(crate) fn new(
@@ -221,7 +169,7 @@ impl<'a, 't, 'b> DataSections<'a, 't, 'b> {
         ensures same { self.new ≡ self.old }
     {
         let mut found = FoundDefinitions::new(alloc);
-        if let Some(sections) = self.index.by_name.get(name) {
+        if let Some(sections) = self.index.get(name) {
             read_sections(
                 alloc,
                 &mut self.definitions,

@@ -12,6 +12,7 @@ mod legacy_maps;
 mod maps;
 mod named_symbols;
 mod reading;
+mod section_index;
 
 pub use maps::Maps;
 pub use reading::read_maps;

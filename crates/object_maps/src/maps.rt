@@ -93,7 +93,7 @@ impl<'a> Maps<'a> {
         ensures { option_map (λ m. map_view m.now) result
             ≡ lookup (is_at (slice_cmp nat_cmp name.now)) self.now }
     {
-        let place = place_of(&self.entries, name)?;
+        let place = place_of(&self.entries, name.as_bytes())?;
         Some(&self.entries[place].1)
     }
 
@@ -111,7 +111,7 @@ impl<'a> Maps<'a> {
         requires { HasRange self.old name.now start (length bytes.now) }
         ensures { self.new ≡ with_bytes self.old name.now start bytes.now }
     {
-        if let Some(place) = place_of(&self.entries, name) {
+        if let Some(place) = place_of(&self.entries, name.as_bytes()) {
             overwrite(&mut self.entries[place].1, start, bytes);
         }
     }

@@ -51,7 +51,7 @@ impl<'s, 'a> NamedSymbols<'s, 'a> {
         ensures value { option_copied result ≡ symbol_named self.now name.now }
         ensures named { IfSome result (λ s. s.now.name ≡ Some name.now) }
     {
-        let place = place_of(self.by_name.as_slice(), name)?;
+        let place = place_of(self.by_name.as_slice(), name.as_bytes())?;
         Some(self.by_name[place].1)
     }
 }

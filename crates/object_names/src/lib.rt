@@ -1,7 +1,6 @@
 //! Sections and symbols of an object file by name.
 #![tactic(auto)]
 
-mod numbers;
 mod sections;
 mod symbols;
 

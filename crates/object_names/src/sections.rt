@@ -4,36 +4,31 @@ ghost use Rattle.std.specs.Prelude.{◌≡◌, IfOk};
 ghost use Rattle.object_file.specs.Reading.{read_sections};
 ghost use Rattle.object_names.specs.Named.{AreIndexes, AreSizes};
 
-use crate::numbers::enter;
 use object_file::{ObjectFile, ReadSection};
 use std::alloc::{AllocError, Global};
-use std::collections::BTreeMap;
+use text_order::{TextMap, TextMapBuilder};
 
 /// The sizes of some sections by name.
-fn sizes<'a>(
-    alloc: Global,
-    sections: &[ReadSection<'a>],
-) -> Result<BTreeMap<&'a str, u64>, AllocError>
-    ensures { IfOk result (λ sizes. AreSizes sections.now sizes.entries) }
+fn sizes<'a>(alloc: Global, sections: &[ReadSection<'a>]) -> Result<TextMap<'a, u64>, AllocError>
+    ensures { IfOk result (λ sizes. AreSizes sections.now sizes) }
 {
-    let mut sizes = BTreeMap::new(alloc);
+    let mut entered = TextMapBuilder::new(alloc);
     for section in sections {
-        enter(&mut sizes, section.name(), section.size())?;
+        entered.insert(section.name(), section.size())?;
     }
+    let sizes = entered.build(alloc)?;
     Ok(sizes)
 }
 
 /// The indexes of some sections by name.
-fn indexes<'a>(
-    alloc: Global,
-    sections: &[ReadSection<'a>],
-) -> Result<BTreeMap<&'a str, u64>, AllocError>
-    ensures { IfOk result (λ indexes. AreIndexes sections.now indexes.entries) }
+fn indexes<'a>(alloc: Global, sections: &[ReadSection<'a>]) -> Result<TextMap<'a, u64>, AllocError>
+    ensures { IfOk result (λ indexes. AreIndexes sections.now indexes) }
 {
-    let mut indexes = BTreeMap::new(alloc);
+    let mut entered = TextMapBuilder::new(alloc);
     for section in sections {
-        enter(&mut indexes, section.name(), section.index() as u64)?;
+        entered.insert(section.name(), section.index() as u64)?;
     }
+    let indexes = entered.build(alloc)?;
     Ok(indexes)
 }
 
@@ -42,8 +37,8 @@ fn indexes<'a>(
 pub fn section_sizes<'a>(
     alloc: Global,
     file: &ObjectFile<'a>,
-) -> Result<BTreeMap<&'a str, u64>, AllocError>
-    ensures { IfOk result (λ sizes. AreSizes (read_sections file.now) sizes.entries) }
+) -> Result<TextMap<'a, u64>, AllocError>
+    ensures { IfOk result (λ sizes. AreSizes (read_sections file.now) sizes) }
 {
     sizes(alloc, file.sections())
 }
@@ -52,8 +47,8 @@ pub fn section_sizes<'a>(
 pub fn section_indexes<'a>(
     alloc: Global,
     file: &ObjectFile<'a>,
-) -> Result<BTreeMap<&'a str, u64>, AllocError>
-    ensures { IfOk result (λ indexes. AreIndexes (read_sections file.now) indexes.entries) }
+) -> Result<TextMap<'a, u64>, AllocError>
+    ensures { IfOk result (λ indexes. AreIndexes (read_sections file.now) indexes) }
 {
     indexes(alloc, file.sections())
 }

@@ -4,11 +4,10 @@ ghost use Rattle.std.specs.Prelude.{◌≡◌, IfOk, OnOk};
 ghost use Rattle.elf64.specs.Symbols.{symbols_of};
 ghost use Rattle.object_names.specs.Named.{AreOffsets, has_offset};
 
-use crate::numbers::enter;
 use elf64::SymbolKind;
 use object_file::{ObjectFile, ReadSymbol};
 use std::alloc::{AllocError, Global};
-use std::collections::BTreeMap;
+use text_order::{TextMap, TextMapBuilder};
 
 /// Whether a symbol's offset is known by its name.
 fn has_offset(symbol: &ReadSymbol<'_>) -> bool
@@ -18,18 +17,16 @@ fn has_offset(symbol: &ReadSymbol<'_>) -> bool
 }
 
 /// The offsets of some symbols by name.
-fn offsets<'a>(
-    alloc: Global,
-    symbols: &[ReadSymbol<'a>],
-) -> Result<BTreeMap<&'a str, u64>, AllocError>
-    ensures { IfOk result (λ offsets. AreOffsets symbols.now offsets.entries) }
+fn offsets<'a>(alloc: Global, symbols: &[ReadSymbol<'a>]) -> Result<TextMap<'a, u64>, AllocError>
+    ensures { IfOk result (λ offsets. AreOffsets symbols.now offsets) }
 {
-    let mut offsets = BTreeMap::new(alloc);
+    let mut entered = TextMapBuilder::new(alloc);
     for symbol in symbols {
         if has_offset(symbol) {
-            enter(&mut offsets, symbol.name(), symbol.view().address())?;
+            entered.insert(symbol.name(), symbol.view().address())?;
         }
     }
+    let offsets = entered.build(alloc)?;
     Ok(offsets)
 }
 
@@ -38,8 +35,8 @@ fn offsets<'a>(
 pub fn symbol_offsets<'a>(
     alloc: Global,
     file: &ObjectFile<'a>,
-) -> Result<BTreeMap<&'a str, u64>, AllocError>
-    ensures { IfOk result (λ offsets. AreOffsets (symbols_of file.now) offsets.entries) }
+) -> Result<TextMap<'a, u64>, AllocError>
+    ensures { IfOk result (λ offsets. AreOffsets (symbols_of file.now) offsets) }
 {
     offsets(alloc, file.symbols())
 }

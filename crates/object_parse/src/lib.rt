@@ -4,6 +4,7 @@
 
 mod addresses;
 mod code;
+mod code_builder;
 mod lacking_code;
 mod program_sections;
 mod section_info;

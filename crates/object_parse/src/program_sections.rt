@@ -10,10 +10,11 @@ ghost use Rattle.object_parse.specs.Faults.{AreSound, HasSectionFault};
 ghost use Rattle.object_parse.specs.Programs.{function_of, is_function, is_program, has_no_code, program_of, with_function, with_program, with_programs, with_program_functions};
 
 use crate::code::{code_of, first_slot, function_name};
+use crate::code_builder::CodeBuilder;
 use crate::section_info::SectionInfo;
 use ebpf_items::{ParseError, ProgramSection, Slots};
 use object_file::{ObjectFile, ReadSection, ReadSymbol};
-use object_parts::{Code, Function, MatchedTables, Program};
+use object_parts::{Function, MatchedTables, Program};
 use std::alloc::{AllocError, Global};
 
 /// The function of a symbol of a program section, under its name and with its code.
@@ -81,7 +82,7 @@ fn add_symbol<'a>(
     info: &SectionInfo<'_>,
     kind: &ProgramSection,
     symbol: &ReadSymbol<'a>,
-    code: &mut Code<'a>,
+    code: &mut CodeBuilder<'a>,
 ) -> Result<(), ParseError>
     ensures programs { OnOk result
         (code.new.programs
@@ -111,7 +112,7 @@ fn add_symbols<'a>(
     info: &SectionInfo<'_>,
     kind: &ProgramSection,
     symbols: &[ReadSymbol<'a>],
-    code: &mut Code<'a>,
+    code: &mut CodeBuilder<'a>,
 ) -> Result<(), ParseError>
     ensures programs { OnOk result
         (code.new.programs
@@ -137,7 +138,7 @@ pub(crate) fn add_programs<'a>(
     file: &ObjectFile<'a>,
     section: &ReadSection<'a>,
     info: &SectionInfo<'_>,
-    code: &mut Code<'a>,
+    code: &mut CodeBuilder<'a>,
 ) -> Result<(), ParseError>
     requires { is_program section.now ≡ true }
     ensures programs { OnOk result

@@ -10,13 +10,14 @@ ghost use Rattle.object_parts.specs.Content.{HaveFunctions};
 ghost use Rattle.object_parse.specs.Faults.{AreSound, HasFunctionFault, HasSectionFault, HasSoundFunctions};
 ghost use Rattle.object_parse.specs.Functions.{functions_of, programs_of, with_functions, with_section_programs};
 
+use crate::code_builder::CodeBuilder;
 use crate::program_sections::add_programs;
 use crate::section_info::SectionInfos;
 use crate::text_sections::add_text;
 use btf_extension::BtfExt;
 use ebpf_items::{EbpfSectionKind, ParseError};
 use object_file::{ObjectFile, ReadSection};
-use object_parts::{Code, Functions, Programs};
+use object_parts::Code;
 use std::alloc::Global;
 
 /// Enters the programs and functions of a section.
@@ -25,7 +26,7 @@ fn add_section<'a>(
     file: &ObjectFile<'a>,
     infos: &mut SectionInfos<'a, '_>,
     section: &ReadSection<'a>,
-    code: &mut Code<'a>,
+    code: &mut CodeBuilder<'a>,
 ) -> Result<(), ParseError>
     ensures programs { OnOk result
         (code.new.programs
@@ -62,7 +63,7 @@ fn add_sections<'a>(
     file: &ObjectFile<'a>,
     infos: &mut SectionInfos<'a, '_>,
     sections: &[ReadSection<'a>],
-    code: &mut Code<'a>,
+    code: &mut CodeBuilder<'a>,
 ) -> Result<(), ParseError>
     ensures programs { OnOk result
         (code.new.programs
@@ -106,11 +107,8 @@ pub fn read_code<'a, 'e>(
     ensures accepted { OnOk result (HasSoundFunctions file.now) }
     ensures refused { IfErr result (λ e. e ≢ OutOfMemory → HasFunctionFault file.now e) }
 {
-    let mut code = Code {
-        programs: Programs::new(alloc),
-        functions: Functions::new(alloc),
-    };
+    let mut code = CodeBuilder::new(alloc);
     let mut infos = SectionInfos::new(alloc, extension);
     add_sections(alloc, file, &mut infos, file.sections(), &mut code)?;
-    Ok(code)
+    Ok(code.build(alloc)?)
 }

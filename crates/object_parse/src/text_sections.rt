@@ -12,10 +12,11 @@ ghost use Rattle.object_parse.specs.Places.{AreDefinitionsOf, byte_count, define
 ghost use Rattle.object_parse.specs.TextSections.{has_code_at, has_unsound_place, is_sound_at, is_text_section, text_function_of, with_text_functions};
 
 use crate::addresses::{by_address, repeated_address};
+use crate::code_builder::CodeBuilder;
 use crate::section_info::SectionInfo;
 use ebpf_items::{ParseError, Slots};
 use object_file::{ObjectFile, ReadSection, ReadSymbol};
-use object_parts::{Code, Function, MatchedTables};
+use object_parts::{Function, MatchedTables};
 use std::alloc::{AllocError, Global};
 use std::collections::BTreeMap;
 
@@ -128,7 +129,7 @@ fn add_function<'a>(
     info: &SectionInfo<'_>,
     definitions: &BTreeMap<u64, ReadSymbol<'a>>,
     offset: usize,
-    code: &mut Code<'a>,
+    code: &mut CodeBuilder<'a>,
 ) -> Result<usize, ParseError>
     ensures programs { OnOk result (code.new.programs ≡ code.old.programs) }
     ensures entered { IfOk result (λ end.
@@ -155,7 +156,7 @@ fn add_each<'a>(
     section: &ReadSection<'a>,
     info: &SectionInfo<'_>,
     definitions: &BTreeMap<u64, ReadSymbol<'a>>,
-    code: &mut Code<'a>,
+    code: &mut CodeBuilder<'a>,
 ) -> Result<(), ParseError>
     requires { AreDefinitionsOf definitions.now
         (symbols_in (symbols_of file.now) section.now.index) }
@@ -180,7 +181,7 @@ pub(crate) fn add_text<'a>(
     file: &ObjectFile<'a>,
     section: &ReadSection<'a>,
     info: &SectionInfo<'_>,
-    code: &mut Code<'a>,
+    code: &mut CodeBuilder<'a>,
 ) -> Result<(), ParseError>
     requires { is_text_section section.now ≡ true }
     ensures programs { OnOk result (code.new.programs ≡ code.old.programs) }

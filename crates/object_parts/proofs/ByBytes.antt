@@ -1,37 +1,30 @@
 -- Maps whose keys are names, and their entries by the names' bytes.
-use Rattle.std.proofs.Common.{◌≡◌, ℕ, List, [], ◌∷◌, Some, cond, map, refl, ap, ◌∙◌}
+use Rattle.std.proofs.Common.{◌≡◌, ℕ, List, [], ◌∷◌, map, refl, ap, ◌∙◌, subst}
 use Rattle.std.specs.Borrow.{Bor}
-use Rattle.std.specs.declared.cmp.Ordering.{Ordering}
-use Rattle.std.specs.declared.cmp.Ordering.TheVariants.{Less, Equal, Greater}
-use Rattle.std.specs.Ordering.{nat_cmp, match_ordering}
+use Rattle.std.specs.Ordering.{nat_cmp}
 use Rattle.std.specs.Cmp.Lexicographic.{slice_cmp}
-use Rattle.std.specs.BTreeMap.{insert_entry, is_at}
-use Rattle.std.specs.List.{AllByRecursion}
+use Rattle.std.specs.List.{AllZip}
 use Rattle.std.specs.List.Sorted.{IsStrictlySortedBy}
-use Rattle.std.specs.Map.{lookup}
+use Rattle.text_order.specs.Orders.{texts_of}
 use Rattle.object_parts.specs.Names.{by_bytes}
 
-by_bytes-match : {V : Type 0} (o : Ordering) (a b c : List (Bor (List ℕ) × V)) → by_bytes (match_ordering o a b c) ≡ match_ordering o (by_bytes a) (by_bytes b) (by_bytes c)
-by_bytes-match Less a b c = refl
-by_bytes-match Equal a b c = refl
-by_bytes-match Greater a b c = refl
+names : {V : Type 0} (entries : List (Bor (List ℕ) × V)) → texts_of entries ≡ map (λ e. e.0) (by_bytes entries)
+names [] = refl
+names (e ∷ es) = ap (λ (ns : List (List ℕ)). e.0.now ∷ ns) (names es)
 
-pub by_bytes-insert : {V : Type 0} (entries : List (Bor (List ℕ) × V)) (name : Bor (List ℕ)) (value : V) → by_bytes (insert_entry (λ x y. slice_cmp nat_cmp x.now y.now) entries name value) ≡ insert_entry (slice_cmp nat_cmp) (by_bytes entries) name.now value
-by_bytes-insert [] name value = refl
-by_bytes-insert {V} (e ∷ es) name value =
-    by_bytes-match (slice_cmp nat_cmp name.now e.0.now) ((name, value) ∷ e ∷ es) ((e.0, value) ∷ es) (e ∷ insert_entry (λ x y. slice_cmp nat_cmp x.now y.now) es name value)
-    ∙ ap (λ (rest : List (List ℕ × V)). match_ordering (slice_cmp nat_cmp name.now e.0.now) ((name.now, value) ∷ (e.0.now, e.1) ∷ by_bytes es) ((e.0.now, value) ∷ by_bytes es) ((e.0.now, e.1) ∷ rest)) (by_bytes-insert es name value)
+pub rising-bytes : {V : Type 0} (entries : List (Bor (List ℕ) × V)) → IsStrictlySortedBy (slice_cmp nat_cmp) (texts_of entries) → IsStrictlySortedBy (slice_cmp nat_cmp) (map (λ e. e.0) (by_bytes entries))
+rising-bytes entries rising = subst (IsStrictlySortedBy (slice_cmp nat_cmp)) (names entries) rising
 
--- each name is below those after it
-below-bytes : {V : Type 0} (name : List ℕ) (entries : List (Bor (List ℕ) × V)) → AllByRecursion (λ y. slice_cmp nat_cmp name y.now ≡ Less) (map (λ e. e.0) entries) → AllByRecursion (λ y. slice_cmp nat_cmp name y ≡ Less) (map (λ e. e.0) (by_bytes entries))
-below-bytes name [] below = below
-below-bytes name (e ∷ es) below = (below.0, below-bytes name es below.1)
+pub none_of : {V : Type 0} (entries : List (Bor (List ℕ) × V)) → by_bytes entries ≡ [] → entries ≡ []
+none_of [] none = refl
+none_of (e ∷ es) none = absurd (cc)
 
-pub rising-bytes : {V : Type 0} (entries : List (Bor (List ℕ) × V)) → IsStrictlySortedBy (λ x y. slice_cmp nat_cmp x.now y.now) (map (λ e. e.0) entries) → IsStrictlySortedBy (slice_cmp nat_cmp) (map (λ e. e.0) (by_bytes entries))
-unfolding IsStrictlySortedBy
-rising-bytes [] rising = rising
-rising-bytes (e ∷ es) rising = (below-bytes e.0.now es rising.0, rising-bytes es rising.1)
-
-pub by_bytes-lookup : {V : Type 0} (name : List ℕ) (entries : List (Bor (List ℕ) × V)) → lookup (is_at (λ key. slice_cmp nat_cmp name key.now)) entries ≡ lookup (is_at (slice_cmp nat_cmp name)) (by_bytes entries)
-by_bytes-lookup name [] = refl
-by_bytes-lookup name (e ∷ es) = ap (cond (is_at (slice_cmp nat_cmp name) e.0.now) (Some e.1)) (by_bytes-lookup name es)
+-- equal names and values, entry by entry
+pub same_bytes : {V : Type 0} (some others : List (Bor (List ℕ) × V)) → AllZip (λ p q. (q.0 ≡ p.0) × (q.1 ≡ p.1)) some others → by_bytes others ≡ by_bytes some
+same_bytes [] [] same = refl
+same_bytes [] (q ∷ qs) same = absurd same
+same_bytes (p ∷ ps) [] same = absurd same
+same_bytes {V} (p ∷ ps) (q ∷ qs) same =
+    ap (λ (es : List (List ℕ × V)). (q.0.now, q.1) ∷ es) (same_bytes ps qs same.1)
+    ∙ ap (λ (name : Bor (List ℕ)). (name.now, q.1) ∷ by_bytes ps) same.0.0
+    ∙ ap (λ (v : V). (p.0.now, v) ∷ by_bytes ps) same.0.1

@@ -1,6 +1,7 @@
 //! What an object is made of: its programs by name, and its functions by section and address.
 #![tactic(auto)]
 
+mod builder;
 mod by_name;
 mod function;
 mod functions;
@@ -8,6 +9,7 @@ mod laws;
 mod matched_tables;
 mod program;
 
+pub use builder::ProgramsBuilder;
 pub use by_name::Programs;
 pub use function::{Function, SLOT_SIZE};
 pub use functions::{Code, Functions};

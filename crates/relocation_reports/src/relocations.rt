@@ -12,8 +12,8 @@ use object_file::ObjectFile;
 use object_names::section_indexes;
 use object_parts::{Function, Functions, SLOT_SIZE};
 use std::alloc::{AllocError, Global};
-use std::collections::BTreeMap;
 use std::marker::Model;
+use text_order::TextMap;
 
 /// The instruction at which a type relocation stands.
 #[derive(Clone, Copy, Debug)]
@@ -56,7 +56,7 @@ fn records_of(alloc: Global, group: &SecInfo<'_>) -> Result<Vec<bpf_core_relo>, 
 struct Found<'r, 'o, 'f, 't> {
     file: &'r ObjectFile<'o>,
     /// The indexes of the file's sections, by name.
-    sections: &'r BTreeMap<&'o str, u64>,
+    sections: &'r TextMap<'o, u64>,
     functions: &'r Functions<'f>,
     local: &'r Btf<'t>,
 }
@@ -77,7 +77,7 @@ impl<'r, 'o, 'f, 't> Model for Found<'r, 'o, 'f, 't> {
           targets = [];
         } };
 
-    ghost invariant = { λ l. AreIndexes (read_sections l.file.now) l.sections.now.entries };
+    ghost invariant = { λ l. AreIndexes (read_sections l.file.now) l.sections.now };
 }
 
 /// The first function, by key, of those of a section whose bytes hold an offset.

@@ -80,7 +80,7 @@ fn ends_of_a_long_text(rt: HostRuntime) -> Result<(), Fail> {
 fn the_place_of_each_text(rt: HostRuntime) -> Result<(), Fail> {
     let ordered = in_text_order(rt.alloc(), listed(rt.alloc(), &ENTRIES)?)?;
     for (place, (text, _)) in ORDERED.iter().enumerate() {
-        assert!(rt; place_of(ordered.as_slice(), text) == Some(place));
+        assert!(rt; place_of(ordered.as_slice(), text.as_bytes()) == Some(place));
     }
     Ok(())
 }
@@ -89,10 +89,10 @@ fn the_place_of_each_text(rt: HostRuntime) -> Result<(), Fail> {
 fn no_place_of_other_texts(rt: HostRuntime) -> Result<(), Fail> {
     let ordered = in_text_order(rt.alloc(), listed(rt.alloc(), &ENTRIES)?)?;
     for text in ["aa", "aaba", "aba", "abb", "ac", "ba", "è", "éé"] {
-        assert!(rt; place_of(ordered.as_slice(), text).is_none());
+        assert!(rt; place_of(ordered.as_slice(), text.as_bytes()).is_none());
     }
     let none = in_text_order(rt.alloc(), listed(rt.alloc(), &[])?)?;
-    assert!(rt; place_of(none.as_slice(), "").is_none());
+    assert!(rt; place_of(none.as_slice(), b"").is_none());
     Ok(())
 }
 
@@ -109,11 +109,11 @@ fn places_of_ends_of_a_long_text(rt: HostRuntime) -> Result<(), Fail> {
     let ordered = in_text_order(rt.alloc(), list)?;
     for (place, start) in [9_999, 5_904, 4_000, 1].iter().enumerate() {
         let end = text.as_str().get(*start..).unwrap_or("");
-        assert!(rt; place_of(ordered.as_slice(), end) == Some(place));
+        assert!(rt; place_of(ordered.as_slice(), end.as_bytes()) == Some(place));
     }
     for start in [0, 5_903, 5_905] {
         let end = text.as_str().get(start..).unwrap_or("");
-        assert!(rt; place_of(ordered.as_slice(), end).is_none());
+        assert!(rt; place_of(ordered.as_slice(), end.as_bytes()).is_none());
     }
     Ok(())
 }

@@ -6,10 +6,10 @@ use btf_tables::{Btf, essential_name};
 use extern_resolution::{KsymsError, resolve_externs};
 use object_externs::{ExternDesc, Externs};
 use std::alloc::Global;
-use std::collections::BTreeMap;
 use std::io::BufRead;
 use std::process::Abort;
 use std::slice;
+use text_order::{TextMap, TextMapBuilder};
 use watched::Watched;
 
 /// An extern: its name, the id of what declares it, its type, whether it is weak, and the address
@@ -112,12 +112,12 @@ fn described(declared: &Declared) -> ExternDesc<'static> {
 fn by_name(
     alloc: Global,
     declared: &[Declared; 2],
-) -> Option<BTreeMap<&'static str, ExternDesc<'static>>> {
-    let mut by_name = BTreeMap::new(alloc);
+) -> Option<TextMap<'static, ExternDesc<'static>>> {
+    let mut by_name = TextMapBuilder::new(alloc);
     for one in declared {
         by_name.insert(one.0, described(one)).ok()?;
     }
-    Some(by_name)
+    by_name.build(alloc).ok()
 }
 
 /// What is known of an extern.

@@ -9,7 +9,7 @@ use object_parts::{Function, Functions, MatchedTables};
 use relocation_errors::{EbpfRelocationError, RelocationError};
 use sample_objects::with_bytes;
 use std::alloc::Global;
-use std::collections::BTreeMap;
+use text_order::TextMapBuilder;
 
 /// An object with the sections `kprobe` (index 2) and `xdp` (3), and a relocation of each, of `xdp`
 /// at 120 and of `kprobe` at 136: eight bytes of offset, four of type, four of symbol. That of
@@ -124,14 +124,14 @@ fn described(name: &'static str, known: Known) -> ExternDesc<'static> {
 
 /// The externs `kernel` and `other` of which something is known.
 fn externs(alloc: Global, known: [Option<Known>; 2]) -> Option<Externs<'static>> {
-    let mut by_name = BTreeMap::new(alloc);
+    let mut by_name = TextMapBuilder::new(alloc);
     for (name, known) in [("kernel", known[0]), ("other", known[1])] {
         if let Some(known) = known {
             by_name.insert(name, described(name, known)).ok()?;
         }
     }
     let mut externs = Externs::none(alloc);
-    externs.set_by_name(by_name);
+    externs.set_by_name(by_name.build(alloc).ok()?);
     Some(externs)
 }
 

@@ -11,8 +11,8 @@ use btf_tables::Btf;
 use ebpf_items::RelocationKind;
 use plain_matching::{Answer, Fault};
 use std::alloc::{AllocError, Global};
-use std::collections::BTreeMap;
 use std::process::Abort;
+use text_order::TextMap;
 use type_match::{TypeRelocation, relocation_outcome};
 
 const EXISTS: RelocationKind = RelocationKind::EnumVariantExists;
@@ -129,8 +129,8 @@ fn is_granted(feature: BtfFeature) -> bool {
 
 /// Makes a union of a 64-bit enum.
 fn deny_enum64(table: &mut Btf<'_>, alloc: Global) -> bool {
-    let sizes: BTreeMap<&str, u64> = BTreeMap::new(alloc);
-    let offsets: BTreeMap<&str, u64> = BTreeMap::new(alloc);
+    let sizes = TextMap::new(alloc);
+    let offsets = TextMap::new(alloc);
     let answers = fixup_and_sanitize(table, &sizes, &offsets, None, is_granted);
     answers.is_ok()
 }

@@ -1,10 +1,12 @@
 //! Tables, and what they become.
 
 use crate::sections::ORDERS;
-use btf::{Answers, Btf, BtfError, BtfFeature, Endianness, KsymsIds, fixup_and_sanitize};
+use btf::{
+    Answers, Btf, BtfError, BtfFeature, Endianness, KsymsIds, TextMap, TextMapBuilder,
+    fixup_and_sanitize,
+};
 use sample_tables::section;
 use std::alloc::Global;
-use std::collections::BTreeMap;
 use std::process::Abort;
 
 pub(crate) const ALL: [BtfFeature; 8] = [
@@ -42,13 +44,13 @@ fn numbers_of(
     rt: &impl Abort,
     alloc: Global,
     numbers: &[(&'static str, u64)],
-) -> BTreeMap<&'static str, u64> {
-    let mut map = BTreeMap::new(alloc);
+) -> TextMap<'static, u64> {
+    let mut entered = TextMapBuilder::new(alloc);
     for (name, number) in numbers {
-        let inserted: Result<_, _> = map.insert(*name, *number);
+        let inserted = entered.insert(*name, *number);
         assert!(rt; inserted.is_ok());
     }
-    map
+    entered.build(alloc).expect(rt, "a map")
 }
 
 /// What a kernel grants, and how often it was asked.
@@ -68,8 +70,8 @@ impl Kernel {
 /// The call itself, over maps of its caller.
 fn rewrite<'m, 'n>(
     table: &mut Btf<'_>,
-    sizes: &'m BTreeMap<&'n str, u64>,
-    offsets: &'m BTreeMap<&'n str, u64>,
+    sizes: &'m TextMap<'n, u64>,
+    offsets: &'m TextMap<'n, u64>,
     ksyms: Option<KsymsIds>,
     kernel: &mut Kernel,
 ) -> Result<Answers, BtfError> {

@@ -7,8 +7,8 @@ use extern_relocation::relocate_externs;
 use object_externs::{ExternDesc, Externs};
 use object_file::ObjectFile;
 use std::alloc::Global;
-use std::collections::BTreeMap;
 use std::process::Abort;
+use text_order::{TextMap, TextMapBuilder};
 
 /// An object with a section `kprobe` (index 2) and two relocations of it (at 96 and 112: eight
 /// bytes of offset, four of type, four of symbol). Symbol 1 is its function `f`. Symbols 2 to 6 and
@@ -291,8 +291,8 @@ fn externs(alloc: Global, has_externs: bool) -> Option<Externs<'static>> {
     Some(externs)
 }
 
-fn externs_by_name(alloc: Global) -> Option<BTreeMap<&'static str, ExternDesc<'static>>> {
-    let mut by_name = BTreeMap::new(alloc);
+fn externs_by_name(alloc: Global) -> Option<TextMap<'static, ExternDesc<'static>>> {
+    let mut by_name = TextMapBuilder::new(alloc);
     for (name, is_weak, kernel_btf_id, ksym_addr) in EXTERNS {
         let desc = ExternDesc {
             name,
@@ -306,7 +306,7 @@ fn externs_by_name(alloc: Global) -> Option<BTreeMap<&'static str, ExternDesc<'s
         };
         by_name.insert(name, desc).ok()?;
     }
-    Some(by_name)
+    by_name.build(alloc).ok()
 }
 
 /// What becomes of the functions of a case by these externs.

@@ -8,8 +8,8 @@ use Rattle.std.specs.Option.{option_or}
 use Rattle.std.specs.Ordering.{nat_cmp}
 use Rattle.std.proofs.lemmas.List.{map-append}
 use Rattle.std.proofs.lemmas.Map.Text.{is_eq-slice_cmp}
-use Rattle.text_order.specs.Orders.{HasLast, by_text, entered, last_of, texts_of, with_entry}
-use Rattle.text_order.proofs.ByText.{alike, at_entered, fold_append, last-rising, last_value, rising_entered, rising_none}
+use Rattle.text_order.specs.Orders.{HasLast, by_text, entered, last_of, texts_of, value_of, with_entry}
+use Rattle.text_order.proofs.ByText.{alike, at_entered, at_inserted, fold_append, last-rising, last_value, rising_entered, rising_none}
 use Rattle.text_order.proofs.Merging.{or-none}
 
 pub none_entered : (T : Type 0) → entered {T = T} [] ≡ []
@@ -20,6 +20,9 @@ module _ {T : Type 0} where
   pub one_more : (entries : List (Bor (List ℕ) × T)) (e : Bor (List ℕ) × T) → entered (by_text (entries ++ e ∷ [])) ≡ with_entry (entered (by_text entries)) (e.0.now, e.1)
   unfolding entered
   one_more entries e = ap (fold with_entry []) (map-append (λ (x : Bor (List ℕ) × T). (x.0.now, x.1)) entries (e ∷ [])) ∙ sym (fold_append [] (by_text entries) ((e.0.now, e.1) ∷ []))
+
+  pub each_value : (entries : List (Bor (List ℕ) × T)) (e : Bor (List ℕ) × T) (other : List ℕ) → value_of other (entered (by_text (entries ++ e ∷ []))) ≡ cond (bytes_eq e.0.now other) (Some e.1) (value_of other (entered (by_text entries)))
+  each_value entries e other = ap (value_of other) (one_more entries e) ∙ at_inserted e.0.now e.1 (entered (by_text entries)) other
 
   -- the last of a text, whether its bytes are compared or ordered
   last-is : (text : List ℕ) (entries : List (Bor (List ℕ) × T)) → last_value text (by_text entries) ≡ last_of text entries

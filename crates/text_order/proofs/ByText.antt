@@ -14,7 +14,8 @@ use Rattle.std.proofs.lemmas.Cmp.{nat_list_cmp_total}
 use Rattle.std.proofs.lemmas.Map.Lookups.{exact_bytes}
 use Rattle.std.proofs.lemmas.Map.Text.{is_eq-slice_cmp}
 use Rattle.std.proofs.lemmas.Slice.Eq.{bytes_eq-Decides}
-use Rattle.text_order.specs.Orders.{with_entry}
+use Rattle.std.specs.Borrow.{Bor}
+use Rattle.text_order.specs.Orders.{by_text, with_entry}
 use Rattle.text_order.proofs.Merging.{or-none}
 
 abbrev order : List ℕ → List ℕ → Ordering
@@ -140,6 +141,27 @@ placed Greater name k v e es is later =
 at-inserted : {V : Type 0} (name k : List ℕ) (v : V) (es : List (List ℕ × V)) → at name (insert_entry order es k v) ≡ cond (bytes_eq name k) (Some v) (at name es)
 at-inserted name k v [] = head name (k, v) []
 at-inserted name k v (e ∷ es) = placed (order k e.0) name k v e es refl (at-inserted name k v es)
+
+eq-sym : (a b : List ℕ) → bytes_eq a b ≡ bytes_eq b a
+eq-sym a b = by (bytes_eq a b) (bytes_eq b a) (λ is. ap (bytes_eq b) (same_text a b is) ∙ text-self b) (λ is. ap (bytes_eq a) (same_text b a is) ∙ text-self a)
+  where
+    by : (p q : Bool) → (p ≡ true → q ≡ true) → (q ≡ true → p ≡ true) → p ≡ q
+    by true q one other = sym (one refl)
+    by false true one other = other refl
+    by false false one other = refl
+
+-- the value of each text once one more is entered
+pub at_inserted : {V : Type 0} (k : List ℕ) (v : V) (es : List (List ℕ × V)) (name : List ℕ) → at name (insert_entry order es k v) ≡ cond (bytes_eq k name) (Some v) (at name es)
+at_inserted k v es name = at-inserted name k v es ∙ ap (λ b. cond b (Some v) (at name es)) (eq-sym name k)
+
+chosen : {V : Type 0} (test : Bool) (v : V) (a b : Option V) → a ≡ b → cond test (Some v) a ≡ cond test (Some v) b
+chosen true v a b same = refl
+chosen false v a b same = same
+
+-- the value of a text, also among entries with their texts as bytes
+pub text_value : {V : Type 0} (name : List ℕ) (es : List (Bor (List ℕ) × V)) → lookup (is_at (λ key. slice_cmp nat_cmp name key.now)) es ≡ at name (by_text es)
+text_value name [] = refl
+text_value name (e ∷ es) = chosen (is_eq (order name e.0.now)) e.1 (lookup (is_at (λ key. slice_cmp nat_cmp name key.now)) es) (at name (by_text es)) (text_value name es)
 
 in_turn : {X : Type 0} (found : Option X) (b : Bool) (v : X) (rest : Option X) → option_or found (cond b (Some v) rest) ≡ option_or (option_or found (cond b (Some v) None)) rest
 in_turn (Some f) b v rest = refl

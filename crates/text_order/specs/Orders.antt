@@ -3,6 +3,7 @@ use Rattle.std.specs.Prelude.{◌≡◌, ℕ, cond, List, [], ◌∷◌, fold, m
 use Rattle.std.specs.Borrow.{Bor}
 use Rattle.std.specs.BTreeMap.{insert_entry, is_at}
 use Rattle.std.specs.Cmp.Lexicographic.{slice_cmp}
+use Rattle.std.specs.Map.{lookup}
 use Rattle.std.specs.Option.{option_or}
 use Rattle.std.specs.Ordering.{nat_cmp}
 
@@ -22,6 +23,10 @@ pub record HasLast {T : Type 0} (entries ordered : List (Bor (List ℕ) × T)) :
 -- entries with their texts as bytes
 abbrev pub by_text : {T : Type 0} → List (Bor (List ℕ) × T) → List (List ℕ × T)
 by_text entries = map (λ e. (e.0.now, e.1)) entries
+
+-- the value of a text
+abbrev pub value_of : {T : Type 0} → List ℕ → List (List ℕ × T) → Option T
+value_of text values = lookup (is_at (slice_cmp nat_cmp text)) values
 
 -- values in the order of their texts, with one more in place of an earlier one of its text
 abbrev pub with_entry : {T : Type 0} → List (List ℕ × T) → List ℕ × T → List (List ℕ × T)

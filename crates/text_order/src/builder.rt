@@ -1,10 +1,11 @@
 //! Values that are entered by text one after the other.
 
-ghost use Rattle.std.specs.Prelude.{◌≡◌, [], IfOk, OnErr, OnOk};
+ghost use Rattle.std.specs.Prelude.{◌≡◌, ℕ, List, [], Some, if◌then◌else◌, IfOk, OnErr, OnOk};
 ghost use Rattle.std.specs.BTreeMap.{insert_entry};
 ghost use Rattle.std.specs.Cmp.Lexicographic.{slice_cmp};
 ghost use Rattle.std.specs.Ordering.{nat_cmp};
-ghost use Rattle.text_order.specs.Orders.{by_text};
+ghost use Rattle.std.specs.Str.{bytes_eq};
+ghost use Rattle.text_order.specs.Orders.{by_text, value_of};
 
 use crate::text_map::TextMap;
 use std::alloc::{AllocError, Global};
@@ -45,6 +46,10 @@ impl<'a, T> TextMapBuilder<'a, T> {
         T: Drop,
         ensures ok { OnOk result
             (self.new ≡ insert_entry (slice_cmp nat_cmp) self.old text.now value) }
+        ensures each { OnOk result
+            ((other : List ℕ)
+            → value_of other self.new
+            ≡ (if bytes_eq text.now other then Some value else value_of other self.old)) }
         ensures err { OnErr result (self.new ≡ self.old) }
     {
         self.entries.push_back((text, value))?;

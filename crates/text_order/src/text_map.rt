@@ -7,7 +7,7 @@ ghost use Rattle.std.specs.List.{AllZip};
 ghost use Rattle.std.specs.List.Sorted.{IsStrictlySortedBy};
 ghost use Rattle.std.specs.Map.{lookup};
 ghost use Rattle.std.specs.Ordering.{nat_cmp};
-ghost use Rattle.text_order.specs.Orders.{HasLast, texts_of};
+ghost use Rattle.text_order.specs.Orders.{HasLast, by_text, texts_of, value_of};
 
 use crate::iter::Iter;
 use crate::order::in_text_order;
@@ -79,10 +79,11 @@ impl<'a, T> TextMap<'a, T> {
 
     /// The value of a text; `None` where it has none.
     pub fn get(&self, text: &str) -> Option<&T>
-        ensures { option_copied result
+        ensures value { option_copied result
             ≡ lookup (is_at (λ key. slice_cmp nat_cmp text.now key.now)) self.now }
+        ensures by_text { option_copied result ≡ value_of text.now (by_text self.now) }
     {
-        let place = place_of(&self.entries, text)?;
+        let place = place_of(&self.entries, text.as_bytes())?;
         Some(&self.entries[place].1)
     }
 

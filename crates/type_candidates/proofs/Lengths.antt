@@ -1,5 +1,5 @@
 -- Where names end.
-use Rattle.std.proofs.Common.{◌≡◌, ℕ, suc, Bool, true, false, cond, nat_eq, List, [], ◌∷◌, length, Option, None, Some, Bor, refl, ap, sym, ◌∙◌, subst, arith}
+use Rattle.std.proofs.Common.{◌≡◌, ℕ, suc, Bool, true, false, cond, nat_eq, List, [], ◌∷◌, length, Option, None, Some, refl, ap, sym, ◌∙◌, subst, arith}
 use Rattle.std.specs.Prelude.{◌||◌, IfSome, codes}
 use Rattle.std.proofs.lemmas.Bool.Decides.{nat_tests}
 use Rattle.std.specs.BTreeMap.{is_at}
@@ -9,9 +9,6 @@ use Rattle.std.specs.Ordering.{nat_cmp}
 use Rattle.std.specs.Str.{bytes_eq}
 use Rattle.btf_tables.specs.EssentialNames.{essential_name}
 use Rattle.type_candidates.specs.NamedTypes.{AreLengths, may_end, number_of_name}
-use Rattle.string_table.specs.Names.{by_bytes}
-use Rattle.type_candidates.proofs.ByBytes.{by_bytes-lookup}
-use Rattle.type_candidates.proofs.Numbers.{under}
 
 next_same : (a b : ℕ) → nat_eq (suc a) (suc b) ≡ nat_eq a b
 next_same a b = grind (arith, nat_tests)
@@ -74,5 +71,8 @@ name_by : (name other : List ℕ) (number : ℕ) (lengths : List ℕ) (old : Opt
 name_by name other number lengths old true is here has = subst (λ (n : List ℕ). list_any (is_at (nat_cmp (length n))) lengths ≡ true) (same_text name other is) here
 name_by name other number lengths old false is here has = has
 
-pub more_names : (old new : List (Bor (List ℕ) × ℕ)) (name : List ℕ) (number : ℕ) (lengths : List ℕ) → AreLengths (by_bytes old) lengths → list_any (is_at (nat_cmp (length name))) lengths ≡ true → ((other : List ℕ) → under new other ≡ cond (bytes_eq name other) (Some number) (under old other)) → AreLengths (by_bytes new) lengths
-more_names old new name number lengths are here put = record { each = λ other. subst (λ (o : Option ℕ). IfSome o (λ _. list_any (is_at (nat_cmp (length other))) lengths ≡ true)) (sym (put other) ∙ by_bytes-lookup other new) (name_by name other number lengths (under old other) (bytes_eq name other) refl here (rw (by_bytes-lookup other old) (are.each other))) }
+pub more_names : (old new : List (List ℕ × ℕ)) (name : List ℕ) (number : ℕ) (lengths : List ℕ) → AreLengths old lengths → list_any (is_at (nat_cmp (length name))) lengths ≡ true → ((other : List ℕ) → number_of_name new other ≡ cond (bytes_eq name other) (Some number) (number_of_name old other)) → AreLengths new lengths
+more_names old new name number lengths are here put = record { each = λ other. subst (λ (o : Option ℕ). IfSome o (λ _. list_any (is_at (nat_cmp (length other))) lengths ≡ true)) (sym (put other)) (name_by name other number lengths (number_of_name old other) (bytes_eq name other) refl here (are.each other)) }
+
+pub none_long : (lengths : List ℕ) → AreLengths [] lengths
+none_long lengths = record { each = λ name. tt }

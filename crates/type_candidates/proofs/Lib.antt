@@ -1,4 +1,3 @@
-pub mod ByBytes
 pub mod FirstTable
 pub mod FoundCandidates
 pub mod Held

@@ -1,6 +1,6 @@
 -- Names and their numbers.
-use Rattle.std.proofs.Common.{◌≡◌, ℕ, ◌+◌, ◌<◌, Bool, true, false, cond, List, ◌⊎◌, inl, inr, Option, None, Some, Bor, refl, ap, sym, ◌∙◌, subst, arith}
-use Rattle.std.specs.Prelude.{IfSome, is_some}
+use Rattle.std.proofs.Common.{◌≡◌, ℕ, ◌+◌, ◌<◌, Bool, true, false, cond, List, [], ◌⊎◌, inl, inr, Option, None, Some, refl, sym, ◌∙◌, subst, arith}
+use Rattle.std.specs.Prelude.{IfSome}
 use Rattle.std.proofs.lemmas.Map.Views.{All-values-insert_entry}
 use Rattle.std.specs.BTreeMap.{insert_entry, is_at}
 use Rattle.std.specs.Cmp.Lexicographic.{same_text, slice_cmp}
@@ -12,12 +12,6 @@ use Rattle.btf_tables.specs.EssentialNames.{essential_name}
 use Rattle.string_table.specs.Texts.{text_at}
 use Rattle.type_candidates.specs.declared.long_names.LongName.{LongName}
 use Rattle.type_candidates.specs.NamedTypes.{AreNumbered, AreNumbersOf, IsNumberAt, number_of_name}
-use Rattle.string_table.specs.Names.{by_bytes}
-use Rattle.type_candidates.proofs.ByBytes.{by_bytes-lookup}
-
--- the number that stands under a name
-abbrev pub under : List (Bor (List ℕ) × ℕ) → List ℕ → Option ℕ
-under entries name = lookup (is_at (λ key. slice_cmp nat_cmp name key.now)) entries
 
 taken : (a b : ℕ) → Some a ≡ Some b → b ≡ a
 taken a b is = cc
@@ -60,15 +54,8 @@ module _ (old new : List (List ℕ × ℕ)) (name : List ℕ) (count : ℕ) (bef
     apart = record { one = λ a b n first second. one_by a b n (number_from a n first) (number_from b n second) };
   }
 
-next_count : (was : Option ℕ) (count next : ℕ) → was ≡ None → next ≡ count + cond (is_some was) 0 1 → next ≡ count + 1
-next_count None count next none is = is
-next_count (Some n) count next none is = absurd cc
-
--- a name that has no number is put in with the next one
-pub entered_next : (old new : List (Bor (List ℕ) × ℕ)) (name : List ℕ) (number count next : ℕ) (was : Option ℕ) → number ≡ count → AreNumbered (by_bytes old) count → number_of_name (by_bytes old) name ≡ None → was ≡ under old name → next ≡ count + cond (is_some was) 0 1 → ((other : List ℕ) → under new other ≡ cond (bytes_eq name other) (Some number) (under old other)) → AreNumbered (by_bytes new) next
-entered_next old new name number count next was same before absent had is put =
-    subst (AreNumbered (by_bytes new)) (sym (next_count was count next (had ∙ by_bytes-lookup name old ∙ absent) is)) (one_more (by_bytes old) (by_bytes new) name count before (λ other.
-    sym (by_bytes-lookup other new) ∙ put other ∙ ap (λ (n : ℕ). cond (bytes_eq name other) (Some n) (under old other)) same ∙ ap (λ (o : Option ℕ). cond (bytes_eq name other) (Some count) o) (by_bytes-lookup other old)))
+pub none_numbered : (count : ℕ) → AreNumbered [] count
+none_numbered count = record { below = λ name. tt; apart = record { one = λ a b n first second. absurd cc } }
 
 -- a name more was looked up
 pub looked_up : {K : Type 0} (cmp : K → K → Ordering) (entries : List (K × LongName)) (key : K) (name : LongName) (numbers : List (List ℕ × ℕ)) (strings text : List ℕ) → AreNumbersOf numbers strings (values_of entries) → text_at strings name.offset ≡ Some text → name.number ≡ number_of_name numbers (essential_name text) → AreNumbersOf numbers strings (values_of (insert_entry cmp entries key name))

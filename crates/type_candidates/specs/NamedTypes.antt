@@ -29,7 +29,7 @@ pub record AreApart (numbers : List (List ℕ × ℕ)) : Type 0 where
       → number_of_name numbers other ≡ Some number
       → name ≡ other
 
--- the numbers below the count are given
+-- names have different numbers below the count
 pub record AreNumbered (numbers : List (List ℕ × ℕ)) (count : ℕ) : Type 0 where
   pub below : (name : List ℕ) → IfSome (number_of_name numbers name) (λ number. number < count)
   pub apart : AreApart numbers

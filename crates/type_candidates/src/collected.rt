@@ -79,23 +79,24 @@ fn no_places(alloc: Global, count: usize) -> Result<Vec<Places>, AllocError>
     Ok(named)
 }
 
-/// Adds what is wanted for local types that are there and whose names can be read.
-fn add_wanted<'l>(
+/// The names that are wanted for local types that are there and whose names can be read, and what
+/// kinds.
+fn wanted_names<'l>(
     local: &'l Btf<'_>,
     type_ids: &[u32],
-    names: &mut WantedNames<'l>,
     kinds: &mut [bool; 20],
-) -> Result<(), AllocError> {
+) -> Result<Vec<&'l str>, AllocError> {
+    let mut names = Vec::new(local.allocator());
     for type_id in type_ids {
         if let Ok(wanted) = WantedType::find(local, *type_id) {
             kinds[wanted.kind() as usize] = true;
             if wanted.or_enum64() {
                 kinds[ENUM64] = true;
             }
-            names.add(wanted.name())?;
+            names.push(wanted.name())?;
         }
     }
-    Ok(())
+    Ok(names)
 }
 
 /// Whether all names of a kind, by its number, were looked at, and could be read.
@@ -188,10 +189,10 @@ impl<'t, 'l> Candidates<'t, 'l> {
         ensures { IfOk result (λ candidates. candidates ≡ targets.now) }
     {
         let alloc = local.allocator();
-        let mut names = WantedNames::new(alloc);
         let mut kinds = [false; 20];
-        add_wanted(local, type_ids, &mut names, &mut kinds)?;
-        let mut named = no_places(alloc, names.len())?;
+        let wanted = wanted_names(local, type_ids, &mut kinds)?;
+        let mut named = no_places(alloc, wanted.len())?;
+        let names = WantedNames::of(alloc, &wanted)?;
         let mut unreadable = [false; 20];
         let unreadable_in_first = note_all(
             alloc,

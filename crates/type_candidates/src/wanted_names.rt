@@ -1,23 +1,23 @@
 //! The names of the types that are wanted.
 
-ghost use Rattle.std.specs.Prelude.{◌≡◌, [], IfNone, IfSome, None, drop};
-ghost use Rattle.std.specs.BTreeMap.{btree_map_len};
+ghost use Rattle.std.specs.Prelude.{◌≡◌, ◌+◌, [], IfNone, IfSome, OnOk, drop};
 ghost use Rattle.std.specs.List.{list_any};
 ghost use Rattle.btf_tables.specs.EssentialNames.{essential_name};
 ghost use Rattle.type_candidates.specs.WantedBeginnings.{AreBeginnings};
 ghost use Rattle.type_candidates.specs.NamedTypes.{AreApart, AreLengths, AreNumbered, may_end, number_of_name};
-ghost use Rattle.string_table.specs.Names.{by_bytes};
+ghost use Rattle.text_order.specs.Orders.{by_text};
 
 use btf_tables::essential_name;
 use std::alloc::{AllocError, Global};
-use std::collections::{BTreeMap, BTreeSet};
+use std::collections::BTreeSet;
 use std::marker::Model;
+use text_order::{TextMap, TextMapBuilder};
 use type_headers::NameBeginnings;
 
 /// Names without flavours, each with a number of its own.
 #[derive(Debug)]
 pub(crate) struct WantedNames<'l> {
-    numbers: BTreeMap<&'l str, usize>,
+    numbers: TextMap<'l, usize>,
     /// How many bytes the names have.
     lengths: BTreeSet<usize>,
     /// How a text of such a name can begin.
@@ -38,35 +38,33 @@ impl<'l> Drop for WantedNames<'l> {
 impl<'l> Model for WantedNames<'l> {
     ghost use Rattle.std.specs.Prelude.{ℕ, List};
     ghost use Rattle.type_candidates.specs.WantedBeginnings.{AreBeginnings};
-    ghost use Rattle.type_candidates.specs.NamedTypes.{AreLengths, AreNumbered};
-    ghost use Rattle.string_table.specs.Names.{by_bytes};
-    ghost use Rattle.std.specs.BTreeMap.{btree_map_len};
+    ghost use Rattle.type_candidates.specs.NamedTypes.{AreApart, AreLengths};
+    ghost use Rattle.text_order.specs.Orders.{by_text};
 
     ghost Value = { List (List ℕ × ℕ) };
 
-    ghost view = { λ n. by_bytes n.numbers.entries };
+    ghost view = { λ n. by_text n.numbers };
 
-    ghost invariant = { λ n. AreNumbered (by_bytes n.numbers.entries) (btree_map_len n.numbers)
-        × AreLengths (by_bytes n.numbers.entries) n.lengths.keys
-        × AreBeginnings (by_bytes n.numbers.entries) n.beginnings };
+    ghost invariant = { λ n. AreApart (by_text n.numbers)
+        × AreLengths (by_text n.numbers) n.lengths.keys
+        × AreBeginnings (by_text n.numbers) n.beginnings };
 }
 
-/// Adds a name with the next number.
+/// Adds a name with a number, in place of an earlier one of that name.
 fn enter<'l>(
-    numbers: &mut BTreeMap<&'l str, usize>,
+    numbers: &mut TextMapBuilder<'l, usize>,
     lengths: &mut BTreeSet<usize>,
     beginnings: &mut NameBeginnings,
     name: &'l str,
+    number: usize,
 ) -> Result<(), AllocError>
-    requires numbered { AreNumbered (by_bytes numbers.old.entries) (btree_map_len numbers.old) }
-    requires lengths { AreLengths (by_bytes numbers.old.entries) lengths.old.keys }
-    requires beginnings { AreBeginnings (by_bytes numbers.old.entries) beginnings.old }
-    requires absent { number_of_name (by_bytes numbers.old.entries) name.now ≡ None }
-    ensures numbered { AreNumbered (by_bytes numbers.new.entries) (btree_map_len numbers.new) }
-    ensures lengths { AreLengths (by_bytes numbers.new.entries) lengths.new.keys }
-    ensures beginnings { AreBeginnings (by_bytes numbers.new.entries) beginnings.new }
+    requires numbered { AreNumbered numbers.old number }
+    requires lengths { AreLengths numbers.old lengths.old.keys }
+    requires beginnings { AreBeginnings numbers.old beginnings.old }
+    ensures numbered { OnOk result (AreNumbered numbers.new (number + 1)) }
+    ensures lengths { OnOk result (AreLengths numbers.new lengths.new.keys) }
+    ensures beginnings { OnOk result (AreBeginnings numbers.new beginnings.new) }
 {
-    let number = numbers.len();
     beginnings.mark(name);
     lengths.insert(name.len())?;
     numbers.insert(name, number)?;
@@ -102,20 +100,20 @@ fn may_end_at(lengths: &BTreeSet<usize>, text: &[u8]) -> bool
 }
 
 impl<'l> WantedNames<'l> {
-    /// No names.
-    pub(crate) fn new(alloc: Global) -> WantedNames<'l>
-        ensures { result ≡ [] }
-    {
-        WantedNames {
-            numbers: BTreeMap::new(alloc),
-            lengths: BTreeSet::new(alloc),
-            beginnings: NameBeginnings::new(),
+    /// These names; the number of each is its last place among them.
+    pub(crate) fn of(alloc: Global, names: &[&'l str]) -> Result<WantedNames<'l>, AllocError> {
+        let mut numbers = TextMapBuilder::new(alloc);
+        let mut lengths = BTreeSet::new(alloc);
+        let mut beginnings = NameBeginnings::new();
+        for number in 0..names.len() {
+            let name = names[number];
+            enter(&mut numbers, &mut lengths, &mut beginnings, name, number)?;
         }
-    }
-
-    /// How many names there are.
-    pub(crate) fn len(&self) -> usize {
-        self.numbers.len()
+        Ok(WantedNames {
+            numbers: numbers.build(alloc)?,
+            lengths,
+            beginnings,
+        })
     }
 
     /// The number of a name.
@@ -124,19 +122,6 @@ impl<'l> WantedNames<'l> {
         ensures apart { AreApart self.now }
     {
         self.numbers.get(name).copied()
-    }
-
-    /// Adds a name with the next number, if it isn't there.
-    pub(crate) fn add(&mut self, name: &'l str) -> Result<(), AllocError> {
-        if self.number(name).is_some() {
-            return Ok(());
-        }
-        enter(
-            &mut self.numbers,
-            &mut self.lengths,
-            &mut self.beginnings,
-            name,
-        )
     }
 
     /// The beginnings of all texts that have one of the names.

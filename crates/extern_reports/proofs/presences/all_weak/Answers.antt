@@ -9,4 +9,4 @@ loop-name-init c = none_entered c.args.externs.now.by_name _ _ (search rules) (s
 pub loop-name-preserved : goal.loop-name-preserved
 loop-name-preserved c =
     let next : by_bytes c.loop-name.name-iterator ≡ (c.in-Some.name.now.now, c.in-Some.desc.now) ∷ by_bytes c.next.new.self = search rules in
-    one_more c.args.externs.now.by_name _ _ _ _ c.in-Some.name.now c.in-Some.desc.now c.in_ok-weak.weak c.iter-name-items.ensures.rising next c.loop-name.invariant c.in_ok-weak.ensures c.in_ok-insert.ensures.entries
+    one_more c.args.externs.now.by_name _ _ _ _ c.in-Some.name.now.now c.in-Some.desc.now c.in_ok-weak.weak c.iter-name-items.ensures.rising next c.loop-name.invariant c.in_ok-weak.ensures c.in_ok-insert.ensures.ok

@@ -13,7 +13,7 @@ returns-in_err-desc-clause-refused c =
 pub loop-name-preserved : goal.loop-name-preserved
 loop-name-preserved c =
     let next : by_bytes c.loop-name.name-iterator ≡ (c.in-Some.name.now.now, c.in-Some.desc.now) ∷ by_bytes c.next.new.self = search rules in (
-      grows_by (EntryAddressed c.args.addresses.now) (λ p q r. r.0) c.args.externs.now.by_name _ _ _ _ c.in-Some.name.now c.in-Some.desc.now c.in_ok-desc.desc c.iter-name-items.ensures.rising next c.loop-name.invariant.0 (refl, c.in_ok-desc.ensures.value) c.in_ok-insert.ensures.entries,
+      grows_by (EntryAddressed c.args.addresses.now) (λ p q r. r.0) c.args.externs.now.by_name _ _ _ _ c.in-Some.name.now.now c.in-Some.desc.now c.in_ok-desc.desc c.iter-name-items.ensures.rising next c.loop-name.invariant.0 (refl, c.in_ok-desc.ensures.value) c.in_ok-insert.ensures.ok,
       none_more (NoAddress c.args.addresses.now) c.args.externs.now.by_name _ _ _ next c.loop-name.invariant.1 c.in_ok-desc.ensures.accepted,
     )
 

@@ -1,9 +1,12 @@
 use Rattle.std.proofs.Common.{sym, ap, ◌∙◌}
 use Rattle.kernel_symbols.specs.Reading.{RefusesLine}
 use Rattle.kernel_symbols.specs.Words.{word_bytes}
-use Rattle.kernel_symbols.proofs.SaidLemmas.{other_line, refused_line, same_bytes, wanted_line}
+use Rattle.kernel_symbols.proofs.SaidLemmas.{other_line, refused_line, same_bytes, short_line, wanted_line}
 use Rattle.kernel_symbols.proofs.WantedLemmas.{passed_on}
 use Rattle.kernel_symbols.proofs.line.take_line.Goals as goal
+
+pub returns-in_default-clause-taken : goal.returns-in_default-clause-taken
+returns-in_default-clause-taken c = short_line c.args.by_name.now c.args.line.now (sym c.is_text.ensures ∙ c.if-not-is_text.false) (sym c.first_and_third.ensures ∙ ap word_bytes c.in_default.is)
 
 pub returns-in_default-get-clause-taken : goal.returns-in_default-get-clause-taken
 returns-in_default-get-clause-taken c =

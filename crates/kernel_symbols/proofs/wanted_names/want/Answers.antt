@@ -1,8 +1,7 @@
-use Rattle.std.proofs.lemmas.Map.Text.{btree_map_updates_str}
-use Rattle.kernel_symbols.proofs.WantedLemmas.{entered_under}
+use Rattle.std.proofs.Common.{None, ap, ◌∙◌}
+use Rattle.kernel_symbols.specs.Wanted.{mark}
+use Rattle.kernel_symbols.proofs.WantedLemmas.{marked_more}
 use Rattle.kernel_symbols.proofs.wanted_names.want.Goals as goal
 
-pub returns-clause-wanted : goal.returns-clause-wanted
-returns-clause-wanted c = λ other.
-    entered_under c.args.name.now c.as_bytes.result.now other _ _ _ c.as_bytes.ensures.value
-    (btree_map_updates_str c.as_bytes.result.now c.args.by_name.now c.insert.new.self _ c.in_ok-insert.ensures.updates other)
+pub returns-clause-marked : goal.returns-clause-marked
+returns-clause-marked c = marked_more c.args.name.now (record { name = c.args.name; address = None }) c.args.is_wanted.now c.args.names.now c.insert.new.self c.mark.result (c.mark.ensures.value ∙ ap mark c.as_bytes.ensures.value) c.mark.ensures.small c.in_ok-insert.ensures.each c.requires

@@ -1,10 +1,11 @@
-use Rattle.std.proofs.Common.{◌≡◌, ◌≢◌, ℕ, Option, List, [], Any, Some, true, false, ◌∙◌, ap, inl, inr, length, sym, ◌∷◌, arith}
+use Rattle.std.proofs.Common.{◌≡◌, ◌≢◌, ℕ, Option, List, [], Any, Some, true, false, ◌∙◌, ap, inl, inr, length, sym, ◌∷◌, arith, subst}
 use Rattle.std.specs.List.{list_any}
 use Rattle.std.proofs.lemmas.Bool.Decides.{nat_tests}
 use Rattle.std.specs.Option.{option_map_or}
 use Rattle.btf_records.specs.declared.error.BtfError.TheVariants.{OutOfMemory}
 use Rattle.btf_records.specs.declared.item.DataSecEntry.{DataSecEntry}
 use Rattle.btf_parts.specs.Faultless.{IsFaultless}
+use Rattle.btf_tables.specs.GrownTables.{TypesStay}
 use Rattle.btf_tables.specs.Tables.{Table}
 use Rattle.elf64.specs.Symbols.{Symbol}
 use Rattle.object_externs.specs.Externs.{has_function, names_function}
@@ -60,3 +61,9 @@ returns-clause-accepted c =
           let e : true ≡ false = sym h ∙ other in
           absurd cc
     ])
+
+pub returns-clause-types : goal.returns-clause-types
+returns-clause-types c = elim c.if-any_names_function.branch [
+  | then-any_names_function+in_ok-add_placeholder w ↦ subst (TypesStay c.args.table.now) (sym w.table-is) w.in_ok-add_placeholder.ensures.types
+  | else-any_names_function w ↦ subst (TypesStay c.args.table.now) (sym w.table-is) (record { stay = λ id t h. h })
+]

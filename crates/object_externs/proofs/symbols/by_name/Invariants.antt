@@ -4,7 +4,7 @@ use Rattle.object_externs.proofs.symbols.by_name.Given as goal
 
 abbrev pub invariant-loop-left : goal.invariant-loop-left
 invariant-loop-left l = record {
-  named : AreByName (drop l.left l.symbols) l.by_name.entries;
+  named : AreByName (drop l.left l.symbols) l.by_name;
   within : l.left ≤ length l.symbols;
 }
 

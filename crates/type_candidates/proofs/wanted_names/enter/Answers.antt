@@ -2,20 +2,18 @@ use Rattle.std.proofs.Common.{◌≡◌, ℕ, true, rules, length, subst}
 use Rattle.std.specs.BTreeMap.{is_at}
 use Rattle.std.specs.List.{list_any}
 use Rattle.std.specs.Ordering.{nat_cmp}
-use Rattle.std.proofs.lemmas.Map.Text.{btree_map_updates_str}
-use Rattle.string_table.specs.Names.{by_bytes}
 use Rattle.type_candidates.proofs.NamesBegin.{more_beginnings}
 use Rattle.type_candidates.proofs.Lengths.{more_lengths, more_names}
-use Rattle.type_candidates.proofs.Numbers.{entered_next}
+use Rattle.type_candidates.proofs.Numbers.{one_more}
 use Rattle.type_candidates.proofs.wanted_names.enter.Goals as goal
 
 pub returns-clause-numbered : goal.returns-clause-numbered
-returns-clause-numbered c = entered_next c.args.numbers.now.entries c.insert-2.new.self.entries c.args.name.now _ _ _ _ c.len-number.ensures.len c.requires.numbered c.requires.absent c.in_ok-insert-2.ensures.old c.in_ok-insert-2.ensures.len (λ other. btree_map_updates_str c.args.name.now c.args.numbers.now c.insert-2.new.self _ c.in_ok-insert-2.ensures.updates other)
+returns-clause-numbered c = one_more c.args.numbers.now c.insert-2.new.self c.args.name.now c.args.number c.requires.numbered c.in_ok-insert-2.ensures.each
 
 pub returns-clause-lengths : goal.returns-clause-lengths
 returns-clause-lengths c =
     let here : list_any (is_at (nat_cmp (length c.args.name.now))) c.insert.new.self.keys ≡ true = subst (λ (n : ℕ). list_any (is_at (nat_cmp n)) c.insert.new.self.keys ≡ true) (search rules) c.in_ok-insert.ensures.updates.1 in
-    more_names c.args.numbers.now.entries c.insert-2.new.self.entries c.args.name.now _ c.insert.new.self.keys (more_lengths (by_bytes c.args.numbers.now.entries) c.args.lengths.now.keys c.insert.new.self.keys _ c.requires.lengths c.in_ok-insert.ensures.updates.0) here (λ other. btree_map_updates_str c.args.name.now c.args.numbers.now c.insert-2.new.self _ c.in_ok-insert-2.ensures.updates other)
+    more_names c.args.numbers.now c.insert-2.new.self c.args.name.now c.args.number c.insert.new.self.keys (more_lengths c.args.numbers.now c.args.lengths.now.keys c.insert.new.self.keys _ c.requires.lengths c.in_ok-insert.ensures.updates.0) here c.in_ok-insert-2.ensures.each
 
 pub returns-clause-beginnings : goal.returns-clause-beginnings
-returns-clause-beginnings c = more_beginnings c.args.numbers.now.entries c.insert-2.new.self.entries c.args.name.now _ c.args.beginnings.now _ c.requires.beginnings c.mark.ensures (λ other. btree_map_updates_str c.args.name.now c.args.numbers.now c.insert-2.new.self _ c.in_ok-insert-2.ensures.updates other)
+returns-clause-beginnings c = more_beginnings c.args.numbers.now c.insert-2.new.self c.args.name.now c.args.number c.args.beginnings.now _ c.requires.beginnings c.mark.ensures c.in_ok-insert-2.ensures.each

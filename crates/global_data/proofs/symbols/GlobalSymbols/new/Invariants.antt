@@ -3,4 +3,4 @@ use Rattle.global_data.specs.GlobalSymbols.{AreGlobalSymbols}
 use Rattle.global_data.proofs.symbols.GlobalSymbols.new.Given as goal
 
 abbrev pub invariant-loop-symbol : goal.invariant-loop-symbol
-invariant-loop-symbol l = AreGlobalSymbols l.values (take l.symbol-index l.symbols) l.by_name
+invariant-loop-symbol l = AreGlobalSymbols l.values (take l.symbol-index l.symbols) l.builder

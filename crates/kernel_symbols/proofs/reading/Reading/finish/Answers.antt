@@ -1,4 +1,4 @@
-use Rattle.std.proofs.Common.{◌≡◌, ℕ, ◌<◌, List, Bor, length, arith, subst, sym}
+use Rattle.std.proofs.Common.{◌≡◌, ℕ, ◌<◌, List, length, arith, subst, sym}
 use Rattle.std.proofs.lemmas.Bool.Decides.{nat_tests}
 use Rattle.kernel_symbols.specs.Reading.{CannotFinish, TakesLine, entries_of}
 use Rattle.kernel_symbols.specs.declared.wanted.Wanted.{Wanted}
@@ -21,4 +21,4 @@ pub returns-clause-found : goal.returns-clause-found
 returns-clause-found c =
     let some : 0 < length c.args.self.partial.items = grind (arith, nat_tests, c.is_empty.ensures, c.if-is_empty.false) in
     finished_line c.args.self c.into_addresses-2.result c.deref.result.now some c.deref.ensures.value
-    (subst (λ (entries : List (Bor (List ℕ) × Wanted)). TakesLine (entries_of c.args.self) entries c.deref.result.now) (sym c.into_addresses-2.ensures) c.in_ok-take_line.ensures.taken)
+    (subst (λ (entries : List (List ℕ × Wanted)). TakesLine (entries_of c.args.self) entries c.deref.result.now) (sym c.into_addresses-2.ensures) c.in_ok-take_line.ensures.taken)

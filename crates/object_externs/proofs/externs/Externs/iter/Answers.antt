@@ -2,4 +2,4 @@ use Rattle.object_externs.proofs.ByBytes.{rising}
 use Rattle.object_externs.proofs.externs.Externs.iter.Goals as goal
 
 pub returns-clause-rising : goal.returns-clause-rising
-returns-clause-rising c = rw (← c.self.view_is) (rising c.self.inside.by_name.entries c.iter.ensures.ordered)
+returns-clause-rising c = rw (← c.self.view_is) (rising c.self.inside.by_name c.iter.ensures.rising)

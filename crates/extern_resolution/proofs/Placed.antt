@@ -1,0 +1,112 @@
+-- Where a name stands in a list in order of names, and what is written there.
+use Rattle.std.proofs.Common.{◌≡◌, ◌<◌, ℕ, zero, suc, Bool, true, false, cond, List, [], ◌∷◌, Option, Some, None, length, refl, ap, sym, ◌∙◌, get_or, slice_get, slice_set, subst, unwrap_or, arith}
+use Rattle.std.specs.Prelude.{bytes_eq, find, nat_lt}
+use Rattle.std.specs.Borrow.{Bor}
+use Rattle.std.specs.BTreeMap.{is_at}
+use Rattle.std.specs.Cmp.Lexicographic.{nat_list_eq_equiv, slice_cmp}
+use Rattle.std.specs.List.{position, position_or_len}
+use Rattle.std.specs.List.Sorted.{IsStrictlySortedBy}
+use Rattle.std.specs.Option.{option_map}
+use Rattle.std.specs.Ordering.{is_eq, nat_cmp}
+use Rattle.std.proofs.Math.Seq.{map-set_same}
+use Rattle.std.proofs.lemmas.Bool.{ltb-false}
+use Rattle.std.proofs.lemmas.List.Folds.{find_at}
+use Rattle.std.proofs.lemmas.List.Quantifiers.{position-Some}
+use Rattle.std.proofs.lemmas.Map.Text.{is_eq-slice_cmp}
+use Rattle.std.proofs.lemmas.Option.{slice_get-get_or, slice_get_past}
+use Rattle.std.proofs.lemmas.Slice.Eq.{bytes_eq-Decides}
+use Rattle.text_order.specs.Orders.{by_text, texts_of}
+use Rattle.extern_resolution.specs.Wanted.{entered, ids_under}
+
+-- whether an entry has this name
+abbrev pub is_here : List ℕ → Bor (List ℕ) × Option ℕ → Bool
+is_here name e = is_at (slice_cmp nat_cmp name) e.0.now
+
+pub none_rising : (entries : List (Bor (List ℕ) × Option ℕ)) → entries ≡ [] → IsStrictlySortedBy (slice_cmp nat_cmp) (texts_of entries)
+unfolding IsStrictlySortedBy
+none_rising [] none = tt
+none_rising (e ∷ es) none = absurd cc
+
+-- ---- what stands under a name
+
+found-by : (e : Bor (List ℕ) × Option ℕ) (test : Bool) (held : Option (Option ℕ)) (found : Option (Bor (List ℕ) × Option ℕ)) → held ≡ option_map (λ f. f.1) found → cond test (Some e.1) held ≡ option_map (λ f. f.1) (cond test (Some e) found)
+found-by e true held found is = refl
+found-by e false held found is = is
+
+at-found : (name : List ℕ) (es : List (Bor (List ℕ) × Option ℕ)) → ids_under (by_text es) name ≡ option_map (λ e. e.1) (find (is_here name) es)
+at-found name [] = refl
+at-found name (e ∷ es) = found-by e (is_here name e) (ids_under (by_text es) name) (find (is_here name) es) (at-found name es)
+
+by-place : (name : List ℕ) (es : List (Bor (List ℕ) × Option ℕ)) → ids_under (by_text es) name ≡ option_map (λ e. e.1) (slice_get es (position_or_len (is_here name) es))
+by-place name es = at-found name es ∙ ap (option_map (λ e. e.1)) (find_at (is_here name) es)
+
+same-place : (test : Bool) (n place : ℕ) → cond test (Some n) None ≡ Some place → n ≡ place
+same-place true n place is = ap (λ o. unwrap_or o n) is
+same-place false n place is = absurd cc
+
+no-place : (test : Bool) (n : ℕ) → cond test (Some n) None ≡ None → test ≡ false
+no-place true n is = absurd cc
+no-place false n is = refl
+
+pub placed : (name : List ℕ) (given es : List (Bor (List ℕ) × Option ℕ)) (place : ℕ) (d : Bor (List ℕ) × Option ℕ) → Some place ≡ position (is_here name) given → given ≡ es → Some (get_or es place d).1 ≡ ids_under (by_text es) name
+placed name given es place d found same =
+    let is : position (is_here name) es ≡ Some place = ap (position (is_here name)) (sym same) ∙ sym found in
+    let n : position_or_len (is_here name) es ≡ place = same-place (nat_lt (position_or_len (is_here name) es) (length es)) (position_or_len (is_here name) es) place is in
+    let p = position-Some (is_here name) es place d is in
+    sym (by-place name es ∙ ap (λ i. option_map (λ e. e.1) (slice_get es i)) n ∙ ap (option_map (λ e. e.1)) (slice_get-get_or es place d p.0))
+
+pub nowhere : (name : List ℕ) (given es : List (Bor (List ℕ) × Option ℕ)) → None ≡ position (is_here name) given → given ≡ es → None ≡ ids_under (by_text es) name
+nowhere name given es found same =
+    let is : position (is_here name) es ≡ None = ap (position (is_here name)) (sym same) ∙ sym found in
+    let past = ltb-false (position_or_len (is_here name) es) (length es) (no-place (nat_lt (position_or_len (is_here name) es) (length es)) (position_or_len (is_here name) es) is) in
+    sym (by-place name es ∙ ap (option_map (λ e. e.1)) (slice_get_past es (position_or_len (is_here name) es) past))
+
+-- ---- what is written at its place
+
+swapped : {A : Type 0} (a b : Bool) (x y rest : A) → (a ≡ true → b ≡ true → ⊥) → cond a x (cond b y rest) ≡ cond b y (cond a x rest)
+swapped true true x y rest apart = absurd (apart refl refl)
+swapped true false x y rest apart = refl
+swapped false true x y rest apart = refl
+swapped false false x y rest apart = refl
+
+once : {A : Type 0} (b : Bool) (x y rest : A) → cond b x rest ≡ cond b x (cond b y rest)
+once true x y rest = refl
+once false x y rest = refl
+
+same-name : (a b : List ℕ) → bytes_eq a b ≡ true → a ≡ b
+same-name a b h = (bytes_eq-Decides a b).0 h
+
+not-both : (name other : List ℕ) (e : Bor (List ℕ) × Option ℕ) → is_here name e ≡ false → is_here other e ≡ true → bytes_eq name other ≡ true → ⊥
+not-both name other e isnt is same = cc (sym (ap (λ n. is_here n e) (same-name name other same) ∙ is) ∙ isnt)
+
+exchanged : (name other : List ℕ) (es : List (Bor (List ℕ) × Option ℕ)) (place : ℕ) (d : Bor (List ℕ) × Option ℕ) (w : Option ℕ) → place < length es → is_here name (get_or es place d) ≡ true → ((k : ℕ) → k < place → is_here name (get_or es k d) ≡ false) → ids_under (by_text (slice_set es place ((get_or es place d).0, w))) other ≡ cond (bytes_eq name other) (Some w) (ids_under (by_text es) other)
+exchanged name other [] place d w within here before = absurd (omega (arith, within))
+exchanged name other (e ∷ es) zero d w within here before =
+    let text : name ≡ e.0.now = same-name name e.0.now (sym (is_eq-slice_cmp name e.0.now) ∙ here) in
+    let by : is_eq (slice_cmp nat_cmp other e.0.now) ≡ bytes_eq name other = is_eq-slice_cmp other e.0.now ∙ ap (bytes_eq other) (sym text) ∙ nat_list_eq_equiv.symm other name in
+    ap (λ b. cond b (Some w) (ids_under (by_text es) other)) by
+    ∙ once (bytes_eq name other) (Some w) (Some e.1) (ids_under (by_text es) other)
+    ∙ ap (λ b. cond (bytes_eq name other) (Some w) (cond b (Some e.1) (ids_under (by_text es) other))) (sym by)
+exchanged name other (e ∷ es) (suc place) d w within here before =
+    ap (λ o. cond (is_here other e) (Some e.1) o) (exchanged name other es place d w (omega (arith, within)) here (λ k less. before (suc k) (omega (arith, less))))
+    ∙ swapped (is_here other e) (bytes_eq name other) (Some e.1) (Some w) (ids_under (by_text es) other) (not-both name other e (before zero (omega arith)))
+
+pub written : (name other : List ℕ) (given es : List (Bor (List ℕ) × Option ℕ)) (place : ℕ) (e : Bor (List ℕ) × Option ℕ) (w : Option ℕ) → Some place ≡ position (is_here name) given → given ≡ es → e ≡ get_or es place e → ids_under (by_text (slice_set es place (e.0, w))) other ≡ cond (bytes_eq name other) (Some w) (ids_under (by_text es) other)
+written name other given es place e w found same at =
+    let is : position (is_here name) es ≡ Some place = ap (position (is_here name)) (sym same) ∙ sym found in
+    let p = position-Some (is_here name) es place e is in
+    ap (λ (x : Bor (List ℕ) × Option ℕ). ids_under (by_text (slice_set es place (x.0, w))) other) at
+    ∙ exchanged name other es place e w p.0 p.1 p.2
+
+-- names stay
+pub written_rising : (es : List (Bor (List ℕ) × Option ℕ)) (place : ℕ) (e : Bor (List ℕ) × Option ℕ) (w : Option ℕ) → IsStrictlySortedBy (slice_cmp nat_cmp) (texts_of es) → e ≡ get_or es place e → IsStrictlySortedBy (slice_cmp nat_cmp) (texts_of (slice_set es place (e.0, w)))
+written_rising es place e w rising at = subst (IsStrictlySortedBy (slice_cmp nat_cmp)) (sym (map-set_same (λ x. x.0.now) es place (e.0, w) e (ap (λ (x : Bor (List ℕ) × Option ℕ). x.0.now) at))) rising
+
+entered-by : (b : Bool) (id : ℕ) (here other : Option (Option ℕ)) → here ≡ None → (b ≡ true → other ≡ None) → other ≡ cond b (entered id here) other
+entered-by true id None other none same = same refl
+entered-by true id (Some x) other none same = absurd cc
+entered-by false id here other none same = refl
+
+-- nothing is entered under a name that isn't wanted
+pub none_entered : (name other : List ℕ) (id : ℕ) (ids : List (List ℕ × Option ℕ)) → None ≡ ids_under ids name → ids_under ids other ≡ cond (bytes_eq name other) (entered id (ids_under ids name)) (ids_under ids other)
+none_entered name other id ids none = entered-by (bytes_eq name other) id (ids_under ids name) (ids_under ids other) (sym none) (λ same. ap (ids_under ids) (sym (same-name name other same)) ∙ sym none)
