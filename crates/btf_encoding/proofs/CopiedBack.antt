@@ -1,5 +1,5 @@
 -- A record that is copied is read back.
-use Rattle.std.proofs.Common.{◌≡◌, ℕ, ◌≤◌, List, [], ◌∷◌, ◌++◌, Option, None, true, drop, length, take, refl, sym, ap, ◌∙◌, arith, length-drop}
+use Rattle.std.proofs.Common.{◌≡◌, ℕ, ◌≤◌, List, [], ◌∷◌, Option, true, drop, length, take, refl, sym, ap, ◌∙◌, arith, length-drop}
 use Rattle.btf_encoding.specs.Records.{HasRecord, ReadsBack, ReadsSame, Spells, kind_at, record_bytes, record_len, type_as, type_in, with_fallback, without_fallback, words_of}
 use Rattle.btf_encoding.specs.Rewriting.{is_kept}
 use Rattle.btf_encoding.proofs.Kept.{IsBytes, is_kept_back}

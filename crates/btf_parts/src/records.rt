@@ -90,6 +90,32 @@ fn enter_fallback(
     Ok(())
 }
 
+/// Notes the place, kind and name of a record after those of the others, as far as memory reaches.
+fn push_entry(
+    places: &mut Vec<u32>,
+    kinds: &mut Vec<BtfKind>,
+    name_offsets: &mut Vec<u32>,
+    place: u32,
+    kind: BtfKind,
+    name_offset: u32,
+) -> Result<(), AllocError>
+    ensures places { OnOk result (places.new.items ≡ places.old.items ++ place ∷ []) }
+    ensures kinds { OnOk result (kinds.new.items ≡ kinds.old.items ++ kind ∷ []) }
+    ensures names { OnOk result
+        (name_offsets.new.items ≡ name_offsets.old.items ++ name_offset ∷ []) }
+    ensures old_places { OnErr result
+        (take (length places.old.items) places.new.items ≡ places.old.items) }
+    ensures old_kinds { OnErr result
+        (take (length kinds.old.items) kinds.new.items ≡ kinds.old.items) }
+    ensures old_names { OnErr result
+        (take (length name_offsets.old.items) name_offsets.new.items ≡ name_offsets.old.items) }
+{
+    places.push(place)?;
+    kinds.push(kind)?;
+    name_offsets.push(name_offset)?;
+    Ok(())
+}
+
 /// Writes a record after the others, as far as memory reaches.
 fn append(
     bytes: &mut ByteList<'_>,
@@ -137,9 +163,14 @@ fn append(
     if bytes.len() > MOST {
         return Err(BtfError::InvalidTypeInfo);
     }
-    places.push(place)?;
-    kinds.push(t.kind())?;
-    name_offsets.push(t.name_offset())?;
+    push_entry(
+        places,
+        kinds,
+        name_offsets,
+        place,
+        t.kind(),
+        t.name_offset(),
+    )?;
     enter_fallback(fallbacks, places.len() as u32, t)?;
     Ok(())
 }

@@ -135,6 +135,7 @@ impl<'a> Externs<'a> {
     pub fn set_by_name(&mut self, by_name: TextMap<'a, ExternDesc<'a>>)
         ensures { self.new ≡ record self.old { by_name = by_bytes by_name.entry } }
     {
+        // The whole is assigned: the toolchain takes no assignment of a field of this type yet.
         *self = self.replaced(by_name);
     }
 

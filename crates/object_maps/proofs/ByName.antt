@@ -31,7 +31,7 @@ IsRising es = IsStrictlySortedBy order (map (λ e. e.0) es)
 pub same_text : (a b : List ℕ) → bytes_eq a b ≡ true → a ≡ b
 same_text a b h = (bytes_eq-Decides a b).0 h
 
-text-self : (a : List ℕ) → bytes_eq a a ≡ true
+pub text-self : (a : List ℕ) → bytes_eq a a ≡ true
 text-self a = (bytes_eq-Decides a a).1 refl
 
 reversed : (a b : List ℕ) → order a b ≡ Greater → order b a ≡ Less

@@ -7,7 +7,8 @@ pub mod Left
 pub mod Names
 pub mod Places
 pub mod Sayings
-pub mod SectionPlaces
+pub mod NumberedNames
+pub mod SectionIndexes
 pub mod Shown
 pub mod Unreadable
 pub mod Overwriting

@@ -13,6 +13,7 @@ mod maps;
 mod named_symbols;
 mod reading;
 mod section_index;
+mod section_names;
 
 pub use maps::Maps;
 pub use reading::read_maps;

@@ -1,24 +1,24 @@
 //! The sections of variables of a type table by name.
 
-ghost use Rattle.std.specs.Prelude.{◌≡◌, ℕ, List, [], Some, IfOk, OnOk};
+ghost use Rattle.std.specs.Prelude.{◌≡◌, [], ◌∷◌, length, Some, IfOk, OnOk};
 ghost use Rattle.std.specs.Option.{option_map_or, option_or};
-ghost use Rattle.text_order.specs.Orders.{by_text, value_of};
 ghost use Rattle.object_maps.specs.DataSections.{is_data_section};
-ghost use Rattle.object_maps.specs.SectionIndexes.{AddsAt, AddsSection, ArePlaces, AreGrouped, IsIndexOf, IsListOf, sections_at};
+ghost use Rattle.object_maps.specs.NumberedNames.{AddsAt};
+ghost use Rattle.object_maps.specs.SectionIndexes.{AddsSection, HasNoneFrom, IsIndexOf, sections_at};
 
+use crate::section_names::SectionNames;
 use btf_encoding::TypeRef;
 use btf_records::BtfKind;
 use btf_tables::Btf;
 use std::alloc::{AllocError, Global};
-use std::collections::{BTreeMap, VecDeque};
-use text_order::{TextMap, TextMapBuilder};
+use std::collections::BTreeMap;
 
-/// The sections of variables of a table whose names can be read, with these, in order; the last
-/// place of each name among them; and where a name stands that can't be read.
+/// Sections of variables by name, and where a name stands that can't be read.
 #[derive(Debug, Drop)]
-pub(crate) struct SectionList<'t> {
-    pub(crate) sections: VecDeque<(&'t str, TypeRef<'t>)>,
-    pub(crate) places: TextMapBuilder<'t, usize>,
+pub(crate) struct SectionIndex<'t> {
+    pub(crate) names: SectionNames<'t>,
+    /// By the numbers of their names.
+    pub(crate) groups: BTreeMap<usize, Vec<TypeRef<'t>>>,
     pub(crate) unreadable: Option<u32>,
 }
 
@@ -28,14 +28,26 @@ fn is_data_section(t: &TypeRef<'_>) -> bool
     t.kind() == BtfKind::DataSec
 }
 
-impl<'t> SectionList<'t> {
+/// Adds a section to those of a number.
+fn add_at<'t>(
+    groups: &mut BTreeMap<usize, Vec<TypeRef<'t>>>,
+    number: usize,
+    section: TypeRef<'t>,
+) -> Result<(), AllocError>
+    ensures { OnOk result (AddsAt groups.old groups.new number (section.entry ∷ [])) }
+{
+    groups.entry(number)?.or_default().push(section)?;
+    Ok(())
+}
+
+impl<'t> SectionIndex<'t> {
     fn add(&mut self, name: &'t str, section: TypeRef<'t>) -> Result<(), AllocError>
-        requires { ArePlaces self.old.sections.items self.old.places }
-        ensures places { OnOk result (ArePlaces self.new.sections.items self.new.places) }
+        requires { HasNoneFrom self.old.groups (length self.old.names) }
+        ensures none { OnOk result (HasNoneFrom self.new.groups (length self.new.names)) }
         ensures adds { OnOk result (AddsSection self.old self.new name.now section.entry) }
     {
-        self.places.insert(name, self.sections.len())?;
-        self.sections.push_back((name, section))?;
+        let number = self.names.enter(name)?;
+        add_at(&mut self.groups, number, section)?;
         Ok(())
     }
 
@@ -48,13 +60,15 @@ impl<'t> SectionList<'t> {
     }
 
     #[tactic(auto, using(crate::proofs::Unreadable::noted))]
-    fn of_table(alloc: Global, table: &'t Btf<'_>) -> Result<SectionList<'t>, AllocError>
-        ensures list { IfOk result (λ list. IsListOf list table.now) }
-        ensures places { IfOk result (λ list. ArePlaces list.sections.items list.places) }
+    pub(crate) fn of_table(
+        alloc: Global,
+        table: &'t Btf<'_>,
+    ) -> Result<SectionIndex<'t>, AllocError>
+        ensures { IfOk result (λ index. IsIndexOf index table.now) }
     {
-        let mut list = SectionList {
-            sections: VecDeque::new(alloc),
-            places: TextMapBuilder::new(alloc),
+        let mut index = SectionIndex {
+            names: SectionNames::new(alloc),
+            groups: BTreeMap::new(alloc),
             unreadable: None,
         };
         for t in table.types() {
@@ -62,77 +76,18 @@ impl<'t> SectionList<'t> {
                 continue;
             }
             match table.string_at(t.name_offset()) {
-                Ok(name) => list.add(name, t)?,
-                Err(_error) => list.note_unreadable(t.name_offset()),
+                Ok(name) => index.add(name, t)?,
+                Err(_error) => index.note_unreadable(t.name_offset()),
             }
         }
-        Ok(list)
-    }
-}
-
-/// Adds a section to those of a place.
-fn add_at<'t>(
-    groups: &mut BTreeMap<usize, Vec<TypeRef<'t>>>,
-    place: usize,
-    section: TypeRef<'t>,
-) -> Result<(), AllocError>
-    ensures { OnOk result (AddsAt groups.old groups.new place section.entry) }
-{
-    groups.entry(place)?.or_default().push(section)?;
-    Ok(())
-}
-
-/// Sections by the places of their names.
-fn grouped<'t>(
-    alloc: Global,
-    sections: VecDeque<(&'t str, TypeRef<'t>)>,
-    places: &TextMap<'t, usize>,
-) -> Result<BTreeMap<usize, Vec<TypeRef<'t>>>, AllocError>
-    requires { ArePlaces sections.items (by_text places.now) }
-    ensures { IfOk result (AreGrouped sections.entry.items (by_text places.now)) }
-{
-    let mut sections = sections;
-    let mut groups = BTreeMap::new(alloc);
-    while let Some((name, section)) = sections.pop_front() {
-        if let Some(place) = places.get(name) {
-            add_at(&mut groups, *place, section)?;
-        }
-    }
-    Ok(groups)
-}
-
-/// Sections of variables by name, and where a name stands that can't be read. Names are put in
-/// order once: those that are ends of one long text are costly to compare.
-#[derive(Debug, Drop)]
-pub(crate) struct SectionIndex<'t> {
-    pub(crate) places: TextMap<'t, usize>,
-    /// By the place of their name.
-    pub(crate) groups: BTreeMap<usize, Vec<TypeRef<'t>>>,
-    pub(crate) unreadable: Option<u32>,
-}
-
-impl<'t> SectionIndex<'t> {
-    pub(crate) fn of_table(
-        alloc: Global,
-        table: &'t Btf<'_>,
-    ) -> Result<SectionIndex<'t>, AllocError>
-        ensures { IfOk result (λ index. IsIndexOf index table.now) }
-    {
-        let list = SectionList::of_table(alloc, table)?;
-        let places = list.places.build(alloc)?;
-        let groups = grouped(alloc, list.sections, &places)?;
-        Ok(SectionIndex {
-            places,
-            groups,
-            unreadable: list.unreadable,
-        })
+        Ok(index)
     }
 
     /// The sections of a name, in order, if there are any.
     pub(crate) fn get(&self, name: &str) -> Option<&Vec<TypeRef<'t>>>
         ensures { option_map_or (λ v. v.now.items) result [] ≡ sections_at self.now name.now }
     {
-        let place = self.places.get(name)?;
-        self.groups.get(place)
+        let number = self.names.number(name)?;
+        self.groups.get(&number)
     }
 }

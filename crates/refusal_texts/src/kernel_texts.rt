@@ -1,7 +1,11 @@
 //! What is told of what a kernel lacks.
 
 use crate::kernel_files::{KernelFiles, NO_TYPES};
+use crate::names::share_bytes;
 use crate::tables::table_of;
+use btf_encoding::TypeRef;
+use btf_records::BtfKind;
+use btf_tables::Btf;
 use extern_resolution::KsymsError;
 use line_words::FirstNames;
 use object_externs::{Externs, read_externs};
@@ -9,20 +13,31 @@ use object_file::ObjectFile;
 use relocation_errors::{BtfRelocationCause, BtfRelocationError};
 use std::alloc::{AllocError, Global};
 
-/// The externs of an object, where they can be read.
+/// The externs of an object, where they can be read, and its symbols' names don't share bytes.
 fn externs_of<'o>(alloc: Global, object: &'o [u8]) -> Option<Externs<'o>> {
     let file = ObjectFile::parse(alloc, object).ok()?;
+    if share_bytes(file.symbols(), object) {
+        return None;
+    }
     let mut table = table_of(alloc, object)?;
     read_externs(alloc, file.symbols(), &mut table).ok()
 }
 
+/// Whether a record is a variable of this name and of void.
+fn is_void_variable(table: &Btf<'_>, t: &TypeRef<'_>, name: &str) -> bool {
+    t.kind() == BtfKind::Var
+        && table
+            .string_at(t.name_offset())
+            .is_ok_and(|text| text == name)
+        && table
+            .resolve_type(t.btf_type().unwrap_or(0))
+            .is_ok_and(|id| id == 0)
+}
+
 /// Whether the extern of a name has no type, and is looked for among the kernel's symbols.
 fn has_no_type(alloc: Global, object: &[u8], name: &str) -> bool {
-    match externs_of(alloc, object) {
-        Some(externs) => match externs.get(name) {
-            Some(found) => found.type_id.is_none(),
-            None => false,
-        },
+    match table_of(alloc, object) {
+        Some(table) => table.types().any(|t| is_void_variable(&table, &t, name)),
         None => false,
     }
 }

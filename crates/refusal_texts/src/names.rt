@@ -1,6 +1,7 @@
 //! Sections and symbols by their indexes.
 
 use elf64::{ElfFile, SectionView, SymbolView};
+use object_file::ReadSymbol;
 use std::fmt;
 
 /// A section: its index, and its name where that can be read.
@@ -35,6 +36,16 @@ fn symbol_at<'a>(elf: &ElfFile<'a>, index: usize) -> Option<SymbolView<'a>> {
         }
     }
     None
+}
+
+/// Whether the names of an object's symbols have more bytes together than the object, as names that
+/// are ends of one long text. It takes long to put such names in order, only to tell of them.
+pub(crate) fn share_bytes(symbols: &[ReadSymbol<'_>], object: &[u8]) -> bool {
+    let mut bytes: usize = 0;
+    for symbol in symbols {
+        bytes = bytes.saturating_add(symbol.name().len());
+    }
+    bytes > object.len()
 }
 
 fn section_name(object: &[u8], index: usize) -> Option<&str> {

@@ -1,5 +1,6 @@
 //! Maps without a number.
 
+use crate::names::share_bytes;
 use crate::tables::table_of;
 use btf_tables::Btf;
 use line_words::{FirstNames, ShortName};
@@ -37,9 +38,12 @@ fn names_in<'o>(
     without_number(alloc, &maps, settings).ok()
 }
 
-/// The same of an object, where it can be read.
+/// The same of an object, where it can be read, and its symbols' names don't share bytes.
 fn names_of<'o>(alloc: Global, object: &'o [u8], settings: &Settings) -> Option<FirstNames<'o>> {
     let file = ObjectFile::parse(alloc, object).ok()?;
+    if share_bytes(file.symbols(), object) {
+        return None;
+    }
     let table = table_of(alloc, object);
     names_in(alloc, &file, table.as_ref(), settings)
 }

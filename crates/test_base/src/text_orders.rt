@@ -138,6 +138,45 @@ fn values_that_are_entered_by_text(rt: HostRuntime) -> Result<(), Fail> {
     Ok(())
 }
 
+// Texts of 3,000 bytes that differ only in the middle, which have one hash.
+fn long_text(alloc: Global, middle: char) -> Result<String, AllocError> {
+    let mut text = String::new(alloc);
+    for place in 0..3_000u32 {
+        text.push(if place == 1_500 { middle } else { 'a' })?;
+    }
+    Ok(text)
+}
+
+fn end_of(text: &str, len: usize) -> &str {
+    let start = text.len().saturating_sub(len);
+    text.get(start..).unwrap_or("")
+}
+
+#[test]
+fn values_of_long_texts(rt: HostRuntime) -> Result<(), Fail> {
+    let (first, second) = (long_text(rt.alloc(), 'b')?, long_text(rt.alloc(), 'c')?);
+    let missing = long_text(rt.alloc(), 'd')?;
+    let text = first.as_str();
+    let (long_end, short_end) = (end_of(text, 256), end_of(text, 255));
+    let mut builder = TextMapBuilder::new(rt.alloc());
+    builder.insert(text, 1)?;
+    builder.insert(short_end, 2)?;
+    builder.insert(second.as_str(), 3)?;
+    builder.insert(long_end, 4)?;
+    builder.insert(text, 5)?;
+    let map = builder.build(rt.alloc())?;
+    for values in [&map, &map.try_clone()?] {
+        assert!(rt; values.get(text).copied() == Some(5));
+        assert!(rt; values.get(second.as_str()).copied() == Some(3));
+        assert!(rt; values.get(short_end).copied() == Some(2));
+        assert!(rt; values.get(long_end).copied() == Some(4));
+        assert!(rt; values.get(missing.as_str()).is_none());
+        assert!(rt; values.get(end_of(text, 254)).is_none());
+        assert!(rt; values.get(end_of(text, 257)).is_none());
+    }
+    Ok(())
+}
+
 #[test]
 fn no_values_by_text(rt: HostRuntime) -> Result<(), Fail> {
     let map: TextMap<'_, u32> = TextMap::new(rt.alloc());

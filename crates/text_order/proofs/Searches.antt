@@ -43,7 +43,7 @@ above-between x y t less less' = by (below_or_not (shared t y) (shared t x)) whe
       let wrong : Less ≡ Greater = lesser.less ∙ other in cc)
   by (inr le) = let one = shared_sym t x in let two = shared_sym t y in omega (arith, le, one, two)
 
-less-apart : (text other : List ℕ) → slice_cmp nat_cmp other text ≡ Less → is_eq (slice_cmp nat_cmp text other) ≡ false
+pub less-apart : (text other : List ℕ) → slice_cmp nat_cmp other text ≡ Less → is_eq (slice_cmp nat_cmp text other) ≡ false
 less-apart text other less = ap is_eq (nat_list_cmp_total.antisymm text other ∙ ap ordering_reverse less)
 
 -- ---- the first place of a text
@@ -63,7 +63,7 @@ module _ {X : Type 0} (p : X → Bool) where
   none-before : (m : ℕ) → nat_lt 0 (suc m) ≡ true
   none-before m = grind (arith, nat_tests)
 
-  position-cons : (x : X) (xs : List X) → position p (x ∷ xs) ≡ cond (p x) (Some 0) (option_map (λ i. 1 + i) (position p xs))
+  pub position-cons : (x : X) (xs : List X) → position p (x ∷ xs) ≡ cond (p x) (Some 0) (option_map (λ i. 1 + i) (position p xs))
   position-cons x xs = by (p x) where
     by : (t : Bool) → cond (nat_lt (cond (not t) (1 + position_or_len p xs) 0) (suc (length xs))) (Some (cond (not t) (1 + position_or_len p xs) 0)) None ≡ cond t (Some 0) (option_map (λ i. 1 + i) (position p xs))
     by true = rw (none-before (length xs)) refl
@@ -81,7 +81,7 @@ module _ {X : Type 0} (p : X → Bool) where
     by : (i : ℕ) → i ≡ 0 + i
     by i = omega arith
 
-  Misses : List X → Type 0
+  unfoldable pub Misses : List X → Type 0
   Misses xs = AllByRecursion (λ x. p x ≡ false) xs
 
   -- after those that don't pass
@@ -92,7 +92,7 @@ module _ {X : Type 0} (p : X → Bool) where
       position-cons x (xs ++ ys)
       ∙ rw (misses.0, position-after xs ys misses.1) (added (length xs) (position p ys))
 
-  position-none : (xs : List X) → Misses xs → position p xs ≡ None
+  pub position-none : (xs : List X) → Misses xs → position p xs ≡ None
   unfolding Misses
   position-none [] misses = refl
   position-none (x ∷ xs) misses = position-cons x xs ∙ rw (misses.0, position-none xs misses.1) refl

@@ -4,12 +4,13 @@
 //! that repeats itself. So in a merge each text is kept with what it shares with the one before it,
 //! which isn't compared again (Ng and Kakehi, "Merging String Sequences by Longest Common
 //! Prefixes", 2008). A text is found by binary search, in which what it shares with both texts
-//! around the range that is left isn't compared again.
+//! around the range that is left isn't compared again; a long one in a map by a hash of its ends.
 #![tactic(auto)]
 
 mod beginnings;
 mod builder;
 mod iter;
+mod long_texts;
 mod order;
 mod run;
 mod search;

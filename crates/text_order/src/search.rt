@@ -35,10 +35,11 @@ fn place_between<T>(entries: &[(&str, T)], text: &[u8], below: usize, above: usi
     }
 }
 
-/// The place of a text, by its bytes, among entries whose texts strictly rise, in the order of their
-/// bytes; `None` where no entry has the text. By binary search: bytes that the text shares with the nearest
-/// lesser and the nearest greater one that it was compared with aren't compared again, so that it
-/// is compared a few times in full, or, where it belongs at an end of the list, at each step.
+/// The place of a text, by its bytes, among entries whose texts strictly rise, in the order of
+/// their bytes; `None` where no entry has the text. By binary search: bytes that the text shares
+/// with the nearest lesser and the nearest greater one that it was compared with aren't compared
+/// again, so that it is compared a few times in full, or, where it belongs at an end of the list,
+/// at each step.
 pub fn place_of<T>(entries: &[(&str, T)], text: &[u8]) -> Option<usize>
     requires { IsStrictlySortedBy (slice_cmp nat_cmp) (texts_of entries.now) }
     ensures { result ≡ position (λ e. is_at (slice_cmp nat_cmp text.now) e.0.now) entries.now }

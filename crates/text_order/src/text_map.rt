@@ -10,16 +10,18 @@ ghost use Rattle.std.specs.Ordering.{nat_cmp};
 ghost use Rattle.text_order.specs.Orders.{HasLast, by_text, texts_of, value_of};
 
 use crate::iter::Iter;
+use crate::long_texts::{places_clone, places_of, text_place};
 use crate::order::in_text_order;
-use crate::search::place_of;
 use std::alloc::{AllocError, Global};
-use std::collections::VecDeque;
+use std::collections::{BTreeMap, VecDeque};
 use std::marker::Model;
 
 /// Values by text, in the order of the bytes of their texts.
 #[derive(Debug, Drop)]
 pub struct TextMap<'a, T> {
     entries: Vec<(&'a str, T)>,
+    /// The places of long texts by their hashes.
+    places: BTreeMap<u64, usize>,
 }
 
 impl<'a, T> Model for TextMap<'a, T> {
@@ -28,13 +30,15 @@ impl<'a, T> Model for TextMap<'a, T> {
     ghost use Rattle.std.specs.Cmp.Lexicographic.{slice_cmp};
     ghost use Rattle.std.specs.List.Sorted.{IsStrictlySortedBy};
     ghost use Rattle.std.specs.Ordering.{nat_cmp};
+    ghost use Rattle.text_order.specs.LongTexts.{HavePlaces};
     ghost use Rattle.text_order.specs.Orders.{texts_of};
 
     ghost Value = { List (Bor (List ℕ) × T) };
 
     ghost view = { λ m. m.entries.items };
 
-    ghost invariant = { λ m. IsStrictlySortedBy (slice_cmp nat_cmp) (texts_of m.entries.items) };
+    ghost invariant = { λ m. IsStrictlySortedBy (slice_cmp nat_cmp) (texts_of m.entries.items)
+        × HavePlaces m.places.entries m.entries.items };
 }
 
 impl<'a, T> TextMap<'a, T> {
@@ -44,6 +48,7 @@ impl<'a, T> TextMap<'a, T> {
     {
         TextMap {
             entries: Vec::new(alloc),
+            places: BTreeMap::new(alloc),
         }
     }
 
@@ -58,8 +63,11 @@ impl<'a, T> TextMap<'a, T> {
             IsStrictlySortedBy (slice_cmp nat_cmp) (texts_of map)) }
         ensures last { IfOk result (λ map. HasLast entries.entry.items map) }
     {
+        let ordered = in_text_order(alloc, entries)?;
+        let places = places_of(alloc, &ordered)?;
         Ok(TextMap {
-            entries: in_text_order(alloc, entries)?,
+            entries: ordered,
+            places,
         })
     }
 
@@ -83,7 +91,7 @@ impl<'a, T> TextMap<'a, T> {
             ≡ lookup (is_at (λ key. slice_cmp nat_cmp text.now key.now)) self.now }
         ensures by_text { option_copied result ≡ value_of text.now (by_text self.now) }
     {
-        let place = place_of(&self.entries, text.as_bytes())?;
+        let place = text_place(&self.entries, &self.places, text)?;
         Some(&self.entries[place].1)
     }
 
@@ -95,6 +103,7 @@ impl<'a, T> TextMap<'a, T> {
     {
         Ok(TextMap {
             entries: self.entries.clone()?,
+            places: places_clone(&self.places)?,
         })
     }
 

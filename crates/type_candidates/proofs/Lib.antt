@@ -8,3 +8,4 @@ pub mod OtherTypes
 pub mod PickedTypes
 pub mod SeenBlocks
 pub mod SeenTypes
+pub mod WantedById

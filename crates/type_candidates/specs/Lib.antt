@@ -1,3 +1,4 @@
 pub mod Candidates
 pub mod NamedTypes
 pub mod WantedBeginnings
+pub mod WantedTypes

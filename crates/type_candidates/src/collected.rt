@@ -13,6 +13,7 @@ use crate::search::candidates;
 use crate::walk::note_all;
 use crate::wanted::WantedType;
 use crate::wanted_names::WantedNames;
+use crate::wanted_types::WantedTypes;
 use btf_records::BtfKind;
 use btf_tables::Btf;
 use std::alloc::{AllocError, Global};
@@ -79,22 +80,19 @@ fn no_places(alloc: Global, count: usize) -> Result<Vec<Places>, AllocError>
     Ok(named)
 }
 
-/// The names that are wanted for local types that are there and whose names can be read, and what
-/// kinds.
+/// The names that are wanted, and what kinds.
 fn wanted_names<'l>(
-    local: &'l Btf<'_>,
-    type_ids: &[u32],
+    alloc: Global,
+    types: &WantedTypes<'l>,
     kinds: &mut [bool; 20],
 ) -> Result<Vec<&'l str>, AllocError> {
-    let mut names = Vec::new(local.allocator());
-    for type_id in type_ids {
-        if let Ok(wanted) = WantedType::find(local, *type_id) {
-            kinds[wanted.kind() as usize] = true;
-            if wanted.or_enum64() {
-                kinds[ENUM64] = true;
-            }
-            names.push(wanted.name())?;
+    let mut names = Vec::new(alloc);
+    for (_id, wanted) in types.by_id().iter() {
+        kinds[wanted.kind() as usize] = true;
+        if wanted.or_enum64() {
+            kinds[ENUM64] = true;
         }
+        names.push(wanted.name())?;
     }
     Ok(names)
 }
@@ -179,18 +177,17 @@ fn first_table<'t, 'a>(targets: &'t [Btf<'a>]) -> &'t [Btf<'a>]
 }
 
 impl<'t, 'l> Candidates<'t, 'l> {
-    /// The candidates for local types of these ids, in these tables.
+    /// The candidates for wanted types, in these tables.
     #[tactic(auto, using(crate::proofs::SeenTypes::none_seen))]
     pub fn collect(
-        local: &'l Btf<'_>,
-        type_ids: &[u32],
+        alloc: Global,
+        types: &WantedTypes<'l>,
         targets: &'t [Btf<'t>],
     ) -> Result<Candidates<'t, 'l>, AllocError>
         ensures { IfOk result (λ candidates. candidates ≡ targets.now) }
     {
-        let alloc = local.allocator();
         let mut kinds = [false; 20];
-        let wanted = wanted_names(local, type_ids, &mut kinds)?;
+        let wanted = wanted_names(alloc, types, &mut kinds)?;
         let mut named = no_places(alloc, wanted.len())?;
         let names = WantedNames::of(alloc, &wanted)?;
         let mut unreadable = [false; 20];

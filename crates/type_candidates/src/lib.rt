@@ -12,9 +12,11 @@ mod sighting;
 mod walk;
 mod wanted;
 mod wanted_names;
+mod wanted_types;
 
 pub use collected::Candidates;
 pub use error::CandidateError;
 pub use kernel_type::KernelType;
 pub use search::candidates;
 pub use wanted::WantedType;
+pub use wanted_types::WantedTypes;

@@ -159,7 +159,7 @@ bad_path : (subject : Subject) (local : Table) (path : AccessPath) (targets : Li
 unfolding paths_of
 bad_path subject local path targets done cs i e lt is = rw (this_candidate cs i lt, is) refl
 
-passed_on : {T : Type 0} (result : Result T TypeRelocationError) (e : TypeRelocationError) (P : TypeRelocationError → Type 0) → IsErrAnd result (λ f. f ≡ e) → P e → IfErr result P
+pub passed_on : {T : Type 0} (result : Result T TypeRelocationError) (e : TypeRelocationError) (P : TypeRelocationError → Type 0) → IsErrAnd result (λ f. f ≡ e) → P e → IfErr result P
 passed_on (Ok x) e P h p = tt
 passed_on (Err f) e P h p = subst P (sym h) p
 

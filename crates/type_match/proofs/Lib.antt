@@ -6,3 +6,4 @@ pub mod OneTable
 pub mod OutcomeTables
 pub mod OutcomesAlike
 pub mod TableFinders
+pub mod WantedCandidates

@@ -122,6 +122,16 @@ searched_tables kinds.TypeIdLocal targets = []
 searched_tables kinds.TypeIdTarget targets = take 1 targets
 searched_tables _ targets = targets
 
+-- the candidates for the local type of an id
+abbrev pub candidates_of : RelocationKind
+    → Table
+    → ℕ
+    → List Table
+    → Result (List KernelType) TypeRelocationError
+candidates_of kind local id targets =
+    with_own_type (wanted_for local id) (λ wanted.
+    with_candidates (candidates wanted (searched_tables kind targets)) (λ found. Ok found))
+
 -- all candidates are found before one is matched
 abbrev pub kernel_matches : RelocationKind
     → Table

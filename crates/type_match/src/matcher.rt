@@ -3,11 +3,11 @@
 ghost use Rattle.std.specs.Prelude.{◌≡◌, ◌≢◌, [], true, IfOk, IfErr, IfSome, Ok, Err};
 ghost use Rattle.access_paths.specs.LocalPaths.{local_path};
 ghost use Rattle.access_paths.specs.Subjects.{subject_of};
-ghost use Rattle.type_candidates.specs.Candidates.{candidates};
+ghost use Rattle.type_candidates.specs.Candidates.{candidates, wanted_for};
 ghost use Rattle.type_candidates.specs.declared.error.CandidateError.TheVariants.{OutOfMemory as NoMemory};
 ghost use Rattle.type_match.specs.FoundPaths.{ArePathsOf, found_paths, is_part};
 ghost use Rattle.type_match.specs.KnownOutcomes.{IsOutcome};
-ghost use Rattle.type_match.specs.Matches.{kernel_matches, searched_tables};
+ghost use Rattle.type_match.specs.Matches.{candidates_of, kernel_matches, searched_tables};
 ghost use Rattle.type_match.specs.RelocationOutcomes.{IsTableOf, relocation_outcome};
 ghost use Rattle.type_match.specs.declared.error.TypeRelocationError.TheVariants.{OutOfMemory};
 
@@ -23,13 +23,17 @@ use ebpf_items::RelocationKind;
 use std::alloc::{AllocError, Global};
 use std::collections::BTreeMap;
 use std::marker::Model;
-use type_candidates::{CandidateError, Candidates, KernelType, WantedType, candidates};
+use type_candidates::{
+    CandidateError, Candidates, KernelType, WantedType, WantedTypes, candidates,
+};
 
 /// An object's own types, and a kernel's, with the candidates of relocations.
 #[derive(Debug)]
 pub struct TypeMatcher<'m, 'c, 'l> {
     local: &'m Btf<'m>,
     targets: &'m [Btf<'m>],
+    /// What is wanted for local types, where it was found for all at once.
+    wanted: Option<WantedTypes<'m>>,
     /// The candidates, where they were collected.
     collected: Option<Candidates<'m, 'm>>,
     /// Those that were collected before, and serve others too.
@@ -48,6 +52,7 @@ impl<'m, 'c, 'l> Drop for TypeMatcher<'m, 'c, 'l> {
         let TypeMatcher {
             local: _,
             targets: _,
+            wanted: _wanted,
             collected: _collected,
             shared: _shared,
             known: _known,
@@ -73,11 +78,12 @@ impl<'m, 'c, 'l> Model for TypeMatcher<'m, 'c, 'l> {
         × AreOutcomes m.local.now m.targets.now (values_of m.known.entries)
         × AreKnown m.local.now m.targets.now (values_of m.paths.entries)
         × (m.finders ≡ m.targets.now)
-        × (IfSome m.shared (λ c. c.now ≡ m.targets.now)) };
+        × (IfSome m.shared (λ c. c.now ≡ m.targets.now))
+        × (IfSome m.wanted (λ w. w ≡ m.local.now)) };
 }
 
 /// The local types of relocations that are looked for in a kernel's types, each once.
-fn wanted_types(local: &Btf<'_>, relocations: &[TypeRelocation]) -> Result<Vec<u32>, AllocError> {
+fn wanted_ids(local: &Btf<'_>, relocations: &[TypeRelocation]) -> Result<Vec<u32>, AllocError> {
     let mut type_ids = Vec::new(local.allocator());
     for relocation in relocations {
         if relocation.kind != RelocationKind::TypeIdLocal {
@@ -89,23 +95,34 @@ fn wanted_types(local: &Btf<'_>, relocations: &[TypeRelocation]) -> Result<Vec<u
     Ok(type_ids)
 }
 
-/// The candidates for some local types; none where there are no such types.
+/// What is wanted for the types that relocations are about.
+fn wanted_types<'l>(
+    local: &'l Btf<'l>,
+    relocations: &[TypeRelocation],
+) -> Result<WantedTypes<'l>, AllocError>
+    ensures { IfOk result (λ wanted. wanted ≡ local.now) }
+{
+    let type_ids = wanted_ids(local, relocations)?;
+    WantedTypes::find(local, type_ids.as_slice())
+}
+
+/// The candidates for wanted types; none where nothing is wanted.
 fn collected_for<'t, 'l>(
-    local: &'l Btf<'_>,
-    type_ids: &[u32],
+    alloc: Global,
+    wanted: &WantedTypes<'l>,
     targets: &'t [Btf<'t>],
 ) -> Result<Option<Candidates<'t, 'l>>, AllocError>
     ensures { IfOk result (λ found. IfSome found (λ c. c ≡ targets.now)) }
 {
-    if type_ids.is_empty() {
+    if wanted.is_empty() {
         return Ok(None);
     }
-    let found = Candidates::collect(local, type_ids, targets)?;
+    let found = Candidates::collect(alloc, wanted, targets)?;
     Ok(Some(found))
 }
 
 /// The candidates for the types that relocations are about, for which each of a kernel's tables is
-/// gone over once; none where they are about no types of a kernel.
+/// gone over once; none where nothing is wanted of a kernel's types.
 pub fn collected<'t, 'l>(
     local: &'l Btf<'_>,
     relocations: &[TypeRelocation],
@@ -113,8 +130,8 @@ pub fn collected<'t, 'l>(
 ) -> Result<Option<Candidates<'t, 'l>>, AllocError>
     ensures { IfOk result (λ found. IfSome found (λ c. c ≡ targets.now)) }
 {
-    let type_ids = wanted_types(local, relocations)?;
-    collected_for(local, type_ids.as_slice(), targets)
+    let wanted = wanted_types(local, relocations)?;
+    collected_for(local.allocator(), &wanted, targets)
 }
 
 /// Those of collected candidates that a kind asks for.
@@ -145,6 +162,7 @@ impl<'m, 'c, 'l> TypeMatcher<'m, 'c, 'l> {
         TypeMatcher {
             local,
             targets,
+            wanted: None,
             collected: None,
             shared: None,
             known: BTreeMap::new(local.allocator()),
@@ -164,10 +182,12 @@ impl<'m, 'c, 'l> TypeMatcher<'m, 'c, 'l> {
         ensures { IfOk result (λ matcher.
             matcher ≡ record { local = local.now; targets = targets.now }) }
     {
-        let collected = collected(local, relocations, targets)?;
+        let wanted = wanted_types(local, relocations)?;
+        let collected = collected_for(local.allocator(), &wanted, targets)?;
         Ok(TypeMatcher {
             local,
             targets,
+            wanted: Some(wanted),
             collected,
             shared: None,
             known: BTreeMap::new(local.allocator()),
@@ -190,6 +210,7 @@ impl<'m, 'c, 'l> TypeMatcher<'m, 'c, 'l> {
         TypeMatcher {
             local,
             targets,
+            wanted: None,
             collected: None,
             shared: Some(candidates),
             known: BTreeMap::new(local.allocator()),
@@ -219,7 +240,42 @@ impl<'m, 'c, 'l> TypeMatcher<'m, 'c, 'l> {
         }
     }
 
+    /// What is wanted for a local type, where it was found before.
+    fn wanted(&self, type_id: u32) -> Option<&WantedType<'m>>
+        ensures { IfSome result (λ wanted. wanted_for self.now.local type_id ≡ Ok wanted.now) }
+    {
+        match &self.wanted {
+            Some(wanted) => wanted.get(type_id),
+            None => None,
+        }
+    }
+
+    /// The candidates for the local type of an id.
+    fn candidates_of(
+        &self,
+        kind: RelocationKind,
+        type_id: u32,
+    ) -> Result<Vec<KernelType>, TypeRelocationError>
+        ensures value { IfOk result (λ found.
+            candidates_of kind self.now.local type_id self.now.targets ≡ Ok found.items) }
+        ensures refused { IfErr result (λ e.
+            e ≢ OutOfMemory
+            → candidates_of kind self.now.local type_id self.now.targets ≡ Err e) }
+    {
+        if let Some(wanted) = self.wanted(type_id) {
+            let found = self.candidates(kind, wanted)?;
+            return Ok(found);
+        }
+        let wanted = match WantedType::find(self.local, type_id) {
+            Ok(wanted) => wanted,
+            Err(error) => return Err(TypeRelocationError::Local(AccessError::BtfError(error))),
+        };
+        let found = self.candidates(kind, &wanted)?;
+        Ok(found)
+    }
+
     /// What `kernel_matches` answers.
+    #[tactic(auto, using(crate::proofs::WantedCandidates::matches_among, crate::proofs::WantedCandidates::matches_refused))]
     pub fn kernel_matches(
         &self,
         kind: RelocationKind,
@@ -231,16 +287,12 @@ impl<'m, 'c, 'l> TypeMatcher<'m, 'c, 'l> {
             e ≢ OutOfMemory
             → kernel_matches kind self.now.local path.now self.now.targets ≡ Err e) }
     {
-        let wanted = match WantedType::find(self.local, path.type_id) {
-            Ok(wanted) => wanted,
-            Err(error) => return Err(TypeRelocationError::Local(AccessError::BtfError(error))),
-        };
-        let found = self.candidates(kind, &wanted)?;
+        let found = self.candidates_of(kind, path.type_id)?;
         matches_of(kind, self.local, path, self.targets, found.as_slice())
     }
 
     /// The paths in all tables that lead to a part of a local type.
-    #[tactic(auto, using(crate::proofs::FoundPaths::all_searched))]
+    #[tactic(auto, using(crate::proofs::WantedCandidates::paths_among))]
     fn found_paths(
         &mut self,
         kind: RelocationKind,
@@ -255,11 +307,7 @@ impl<'m, 'c, 'l> TypeMatcher<'m, 'c, 'l> {
             → found_paths (subject_of kind) self.old.local path.now self.old.targets ≡ Err e) }
         ensures same { self.new ≡ self.old }
     {
-        let wanted = match WantedType::find(self.local, path.type_id) {
-            Ok(wanted) => wanted,
-            Err(error) => return Err(TypeRelocationError::Local(AccessError::BtfError(error))),
-        };
-        let found = self.candidates(kind, &wanted)?;
+        let found = self.candidates_of(kind, path.type_id)?;
         paths_of(
             subject_of(kind),
             self.local,

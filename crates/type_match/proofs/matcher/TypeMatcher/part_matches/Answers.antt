@@ -24,7 +24,7 @@ invariant_of-self-2 c =
     let here = paths_here m.local m.targets r c.args.path.now c.in_ok-paths.paths.items c.requires.path c.in_ok-paths.ensures.value in
     let inside = subst (λ (t : Matched). ArePathsOf t.local t.targets r c.in_ok-paths.paths.items) (sym (c.self-2.view_is ∙ c.in_ok-paths.ensures.same)) here in
     let known = paths_more _ c.self-2.inside.paths.entries _ (record { relocation = r; paths = c.in_ok-paths.paths }) c.self-2.inside.local.now c.self-2.inside.targets.now c.self-2.invariant.2 inside in
-    (c.self-2.invariant.0, c.self-2.invariant.1, rw c.in_ok-insert.ensures.entries known, c.self-2.invariant.3, c.self-2.invariant.4)
+    (c.self-2.invariant.0, c.self-2.invariant.1, rw c.in_ok-insert.ensures.entries known, c.self-2.invariant.3, c.self-2.invariant.4, c.self-2.invariant.5)
 
 pub returns-clause-value : goal.returns-clause-value
 returns-clause-value c =
