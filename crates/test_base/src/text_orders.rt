@@ -152,28 +152,47 @@ fn end_of(text: &str, len: usize) -> &str {
     text.get(start..).unwrap_or("")
 }
 
+fn long_values<'a>(
+    alloc: Global,
+    first: &'a str,
+    second: &'a str,
+) -> Result<TextMap<'a, u32>, AllocError> {
+    let mut builder = TextMapBuilder::new(alloc);
+    for (text, number) in [
+        (first, 1),
+        (end_of(first, 255), 2),
+        (second, 3),
+        (end_of(first, 256), 4),
+        (first, 5),
+    ] {
+        builder.insert(text, number)?;
+    }
+    builder.build(alloc)
+}
+
+fn value_of(values: &TextMap<'_, u32>, text: &str) -> u32 {
+    values.get(text).copied().unwrap_or(0)
+}
+
+fn are_long_values(values: &TextMap<'_, u32>, first: &str, second: &str, missing: &str) -> bool {
+    value_of(values, first) == 5
+        && value_of(values, second) == 3
+        && value_of(values, missing) == 0
+        && value_of(values, end_of(first, 254)) == 0
+        && value_of(values, end_of(first, 255)) == 2
+        && value_of(values, end_of(first, 256)) == 4
+        && value_of(values, end_of(first, 257)) == 0
+}
+
 #[test]
 fn values_of_long_texts(rt: HostRuntime) -> Result<(), Fail> {
-    let (first, second) = (long_text(rt.alloc(), 'b')?, long_text(rt.alloc(), 'c')?);
+    let first = long_text(rt.alloc(), 'b')?;
+    let second = long_text(rt.alloc(), 'c')?;
     let missing = long_text(rt.alloc(), 'd')?;
-    let text = first.as_str();
-    let (long_end, short_end) = (end_of(text, 256), end_of(text, 255));
-    let mut builder = TextMapBuilder::new(rt.alloc());
-    builder.insert(text, 1)?;
-    builder.insert(short_end, 2)?;
-    builder.insert(second.as_str(), 3)?;
-    builder.insert(long_end, 4)?;
-    builder.insert(text, 5)?;
-    let map = builder.build(rt.alloc())?;
-    for values in [&map, &map.try_clone()?] {
-        assert!(rt; values.get(text).copied() == Some(5));
-        assert!(rt; values.get(second.as_str()).copied() == Some(3));
-        assert!(rt; values.get(short_end).copied() == Some(2));
-        assert!(rt; values.get(long_end).copied() == Some(4));
-        assert!(rt; values.get(missing.as_str()).is_none());
-        assert!(rt; values.get(end_of(text, 254)).is_none());
-        assert!(rt; values.get(end_of(text, 257)).is_none());
-    }
+    let map = long_values(rt.alloc(), first.as_str(), second.as_str())?;
+    assert!(rt; are_long_values(&map, first.as_str(), second.as_str(), missing.as_str()));
+    let copy = map.try_clone()?;
+    assert!(rt; are_long_values(&copy, first.as_str(), second.as_str(), missing.as_str()));
     Ok(())
 }
 
