@@ -6,7 +6,7 @@ import os
 TOP = os.path.dirname(os.path.dirname(os.path.dirname(os.path.realpath(__file__))))
 
 # How long the first proof of bpf_prepare takes, as users are told.
-PROOF_MINUTES = 40
+PROOF_MINUTES = 35
 PROOF_PROCESSORS = 4
 
 # What a check reads of a crate, besides its line in crates.txt.
