@@ -13,7 +13,8 @@ use object_file::ObjectFile;
 use relocation_errors::{BtfRelocationCause, BtfRelocationError};
 use std::alloc::{AllocError, Global};
 
-/// The externs of an object, where they can be read, and its symbols' names don't share bytes.
+/// The externs of an object, where they can be read. Where its symbols' names share bytes, they
+/// aren't read again.
 fn externs_of<'o>(alloc: Global, object: &'o [u8]) -> Option<Externs<'o>> {
     let file = ObjectFile::parse(alloc, object).ok()?;
     if share_bytes(file.symbols(), object) {
@@ -34,7 +35,8 @@ fn is_void_variable(table: &Btf<'_>, t: &TypeRef<'_>, name: &str) -> bool {
             .is_ok_and(|id| id == 0)
 }
 
-/// Whether the extern of a name has no type, and is looked for among the kernel's symbols.
+/// Whether the types of an object have a variable of this name and of void: such an extern is looked
+/// for among the kernel's symbols. The externs aren't read again for it.
 fn has_no_type(alloc: Global, object: &[u8], name: &str) -> bool {
     match table_of(alloc, object) {
         Some(table) => table.types().any(|t| is_void_variable(&table, &t, name)),

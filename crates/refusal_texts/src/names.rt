@@ -1,4 +1,4 @@
-//! Sections and symbols by their indexes.
+//! Sections and symbols by their indexes, and whether names share bytes.
 
 use elf64::{ElfFile, SectionView, SymbolView};
 use object_file::ReadSymbol;

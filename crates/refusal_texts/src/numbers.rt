@@ -38,7 +38,8 @@ fn names_in<'o>(
     without_number(alloc, &maps, settings).ok()
 }
 
-/// The same of an object, where it can be read, and its symbols' names don't share bytes.
+/// The same of an object, where it can be read. Where its symbols' names share bytes, the maps
+/// aren't read again.
 fn names_of<'o>(alloc: Global, object: &'o [u8], settings: &Settings) -> Option<FirstNames<'o>> {
     let file = ObjectFile::parse(alloc, object).ok()?;
     if share_bytes(file.symbols(), object) {
