@@ -41,7 +41,7 @@ pub record IsSplit (ps qs : List OpenPair) (p q : OpenPair) : Type 0 where
   pub front : ps ≡ qs
   pub last : p ≡ q
 
-split-by_last : (ps qs : List OpenPair) (p q : OpenPair) → ps ++ p ∷ [] ≡ qs ++ q ∷ [] → IsSplit ps qs p q
+pub split-by_last : (ps qs : List OpenPair) (p q : OpenPair) → ps ++ p ∷ [] ≡ qs ++ q ∷ [] → IsSplit ps qs p q
 split-by_last [] [] p q e = record { front = refl; last = cc }
 split-by_last [] (b ∷ []) p q e = absurd cc
 split-by_last [] (b ∷ c ∷ qs) p q e = absurd cc

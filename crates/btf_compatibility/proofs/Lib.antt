@@ -7,11 +7,15 @@ pub mod Exchanged
 pub mod FieldRounds
 pub mod FieldsAgreed
 pub mod FieldsExchanged
+pub mod FirstChains
+pub mod FirstParts
 pub mod FreePairs
 pub mod Held
 pub mod LocalsAgreed
 pub mod OpenPairs
 pub mod Parts
+pub mod Pigeonhole
+pub mod Rings
 pub mod Rounds
 pub mod Stacks
 pub mod States
