@@ -4,5 +4,6 @@ pub mod Faultless
 pub mod Passes
 pub mod Questions
 pub mod Kept
+pub mod OwnTexts
 pub mod Stays
 pub mod Stretches

@@ -85,7 +85,7 @@ least_filler_var int a = record {
   after_types = refl;
 }
 
-least_filler : (a : Added) → IsAtLeast a (with_filler a)
+pub least_filler : (a : Added) → IsAtLeast a (with_filler a)
 least_filler a = elim (is_some a.filler) as (λ b. IsAtLeast a (cond b a (with_filler_var (next_id a) (with_filler_int a)))) [
   | true ↦ least_itself a
   | false ↦ least_then a (with_filler_int a) (with_filler_var (next_id a) (with_filler_int a)) (least_filler_int a) (least_filler_var (next_id a) (with_filler_int a))
@@ -115,7 +115,7 @@ least_enum64 known a = elim (known.grants feature.Enum64) as (λ b. IsAtLeast a 
   | false ↦ least_placeholder a
 ]
 
-least_after : (known : Facts) (a : Added) (t : BtfType) → IsAtLeast a (after known a t)
+pub least_after : (known : Facts) (a : Added) (t : BtfType) → IsAtLeast a (after known a t)
 least_after known a types.Unknown = least_itself a
 least_after known a (types.Fwd t) = least_itself a
 least_after known a (types.Const t) = least_itself a

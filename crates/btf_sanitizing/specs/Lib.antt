@@ -7,6 +7,7 @@ pub mod Kept
 pub mod Knowledge
 pub mod Names
 pub mod Needs
+pub mod OwnTexts
 pub mod Rewritten
 pub mod Sanitized
 pub mod Stays

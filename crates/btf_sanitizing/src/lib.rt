@@ -8,6 +8,7 @@ mod byte_index;
 mod items;
 mod known;
 mod names;
+mod own_texts;
 mod rows;
 mod section;
 mod signature;

@@ -15,6 +15,7 @@ ghost use Rattle.btf_parts.specs.Growth.{AreFew, AreTooMany};
 use crate::additions::Additions;
 use crate::byte_index::{ByteIndex, SHORT};
 use crate::known::Known;
+use crate::own_texts::own_texts_fit;
 use crate::rows::rewritten;
 use crate::staying::stays;
 use btf_encoding::TypeRef;
@@ -187,9 +188,12 @@ fn rewritten_table<'a>(
     ensures accepted { OnOk result
         (IsFaultless (SanitizingFault known.now.types.now.order (facts_of known.now))) }
 {
+    let names = section_names(alloc, known)?;
+    if !own_texts_fit(known, &names) {
+        return Err(BtfError::InvalidTypeInfo);
+    }
     let mut additions = Additions::new(alloc, known.strings.len(), known.types.len());
     let mut records = TypeRecords::new(alloc, known.types.order());
-    let names = section_names(alloc, known)?;
     rewrite_all(alloc, known, &names, &mut additions, &mut records)?;
     let (texts, types) = additions.into_parts();
     push_all(&mut records, types)?;

@@ -1,11 +1,15 @@
-use Rattle.std.proofs.Common.{◌≡◌, ◌≢◌, ◌+◌, ◌<◌, ◌^◌, ap, ◌∙◌, length}
+use Rattle.std.proofs.Common.{◌≡◌, ◌≢◌, ◌+◌, ◌<◌, ◌^◌, ap, refl, ◌∙◌, length}
 use Rattle.btf_records.specs.declared.error.BtfError.TheVariants.{OutOfMemory}
 use Rattle.btf_parts.specs.Layout.{RecordList}
 use Rattle.btf_sanitizing.specs.Knowledge.{facts_of}
 use Rattle.btf_sanitizing.specs.Sanitized.{AnyFault, SanitizingFault, all_added, at_first, sanitized_types}
+use Rattle.btf_sanitizing.proofs.OwnTexts.{refused_own}
 use Rattle.btf_sanitizing.proofs.Passes.{faultless_all, passed_on, refused_all}
 use Rattle.btf_sanitizing.proofs.table.rewritten_table.Goals as goal
 use Rattle.btf_parts.specs.Growth.{AreFew}
+
+pub returns-then-not-own_texts_fit-clause-refused : goal.returns-then-not-own_texts_fit-clause-refused
+returns-then-not-own_texts_fit-clause-refused c other = refused_own c.args.known.now.types.now.order (facts_of c.args.known.now) (c.if-not-own_texts_fit.ensures.unfit refl)
 
 pub returns-in_err-rewrite_all-clause-refused : goal.returns-in_err-rewrite_all-clause-refused
 returns-in_err-rewrite_all-clause-refused c =
