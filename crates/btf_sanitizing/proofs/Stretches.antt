@@ -1,7 +1,6 @@
 -- Where a byte stands in the strings of a table, as it is remembered.
 use Rattle.std.proofs.Common.{◌≡◌, ◌≢◌, ℕ, ◌+◌, ◌-◌, ◌<◌, ◌≤◌, Bool, true, false, List, [], ◌∷◌, ◌++◌, length, take, drop, get_or, nat_eq, nat_lt, cond, length-drop, length-take, Option, None, Some, refl, ap, sym, ◌∙◌, arith, slice_get}
-use Rattle.std.specs.Prelude.{◌==◌, All, Contains, position, option_and_then}
-use Rattle.std.specs.List.{list_any}
+use Rattle.std.specs.Prelude.{◌==◌, Contains, position, option_and_then}
 use Rattle.std.specs.Option.{option_map}
 use Rattle.std.specs.Str.{is_utf8}
 use Rattle.std.proofs.lemmas.Bool.Decides.{nat_tests}
