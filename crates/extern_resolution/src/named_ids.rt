@@ -20,11 +20,11 @@ impl<'n> Model for NamedIds<'n> {
     ghost use Rattle.std.specs.Cmp.Lexicographic.{slice_cmp};
     ghost use Rattle.std.specs.List.Sorted.{IsStrictlySortedBy};
     ghost use Rattle.std.specs.Ordering.{nat_cmp};
-    ghost use Rattle.text_order.specs.Orders.{by_text, texts_of};
+    ghost use Rattle.text_order.specs.Orders.{by_bytes, texts_of};
 
     ghost Value = { List (List ℕ × Option ℕ) };
 
-    ghost view = { λ n. by_text n.entries.items };
+    ghost view = { λ n. by_bytes n.entries.items };
 
     ghost invariant = { λ n. IsStrictlySortedBy (slice_cmp nat_cmp) (texts_of n.entries.items) };
 }

@@ -13,7 +13,7 @@ use Rattle.std.proofs.lemmas.Map.Text.{is_eq-slice_cmp}
 use Rattle.std.proofs.lemmas.Slice.Eq.{bytes_eq-Decides}
 use Rattle.ebpf_items.specs.Maps.{MapView}
 use Rattle.elf64.specs.Symbols.{Symbol, symbols_of}
-use Rattle.object_maps.specs.BtfMaps.{symbol_named}
+use Rattle.object_file.specs.Symbols.{last_named}
 use Rattle.global_values.specs.Content.{GlobalContent}
 use Rattle.global_data.specs.GlobalData.{GlobalFault, bad_data, first_fault, global_fault, is_inside, map_fault, map_of, or_fault, symbol_fault, write_over}
 use Rattle.global_data.specs.Writes.{Fit, write_list, writes_of}
@@ -94,7 +94,7 @@ all-fit symbols maps (g ∷ gs) rising sound =
     let here : global_fault symbols maps g ≡ None = none-first symbols maps gs (global_fault symbols maps g) sound in
     let P : Option GlobalFault → Type 0 = λ o. fold (or_fault symbols maps) o gs ≡ None in
     fit-append maps (write_list symbols maps g) (writes_of symbols maps gs)
-    (symbol-fits maps g (symbol_named symbols g.0) rising here)
+    (symbol-fits maps g (last_named symbols g.0) rising here)
     (all-fit symbols maps gs rising (subst P here sound))
 
 pub found-fit : (file : List ℕ) (maps : List (List ℕ × MapView)) (globals : List (List ℕ × GlobalContent)) → IsStrictlySortedBy (slice_cmp nat_cmp) (map (λ e. e.0) maps) → first_fault file maps globals ≡ None → Fit maps (writes_of (symbols_of file) maps globals)

@@ -1,4 +1,3 @@
 pub mod Fitting
-pub mod Named
 pub mod Steps
 pub mod Written

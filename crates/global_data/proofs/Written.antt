@@ -14,7 +14,7 @@ use Rattle.std.proofs.lemmas.Map.Text.{is_eq-slice_cmp}
 use Rattle.std.proofs.lemmas.Slice.Eq.{bytes_eq-Decides}
 use Rattle.ebpf_items.specs.Maps.{MapView}
 use Rattle.elf64.specs.Symbols.{Symbol, symbols_of}
-use Rattle.object_maps.specs.BtfMaps.{symbol_named}
+use Rattle.object_file.specs.Symbols.{last_named}
 use Rattle.object_maps.specs.Overwritten.{HasRange, entry_overwritten, map_overwritten, overwritten, with_bytes}
 use Rattle.global_values.specs.Content.{GlobalContent}
 use Rattle.global_data.specs.GlobalData.{Write, extent_of, extents, map_of, patched, patched_one, write_of, write_over, written}
@@ -161,7 +161,7 @@ symbol-kept w maps bytes None = refl
 writes-kept : (symbols : List Symbol) (w : Write) (maps : List (List ℕ × MapView)) (globals : List (List ℕ × GlobalContent)) → writes_of symbols (written maps w) globals ≡ writes_of symbols maps globals
 writes-kept symbols w maps [] = refl
 writes-kept symbols w maps (g ∷ gs) =
-    ap (λ (o : Option Write). option_map_or (λ x. x ∷ []) o [] ++ writes_of symbols (written maps w) gs) (symbol-kept w maps g.1.bytes (symbol_named symbols g.0))
+    ap (λ (o : Option Write). option_map_or (λ x. x ∷ []) o [] ++ writes_of symbols (written maps w) gs) (symbol-kept w maps g.1.bytes (last_named symbols g.0))
     ∙ ap (λ (ws : List Write). write_list symbols maps g ++ ws) (writes-kept symbols w maps gs)
 
 one-more : (symbols : List Symbol) (maps : List (List ℕ × MapView)) (globals : List (List ℕ × GlobalContent)) (o : Option Write) → fold written (option_map_or (written maps) o maps) (writes_of symbols (option_map_or (written maps) o maps) globals) ≡ fold written maps (option_map_or (λ w. w ∷ []) o [] ++ writes_of symbols maps globals)

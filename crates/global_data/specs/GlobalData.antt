@@ -6,7 +6,7 @@ use Rattle.ebpf_items.specs.Maps.{MapView}
 use Rattle.ebpf_items.specs.declared.error.ParseError.{ParseError}
 use Rattle.ebpf_items.specs.declared.error.ParseError.TheVariants as error
 use Rattle.elf64.specs.Symbols.{Symbol, symbols_of}
-use Rattle.object_maps.specs.BtfMaps.{symbol_named}
+use Rattle.object_file.specs.Symbols.{last_named}
 use Rattle.object_maps.specs.Overwritten.{with_bytes}
 use Rattle.global_values.specs.Content.{GlobalContent}
 
@@ -42,7 +42,7 @@ write_over maps bytes s =
 
 abbrev pub write_of : List Symbol → List (List ℕ × MapView) → List ℕ × GlobalContent → Option Write
 write_of symbols maps global =
-    option_and_then (write_over maps global.1.bytes) (symbol_named symbols global.0)
+    option_and_then (write_over maps global.1.bytes) (last_named symbols global.0)
 
 abbrev pub written : List (List ℕ × MapView) → Write → List (List ℕ × MapView)
 written maps w = with_bytes maps w.map w.start w.bytes
@@ -105,7 +105,7 @@ abbrev pub global_fault : List Symbol
     → List (List ℕ × MapView)
     → List ℕ × GlobalContent
     → Option GlobalFault
-global_fault symbols maps global = symbol_fault maps global (symbol_named symbols global.0)
+global_fault symbols maps global = symbol_fault maps global (last_named symbols global.0)
 
 -- the fault of the first global variable that has one
 abbrev pub or_fault : List Symbol

@@ -1,4 +1,3 @@
 pub mod GlobalData
-pub mod GlobalSymbols
 pub mod SectionMaps
 pub mod Writes

@@ -3,7 +3,6 @@
 
 mod patching;
 mod section_maps;
-mod symbols;
 mod writes;
 
 pub use patching::patch_map_data;

@@ -11,10 +11,9 @@ ghost use Rattle.global_data.specs.GlobalData.{GlobalFault, Says, bad_data, faul
 ghost use Rattle.global_data.specs.Writes.{writes_of};
 
 use crate::section_maps::SectionMaps;
-use crate::symbols::GlobalSymbols;
 use ebpf_items::ParseError;
 use global_values::{GlobalValue, GlobalValues};
-use object_file::{ObjectFile, ReadSymbol};
+use object_file::{ObjectFile, ReadSymbol, SymbolNames};
 use object_maps::Maps;
 use std::alloc::Global;
 use std::marker::Model;
@@ -127,12 +126,12 @@ pub(crate) fn writes_of<'a, 's>(
     ensures fault { IfErr result (λ e.
         e ≢ OutOfMemory → Says (first_fault file.now maps.now values.now) e) }
 {
-    let symbols = GlobalSymbols::new(alloc, file.symbols(), values)?;
+    let symbols = SymbolNames::new(alloc, file.symbols())?;
     let maps = SectionMaps::new(alloc, maps)?;
     let mut writes = Vec::new(alloc);
     for (name, value) in values.iter() {
         let name = name.as_str();
-        let Some(write) = write_of(alloc, &maps, name, value, symbols.named(name))? else {
+        let Some(write) = write_of(alloc, &maps, name, value, symbols.last(name))? else {
             continue;
         };
         writes.push(write)?;

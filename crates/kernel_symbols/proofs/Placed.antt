@@ -15,7 +15,7 @@ use Rattle.std.proofs.lemmas.List.Quantifiers.{position-Some}
 use Rattle.std.proofs.lemmas.Map.Text.{is_eq-slice_cmp}
 use Rattle.std.proofs.lemmas.Option.{slice_get-get_or, slice_get_past}
 use Rattle.std.proofs.lemmas.Slice.Eq.{bytes_eq-Decides}
-use Rattle.text_order.specs.Orders.{by_text, texts_of}
+use Rattle.text_order.specs.Orders.{by_bytes, texts_of}
 use Rattle.kernel_symbols.specs.Wanted.{under, with_address}
 use Rattle.kernel_symbols.specs.declared.wanted.Wanted.{Wanted}
 
@@ -34,11 +34,11 @@ found-by : (e : Bor (List ℕ) × Wanted) (test : Bool) (held : Option Wanted) (
 found-by e true held found is = refl
 found-by e false held found is = is
 
-at-found : (name : List ℕ) (es : List (Bor (List ℕ) × Wanted)) → under (by_text es) name ≡ option_map (λ e. e.1) (find (is_here name) es)
+at-found : (name : List ℕ) (es : List (Bor (List ℕ) × Wanted)) → under (by_bytes es) name ≡ option_map (λ e. e.1) (find (is_here name) es)
 at-found name [] = refl
-at-found name (e ∷ es) = found-by e (is_here name e) (under (by_text es) name) (find (is_here name) es) (at-found name es)
+at-found name (e ∷ es) = found-by e (is_here name e) (under (by_bytes es) name) (find (is_here name) es) (at-found name es)
 
-by-place : (name : List ℕ) (es : List (Bor (List ℕ) × Wanted)) → under (by_text es) name ≡ option_map (λ e. e.1) (slice_get es (position_or_len (is_here name) es))
+by-place : (name : List ℕ) (es : List (Bor (List ℕ) × Wanted)) → under (by_bytes es) name ≡ option_map (λ e. e.1) (slice_get es (position_or_len (is_here name) es))
 by-place name es = at-found name es ∙ ap (option_map (λ e. e.1)) (find_at (is_here name) es)
 
 same-place : (test : Bool) (n place : ℕ) → cond test (Some n) None ≡ Some place → n ≡ place
@@ -49,14 +49,14 @@ no-place : (test : Bool) (n : ℕ) → cond test (Some n) None ≡ None → test
 no-place true n is = absurd cc
 no-place false n is = refl
 
-pub placed : (name : List ℕ) (given es : List (Bor (List ℕ) × Wanted)) (place : ℕ) (d : Bor (List ℕ) × Wanted) → Some place ≡ position (is_here name) given → given ≡ es → Some (get_or es place d).1 ≡ under (by_text es) name
+pub placed : (name : List ℕ) (given es : List (Bor (List ℕ) × Wanted)) (place : ℕ) (d : Bor (List ℕ) × Wanted) → Some place ≡ position (is_here name) given → given ≡ es → Some (get_or es place d).1 ≡ under (by_bytes es) name
 placed name given es place d found same =
     let is : position (is_here name) es ≡ Some place = ap (position (is_here name)) (sym same) ∙ sym found in
     let n : position_or_len (is_here name) es ≡ place = same-place (nat_lt (position_or_len (is_here name) es) (length es)) (position_or_len (is_here name) es) place is in
     let p = position-Some (is_here name) es place d is in
     sym (by-place name es ∙ ap (λ i. option_map (λ e. e.1) (slice_get es i)) n ∙ ap (option_map (λ e. e.1)) (slice_get-get_or es place d p.0))
 
-pub nowhere : (name : List ℕ) (given es : List (Bor (List ℕ) × Wanted)) → None ≡ position (is_here name) given → given ≡ es → None ≡ under (by_text es) name
+pub nowhere : (name : List ℕ) (given es : List (Bor (List ℕ) × Wanted)) → None ≡ position (is_here name) given → given ≡ es → None ≡ under (by_bytes es) name
 nowhere name given es found same =
     let is : position (is_here name) es ≡ None = ap (position (is_here name)) (sym same) ∙ sym found in
     let past = ltb-false (position_or_len (is_here name) es) (length es) (no-place (nat_lt (position_or_len (is_here name) es) (length es)) (position_or_len (is_here name) es) is) in
@@ -80,23 +80,23 @@ same-name a b h = (bytes_eq-Decides a b).0 h
 not-both : (name other : List ℕ) (e : Bor (List ℕ) × Wanted) → is_here name e ≡ false → is_here other e ≡ true → bytes_eq name other ≡ true → ⊥
 not-both name other e isnt is same = cc (sym (ap (λ n. is_here n e) (same-name name other same) ∙ is) ∙ isnt)
 
-exchanged : (name other : List ℕ) (es : List (Bor (List ℕ) × Wanted)) (place : ℕ) (d : Bor (List ℕ) × Wanted) (w : Wanted) → place < length es → is_here name (get_or es place d) ≡ true → ((k : ℕ) → k < place → is_here name (get_or es k d) ≡ false) → under (by_text (slice_set es place ((get_or es place d).0, w))) other ≡ cond (bytes_eq name other) (Some w) (under (by_text es) other)
+exchanged : (name other : List ℕ) (es : List (Bor (List ℕ) × Wanted)) (place : ℕ) (d : Bor (List ℕ) × Wanted) (w : Wanted) → place < length es → is_here name (get_or es place d) ≡ true → ((k : ℕ) → k < place → is_here name (get_or es k d) ≡ false) → under (by_bytes (slice_set es place ((get_or es place d).0, w))) other ≡ cond (bytes_eq name other) (Some w) (under (by_bytes es) other)
 exchanged name other [] place d w within here before = absurd (omega (arith, within))
 exchanged name other (e ∷ es) zero d w within here before =
     let text : name ≡ e.0.now = same-name name e.0.now (sym (is_eq-slice_cmp name e.0.now) ∙ here) in
     let by : is_eq (slice_cmp nat_cmp other e.0.now) ≡ bytes_eq name other = is_eq-slice_cmp other e.0.now ∙ ap (bytes_eq other) (sym text) ∙ nat_list_eq_equiv.symm other name in
-    ap (λ b. cond b (Some w) (under (by_text es) other)) by
-    ∙ once (bytes_eq name other) (Some w) (Some e.1) (under (by_text es) other)
-    ∙ ap (λ b. cond (bytes_eq name other) (Some w) (cond b (Some e.1) (under (by_text es) other))) (sym by)
+    ap (λ b. cond b (Some w) (under (by_bytes es) other)) by
+    ∙ once (bytes_eq name other) (Some w) (Some e.1) (under (by_bytes es) other)
+    ∙ ap (λ b. cond (bytes_eq name other) (Some w) (cond b (Some e.1) (under (by_bytes es) other))) (sym by)
 exchanged name other (e ∷ es) (suc place) d w within here before =
     ap (λ o. cond (is_here other e) (Some e.1) o) (exchanged name other es place d w (omega (arith, within)) here (λ k less. before (suc k) (omega (arith, less))))
-    ∙ swapped (is_here other e) (bytes_eq name other) (Some e.1) (Some w) (under (by_text es) other) (not-both name other e (before zero (omega arith)))
+    ∙ swapped (is_here other e) (bytes_eq name other) (Some e.1) (Some w) (under (by_bytes es) other) (not-both name other e (before zero (omega arith)))
 
-pub written : (name other : List ℕ) (given es : List (Bor (List ℕ) × Wanted)) (place : ℕ) (e : Bor (List ℕ) × Wanted) (w : Wanted) → Some place ≡ position (is_here name) given → given ≡ es → e ≡ get_or es place e → under (by_text (slice_set es place (e.0, w))) other ≡ cond (bytes_eq name other) (Some w) (under (by_text es) other)
+pub written : (name other : List ℕ) (given es : List (Bor (List ℕ) × Wanted)) (place : ℕ) (e : Bor (List ℕ) × Wanted) (w : Wanted) → Some place ≡ position (is_here name) given → given ≡ es → e ≡ get_or es place e → under (by_bytes (slice_set es place (e.0, w))) other ≡ cond (bytes_eq name other) (Some w) (under (by_bytes es) other)
 written name other given es place e w found same at =
     let is : position (is_here name) es ≡ Some place = ap (position (is_here name)) (sym same) ∙ sym found in
     let p = position-Some (is_here name) es place e is in
-    ap (λ (x : Bor (List ℕ) × Wanted). under (by_text (slice_set es place (x.0, w))) other) at
+    ap (λ (x : Bor (List ℕ) × Wanted). under (by_bytes (slice_set es place (x.0, w))) other) at
     ∙ exchanged name other es place e w p.0 p.1 p.2
 
 -- names stay

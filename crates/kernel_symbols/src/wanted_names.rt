@@ -40,17 +40,17 @@ impl<'a> Model for WantedByName<'a> {
     ghost use Rattle.std.specs.Cmp.Lexicographic.{slice_cmp};
     ghost use Rattle.std.specs.List.Sorted.{IsStrictlySortedBy};
     ghost use Rattle.std.specs.Ordering.{nat_cmp};
-    ghost use Rattle.text_order.specs.Orders.{by_text, texts_of};
+    ghost use Rattle.text_order.specs.Orders.{by_bytes, texts_of};
     ghost use Rattle.kernel_symbols.specs.Wanted.{AreMarked};
     ghost use Rattle.kernel_symbols.specs.declared.wanted.Wanted.{Wanted};
 
     ghost Value = { List (List ℕ × Wanted) };
 
-    ghost view = { λ w. by_text w.entries.items };
+    ghost view = { λ w. by_bytes w.entries.items };
 
     ghost invariant = { λ w.
         IsStrictlySortedBy (slice_cmp nat_cmp) (texts_of w.entries.items)
-        × AreMarked (by_text w.entries.items) w.is_wanted };
+        × AreMarked (by_bytes w.entries.items) w.is_wanted };
 }
 
 /// Wants a name.

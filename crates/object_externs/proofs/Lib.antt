@@ -2,6 +2,5 @@ pub mod ByBytes
 pub mod Entered
 pub mod Faultless
 pub mod Growth
-pub mod NamedSymbols
 pub mod Search
 pub mod TypesErrors

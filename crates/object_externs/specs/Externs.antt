@@ -19,7 +19,7 @@ use Rattle.btf_tables.specs.Tables.{Table, type_by_id}
 use Rattle.elf64.specs.Symbols.{Symbol}
 use Rattle.object_externs.specs.Placeholder.{placeholder_id}
 use Rattle.object_externs.specs.Section.{ksyms_entries, ksyms_section}
-use Rattle.object_externs.specs.Symbols.{symbol_named}
+use Rattle.object_file.specs.Symbols.{first_named}
 use Rattle.string_table.specs.Texts.{text_at}
 
 -- an extern: its name, also without flavour, the id of the function or variable that declares it,
@@ -75,7 +75,7 @@ declared_type table t =
     option_and_then (typed (kind_of_type t)) (result_ok (resolved_type table (held_type t)))
 
 abbrev pub is_weak : List Symbol → List ℕ → Bool
-is_weak symbols name = option_map_or (λ s. s.is_weak) (symbol_named symbols name) false
+is_weak symbols name = option_map_or (λ s. s.is_weak) (first_named symbols name) false
 
 -- the extern of this name that a record declares, as it is before anything is known of the kernel
 abbrev pub declared : List Symbol → Table → ℕ → BtfType → List ℕ → ExternContent

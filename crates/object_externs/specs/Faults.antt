@@ -13,7 +13,7 @@ use Rattle.elf64.specs.Symbols.{Symbol}
 use Rattle.object_externs.specs.Externs.{declared_name, declares, has_function, held_type}
 use Rattle.object_externs.specs.Placeholder.{with_placeholder}
 use Rattle.object_externs.specs.Section.{has_unreadable, ksyms_entries}
-use Rattle.object_externs.specs.Symbols.{symbol_named}
+use Rattle.object_file.specs.Symbols.{first_named}
 use Rattle.string_table.specs.Texts.{text_at}
 
 -- a section before the first `.ksyms` has a name that can't be read
@@ -32,7 +32,7 @@ abbrev pub NameFault : List Symbol → Table → BtfType → BtfError → Type 0
 NameFault symbols table t (InvalidStringOffset offset) =
     (name_offset_of t ≡ offset) × (text_at table.strings offset ≡ None)
 NameFault symbols table t InvalidSymbolName =
-    IsSomeAnd (declared_name table t) (λ name. symbol_named symbols name ≡ None)
+    IsSomeAnd (declared_name table t) (λ name. first_named symbols name ≡ None)
 NameFault symbols table t _ = ⊥
 
 -- the type that it is of can't be resolved

@@ -8,14 +8,13 @@ ghost use Rattle.btf_parts.specs.Faultless.{IsFaultless};
 ghost use Rattle.object_externs.specs.Externs.{declared, declared_name, declared_type, declares, names_function, with_extern};
 ghost use Rattle.object_externs.specs.Faults.{EntryFault, NameFault, RecordFault, TypeFault};
 ghost use Rattle.object_externs.specs.Names.{by_bytes};
-ghost use Rattle.object_externs.specs.Symbols.{symbol_named};
+ghost use Rattle.object_file.specs.Symbols.{first_named};
 
 use crate::extern_desc::ExternDesc;
-use crate::symbols::SymbolNames;
 use btf_encoding::TypeRef;
 use btf_records::{BtfError, BtfKind, DataSecEntry};
 use btf_tables::{Btf, essential_name};
-use object_file::ReadSymbol;
+use object_file::{ReadSymbol, SymbolNames};
 use std::alloc::Global;
 use text_order::{TextMap, TextMapBuilder};
 
@@ -40,13 +39,13 @@ fn declared_symbol<'s, 'a>(
 ) -> Result<&'s ReadSymbol<'a>, BtfError>
     ensures name { IfOk result (λ symbol. declared_name table.now t.now ≡ symbol.now.name) }
     ensures value { IfOk result (λ symbol.
-        option_and_then (symbol_named symbols.now) (declared_name table.now t.now)
+        option_and_then (first_named symbols.now) (declared_name table.now t.now)
         ≡ Some symbol.now) }
     ensures refused { IfErr result (NameFault symbols.now table.now t.now) }
     ensures accepted { OnOk result (IsFaultless (NameFault symbols.now table.now t.now)) }
 {
     let name = table.string_at(t.name_offset())?;
-    match symbols.get(name) {
+    match symbols.first(name) {
         Some(symbol) => Ok(symbol),
         None => Err(BtfError::InvalidSymbolName),
     }

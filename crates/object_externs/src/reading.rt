@@ -12,10 +12,9 @@ use crate::entries::{any_names_function, read_entries};
 use crate::externs::Externs;
 use crate::placeholder::add_placeholder;
 use crate::section::{ksyms_section, section_entries};
-use crate::symbols::SymbolNames;
 use btf_records::BtfError;
 use btf_tables::Btf;
-use object_file::ReadSymbol;
+use object_file::{ReadSymbol, SymbolNames};
 use std::alloc::Global;
 
 /// The externs that the first section `.ksyms` of a table declares, of an object with these

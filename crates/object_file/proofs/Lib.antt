@@ -1,3 +1,4 @@
 pub mod Faultless
 pub mod Indexes
 pub mod Lookups
+pub mod NamedSymbols

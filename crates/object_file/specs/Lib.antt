@@ -6,6 +6,7 @@ pub mod ObjectFile
 pub mod Reading
 pub mod Relocations
 pub mod RelocationTable
+pub mod NamedSymbols
 pub mod Symbols
 pub mod SymbolTable
 pub mod Version

@@ -1,6 +1,7 @@
 -- The symbols of a file, by section and by name.
-use Rattle.std.specs.Prelude.{ℕ, List, filter, find, is_none, ◌==◌, Bool, false, Option}
+use Rattle.std.specs.Prelude.{ℕ, List, filter, find, is_none, reverse, ◌==◌, Bool, false, Option}
 use Rattle.std.specs.Option.{option_map, option_map_or}
+use Rattle.std.specs.Str.{bytes_eq}
 use Rattle.elf64.specs.Symbols.{Symbol, symbols_of}
 
 -- whether a symbol lies in the section of an index
@@ -10,6 +11,18 @@ is_in index s = option_map_or (λ i. i == index) s.section_index false
 -- the symbols that lie in the section of an index, in order
 abbrev pub symbols_in : List Symbol → ℕ → List Symbol
 symbols_in symbols index = filter (is_in index) symbols
+
+-- whether a symbol has a name
+abbrev pub is_named : List ℕ → Symbol → Bool
+is_named name s = option_map_or (λ text. bytes_eq text name) s.name false
+
+-- of the symbols of a name, in order of index, that of the least index
+abbrev pub first_named : List Symbol → List ℕ → Option Symbol
+first_named symbols name = find (is_named name) symbols
+
+-- and that of the greatest
+abbrev pub last_named : List Symbol → List ℕ → Option Symbol
+last_named symbols name = find (is_named name) (reverse symbols)
 
 -- a symbol whose name can't be read
 abbrev pub is_unnamed : Symbol → Bool

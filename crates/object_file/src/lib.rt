@@ -7,8 +7,10 @@ mod license;
 mod names;
 mod reading;
 mod relocations;
+mod symbol_names;
 mod symbols;
 mod version;
 
 pub use file::{ObjectFile, unnamed_symbol};
 pub use names::{ReadSection, ReadSymbol};
+pub use symbol_names::SymbolNames;

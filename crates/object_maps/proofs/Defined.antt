@@ -21,8 +21,9 @@ use Rattle.elf64.specs.Sections.{Section}
 use Rattle.elf64.specs.Symbols.{Symbol}
 use Rattle.map_definitions.specs.Definitions.{Definition, IsFaultAmong, defined, definition_of, map_variable, refusals}
 use Rattle.map_definitions.specs.declared.definition.BtfDefinition.{BtfDefinition}
+use Rattle.object_file.specs.Symbols.{last_named}
 use Rattle.text_order.specs.Orders.{HasLast, texts_of}
-use Rattle.object_maps.specs.BtfMaps.{entries_faults, entries_maps, entry_faults, entry_map, named_faults, named_maps, symbol_named, variable_faults, variable_map}
+use Rattle.object_maps.specs.BtfMaps.{entries_faults, entries_maps, entry_faults, entry_map, named_faults, named_maps, variable_faults, variable_map}
 use Rattle.object_maps.specs.DataSections.{sections_named}
 use Rattle.object_maps.specs.DefinedMaps.{all_defined, all_struct_faults, all_unnamed_faults, by_name, defined_after, defined_map, entries_defined, entries_struct_faults, entry_defined, entry_struct_faults, named_definition, named_definitions, symbol_view, unnamed_faults, variable_defined, variable_struct_faults, with_definition}
 use Rattle.object_maps.specs.Faults.{MapFault, Says, struct_fault}
@@ -97,7 +98,7 @@ unfolding entered defined_after
 all_entered start after table section symbols maps rising known is =
     is
     ∙ ap (λ ms. fold with_entry start (flat_map (defined_map section symbols) ms)) known
-    ∙ made_once (symbol_named symbols) (symbol_view section) start (all_defined table (section_name section)) rising
+    ∙ made_once (last_named symbols) (symbol_view section) start (all_defined table (section_name section)) rising
     ∙ ap (fold with_entry start) (all-maps table section symbols (section_name section))
 
 -- ---- what is wrong

@@ -4,7 +4,6 @@ pub mod Entered
 pub mod FoundMaps
 pub mod KnownMaps
 pub mod Left
-pub mod Names
 pub mod Places
 pub mod Sayings
 pub mod NumberedNames

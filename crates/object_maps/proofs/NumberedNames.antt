@@ -115,7 +115,8 @@ module _ (names : List (List ℕ)) (name : List ℕ) where
           ap (λ b. cond b (Some x) (find (has_number more name) (xs ++ length names ∷ []))) (old-number name x (unequal x (length names) is) ∙ was)
           ∙ later gone
 
-  -- with a new name, under the hash of a name are those of before, and the new number if the hash is that of the new name
+  -- with a new name, under the hash of a name are those of before, and the new number if the hash
+  -- is that of the new name
   one-more : (other : List ℕ) (old : List ℕ) (same : Bool) → (bytes_eq name other ≡ true → same ≡ true) → number_of names name ≡ None → find (has_number names other) old ≡ number_of names other → find (has_number more other) (old ++ cond same (length names ∷ []) []) ≡ number_of more other
   one-more other old same hashes none was = by (bytes_eq name other) refl ∙ sym (number_more names name other)
     where

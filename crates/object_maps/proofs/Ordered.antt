@@ -1,29 +1,17 @@
 -- Lists of texts with values that are put in order of texts, as contracts see them.
-use Rattle.std.proofs.Common.{◌≡◌, ℕ, Bool, true, false, cond, List, [], ◌∷◌, ◌++◌, map, Option, Some, None, refl, ap, sym, ◌∙◌, subst, length, slice_get, nat_lt}
+use Rattle.std.proofs.Common.{◌≡◌, ℕ, Bool, true, false, cond, List, [], ◌∷◌, ◌++◌, map, Option, Some, None, refl, ap, sym, ◌∙◌, subst}
 use Rattle.std.specs.Prelude.{fold, find, bytes_eq}
 use Rattle.std.specs.Borrow.{Bor}
 use Rattle.std.specs.BTreeMap.{is_at}
 use Rattle.std.specs.Cmp.Lexicographic.{slice_cmp}
-use Rattle.std.specs.List.{position, position_or_len}
 use Rattle.std.specs.List.Sorted.{IsStrictlySortedBy}
-use Rattle.std.specs.Option.{option_and_then, option_map, option_or}
+use Rattle.std.specs.Option.{option_map, option_or}
 use Rattle.std.specs.Ordering.{is_eq, nat_cmp}
-use Rattle.std.proofs.lemmas.Bool.{ltb-false}
 use Rattle.std.proofs.lemmas.List.{map-append}
-use Rattle.std.proofs.lemmas.List.Folds.{find_at}
-use Rattle.std.proofs.lemmas.Option.{slice_get_past}
 use Rattle.std.proofs.lemmas.Map.Text.{is_eq-slice_cmp}
 use Rattle.std.proofs.lemmas.Simd.{map-map}
 use Rattle.text_order.specs.Orders.{HasLast, last_of, texts_of}
 use Rattle.object_maps.proofs.ByName.{IsRising, alike, at, at_entered, fold_append, last_rising, last_value, or_none, rising_entered, rising_none, with_entry}
-
--- the first that passes stands at its place
-placed-by : {X : Type 0} (p : X → Bool) (xs : List X) (within : Bool) → nat_lt (position_or_len p xs) (length xs) ≡ within → option_and_then (slice_get xs) (cond within (Some (position_or_len p xs)) None) ≡ slice_get xs (position_or_len p xs)
-placed-by p xs true is = refl
-placed-by p xs false is = sym (slice_get_past xs (position_or_len p xs) (ltb-false (position_or_len p xs) (length xs) is))
-
-placed-found : {X : Type 0} (p : X → Bool) (xs : List X) → option_and_then (slice_get xs) (position p xs) ≡ find p xs
-placed-found p xs = placed-by p xs (nat_lt (position_or_len p xs) (length xs)) refl ∙ sym (find_at p xs)
 
 module _ {V W : Type 0} (view : V → W) where
   abbrev pub viewed : List (Bor (List ℕ) × V) → List (List ℕ × W)
@@ -70,11 +58,3 @@ module _ {V W : Type 0} (view : V → W) where
   pub at_found : (name : List ℕ) (es : List (Bor (List ℕ) × V)) → at name (viewed es) ≡ option_map (λ e. view e.1) (find (λ e. is_at (slice_cmp nat_cmp name) e.0.now) es)
   at_found name [] = refl
   at_found name (e ∷ es) = found-by e (is_at (slice_cmp nat_cmp name) e.0.now) (at name (viewed es)) (find (λ f. is_at (slice_cmp nat_cmp name) f.0.now) es) (at_found name es)
-
-  -- what stands at the place of a name is the last of it
-  pub at_place : (name : List ℕ) (es : List (Bor (List ℕ) × V)) (place : Option ℕ) → IsStrictlySortedBy (slice_cmp nat_cmp) (texts_of es) → place ≡ position (λ e. is_at (slice_cmp nat_cmp name) e.0.now) es → option_map (λ e. view e.1) (option_and_then (slice_get es) place) ≡ option_map view (last_of name es)
-  at_place name es place rising is =
-      ap (λ o. option_map (λ e. view e.1) (option_and_then (slice_get es) o)) is
-      ∙ ap (option_map (λ e. view e.1)) (placed-found (λ e. is_at (slice_cmp nat_cmp name) e.0.now) es)
-      ∙ sym (at_found name es)
-      ∙ at_last name es rising

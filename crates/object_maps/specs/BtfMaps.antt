@@ -1,5 +1,5 @@
 -- Maps of sections `.maps`: each variable of the sections of this name in the type table is one.
-use Rattle.std.specs.Prelude.{ℕ, List, [], ◌∷◌, ◌++◌, find, map, reverse, length, ◌==◌, not, bytes_eq, Bool, false, Option, Result, Ok, Err, is_none, if◌then◌else◌}
+use Rattle.std.specs.Prelude.{ℕ, List, [], ◌∷◌, ◌++◌, map, length, ◌==◌, not, Option, Result, Ok, Err, is_none, if◌then◌else◌}
 use Rattle.std.specs.List.{flat_map}
 use Rattle.std.specs.Option.{option_map_or}
 use Rattle.btf_records.specs.Fields.{entries_of}
@@ -11,17 +11,10 @@ use Rattle.elf64.specs.Sections.{Section}
 use Rattle.elf64.specs.Symbols.{Symbol}
 use Rattle.ebpf_items.specs.Maps.{MapView, btf_map_view}
 use Rattle.map_definitions.specs.Definitions.{defined, map_variable, refusals}
-use Rattle.object_file.specs.Symbols.{symbols_in}
+use Rattle.object_file.specs.Symbols.{last_named, symbols_in}
 use Rattle.object_maps.specs.DataSections.{sections_named}
 use Rattle.object_maps.specs.Faults.{MapFault, NoSymbol, struct_fault, symbols_lack, types_fault}
 use Rattle.object_maps.specs.LegacyMaps.{section_name}
-
-abbrev pub has_symbol_name : List ℕ → Symbol → Bool
-has_symbol_name name s = option_map_or (λ text. bytes_eq text name) s.name false
-
--- of the symbols of a name that of the greatest index
-abbrev pub symbol_named : List Symbol → List ℕ → Option Symbol
-symbol_named symbols name = find (has_symbol_name name) (reverse symbols)
 
 -- the map of a variable, which has the variable's name
 abbrev pub variable_view : Table → Section → ℕ → Symbol → MapView
@@ -34,7 +27,7 @@ abbrev pub variable_map : Table
     → Result (List ℕ × ℕ) BtfError
     → List (List ℕ × MapView)
 variable_map table section symbols (Ok v) =
-    option_map_or (λ s. (v.0, variable_view table section v.1 s) ∷ []) (symbol_named symbols v.0) []
+    option_map_or (λ s. (v.0, variable_view table section v.1 s) ∷ []) (last_named symbols v.0) []
 variable_map table section symbols (Err e) = []
 
 abbrev pub entry_map : Table → Section → List Symbol → DataSecEntry → List (List ℕ × MapView)
@@ -59,7 +52,7 @@ symbol_faults name found = if is_none found then NoSymbol name ∷ [] else []
 
 abbrev pub variable_faults : Table → List Symbol → Result (List ℕ × ℕ) BtfError → List MapFault
 variable_faults table symbols (Ok v) =
-    symbol_faults v.0 (symbol_named symbols v.0) ++ map (struct_fault v.0) (refusals table v.1)
+    symbol_faults v.0 (last_named symbols v.0) ++ map (struct_fault v.0) (refusals table v.1)
 variable_faults table symbols (Err e) = types_fault e ∷ []
 
 abbrev pub entry_faults : Table → List Symbol → DataSecEntry → List MapFault

@@ -17,7 +17,8 @@ use Rattle.elf64.specs.Symbols.{Symbol}
 use Rattle.ebpf_items.specs.Maps.{MapView, btf_map_view}
 use Rattle.map_definitions.specs.Definitions.{Definition, defined, definition_of, map_variable, refusals}
 use Rattle.map_definitions.specs.declared.definition.BtfDefinition.{BtfDefinition}
-use Rattle.object_maps.specs.BtfMaps.{symbol_faults, symbol_named}
+use Rattle.object_file.specs.Symbols.{last_named}
+use Rattle.object_maps.specs.BtfMaps.{symbol_faults}
 use Rattle.object_maps.specs.DataSections.{sections_named}
 use Rattle.object_maps.specs.Faults.{MapFault, struct_fault, types_fault}
 
@@ -82,11 +83,11 @@ symbol_view section d s = btf_map_view d.words d.inner section.index s.index
 
 abbrev pub defined_map : Section → List Symbol → List ℕ × Definition → List (List ℕ × MapView)
 defined_map section symbols d =
-    option_map_or (λ s. (d.0, symbol_view section d.1 s) ∷ []) (symbol_named symbols d.0) []
+    option_map_or (λ s. (d.0, symbol_view section d.1 s) ∷ []) (last_named symbols d.0) []
 
 -- no symbol has the name
 abbrev pub unnamed_faults : List Symbol → List ℕ → List MapFault
-unnamed_faults symbols name = symbol_faults name (symbol_named symbols name)
+unnamed_faults symbols name = symbol_faults name (last_named symbols name)
 
 abbrev pub all_unnamed_faults : List Symbol → List (List ℕ × Definition) → List MapFault
 all_unnamed_faults symbols maps = flat_map (λ d. unnamed_faults symbols d.0) maps

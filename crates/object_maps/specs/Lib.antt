@@ -7,7 +7,6 @@ pub mod Found
 pub mod KnownMaps
 pub mod LegacyMaps
 pub mod Maps
-pub mod NamedSymbols
 pub mod NumberedNames
 pub mod SectionIndexes
 pub mod Overwritten

@@ -13,10 +13,9 @@ ghost use Rattle.object_maps.specs.Maps.{typed_faults, typed_maps};
 use crate::data_sections::DataSections;
 use crate::defined_maps::DefinedMaps;
 use crate::found_maps::FoundMaps;
-use crate::named_symbols::NamedSymbols;
 use ebpf_items::{BtfMap, Map, ParseError};
 use map_definitions::BtfDefinition;
-use object_file::{ObjectFile, ReadSection};
+use object_file::{ObjectFile, ReadSection, SymbolNames};
 use std::alloc::Global;
 
 impl<'a> FoundMaps<'a> {
@@ -26,7 +25,7 @@ impl<'a> FoundMaps<'a> {
         &mut self,
         alloc: Global,
         section: &ReadSection<'a>,
-        symbols: &NamedSymbols<'_, 'a>,
+        symbols: &SymbolNames<'_, 'a>,
         name: &str,
         definition: &BtfDefinition,
     ) -> Result<(), ParseError>
@@ -38,7 +37,7 @@ impl<'a> FoundMaps<'a> {
         ensures refused { IfErr result (λ e.
             e ≢ OutOfMemory → Says (unnamed_faults symbols.now name.now) e) }
     {
-        let Some(symbol) = symbols.named(name) else {
+        let Some(symbol) = symbols.last(name) else {
             return Err(ParseError::SymbolNotFound {
                 name: String::from_str(alloc, name)?,
             });
@@ -61,7 +60,7 @@ impl<'a> FoundMaps<'a> {
         &mut self,
         alloc: Global,
         section: &ReadSection<'a>,
-        symbols: &NamedSymbols<'_, 'a>,
+        symbols: &SymbolNames<'_, 'a>,
         maps: &DefinedMaps<'_>,
     ) -> Result<(), ParseError>
         ensures value { OnOk result
@@ -83,7 +82,7 @@ impl<'a> FoundMaps<'a> {
         alloc: Global,
         types: &mut DataSections<'a, '_, '_>,
         section: &ReadSection<'a>,
-        symbols: &NamedSymbols<'_, 'a>,
+        symbols: &SymbolNames<'_, 'a>,
     ) -> Result<(), ParseError>
         ensures value { OnOk result
             (self.new ≡ entered self.old (named_maps types.old section.now symbols.now)) }
@@ -128,7 +127,7 @@ impl<'a> FoundMaps<'a> {
             });
         }
         types.check_names()?;
-        let named = NamedSymbols::new(alloc, symbols)?;
+        let named = SymbolNames::new(alloc, symbols)?;
         self.read_defined(alloc, types, section, &named)
     }
 

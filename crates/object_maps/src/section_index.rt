@@ -1,11 +1,11 @@
 //! The sections of variables of a type table by name.
 
-ghost use Rattle.std.specs.Prelude.{◌≡◌, [], ◌∷◌, length, Some, IfOk, OnOk};
+ghost use Rattle.std.specs.Prelude.{◌≡◌, [], length, Some, IfOk, OnOk};
 ghost use Rattle.std.specs.Option.{option_map_or, option_or};
 ghost use Rattle.object_maps.specs.DataSections.{is_data_section};
-ghost use Rattle.object_maps.specs.NumberedNames.{AddsAt};
 ghost use Rattle.object_maps.specs.SectionIndexes.{AddsSection, HasNoneFrom, IsIndexOf, sections_at};
 
+use crate::lists::add_at;
 use crate::section_names::SectionNames;
 use btf_encoding::TypeRef;
 use btf_records::BtfKind;
@@ -18,7 +18,7 @@ use std::collections::BTreeMap;
 pub(crate) struct SectionIndex<'t> {
     pub(crate) names: SectionNames<'t>,
     /// By the numbers of their names.
-    pub(crate) groups: BTreeMap<usize, Vec<TypeRef<'t>>>,
+    pub(crate) groups: BTreeMap<u64, Vec<TypeRef<'t>>>,
     pub(crate) unreadable: Option<u32>,
 }
 
@@ -28,18 +28,6 @@ fn is_data_section(t: &TypeRef<'_>) -> bool
     t.kind() == BtfKind::DataSec
 }
 
-/// Adds a section to those of a number.
-fn add_at<'t>(
-    groups: &mut BTreeMap<usize, Vec<TypeRef<'t>>>,
-    number: usize,
-    section: TypeRef<'t>,
-) -> Result<(), AllocError>
-    ensures { OnOk result (AddsAt groups.old groups.new number (section.entry ∷ [])) }
-{
-    groups.entry(number)?.or_default().push(section)?;
-    Ok(())
-}
-
 impl<'t> SectionIndex<'t> {
     fn add(&mut self, name: &'t str, section: TypeRef<'t>) -> Result<(), AllocError>
         requires { HasNoneFrom self.old.groups (length self.old.names) }
@@ -47,7 +35,7 @@ impl<'t> SectionIndex<'t> {
         ensures adds { OnOk result (AddsSection self.old self.new name.now section.entry) }
     {
         let number = self.names.enter(name)?;
-        add_at(&mut self.groups, number, section)?;
+        add_at(&mut self.groups, number as u64, section)?;
         Ok(())
     }
 
@@ -88,6 +76,6 @@ impl<'t> SectionIndex<'t> {
         ensures { option_map_or (λ v. v.now.items) result [] ≡ sections_at self.now name.now }
     {
         let number = self.names.number(name)?;
-        self.groups.get(&number)
+        self.groups.get(&(number as u64))
     }
 }

@@ -1,8 +1,9 @@
 //! Names with numbers.
 
-ghost use Rattle.std.specs.Prelude.{◌≡◌, [], ◌∷◌, Some, IfOk, OnOk, find, is_ok, if◌then◌else◌};
-ghost use Rattle.object_maps.specs.NumberedNames.{AddsAt, has_number, number_of, texts, with_name};
+ghost use Rattle.std.specs.Prelude.{◌≡◌, [], Some, IfOk, OnOk, find};
+ghost use Rattle.object_maps.specs.NumberedNames.{has_number, number_of, texts, with_name};
 
+use crate::lists::add_at;
 use std::alloc::{AllocError, Global};
 use std::collections::BTreeMap;
 use std::marker::Model;
@@ -48,18 +49,6 @@ fn first_number(names: &[&str], name: &str, numbers: &[usize]) -> Option<usize>
         .find(|number| has_number(names, name, *number))
 }
 
-/// Lists a number under a hash.
-fn list_number(
-    numbers: &mut BTreeMap<u64, Vec<usize>>,
-    hash: u64,
-    number: usize,
-) -> Result<(), AllocError>
-    ensures { AddsAt numbers.old numbers.new hash (if is_ok result then number ∷ [] else []) }
-{
-    numbers.entry(hash)?.or_default().push(number)?;
-    Ok(())
-}
-
 impl<'t> SectionNames<'t> {
     #[tactic(auto, using(crate::proofs::NumberedNames::none_numbered))]
     pub(crate) fn new(alloc: Global) -> SectionNames<'t>
@@ -87,7 +76,7 @@ impl<'t> SectionNames<'t> {
             return Ok(number);
         }
         let number = self.names.len();
-        list_number(&mut self.numbers, name_hash(name), number)?;
+        add_at(&mut self.numbers, name_hash(name), number)?;
         self.names.push(name)?;
         Ok(number)
     }

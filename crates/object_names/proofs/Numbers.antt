@@ -4,7 +4,7 @@ use Rattle.std.specs.Borrow.{Bor}
 use Rattle.std.specs.Cmp.Lexicographic.{slice_cmp}
 use Rattle.std.specs.Ordering.{is_eq, nat_cmp}
 use Rattle.object_names.specs.Named.{number_under}
-use Rattle.text_order.specs.Orders.{by_text, value_of}
+use Rattle.text_order.specs.Orders.{by_bytes, value_of}
 
 -- each name has the number that it should have
 pub record HasNumbers (expected : List ℕ → Option ℕ) (numbers : List (List ℕ × ℕ)) : Type 0 where
@@ -15,9 +15,9 @@ either true number a b same = refl
 either false number a b same = same
 
 -- a look-up by name, and one by the name's bytes
-under-bytes : (name : List ℕ) (numbers : List (Bor (List ℕ) × ℕ)) → number_under numbers name ≡ value_of name (by_text numbers)
+under-bytes : (name : List ℕ) (numbers : List (Bor (List ℕ) × ℕ)) → number_under numbers name ≡ value_of name (by_bytes numbers)
 under-bytes name [] = refl
-under-bytes name (e ∷ es) = either (is_eq (slice_cmp nat_cmp name e.0.now)) e.1 (number_under es name) (value_of name (by_text es)) (under-bytes name es)
+under-bytes name (e ∷ es) = either (is_eq (slice_cmp nat_cmp name e.0.now)) e.1 (number_under es name) (value_of name (by_bytes es)) (under-bytes name es)
 
-pub numbers_built : (expected : List ℕ → Option ℕ) (entered : List (List ℕ × ℕ)) (numbers : List (Bor (List ℕ) × ℕ)) → HasNumbers expected entered → by_text numbers ≡ entered → (name : List ℕ) → number_under numbers name ≡ expected name
+pub numbers_built : (expected : List ℕ → Option ℕ) (entered : List (List ℕ × ℕ)) (numbers : List (Bor (List ℕ) × ℕ)) → HasNumbers expected entered → by_bytes numbers ≡ entered → (name : List ℕ) → number_under numbers name ≡ expected name
 numbers_built expected entered numbers has is name = under-bytes name numbers ∙ ap (value_of name) is ∙ has.at name

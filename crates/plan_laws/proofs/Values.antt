@@ -14,7 +14,7 @@ use Rattle.std.proofs.lemmas.Option.{slice_get-get_or, slice_get_past}
 use Rattle.std.proofs.lemmas.Slice.Eq.{bytes_eq-Decides}
 use Rattle.ebpf_items.specs.Maps.{MapView}
 use Rattle.elf64.specs.Symbols.{Symbol}
-use Rattle.object_maps.specs.BtfMaps.{symbol_named}
+use Rattle.object_file.specs.Symbols.{last_named}
 use Rattle.object_maps.specs.Overwritten.{map_overwritten, overwritten, with_bytes}
 use Rattle.global_values.specs.Content.{GlobalContent}
 use Rattle.global_data.specs.GlobalData.{GlobalFault, Write, bad_data, global_fault, map_fault, map_of, or_fault, patched_one, symbol_fault, write_over, written}
@@ -197,7 +197,7 @@ Apart symbols maps g name place = IsPutOver symbols maps name place g → ⊥
 -- bytes that fit are put over those of a map
 entry-stays : (symbols : List Symbol) (first : List (List ℕ × MapView)) (g : List ℕ × GlobalContent) (s : Symbol)
     → (m e old : List ℕ × MapView) (test : Bool)
-    → symbol_named symbols g.0 ≡ Some s → map_of first s.section_index ≡ Some old → m.0 ≡ old.0
+    → last_named symbols g.0 ≡ Some s → map_of first s.section_index ≡ Some old → m.0 ≡ old.0
     → bytes_eq m.0 e.0 ≡ test → (bytes_eq m.0 e.0 ≡ true → e ≡ m)
     → length g.1.bytes ≡ s.size → s.address + s.size ≤ length m.1.contents
     → Stays (Apart symbols first g) e (cond test (e.0, map_overwritten s.address g.1.bytes e.1) e)
@@ -240,7 +240,7 @@ entry-stays symbols first g s m e old false named over same is alone sized fits 
 
 entries-stay : (symbols : List Symbol) (first : List (List ℕ × MapView)) (g : List ℕ × GlobalContent) (s : Symbol)
     → (m old : List ℕ × MapView)
-    → symbol_named symbols g.0 ≡ Some s → map_of first s.section_index ≡ Some old → m.0 ≡ old.0
+    → last_named symbols g.0 ≡ Some s → map_of first s.section_index ≡ Some old → m.0 ≡ old.0
     → length g.1.bytes ≡ s.size → s.address + s.size ≤ length m.1.contents
     → (maps : List (List ℕ × MapView)) → Alone m maps
     → AllZip (Stays (Apart symbols first g)) maps (with_bytes maps m.0 s.address g.1.bytes)
@@ -275,8 +275,8 @@ one-stays : (Outside : List ℕ → ℕ → Type 0) (symbols : List Symbol) (fir
     → (g : List ℕ × GlobalContent) → AllZip (Stays Outside) first maps
     → IsStrictlySortedBy (slice_cmp nat_cmp) (keys_of maps) → global_fault symbols first g ≡ None
     → AllZip (Stays (Apart symbols first g)) maps (patched_one symbols maps g)
-one-stays Outside symbols first maps g so-far rising sound = by (symbol_named symbols g.0) refl sound where
-  under : (s : Symbol) → symbol_named symbols g.0 ≡ Some s → symbol_fault first g (Some s) ≡ None
+one-stays Outside symbols first maps g so-far rising sound = by (last_named symbols g.0) refl sound where
+  under : (s : Symbol) → last_named symbols g.0 ≡ Some s → symbol_fault first g (Some s) ≡ None
       → (found : Option (List ℕ × MapView)) → map_of maps s.section_index ≡ found
       → AllZip (Stays (Apart symbols first g)) maps
       (option_map_or (written maps) (option_map (write-at g s) found) maps)
@@ -288,7 +288,7 @@ one-stays Outside symbols first maps g so-far rising sound = by (symbol_named sy
       entries-stay symbols first g s m before.map named before.is before.stays.name fit.0
       (omega (arith, fit.1, before.stays.sized)) maps (map-alone maps s.section_index m rising is)
 
-  by : (found : Option Symbol) → symbol_named symbols g.0 ≡ found → symbol_fault first g found ≡ None
+  by : (found : Option Symbol) → last_named symbols g.0 ≡ found → symbol_fault first g found ≡ None
       → AllZip (Stays (Apart symbols first g)) maps
       (option_map_or (written maps) (option_and_then (write_over maps g.1.bytes) found) maps)
   by None named none = stays-itself (Apart symbols first g) maps

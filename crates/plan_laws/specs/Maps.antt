@@ -6,7 +6,7 @@ use Rattle.elf64.specs.Symbols.{Symbol, symbols_of}
 use Rattle.global_data.specs.GlobalData.{map_of}
 use Rattle.load_plan.specs.Inputs.{Inputs, State, Under}
 use Rattle.load_plan.specs.Planned.{IsPlanOf, IsWholeObject}
-use Rattle.object_maps.specs.BtfMaps.{symbol_named}
+use Rattle.object_file.specs.Symbols.{last_named}
 use Rattle.plan_maps.specs.Numbers.{set_number}
 use Rattle.plan_text.specs.Content.{MapContent, PlanContent}
 use Rattle.global_values.specs.Content.{GlobalContent}
@@ -24,7 +24,7 @@ Global = List ℕ × GlobalContent
 pub record IsPutOver (symbols : List Symbol) (maps : Maps) (name : List ℕ) (place : ℕ)
     (global : Global) : Type 0 where
   pub symbol : Symbol
-  pub named : symbol_named symbols global.0 ≡ Some symbol
+  pub named : last_named symbols global.0 ≡ Some symbol
   pub map : MapView
   pub over : map_of maps symbol.section_index ≡ Some (name, map)
   pub begins : symbol.address ≤ place

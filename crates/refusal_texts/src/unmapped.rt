@@ -1,32 +1,22 @@
 //! Global variables of sections without a map.
 
 use crate::names::SectionName;
-use object_file::ObjectFile;
+use object_file::{ObjectFile, SymbolNames};
 use settings::Settings;
 use std::alloc::{AllocError, Global};
-use text_order::{TextMap, TextMapBuilder};
 
-/// The indexes of the sections that symbols lie in, 0 for none, by their names: of some of one name
-/// that of the last.
-fn sections_by_name<'a>(
-    alloc: Global,
-    file: &ObjectFile<'a>,
-) -> Result<TextMap<'a, usize>, AllocError> {
-    let mut sections = TextMapBuilder::new(alloc);
-    for symbol in file.symbols() {
-        sections.insert(symbol.name(), symbol.view().section_index().unwrap_or(0))?;
-    }
-    sections.build(alloc)
-}
-
-/// The name of the first variable with a value that lies in the section of an index.
+/// The name of the first variable with a value whose symbol lies in the section of an index, 0 for
+/// none.
 fn variable_in<'s>(
-    sections: &TextMap<'_, usize>,
+    symbols: &SymbolNames<'_, '_>,
     index: usize,
     settings: &'s Settings,
 ) -> Option<&'s str> {
     for (name, _value) in settings.globals().iter() {
-        if sections.get(name.as_str()).copied() == Some(index) {
+        let Some(symbol) = symbols.last(name.as_str()) else {
+            continue;
+        };
+        if symbol.view().section_index().unwrap_or(0) == index {
             return Some(name.as_str());
         }
     }
@@ -41,8 +31,8 @@ fn variable_of<'s>(
     settings: &'s Settings,
 ) -> Option<&'s str> {
     let file = ObjectFile::parse(alloc, object).ok()?;
-    let sections = sections_by_name(alloc, &file).ok()?;
-    variable_in(&sections, index, settings)
+    let symbols = SymbolNames::new(alloc, file.symbols()).ok()?;
+    variable_in(&symbols, index, settings)
 }
 
 /// What is told where no map is made of the section of an index, 0 for none, in which a variable

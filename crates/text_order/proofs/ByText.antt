@@ -15,7 +15,7 @@ use Rattle.std.proofs.lemmas.Map.Lookups.{exact_bytes}
 use Rattle.std.proofs.lemmas.Map.Text.{is_eq-slice_cmp}
 use Rattle.std.proofs.lemmas.Slice.Eq.{bytes_eq-Decides}
 use Rattle.std.specs.Borrow.{Bor}
-use Rattle.text_order.specs.Orders.{by_text, with_entry}
+use Rattle.text_order.specs.Orders.{by_bytes, with_entry}
 use Rattle.text_order.proofs.Merging.{or-none}
 
 abbrev order : List ℕ → List ℕ → Ordering
@@ -159,9 +159,9 @@ chosen true v a b same = refl
 chosen false v a b same = same
 
 -- the value of a text, also among entries with their texts as bytes
-pub text_value : {V : Type 0} (name : List ℕ) (es : List (Bor (List ℕ) × V)) → lookup (is_at (λ key. slice_cmp nat_cmp name key.now)) es ≡ at name (by_text es)
+pub text_value : {V : Type 0} (name : List ℕ) (es : List (Bor (List ℕ) × V)) → lookup (is_at (λ key. slice_cmp nat_cmp name key.now)) es ≡ at name (by_bytes es)
 text_value name [] = refl
-text_value name (e ∷ es) = chosen (is_eq (order name e.0.now)) e.1 (lookup (is_at (λ key. slice_cmp nat_cmp name key.now)) es) (at name (by_text es)) (text_value name es)
+text_value name (e ∷ es) = chosen (is_eq (order name e.0.now)) e.1 (lookup (is_at (λ key. slice_cmp nat_cmp name key.now)) es) (at name (by_bytes es)) (text_value name es)
 
 in_turn : {X : Type 0} (found : Option X) (b : Bool) (v : X) (rest : Option X) → option_or found (cond b (Some v) rest) ≡ option_or (option_or found (cond b (Some v) None)) rest
 in_turn (Some f) b v rest = refl

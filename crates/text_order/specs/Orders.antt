@@ -6,6 +6,7 @@ use Rattle.std.specs.Cmp.Lexicographic.{slice_cmp}
 use Rattle.std.specs.Map.{lookup}
 use Rattle.std.specs.Option.{option_or}
 use Rattle.std.specs.Ordering.{nat_cmp}
+pub use Rattle.string_table.specs.Names.{by_bytes}
 
 abbrev pub texts_of : {T : Type 0} → List (Bor (List ℕ) × T) → List (List ℕ)
 texts_of entries = map (λ e. e.0.now) entries
@@ -19,10 +20,6 @@ last_of text (e ∷ es) =
 -- each text has the value that it has last among entries, and none where they haven't it
 pub record HasLast {T : Type 0} (entries ordered : List (Bor (List ℕ) × T)) : Type 0 where
   pub each : (text : List ℕ) → last_of text ordered ≡ last_of text entries
-
--- entries with their texts as bytes
-abbrev pub by_text : {T : Type 0} → List (Bor (List ℕ) × T) → List (List ℕ × T)
-by_text entries = map (λ e. (e.0.now, e.1)) entries
 
 -- the value of a text
 abbrev pub value_of : {T : Type 0} → List ℕ → List (List ℕ × T) → Option T

@@ -5,7 +5,7 @@ ghost use Rattle.std.specs.BTreeMap.{insert_entry};
 ghost use Rattle.std.specs.Cmp.Lexicographic.{slice_cmp};
 ghost use Rattle.std.specs.Ordering.{nat_cmp};
 ghost use Rattle.std.specs.Str.{bytes_eq};
-ghost use Rattle.text_order.specs.Orders.{by_text, value_of};
+ghost use Rattle.text_order.specs.Orders.{by_bytes, value_of};
 
 use crate::text_map::TextMap;
 use std::alloc::{AllocError, Global};
@@ -21,11 +21,11 @@ pub struct TextMapBuilder<'a, T> {
 
 impl<'a, T> Model for TextMapBuilder<'a, T> {
     ghost use Rattle.std.specs.Prelude.{ℕ, List};
-    ghost use Rattle.text_order.specs.Orders.{by_text, entered};
+    ghost use Rattle.text_order.specs.Orders.{by_bytes, entered};
 
     ghost Value = { List (List ℕ × T) };
 
-    ghost view = { λ b. entered (by_text b.entries.items) };
+    ghost view = { λ b. entered (by_bytes b.entries.items) };
 }
 
 impl<'a, T> TextMapBuilder<'a, T> {
@@ -60,7 +60,7 @@ impl<'a, T> TextMapBuilder<'a, T> {
     pub fn build(self, alloc: Global) -> Result<TextMap<'a, T>, AllocError>
     where
         T: Drop,
-        ensures { IfOk result (λ map. by_text map ≡ self.entry) }
+        ensures { IfOk result (λ map. by_bytes map ≡ self.entry) }
     {
         let TextMapBuilder { entries } = self;
         TextMap::from_entries(alloc, entries)

@@ -7,7 +7,7 @@ ghost use Rattle.std.specs.List.{AllZip};
 ghost use Rattle.std.specs.List.Sorted.{IsStrictlySortedBy};
 ghost use Rattle.std.specs.Map.{lookup};
 ghost use Rattle.std.specs.Ordering.{nat_cmp};
-ghost use Rattle.text_order.specs.Orders.{HasLast, by_text, texts_of, value_of};
+ghost use Rattle.text_order.specs.Orders.{HasLast, by_bytes, texts_of, value_of};
 
 use crate::iter::Iter;
 use crate::long_texts::{places_clone, places_of, text_place};
@@ -89,7 +89,7 @@ impl<'a, T> TextMap<'a, T> {
     pub fn get(&self, text: &str) -> Option<&T>
         ensures value { option_copied result
             ≡ lookup (is_at (λ key. slice_cmp nat_cmp text.now key.now)) self.now }
-        ensures by_text { option_copied result ≡ value_of text.now (by_text self.now) }
+        ensures by_text { option_copied result ≡ value_of text.now (by_bytes self.now) }
     {
         let place = text_place(&self.entries, &self.places, text)?;
         Some(&self.entries[place].1)

@@ -7,7 +7,7 @@ use Rattle.btf_tables.specs.EssentialNames.{essential_name}
 use Rattle.type_headers.specs.Beginnings.{BeginningMarks, MarksName, MayBegin}
 use Rattle.type_candidates.specs.WantedBeginnings.{AreBeginnings}
 use Rattle.type_candidates.specs.NamedTypes.{number_of_name}
-use Rattle.text_order.specs.Orders.{by_text}
+use Rattle.text_order.specs.Orders.{by_bytes}
 
 more_by : (number : Option ℕ) (Old New : Type 0) → (Old → New) → IfSome number (λ _. Old) → IfSome number (λ _. New)
 more_by None Old New grows has = tt
@@ -25,7 +25,7 @@ more_beginnings old new name number before marks are begin put = record {
       subst (λ (o : Option ℕ). IfSome o (λ _. MayBegin marks text)) (sym (put (essential_name text))) (name_by name (essential_name text) number (MayBegin marks text) (number_of_name old (essential_name text)) (bytes_eq name (essential_name text)) refl (λ same. named (inr (sym same))) (more_by (number_of_name old (essential_name text)) (MayBegin before text) (MayBegin marks text) (begin.stay text) (are.each text)));
 }
 
-pub are_beginnings : (entries : List (Bor (List ℕ) × ℕ)) (numbers : List (List ℕ × ℕ)) (marks : BeginningMarks) → by_text entries ≡ numbers → AreBeginnings (by_text entries) marks → AreBeginnings numbers marks
+pub are_beginnings : (entries : List (Bor (List ℕ) × ℕ)) (numbers : List (List ℕ × ℕ)) (marks : BeginningMarks) → by_bytes entries ≡ numbers → AreBeginnings (by_bytes entries) marks → AreBeginnings numbers marks
 are_beginnings entries numbers marks is are = rw (← is) are
 
 pub none_begin : (marks : BeginningMarks) → AreBeginnings [] marks

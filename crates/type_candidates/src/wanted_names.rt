@@ -5,7 +5,7 @@ ghost use Rattle.std.specs.List.{list_any};
 ghost use Rattle.btf_tables.specs.EssentialNames.{essential_name};
 ghost use Rattle.type_candidates.specs.WantedBeginnings.{AreBeginnings};
 ghost use Rattle.type_candidates.specs.NamedTypes.{AreApart, AreLengths, AreNumbered, may_end, number_of_name};
-ghost use Rattle.text_order.specs.Orders.{by_text};
+ghost use Rattle.text_order.specs.Orders.{by_bytes};
 
 use btf_tables::essential_name;
 use std::alloc::{AllocError, Global};
@@ -39,15 +39,15 @@ impl<'l> Model for WantedNames<'l> {
     ghost use Rattle.std.specs.Prelude.{ℕ, List};
     ghost use Rattle.type_candidates.specs.WantedBeginnings.{AreBeginnings};
     ghost use Rattle.type_candidates.specs.NamedTypes.{AreApart, AreLengths};
-    ghost use Rattle.text_order.specs.Orders.{by_text};
+    ghost use Rattle.text_order.specs.Orders.{by_bytes};
 
     ghost Value = { List (List ℕ × ℕ) };
 
-    ghost view = { λ n. by_text n.numbers };
+    ghost view = { λ n. by_bytes n.numbers };
 
-    ghost invariant = { λ n. AreApart (by_text n.numbers)
-        × AreLengths (by_text n.numbers) n.lengths.keys
-        × AreBeginnings (by_text n.numbers) n.beginnings };
+    ghost invariant = { λ n. AreApart (by_bytes n.numbers)
+        × AreLengths (by_bytes n.numbers) n.lengths.keys
+        × AreBeginnings (by_bytes n.numbers) n.beginnings };
 }
 
 /// Adds a name with a number, in place of an earlier one of that name.

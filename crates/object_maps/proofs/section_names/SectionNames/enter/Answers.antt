@@ -5,11 +5,11 @@ use Rattle.object_maps.proofs.section_names.SectionNames.enter.Goals as goal
 
 pub invariant_of-self-in_err-push : goal.invariant_of-self-in_err-push
 invariant_of-self-in_err-push c =
-    rw c.in_err-push.ensures.items (kept_numbered c.self.inside.names.items (name_hash c.args.name.now) c.len-number.result c.self.inside.numbers c.list_number.new.numbers c.self.invariant (search rules) (search rules))
+    rw c.in_err-push.ensures.items (kept_numbered c.self.inside.names.items (name_hash c.args.name.now) c.len-number.result c.self.inside.numbers c.add_at.new.lists c.self.invariant (search rules) (search rules))
 
 pub invariant_of-self-2 : goal.invariant_of-self-2
 invariant_of-self-2 c =
-    rw c.in_ok-push.ensures.items (name_numbered c.self.inside.names.items c.args.name c.len-number.result c.self.inside.numbers c.list_number.new.numbers c.self.invariant (search rules) (search rules) (search rules))
+    rw c.in_ok-push.ensures.items (name_numbered c.self.inside.names.items c.args.name c.len-number.result c.self.inside.numbers c.add_at.new.lists c.self.invariant (search rules) (search rules) (search rules))
 
 pub returns-clause-number : goal.returns-clause-number
 returns-clause-number c =
