@@ -7,7 +7,8 @@ use Rattle.elf64.specs.Sections.{Section}
 use Rattle.elf64.specs.Symbols.{Symbol}
 use Rattle.ebpf_items.specs.declared.error.ParseError.{ParseError}
 use Rattle.ebpf_items.specs.declared.error.ParseError.TheVariants as error
-use Rattle.object_parse.specs.Faults.{AreSound, HasSectionFault, has_cut_function, has_function_without_code, has_gap, has_symbol_name, is_cut, is_empty, is_empty_symbol, is_unknown}
+use Rattle.object_file.specs.Symbols.{is_named}
+use Rattle.object_parse.specs.Faults.{AreSound, HasSectionFault, has_cut_function, has_function_without_code, has_gap, is_cut, is_empty, is_empty_symbol, is_unknown}
 use Rattle.object_parse.specs.Places.{byte_count}
 use Rattle.object_parse.specs.TextSections.{Place, has_code_at, is_sound_at, is_text_section, is_unsound, places_of}
 
@@ -74,7 +75,7 @@ sound-not-empty false false name fits h = absurd (cc)
 
 empty-unsound : (len offset index : ℕ) (name : Option (List ℕ)) (o : Option Symbol) → option_map_or (is_empty_symbol index name) o false ≡ true → not (option_map_or (is_sound_at len offset) o false) ≡ true
 empty-unsound len offset index name None h = absurd (cc)
-empty-unsound len offset index name (Some s) h = sound-not-empty (s.index == index) (s.size == 0) (has_symbol_name name s) (has_code_at len offset s) h
+empty-unsound len offset index name (Some s) h = sound-not-empty (s.index == index) (s.size == 0) (option_map_or (λ n. is_named n s) name false) (has_code_at len offset s) h
 
 cut : (empty fits : Bool) → (if fits then false else true) ≡ true → not (not empty && fits) ≡ true
 cut true fits h = refl

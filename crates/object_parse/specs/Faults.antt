@@ -2,14 +2,13 @@
 use Rattle.std.specs.Prelude.{◌≡◌, ℕ, ◌+◌, ◌%◌, ◌^◌, ◌==◌, ◌&&◌, ◌||◌, if◌then◌else◌, Bool, true, false, List, [], ◌∷◌, length, unwrap_or, is_none, Option}
 use Rattle.std.specs.List.{list_any}
 use Rattle.std.specs.Option.{option_map, option_map_or}
-use Rattle.std.specs.Str.{bytes_eq}
 use Rattle.std.specs.String.{string_bytes}
 use Rattle.ebpf_items.specs.declared.error.ParseError.{ParseError}
 use Rattle.ebpf_items.specs.declared.error.ParseError.TheVariants as error
 use Rattle.elf64.specs.Sections.{Section, has_name}
 use Rattle.elf64.specs.Symbols.{Symbol, symbols_of}
 use Rattle.object_file.specs.Reading.{read_sections}
-use Rattle.object_file.specs.Symbols.{symbols_in}
+use Rattle.object_file.specs.Symbols.{is_named, symbols_in}
 use Rattle.object_parse.specs.Programs.{is_program, program_kind, has_no_code}
 use Rattle.object_parse.specs.TextSections.{Place, function_addresses, has_code_at, has_unsound_place, is_text_section, places_of}
 
@@ -49,11 +48,9 @@ is_unknown section address place =
     is_none place.symbol && ((section.address + place.offset) % 2 ^ 64 == address)
 
 -- a place at which a function of size 0 begins, by its symbol
-abbrev pub has_symbol_name : Option (List ℕ) → Symbol → Bool
-has_symbol_name name s = option_map_or (λ n. option_map_or (bytes_eq n) s.name false) name false
-
 abbrev pub is_empty_symbol : ℕ → Option (List ℕ) → Symbol → Bool
-is_empty_symbol index name s = (s.index == index) && (s.size == 0) && has_symbol_name name s
+is_empty_symbol index name s =
+    (s.index == index) && (s.size == 0) && option_map_or (λ n. is_named n s) name false
 
 abbrev pub is_empty : ℕ → Option (List ℕ) → Place → Bool
 is_empty index name place = option_map_or (is_empty_symbol index name) place.symbol false
