@@ -7,6 +7,7 @@ use Rattle.std.specs.List.{zip}
 use Rattle.btf_compatibility.specs.TypeCompatibility.{all_yes, and_also, after_modifiers, both_ends, compared, first_verdict, has_no_bit_offset, is_open, is_pair, pair_bound, pair_parts, pair_verdict, parts_of, record_at, same_kind, types_compatible, verdict, verdict_of}
 use Rattle.btf_tables.specs.ResolvedTypes.{chain_end, end_from, max_depth, modified_type}
 use Rattle.std.specs.Option.{option_map_or}
+use Rattle.btf_compatibility.proofs.Rounds.{in_rounds}
 use Rattle.btf_records.specs.Fields.{kind_of_type, params_of}
 use Rattle.btf_records.specs.Kinds.{kind_of, number_of}
 use Rattle.btf_tables.specs.Tables.{Table, type_by_id}
@@ -90,7 +91,7 @@ by_kinds true false j k l r a b answer same one h = absurd cc
 by_kinds false true j k l r a b answer same one h = absurd cc
 by_kinds false false j k l r a b answer same one h = h
 
-verdict-exchange : (l r : ℕ) (a b : BtfType) (answer : Bool) → verdict l a b ≡ Ok answer → verdict r b a ≡ Ok answer
+pub verdict-exchange : (l r : ℕ) (a b : BtfType) (answer : Bool) → verdict l a b ≡ Ok answer → verdict r b a ≡ Ok answer
 verdict-exchange l r a b answer h = by_kinds (same_kind a b) (same_kind b a) (kind_of_type a) (kind_of_type b) l r a b answer (same_kind-exchange a b) (one_kind a b) h
 
 -- ---- answers
@@ -169,6 +170,21 @@ compared-exchange (suc n) local target asked asked' open_pairs l r =
     (Gives-all _ _ (pair_parts local target l r)
     (λ p. Gives-ends local target asked asked' _ _ p
     (λ i k. rw (← push-exchanged open_pairs l r) (compared-exchange n local target asked asked' (open_pairs ++ (l, r) ∷ []) i k))))))
+
+-- the same in rounds, which know no open pairs
+pub in_rounds-exchange : (n : ℕ) (local target : Table) (asked asked' : ℕ) (l r : ℕ)
+    → Gives (in_rounds n local target asked l r) (in_rounds n target local asked' r l)
+unfolding in_rounds
+in_rounds-exchange zero local target asked asked' l r = record { same = λ answer e. absurd cc }
+in_rounds-exchange (suc n) local target asked asked' l r =
+    Gives-and (pair_verdict local target l r) (pair_verdict target local r l) _ _
+    (record {
+      same = λ answer. verdict-exchange l r (record_at local l) (record_at target r) answer;
+    })
+    (rw (zip-exchanged (parts_of (record_at local l)) (parts_of (record_at target r)))
+    (Gives-all _ _ (pair_parts local target l r)
+    (λ p. Gives-ends local target asked asked' _ _ p
+    (λ i k. in_rounds-exchange n local target asked asked' i k))))
 
 above-exchanged : (local target : Table) → pair_bound target local ≡ pair_bound local target
 above-exchanged local target = grind (arith, common_steps)

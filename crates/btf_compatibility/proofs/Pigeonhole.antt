@@ -28,7 +28,7 @@ record Stands (f : ℕ → ℕ) (v n : ℕ) : Type 0 where
 record Misses (f : ℕ → ℕ) (v n : ℕ) : Type 0 where
   other : (i : ℕ) → i < n → f i ≢ v
 
-same_or_not : (x y : ℕ) → (x ≡ y) ⊎ (x ≢ y)
+pub same_or_not : (x y : ℕ) → (x ≡ y) ⊎ (x ≢ y)
 same_or_not x y = by (x == y) refl where
   by : (b : Bool) → (x == y) ≡ b → (x ≡ y) ⊎ (x ≢ y)
   by true e = inl (grind (arith, common_steps))
@@ -54,7 +54,7 @@ sought f v (suc n) = by (same_or_not (f n) v) (sought f v n) where
 abbrev moved : (ℕ → ℕ) → ℕ → ℕ → ℕ → ℕ
 moved f m v i = cond (f i == m) v (f i)
 
-moved-below : (x m v : ℕ) (b : Bool) → (x == m) ≡ b → x < suc m → v < suc m → x ≢ v → cond b v x < m
+pub moved-below : (x m v : ℕ) (b : Bool) → (x == m) ≡ b → x < suc m → v < suc m → x ≢ v → cond b v x < m
 moved-below x m v true e below v_below other =
     let is : x ≡ m = grind (arith, common_steps) in
     omega (arith, is, v_below, other)
@@ -62,7 +62,7 @@ moved-below x m v false e below v_below other =
     let isnt : x ≢ m = λ same. grind (arith, common_steps) in
     omega (arith, isnt, below)
 
-moved-same : (x y m v : ℕ) (b c : Bool) → (x == m) ≡ b → (y == m) ≡ c → x ≢ v → y ≢ v
+pub moved-same : (x y m v : ℕ) (b c : Bool) → (x == m) ≡ b → (y == m) ≡ c → x ≢ v → y ≢ v
     → cond b v x ≡ cond c v y → x ≡ y
 moved-same x y m v true true e g x_other y_other same = grind (arith, common_steps)
 moved-same x y m v true false e g x_other y_other same = absurd (y_other (sym same))

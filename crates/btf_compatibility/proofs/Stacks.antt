@@ -3,12 +3,14 @@ use Rattle.std.proofs.Common.{◌≡◌, ℕ, zero, suc, Bool, true, false, List
 use Rattle.std.proofs.lemmas.Grind.{common_steps}
 use Rattle.std.specs.Prelude.{◌⊎◌, ◌&&◌, ◌||◌, ◌==◌}
 use Rattle.std.specs.List.{list_any}
-use Rattle.btf_compatibility.specs.TypeCompatibility.{all_yes, and_also, after_modifiers, pair_parts, pair_verdict}
+use Rattle.btf_compatibility.specs.TypeCompatibility.{all_yes, and_also, after_modifiers, pair_parts, pair_verdict, parts_of, record_at}
 use Rattle.btf_tables.specs.ResolvedTypes.{chain_end, max_depth}
 use Rattle.btf_compatibility.specs.declared.pairs.OpenPair.{OpenPair}
 use Rattle.btf_compatibility.proofs.Endings.{Ends, Ends-shift, EndsAs, EndsAs-part, EndsAs-rest, IsFinal}
+use Rattle.btf_compatibility.proofs.Leads.{LeadsAt, both-at, drop-first}
 use Rattle.btf_compatibility.proofs.OpenPairs.{IsSame}
 use Rattle.btf_compatibility.proofs.Rounds.{IsDeepOr, deep, in_rounds, in_rounds-less}
+use Rattle.btf_compatibility.proofs.Settled.{IsSettledTo, YesAt, settled-more}
 use Rattle.btf_tables.specs.Tables.{Table}
 use Rattle.btf_records.specs.declared.error.BtfError.{BtfError}
 
@@ -20,8 +22,9 @@ part_answer local target asked n = after_modifiers local target asked (in_rounds
 abbrev pub parts_left : Table → Table → OpenPair → List (ℕ × ℕ)
 parts_left local target p = drop p.next (pair_parts local target p.left p.right)
 
--- the answer for a pair is that for the parts that are left
+-- the parts before the next say yes, and the answer for a pair is that for the parts that are left
 pub record IsUnderWay (local target : Table) (asked : ℕ) (p : OpenPair) : Type 0 where
+  pub so_far : IsSettledTo local target asked p.left p.right p.next
   pub rest : EndsAs asked (λ n. in_rounds (suc n) local target asked p.left p.right) (λ n. all_yes (part_answer local target asked n) (parts_left local target p))
 
 -- a part has these ids after its modifiers
@@ -35,6 +38,30 @@ pub record LeadsTo (local target : Table) (asked : ℕ) (p : OpenPair) (l r : �
   pub others : List (ℕ × ℕ)
   pub is : parts_left local target p ≡ part ∷ others
   pub ends : EndsAt local target asked part l r
+
+pub leads_both : (local target : Table) (asked : ℕ) (p : OpenPair) (l r : ℕ)
+    → LeadsTo local target asked p l r
+    → LeadsAt local asked p.left p.next l × LeadsAt target asked p.right p.next r
+leads_both local target asked p l r h =
+    let at = both-at (parts_of (record_at local p.left)) (parts_of (record_at target p.right)) p.next
+    h.part
+    (drop-first (pair_parts local target p.left p.right) p.next h.part h.others h.is) in (
+      record { part = h.part.0; is = at.0; ends = h.ends.left },
+      record { part = h.part.1; is = at.1; ends = h.ends.right },
+    )
+
+yes_at : (local target : Table) (asked : ℕ) (p : OpenPair) (l r : ℕ)
+    → LeadsTo local target asked p l r → Ends local target asked l r (Ok true)
+    → YesAt local target asked p.left p.right p.next
+yes_at local target asked p l r to ends =
+    let both = leads_both local target asked p l r to in
+    record {
+      left = l;
+      right = r;
+      to_left = both.0;
+      to_right = both.1;
+      yes = record { rounds = ends.from; is = ends.stays ends.from (omega arith) };
+    }
 
 -- pairs lead, one to the next, from ids to ids
 abbrev pub IsPath : Table → Table → ℕ → ℕ → ℕ → List OpenPair → ℕ → ℕ → Type 0
@@ -68,11 +95,22 @@ part_ends local target asked part l r answer at h =
     }
 
 -- the part is compatible, and the next one follows
-pub advanced : (local target : Table) (asked : ℕ) (p q : OpenPair) (part : ℕ × ℕ) (others : List (ℕ × ℕ)) (l r : ℕ) → q.left ≡ p.left → q.right ≡ p.right → parts_left local target p ≡ part ∷ others → parts_left local target q ≡ others
+pub advanced : (local target : Table) (asked : ℕ) (p q : OpenPair) (part : ℕ × ℕ) (others : List (ℕ × ℕ)) (l r : ℕ) → q.left ≡ p.left → q.right ≡ p.right → q.next ≡ suc p.next → parts_left local target p ≡ part ∷ others → parts_left local target q ≡ others
     → EndsAt local target asked part l r → Ends local target asked l r (Ok true) → IsUnderWay local target asked p → IsUnderWay local target asked q
-advanced local target asked p q part others l r same-l same-r is left at ends h =
+advanced local target asked p q part others l r same-l same-r next is left at ends h =
+    let to : LeadsTo local target asked p l r = record {
+      part = part;
+      others = others;
+      is = is;
+      ends = at;
+    } in
+    let more = settled-more local target asked p.left p.right p.next h.so_far
+    (yes_at local target asked p l r to ends) in
     let after = EndsAs-rest asked _ _ _ (next_answer local target asked p part others is h) (part_ends local target asked part l r (Ok true) at ends) in
     record {
+      so_far = subst (λ (n : ℕ). IsSettledTo local target asked q.left q.right n) (sym next)
+          (subst (λ (x : ℕ). IsSettledTo local target asked x q.right (suc p.next)) (sym same-l)
+          (subst (λ (x : ℕ). IsSettledTo local target asked p.left x (suc p.next)) (sym same-r) more));
       rest = subst (λ (parts : List (ℕ × ℕ)). EndsAs asked (λ n. in_rounds (suc n) local target asked q.left q.right) (λ n. all_yes (part_answer local target asked n) parts)) (sym left)
           (subst (λ (x : ℕ). EndsAs asked (λ n. in_rounds (suc n) local target asked x q.right) (λ n. all_yes (part_answer local target asked n) others)) (sym same-l)
           (subst (λ (x : ℕ). EndsAs asked (λ n. in_rounds (suc n) local target asked p.left x) (λ n. all_yes (part_answer local target asked n) others)) (sym same-r) after));
@@ -94,6 +132,7 @@ pub begun : (local target : Table) (asked : ℕ) (p : OpenPair) → p.next ≡ 0
 unfolding in_rounds
 begun local target asked p first says =
     record {
+      so_far = record { says = says; before = λ j lt. absurd (omega (arith, lt, first)) };
       rest = record {
         from = 0;
         each = λ n. inr (rw (says, first) refl);
@@ -130,7 +169,7 @@ path-deeper local target asked n l r p ps i k path d =
     rw (path.0.left, path.0.right)
     (deep_above local target asked n p _ _ path.1 path.2.1 (path-deep local target asked n path.2.0.0 path.2.0.1 ps i k path.2.2 d))
 
-none-at_zero : (local target : Table) (asked l r : ℕ) → in_rounds zero local target asked l r ≡ deep asked
+pub none-at_zero : (local target : Table) (asked l r : ℕ) → in_rounds zero local target asked l r ≡ deep asked
 unfolding in_rounds
 none-at_zero local target asked l r = refl
 

@@ -145,7 +145,7 @@ walk-advances local target asked l r items rest others states after p i k x y h 
       stack = IsStack-pushed local target asked l r others rest (next_of p) e
           (record {
             path = top.path;
-            under_way = advanced local target asked p (next_of p) (i, k) (drop (suc p.next) (pair_parts local target p.left p.right)) x y refl refl (next-left local target asked l r items rest p i k h.at) left (ends_at local target asked l r items rest p i k x y h) (are.settled x y (sym is)) top.under_way;
+            under_way = advanced local target asked p (next_of p) (i, k) (drop (suc p.next) (pair_parts local target p.left p.right)) x y refl refl (one_more p.next) (next-left local target asked l r items rest p i k h.at) left (ends_at local target asked l r items rest p i k x y h) (are.settled x y (sym is)) top.under_way;
           });
       states = AreStates-moved local target asked states items others rest p (next_of p) h.at.last e refl refl are;
     })

@@ -1,6 +1,6 @@
 //! Whether types of two tables are compatible.
 
-ghost use Rattle.std.specs.Prelude.{◌≡◌, ◌≢◌, ◌<◌, ◌+◌, ◌^◌, ◌==◌, if◌then◌else◌, true, [], ◌∷◌, ◌++◌, IfOk, IfErr, IfSome, Ok, Err, length, slice_get};
+ghost use Rattle.std.specs.Prelude.{◌≡◌, ◌≢◌, ◌<◌, ◌+◌, ◌*◌, true, [], ◌∷◌, ◌++◌, IfOk, IfErr, IfSome, Ok, Err, length, slice_get};
 ghost use Rattle.btf_tables.specs.Agreement.{RestsOnBoth};
 ghost use Rattle.btf_tables.specs.Holdings.{AreHeld};
 ghost use Rattle.btf_compatibility.specs.TypeCompatibility.{IsBoundless, compared_ids, ends_compatible, has_no_bit_offset, pair_parts, pair_verdict, parts_of, record_at, types_compatible, verdict};
@@ -117,26 +117,15 @@ fn enter(
     Ok(agree)
 }
 
-/// With more open pairs than this, each the first part of the one before, a comparison's answer is
-/// that it is too deep.
+/// With more pairs open than this before a pair is looked at, the answer is that it is too deep.
 ///
-/// First parts are asked about first, so on each side these pairs are a walk from record to record.
-/// It is in a ring after fewer steps than its table has ids. Two rings whose records agree for as
-/// many steps as both have records agree for ever.
-fn most_first_parts(local: &Btf<'_>, target: &Btf<'_>) -> usize
-    ensures value { result ≡ length local.now.types + length target.now.types + 2 }
-    ensures bounded { result + 1 < 2 ^ 64 }
+/// What is compatible leads no further than its table has types, so where as many pairs are open,
+/// each of the first types has one part under way wherever it stands. Of the first pairs one joins
+/// two types that the pairs before it join already. There the comparison goes on as it went before.
+fn most_open_pairs(local: &Btf<'_>, target: &Btf<'_>) -> usize
+    ensures { result ≡ 2 * (length local.now.types + length target.now.types) + 2 }
 {
-    local.len() + target.len() + 2
-}
-
-/// How many of the innermost open pairs are each the first part of the one before, once the next
-/// part of a pair is open too.
-fn first_parts_after(pair: OpenPair, first_parts: usize) -> usize
-    requires { first_parts + 1 < 2 ^ 64 }
-    ensures { result ≡ (if pair.next == 0 then first_parts + 1 else 0) }
-{
-    if pair.next == 0 { first_parts + 1 } else { 0 }
+    2 * (local.len() + target.len()) + 2
 }
 
 /// Whether the types after two chains of modifiers are compatible, as a part of a question about
@@ -160,24 +149,19 @@ fn ends_are_compatible(
     if !enter(local, target, first_left, first_right, &mut pairs)? {
         return Ok(false);
     }
-    let most = most_first_parts(local, target);
-    let mut first_parts: usize = 0;
+    let most = most_open_pairs(local, target);
     while let Some(pair) = pairs.open.pop() {
-        if first_parts > most {
+        if pairs.open.len() > most {
             return Err(BtfError::MaximumTypeDepthReached { type_id: asked });
         }
         let Some((local_part, target_part)) = next_parts(local, target, pair) else {
             pairs.settle(pair.left, pair.right)?;
-            first_parts = 0;
             continue;
         };
         let left = local.chain_end(asked, local_part)?;
         let right = target.chain_end(asked, target_part)?;
         match pairs.state(left, right) {
-            Some(PairState::Settled) => {
-                pairs.advance(pair)?;
-                first_parts = 0;
-            }
+            Some(PairState::Settled) => pairs.advance(pair)?,
             Some(PairState::Open) => {
                 return Err(BtfError::MaximumTypeDepthReached { type_id: asked });
             }
@@ -186,7 +170,6 @@ fn ends_are_compatible(
                 if !enter(local, target, left, right, &mut pairs)? {
                     return Ok(false);
                 }
-                first_parts = first_parts_after(pair, first_parts);
             }
         }
     }

@@ -1,10 +1,10 @@
-use Rattle.std.proofs.Common.{◌≡◌, ◌≢◌, true, false, Ok, Err, Some, refl, arith}
+use Rattle.std.proofs.Common.{◌≡◌, ◌≢◌, true, false, Ok, Err, Some, arith}
 use Rattle.std.proofs.lemmas.Grind.{common_steps}
 use Rattle.btf_compatibility.specs.TypeCompatibility.{ends_compatible}
 use Rattle.btf_compatibility.specs.Pairs.{state_of}
 use Rattle.btf_compatibility.specs.declared.pairs.PairState.TheVariants.{Open, Settled}
 use Rattle.btf_compatibility.proofs.Endings.{IsFinal-err, IsFinal-no}
-use Rattle.btf_compatibility.proofs.FirstChains.{IsPart, found-ring, none-first, one_more-first}
+use Rattle.btf_compatibility.proofs.DeepStacks.{first-within, found-deep}
 use Rattle.btf_compatibility.proofs.Turns.{answered, first-ends, found-left, found-right, is_met, is_next, met-final, met-open, passed_on, shorter-advanced, shorter-opened, shorter-settled, walk-advances, walk-begins, walk-opens, walk-settles}
 use Rattle.btf_records.specs.declared.error.BtfError.TheVariants.{OutOfMemory}
 use Rattle.btf_compatibility.proofs.compatibility.ends_are_compatible.Goals as goal
@@ -22,10 +22,8 @@ returns-then-not-branch-clause-answer c =
 
 pub loop-pair-init : goal.loop-pair-init
 loop-pair-init c =
-    let a = c.args in (
-      walk-begins a.local.now a.target.now a.asked _ _ c.new-pairs.result.open.items c.new-pairs.result.states.entries _ _ c.new-pairs.ensures.open c.new-pairs.ensures.states (c.in_ok-enter.ensures.pushed (grind (arith, common_steps))) (c.in_ok-enter.ensures.state (grind (arith, common_steps))) (grind (arith, common_steps)),
-      none-first a.local.now a.target.now a.asked 0 _ refl,
-    )
+    let a = c.args in
+    walk-begins a.local.now a.target.now a.asked _ _ c.new-pairs.result.open.items c.new-pairs.result.states.entries _ _ c.new-pairs.ensures.open c.new-pairs.ensures.states (c.in_ok-enter.ensures.pushed (grind (arith, common_steps))) (c.in_ok-enter.ensures.state (grind (arith, common_steps))) (grind (arith, common_steps))
 
 pub loop-pair-smaller-in_default-next_parts : goal.loop-pair-smaller-in_default-next_parts
 loop-pair-smaller-in_default-next_parts c =
@@ -34,53 +32,49 @@ loop-pair-smaller-in_default-next_parts c =
 
 pub loop-pair-preserved-in_default-next_parts : goal.loop-pair-preserved-in_default-next_parts
 loop-pair-preserved-in_default-next_parts c =
-    let a = c.args in (
-      walk-settles a.local.now a.target.now a.asked _ _ c.loop-pair.pairs.open.items c.pop.new.self.items _ c.loop-pair.pairs.states.entries c.settle.new.self.states.entries c.in-Some.pair c.loop-pair.invariant.0 c.in-Some.ensures.items (grind (arith, common_steps)) c.in_ok-settle.ensures.state c.in_ok-settle.ensures.open,
-      none-first a.local.now a.target.now a.asked 0 _ refl,
-    )
+    let a = c.args in
+    walk-settles a.local.now a.target.now a.asked _ _ c.loop-pair.pairs.open.items c.pop.new.self.items _ c.loop-pair.pairs.states.entries c.settle.new.self.states.entries c.in-Some.pair c.loop-pair.invariant c.in-Some.ensures.items (grind (arith, common_steps)) c.in_ok-settle.ensures.state c.in_ok-settle.ensures.open
 
 pub returns-in_err-left-clause-refused : goal.returns-in_err-left-clause-refused
 returns-in_err-left-clause-refused c =
     let a = c.args in
-    let next = is_next c.pop.new.self.items c.in-Some.pair c.in-Some-next_parts.local_part c.in-Some-next_parts.target_part c.loop-pair.invariant.0.stack c.in-Some.ensures.items c.in-Some-next_parts.ensures.value in
+    let next = is_next c.pop.new.self.items c.in-Some.pair c.in-Some-next_parts.local_part c.in-Some-next_parts.target_part c.loop-pair.invariant.stack c.in-Some.ensures.items c.in-Some-next_parts.ensures.value in
     passed_on _ c.in_err-left.field-0.0 (λ e. e ≢ OutOfMemory → ends_compatible a.local.now a.target.now a.asked (a.local_id, a.target_id) ≡ Err e) c.from_residual-in_err-left.ensures.1
     (λ other. answered a.local.now a.target.now a.asked a.local_id a.target_id _ _ (Err c.in_err-left.field-0.0) c.in_ok-first_left.ensures c.in_ok-first_right.ensures (found-left a.local.now a.target.now a.asked _ _ _ _ _ _ _ c.in_err-left.field-0.0 next c.in_err-left.ensures))
 
 pub returns-in_err-right-clause-refused : goal.returns-in_err-right-clause-refused
 returns-in_err-right-clause-refused c =
     let a = c.args in
-    let next = is_next c.pop.new.self.items c.in-Some.pair c.in-Some-next_parts.local_part c.in-Some-next_parts.target_part c.loop-pair.invariant.0.stack c.in-Some.ensures.items c.in-Some-next_parts.ensures.value in
+    let next = is_next c.pop.new.self.items c.in-Some.pair c.in-Some-next_parts.local_part c.in-Some-next_parts.target_part c.loop-pair.invariant.stack c.in-Some.ensures.items c.in-Some-next_parts.ensures.value in
     passed_on _ c.in_err-right.field-0.0 (λ e. e ≢ OutOfMemory → ends_compatible a.local.now a.target.now a.asked (a.local_id, a.target_id) ≡ Err e) c.from_residual-in_err-right.ensures.1
     (λ other. answered a.local.now a.target.now a.asked a.local_id a.target_id _ _ (Err c.in_err-right.field-0.0) c.in_ok-first_left.ensures c.in_ok-first_right.ensures (found-right a.local.now a.target.now a.asked _ _ _ _ _ _ _ _ c.in_err-right.field-0.0 next c.in_ok-left.ensures c.in_err-right.ensures))
 
-pub loop-pair-smaller-in-Some-Settled : goal.loop-pair-smaller-in-Some-Settled
-loop-pair-smaller-in-Some-Settled c =
+pub loop-pair-smaller-in_ok-advance-in-Some-Settled : goal.loop-pair-smaller-in_ok-advance-in-Some-Settled
+loop-pair-smaller-in_ok-advance-in-Some-Settled c =
     let a = c.args in
-    let next = is_next c.pop.new.self.items c.in-Some.pair c.in-Some-next_parts.local_part c.in-Some-next_parts.target_part c.loop-pair.invariant.0.stack c.in-Some.ensures.items c.in-Some-next_parts.ensures.value in
+    let next = is_next c.pop.new.self.items c.in-Some.pair c.in-Some-next_parts.local_part c.in-Some-next_parts.target_part c.loop-pair.invariant.stack c.in-Some.ensures.items c.in-Some-next_parts.ensures.value in
     shorter-advanced a.local.now a.target.now a.asked _ _ _ _ c.advance.new.self.open.items c.loop-pair.pairs.states.entries c.advance.new.self.states.entries c.in-Some.pair _ _ next c.in_ok-advance-in-Some-Settled.ensures.pushed c.in_ok-advance-in-Some-Settled.ensures.states
 
-pub loop-pair-preserved-in-Some-Settled : goal.loop-pair-preserved-in-Some-Settled
-loop-pair-preserved-in-Some-Settled c =
+pub loop-pair-preserved-in_ok-advance-in-Some-Settled : goal.loop-pair-preserved-in_ok-advance-in-Some-Settled
+loop-pair-preserved-in_ok-advance-in-Some-Settled c =
     let a = c.args in
-    let next = is_next c.pop.new.self.items c.in-Some.pair c.in-Some-next_parts.local_part c.in-Some-next_parts.target_part c.loop-pair.invariant.0.stack c.in-Some.ensures.items c.in-Some-next_parts.ensures.value in
+    let next = is_next c.pop.new.self.items c.in-Some.pair c.in-Some-next_parts.local_part c.in-Some-next_parts.target_part c.loop-pair.invariant.stack c.in-Some.ensures.items c.in-Some-next_parts.ensures.value in
     let met = is_met c.in_ok-left.left c.in_ok-right.right next c.in_ok-left.ensures c.in_ok-right.ensures in
-    let is : Some Settled ≡ state_of c.loop-pair.pairs.states.entries c.in_ok-left.left c.in_ok-right.right = grind (arith, common_steps) in (
-      walk-advances a.local.now a.target.now a.asked _ _ _ _ c.advance.new.self.open.items c.loop-pair.pairs.states.entries c.advance.new.self.states.entries c.in-Some.pair _ _ _ _ met c.loop-pair.invariant.0.states is c.in_ok-advance-in-Some-Settled.ensures.pushed c.in_ok-advance-in-Some-Settled.ensures.states,
-      none-first a.local.now a.target.now a.asked 0 _ refl,
-    )
+    let is : Some Settled ≡ state_of c.loop-pair.pairs.states.entries c.in_ok-left.left c.in_ok-right.right = grind (arith, common_steps) in
+    walk-advances a.local.now a.target.now a.asked _ _ _ _ c.advance.new.self.open.items c.loop-pair.pairs.states.entries c.advance.new.self.states.entries c.in-Some.pair _ _ _ _ met c.loop-pair.invariant.states is c.in_ok-advance-in-Some-Settled.ensures.pushed c.in_ok-advance-in-Some-Settled.ensures.states
 
 pub returns-in-Some-Open-clause-refused : goal.returns-in-Some-Open-clause-refused
 returns-in-Some-Open-clause-refused c =
     let a = c.args in
-    let next = is_next c.pop.new.self.items c.in-Some.pair c.in-Some-next_parts.local_part c.in-Some-next_parts.target_part c.loop-pair.invariant.0.stack c.in-Some.ensures.items c.in-Some-next_parts.ensures.value in
+    let next = is_next c.pop.new.self.items c.in-Some.pair c.in-Some-next_parts.local_part c.in-Some-next_parts.target_part c.loop-pair.invariant.stack c.in-Some.ensures.items c.in-Some-next_parts.ensures.value in
     let met = is_met c.in_ok-left.left c.in_ok-right.right next c.in_ok-left.ensures c.in_ok-right.ensures in
     let is : Some Open ≡ state_of c.loop-pair.pairs.states.entries c.in_ok-left.left c.in_ok-right.right = grind (arith, common_steps) in
-    λ other. answered a.local.now a.target.now a.asked a.local_id a.target_id _ _ _ c.in_ok-first_left.ensures c.in_ok-first_right.ensures (met-open a.local.now a.target.now a.asked _ _ _ _ _ _ _ _ _ c.loop-pair.pairs.states.entries met c.loop-pair.invariant.0.states is)
+    λ other. answered a.local.now a.target.now a.asked a.local_id a.target_id _ _ _ c.in_ok-first_left.ensures c.in_ok-first_right.ensures (met-open a.local.now a.target.now a.asked _ _ _ _ _ _ _ _ _ c.loop-pair.pairs.states.entries met c.loop-pair.invariant.states is)
 
 pub returns-in_err-enter-in-None-clause-refused : goal.returns-in_err-enter-in-None-clause-refused
 returns-in_err-enter-in-None-clause-refused c =
     let a = c.args in
-    let next = is_next c.pop.new.self.items c.in-Some.pair c.in-Some-next_parts.local_part c.in-Some-next_parts.target_part c.loop-pair.invariant.0.stack c.in-Some.ensures.items c.in-Some-next_parts.ensures.value in
+    let next = is_next c.pop.new.self.items c.in-Some.pair c.in-Some-next_parts.local_part c.in-Some-next_parts.target_part c.loop-pair.invariant.stack c.in-Some.ensures.items c.in-Some-next_parts.ensures.value in
     let met = is_met c.in_ok-left.left c.in_ok-right.right next c.in_ok-left.ensures c.in_ok-right.ensures in
     passed_on _ c.in_err-enter-in-None.field-0.0 (λ e. e ≢ OutOfMemory → ends_compatible a.local.now a.target.now a.asked (a.local_id, a.target_id) ≡ Err e) c.from_residual-in_err-enter-in-None.ensures.1
     (λ other. answered a.local.now a.target.now a.asked a.local_id a.target_id _ _ (Err c.in_err-enter-in-None.field-0.0) c.in_ok-first_left.ensures c.in_ok-first_right.ensures (met-final a.local.now a.target.now a.asked _ _ _ _ _ _ _ _ _ (Err c.in_err-enter-in-None.field-0.0) met (IsFinal-err c.in_err-enter-in-None.field-0.0) (c.in_err-enter-in-None.ensures.refused other)))
@@ -88,33 +82,30 @@ returns-in_err-enter-in-None-clause-refused c =
 pub returns-then-not-branch-2-clause-answer : goal.returns-then-not-branch-2-clause-answer
 returns-then-not-branch-2-clause-answer c =
     let a = c.args in
-    let next = is_next c.pop.new.self.items c.in-Some.pair c.in-Some-next_parts.local_part c.in-Some-next_parts.target_part c.loop-pair.invariant.0.stack c.in-Some.ensures.items c.in-Some-next_parts.ensures.value in
+    let next = is_next c.pop.new.self.items c.in-Some.pair c.in-Some-next_parts.local_part c.in-Some-next_parts.target_part c.loop-pair.invariant.stack c.in-Some.ensures.items c.in-Some-next_parts.ensures.value in
     let met = is_met c.in_ok-left.left c.in_ok-right.right next c.in_ok-left.ensures c.in_ok-right.ensures in
     answered a.local.now a.target.now a.asked a.local_id a.target_id _ _ (Ok false) c.in_ok-first_left.ensures c.in_ok-first_right.ensures (met-final a.local.now a.target.now a.asked _ _ _ _ _ _ _ _ _ (Ok false) met IsFinal-no (grind (arith, common_steps)))
 
 pub loop-pair-smaller : goal.loop-pair-smaller
 loop-pair-smaller c =
     let a = c.args in
-    let next = is_next c.pop.new.self.items c.in-Some.pair c.in-Some-next_parts.local_part c.in-Some-next_parts.target_part c.loop-pair.invariant.0.stack c.in-Some.ensures.items c.in-Some-next_parts.ensures.value in
+    let next = is_next c.pop.new.self.items c.in-Some.pair c.in-Some-next_parts.local_part c.in-Some-next_parts.target_part c.loop-pair.invariant.stack c.in-Some.ensures.items c.in-Some-next_parts.ensures.value in
     let met = is_met c.in_ok-left.left c.in_ok-right.right next c.in_ok-left.ensures c.in_ok-right.ensures in
     shorter-opened a.local.now a.target.now a.asked _ _ c.loop-pair.pairs.open.items c.pop.new.self.items c.push.new.self.items c.enter-in-None.new.pairs.open.items c.loop-pair.pairs.states.entries c.enter-in-None.new.pairs.states.entries c.in-Some.pair _ _ _ _ met c.in_ok-push-in-None.ensures.items (c.in_ok-enter-in-None.ensures.pushed (grind (arith, common_steps))) (c.in_ok-enter-in-None.ensures.state (grind (arith, common_steps))) c.in-None.ensures
 
 pub loop-pair-preserved : goal.loop-pair-preserved
 loop-pair-preserved c =
     let a = c.args in
-    let next = is_next c.pop.new.self.items c.in-Some.pair c.in-Some-next_parts.local_part c.in-Some-next_parts.target_part c.loop-pair.invariant.0.stack c.in-Some.ensures.items c.in-Some-next_parts.ensures.value in
+    let next = is_next c.pop.new.self.items c.in-Some.pair c.in-Some-next_parts.local_part c.in-Some-next_parts.target_part c.loop-pair.invariant.stack c.in-Some.ensures.items c.in-Some-next_parts.ensures.value in
     let met = is_met c.in_ok-left.left c.in_ok-right.right next c.in_ok-left.ensures c.in_ok-right.ensures in
-    let part : IsPart a.local.now a.target.now a.asked c.in-Some.pair c.in_ok-left.left c.in_ok-right.right = record { left = c.in-Some-next_parts.local_part; right = c.in-Some-next_parts.target_part; is = c.in-Some-next_parts.ensures.value; left_end = c.in_ok-left.ensures; right_end = c.in_ok-right.ensures; says = grind (arith, common_steps) } in (
-      walk-opens a.local.now a.target.now a.asked _ _ c.loop-pair.pairs.open.items c.pop.new.self.items c.push.new.self.items c.enter-in-None.new.pairs.open.items c.loop-pair.pairs.states.entries c.enter-in-None.new.pairs.states.entries c.in-Some.pair _ _ _ _ met c.loop-pair.invariant.0.states c.in_ok-push-in-None.ensures.items (c.in_ok-enter-in-None.ensures.pushed (grind (arith, common_steps))) (c.in_ok-enter-in-None.ensures.state (grind (arith, common_steps))) (grind (arith, common_steps)),
-      one_more-first a.local.now a.target.now a.asked c.loop-pair.first_parts c.loop-pair.pairs.open.items c.pop.new.self.items c.in-Some.pair _ _ c.loop-pair.invariant.1 c.in-Some.ensures.items part _ c.push.new.self.items c.enter-in-None.new.pairs.open.items (c.in_ok-enter-in-None.ensures.pushed (grind (arith, common_steps))) (grind (arith, common_steps)),
-    )
+    walk-opens a.local.now a.target.now a.asked _ _ c.loop-pair.pairs.open.items c.pop.new.self.items c.push.new.self.items c.enter-in-None.new.pairs.open.items c.loop-pair.pairs.states.entries c.enter-in-None.new.pairs.states.entries c.in-Some.pair _ _ _ _ met c.loop-pair.invariant.states c.in_ok-push-in-None.ensures.items (c.in_ok-enter-in-None.ensures.pushed (grind (arith, common_steps))) (c.in_ok-enter-in-None.ensures.state (grind (arith, common_steps))) (grind (arith, common_steps))
 
 pub returns-clause-answer : goal.returns-clause-answer
 returns-clause-answer c =
     let a = c.args in
-    answered a.local.now a.target.now a.asked a.local_id a.target_id _ _ (Ok true) c.in_ok-first_left.ensures c.in_ok-first_right.ensures (c.loop-pair.invariant.0.stack.done (grind (arith, common_steps)))
+    answered a.local.now a.target.now a.asked a.local_id a.target_id _ _ (Ok true) c.in_ok-first_left.ensures c.in_ok-first_right.ensures (c.loop-pair.invariant.stack.done (grind (arith, common_steps)))
 
-pub returns-then-first_parts-most-clause-refused : goal.returns-then-first_parts-most-clause-refused
-returns-then-first_parts-most-clause-refused c =
+pub returns-then-len-most-clause-refused : goal.returns-then-len-most-clause-refused
+returns-then-len-most-clause-refused c =
     let a = c.args in
-    λ other. answered a.local.now a.target.now a.asked a.local_id a.target_id _ _ _ c.in_ok-first_left.ensures c.in_ok-first_right.ensures (found-ring a.local.now a.target.now a.asked _ _ c.loop-pair.first_parts c.loop-pair.pairs.open.items c.pop.new.self.items c.in-Some.pair c.loop-pair.invariant.0.stack c.loop-pair.invariant.1 c.in-Some.ensures.items (grind (arith, common_steps)))
+    λ other. answered a.local.now a.target.now a.asked a.local_id a.target_id _ _ _ c.in_ok-first_left.ensures c.in_ok-first_right.ensures (found-deep a.local.now a.target.now a.asked _ _ c.loop-pair.pairs.open.items c.pop.new.self.items c.in-Some.pair (first-within a.local.now a.target.now a.asked a.local_id a.target_id _ _ c.in_ok-first_left.ensures c.in_ok-first_right.ensures) c.loop-pair.invariant.stack c.in-Some.ensures.items (grind (arith, common_steps)))

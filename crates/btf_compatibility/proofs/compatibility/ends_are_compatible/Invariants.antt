@@ -1,4 +1,3 @@
-use Rattle.btf_compatibility.proofs.FirstChains.{AreFirst}
 use Rattle.btf_compatibility.proofs.Steps.{steps_left}
 use Rattle.btf_compatibility.proofs.Turns.{IsWalk}
 use Rattle.btf_compatibility.proofs.compatibility.ends_are_compatible.Given as goal
@@ -6,7 +5,6 @@ use Rattle.btf_compatibility.proofs.compatibility.ends_are_compatible.Given as g
 abbrev pub invariant-loop-pair : goal.invariant-loop-pair
 invariant-loop-pair l =
     IsWalk l.local l.target l.asked l.first_left l.first_right l.pairs.open.items l.pairs.states.entries
-    × AreFirst l.local l.target l.asked l.first_parts l.pairs.open.items
 
 abbrev pub decreases-loop-pair : goal.decreases-loop-pair
 decreases-loop-pair l = steps_left l.local l.target l.pairs.states.entries l.pairs.open.items
