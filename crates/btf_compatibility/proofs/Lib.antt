@@ -1,6 +1,8 @@
 pub mod Agreed
 pub mod Bounds
 pub mod Chains
+pub mod ClassedIds
+pub mod ClassedTypes
 pub mod Comparisons
 pub mod DeepStacks
 pub mod Difunctional
@@ -12,6 +14,7 @@ pub mod FieldsExchanged
 pub mod FreePairs
 pub mod Held
 pub mod Leads
+pub mod Links
 pub mod LocalsAgreed
 pub mod Merges
 pub mod OpenPairs

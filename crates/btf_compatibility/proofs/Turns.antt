@@ -124,6 +124,11 @@ walk-begins local target asked l r before none items states empty no_states e se
       states = AreStates-opened local target asked l r none states items before (first_of l r) e refl refl sets (AreStates-none local target asked none before no_states);
     }
 
+-- a pair without a next part is compatible
+pub settled-says : (local target : Table) (asked l r : ℕ) (items rest : List OpenPair) (p : OpenPair) → IsStack local target asked l r items → items ≡ rest ++ p ∷ [] → None ≡ slice_get (pair_parts local target p.left p.right) p.next → Ends local target asked p.left p.right (Ok true)
+settled-says local target asked l r items rest p stack e none =
+    settled local target asked p (drop-past (pair_parts local target p.left p.right) p.next none) (stack.top rest p e).under_way
+
 pub walk-settles : (local target : Table) (asked l r : ℕ) (items rest others : List OpenPair) (before after : List ((ℕ × ℕ) × PairState)) (p : OpenPair) → IsWalk local target asked l r items before → items ≡ rest ++ p ∷ [] → None ≡ slice_get (pair_parts local target p.left p.right) p.next → SetsState before after p.left p.right Settled → others ≡ rest
     → IsWalk local target asked l r others after
 walk-settles local target asked l r items rest others before after p h e none sets same =
@@ -135,9 +140,9 @@ walk-settles local target asked l r items rest others before after p h e none se
       states = AreStates-settled local target asked before after items rest p e sets (settled local target asked p empty top.under_way) h.states;
     })
 
-pub walk-advances : (local target : Table) (asked l r : ℕ) (items rest others : List OpenPair) (states after : List ((ℕ × ℕ) × PairState)) (p : OpenPair) (i k x y : ℕ) → IsMet local target asked l r items rest p i k x y → AreStates local target asked states items → Some Settled ≡ state_of states x y → others ≡ rest ++ next_of p ∷ [] → after ≡ states
+pub walk-advances : (local target : Table) (asked l r : ℕ) (items rest others : List OpenPair) (states after : List ((ℕ × ℕ) × PairState)) (p : OpenPair) (i k x y : ℕ) → IsMet local target asked l r items rest p i k x y → AreStates local target asked states items → Ends local target asked x y (Ok true) → others ≡ rest ++ next_of p ∷ [] → after ≡ states
     → IsWalk local target asked l r others after
-walk-advances local target asked l r items rest others states after p i k x y h are is e same =
+walk-advances local target asked l r items rest others states after p i k x y h are says e same =
     subst (IsWalk local target asked l r others) (sym same)
     (let top = h.at.stack.top rest p h.at.last in
     let left : parts_left local target (next_of p) ≡ drop (suc p.next) (pair_parts local target p.left p.right) = ap (λ (n : ℕ). drop n (pair_parts local target p.left p.right)) (one_more p.next) in
@@ -145,7 +150,7 @@ walk-advances local target asked l r items rest others states after p i k x y h 
       stack = IsStack-pushed local target asked l r others rest (next_of p) e
           (record {
             path = top.path;
-            under_way = advanced local target asked p (next_of p) (i, k) (drop (suc p.next) (pair_parts local target p.left p.right)) x y refl refl (one_more p.next) (next-left local target asked l r items rest p i k h.at) left (ends_at local target asked l r items rest p i k x y h) (are.settled x y (sym is)) top.under_way;
+            under_way = advanced local target asked p (next_of p) (i, k) (drop (suc p.next) (pair_parts local target p.left p.right)) x y refl refl (one_more p.next) (next-left local target asked l r items rest p i k h.at) left (ends_at local target asked l r items rest p i k x y h) says top.under_way;
           });
       states = AreStates-moved local target asked states items others rest p (next_of p) h.at.last e refl refl are;
     })

@@ -1,3 +1,4 @@
+pub mod Classes
 pub mod FieldCompatibility
 pub mod Laws
 pub mod Pairs

@@ -1,6 +1,6 @@
 //! Whether types of two tables are compatible.
 
-ghost use Rattle.std.specs.Prelude.{◌≡◌, ◌≢◌, ◌<◌, ◌+◌, ◌*◌, true, [], ◌∷◌, ◌++◌, IfOk, IfErr, IfSome, Ok, Err, length, slice_get};
+ghost use Rattle.std.specs.Prelude.{◌≡◌, ◌≢◌, ◌<◌, ◌+◌, ◌*◌, true, [], ◌∷◌, ◌++◌, IfOk, IfErr, IfSome, OnOk, Ok, Err, length, slice_get};
 ghost use Rattle.btf_tables.specs.Agreement.{RestsOnBoth};
 ghost use Rattle.btf_tables.specs.Holdings.{AreHeld};
 ghost use Rattle.btf_compatibility.specs.TypeCompatibility.{IsBoundless, compared_ids, ends_compatible, has_no_bit_offset, pair_parts, pair_verdict, parts_of, record_at, types_compatible, verdict};
@@ -109,6 +109,7 @@ fn enter(
     ensures state { IfOk result (λ yes.
         yes ≡ true
         → SetsState pairs.old.states.entries pairs.new.states.entries left right PairState.Open) }
+    ensures classes { OnOk result (pairs.new.classes ≡ pairs.old.classes) }
 {
     let agree = verdict(left, &record_at(local, left), &record_at(target, right))?;
     if agree {
@@ -165,6 +166,7 @@ fn ends_are_compatible(
             Some(PairState::Open) => {
                 return Err(BtfError::MaximumTypeDepthReached { type_id: asked });
             }
+            None if pairs.classes.are_linked(left, right) => pairs.advance(pair)?,
             None => {
                 pairs.open.push(pair)?;
                 if !enter(local, target, left, right, &mut pairs)? {

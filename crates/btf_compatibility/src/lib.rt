@@ -2,6 +2,7 @@
 //! `bpf_core_fields_are_compat`, tools/lib/bpf/relo_core.c).
 #![tactic(auto)]
 
+mod classes;
 mod compatibility;
 mod fields;
 mod laws;
