@@ -109,11 +109,7 @@ fn variable_of(
     let Some((type_id, found)) = first_fault(alloc, table) else {
         return Ok(None);
     };
-    if say_the_same(alloc, &found, error)? {
-        Ok(Some(type_id))
-    } else {
-        Ok(None)
-    }
+    Ok(say_the_same(alloc, &found, error)?.then_some(type_id))
 }
 
 /// The first map that a table doesn't define well, if an error is for it.

@@ -57,11 +57,7 @@ fn inner_struct(table: &Btf<'_>, type_id: u32) -> Option<u32> {
     let element = table.resolve_type(array.element_type).ok()?;
     let target = target_of(table, element)?;
     let end = table.resolve_type(target).ok()?;
-    if is_struct(table, end) {
-        Some(end)
-    } else {
-        None
-    }
+    is_struct(table, end).then_some(end)
 }
 
 /// What is wrong with a member of any map.

@@ -1,26 +1,11 @@
 //! Sections by the words of their records.
 
+use crate::words::push_words;
 use btf_records::Endianness;
 use std::alloc::{AllocError, Global};
 
 /// The bytes of a section's header.
 const HEADER: u32 = 24;
-
-/// Writes a word.
-fn push_word(out: &mut Vec<u8>, order: Endianness, word: u32) -> Result<(), AllocError> {
-    match order {
-        Endianness::Little => out.extend_from_slice(&word.to_le_bytes()),
-        Endianness::Big => out.extend_from_slice(&word.to_be_bytes()),
-    }
-}
-
-/// Writes words.
-fn push_words(out: &mut Vec<u8>, order: Endianness, words: &[u32]) -> Result<(), AllocError> {
-    for word in words {
-        push_word(out, order, *word)?;
-    }
-    Ok(())
-}
 
 /// A length as a word, of which the greatest stands for all that are too long.
 pub(crate) fn length_word(len: usize) -> u32 {

@@ -1,11 +1,10 @@
 //! Tables, and what they become.
 
-use crate::sections::ORDERS;
 use btf::{
     Answers, Btf, BtfError, BtfFeature, Endianness, KsymsIds, TextMap, TextMapBuilder,
     fixup_and_sanitize,
 };
-use sample_tables::section;
+use sample_tables::{ORDERS, section};
 use std::alloc::Global;
 use std::process::Abort;
 

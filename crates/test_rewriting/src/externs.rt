@@ -2,11 +2,11 @@
 
 use crate::case::{ALL, Case, check, is_written, parse};
 use crate::sections::{
-    DATASEC, DATASEC_1, DATASEC_2, ENUM, EXTERN, FUNC, GLOBAL, INT, ORDERS, PROTO, PROTO_1,
-    SIGNED_INT, STRUCT_2, TYPEDEF, VAR,
+    DATASEC, DATASEC_1, DATASEC_2, ENUM, EXTERN, FUNC, GLOBAL, INT, PROTO, PROTO_1, SIGNED_INT,
+    STRUCT_2, TYPEDEF, VAR,
 };
 use btf::{BtfFeature, Endianness, fixup_ksyms_datasec};
-use sample_tables::section;
+use sample_tables::{ORDERS, section};
 use std::alloc::Global;
 use std::process::Abort;
 

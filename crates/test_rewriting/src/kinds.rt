@@ -3,11 +3,11 @@
 use crate::case::{ALL, Case, SIZES, check, parse, sanitize};
 use crate::sections::{
     ALL_ONES, ARRAY, CONST, DATASEC, DATASEC_1, DECL_TAG, ENUM_1, ENUM64, ENUM64_1, FLOAT, FWD,
-    INT, ORDERS, PROTO, PTR, RESTRICT, SIGNED, SIGNED_1, SIGNED64_2, STRUCT, STRUCT_1, TYPE_TAG,
-    TYPEDEF, UNION, UNION_1, UNION_2, VAR, VOLATILE,
+    INT, PROTO, PTR, RESTRICT, SIGNED, SIGNED_1, SIGNED64_2, STRUCT, STRUCT_1, TYPE_TAG, TYPEDEF,
+    UNION, UNION_1, UNION_2, VAR, VOLATILE,
 };
 use btf::{Btf, BtfFeature, Endianness};
-use sample_tables::section;
+use sample_tables::{ORDERS, section};
 use std::alloc::Global;
 use std::process::Abort;
 

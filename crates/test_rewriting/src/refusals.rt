@@ -1,9 +1,9 @@
 //! Tables that are refused, and stay as they were.
 
 use crate::case::{ALL, SIZES, is_written, parse, sanitize};
-use crate::sections::{DATASEC, DATASEC_1, DATASEC_2, ENUM, EXTERN, GLOBAL, INT, ORDERS, VAR};
+use crate::sections::{DATASEC, DATASEC_1, DATASEC_2, ENUM, EXTERN, GLOBAL, INT, VAR};
 use btf::{Btf, BtfError, BtfFeature, Endianness, KsymsIds, fixup_ksyms_datasec};
-use sample_tables::section;
+use sample_tables::{ORDERS, section};
 use std::alloc::Global;
 use std::process::Abort;
 

@@ -1,10 +1,6 @@
 //! Words of sections by hand, from the kernel's BTF documentation. Info words are named by kind and,
 //! after a `_`, by the count of their items.
 
-use btf::Endianness;
-
-pub(crate) const ORDERS: [Endianness; 2] = [Endianness::Little, Endianness::Big];
-
 pub(crate) const INT: u32 = 0x0100_0000;
 
 pub(crate) const PTR: u32 = 0x0200_0000;

@@ -1,4 +1,5 @@
-//! Tests of the relocations that write into slots: numbers of maps, and what is known of externs.
+//! Tests of functions: what relocations and other helpers write into their slots, and the records
+//! that a section keeps for them.
 #![tactic(auto)]
 
 #[cfg(test)]
@@ -6,4 +7,8 @@ mod extern_slots;
 #[cfg(test)]
 mod functions;
 #[cfg(test)]
+mod helper_calls;
+#[cfg(test)]
 mod map_slots;
+#[cfg(test)]
+mod records_of_functions;

@@ -1,9 +1,9 @@
 //! Questions on a table, with the wanted answers.
 
 use crate::answer::{Answer, Question};
-use crate::sections::{ORDERS, parse};
+use crate::sections::parse;
 use btf::{Btf, Endianness};
-use sample_tables::section;
+use sample_tables::{ORDERS, section};
 use std::alloc::Global;
 use std::process::Abort;
 

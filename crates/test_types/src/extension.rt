@@ -1,11 +1,12 @@
 //! Sections by hand, from the kernel's BTF documentation, in both byte orders.
 
 use crate::answer::Answer;
-use crate::sections::{ORDERS, parse, push_words};
+use crate::sections::parse;
 use btf::{
     BtfError, BtfExt, Endianness, FuncSecInfo, LineSecInfo, SecInfo, bpf_func_info, bpf_line_info,
 };
 use btf_records::push_half_word;
+use sample_tables::{ORDERS, push_words};
 use std::alloc::{AllocError, Global};
 use std::process::Abort;
 

@@ -1,11 +1,8 @@
 //! Sections of types by hand, from the kernel's BTF documentation.
 
 use btf::{Btf, Endianness};
-use btf_records::push_word;
-use std::alloc::{AllocError, Global};
+use std::alloc::Global;
 use std::process::Abort;
-
-pub(crate) const ORDERS: [Endianness; 2] = [Endianness::Little, Endianness::Big];
 
 /// The section of an `int` of four bytes.
 pub(crate) const INT_SECTION: [u8; 45] = [
@@ -45,29 +42,6 @@ pub(crate) const PROTO_2: u32 = 0x0d00_0002;
 /// Adds words to others.
 pub(crate) fn append(rt: &impl Abort, words: &mut Vec<u32>, more: &[u32]) {
     words.extend_from_slice(more).expect(rt, "words");
-}
-
-/// Writes words.
-pub(crate) fn push_words(
-    out: &mut Vec<u8>,
-    order: Endianness,
-    words: &[u32],
-) -> Result<(), AllocError> {
-    for word in words {
-        push_word(out, order, *word)?;
-    }
-    Ok(())
-}
-
-/// The bytes of words.
-pub(crate) fn spelled(
-    alloc: Global,
-    order: Endianness,
-    words: &[u32],
-) -> Result<Vec<u8>, AllocError> {
-    let mut bytes = Vec::new(alloc);
-    push_words(&mut bytes, order, words)?;
-    Ok(bytes)
 }
 
 /// The table of a section.

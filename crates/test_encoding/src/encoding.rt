@@ -3,13 +3,13 @@
 ghost use Rattle.std.specs.Prelude.{◌<◌, IfOk, vec_len};
 
 use crate::plain;
-use crate::sections::{ORDERS, append, spelled};
 use btf_encoding::{TypeRef, push_type, record_len};
 use btf_records::{
     Array, BtfEnum, BtfEnum64, BtfError, BtfKind, BtfMember, BtfParam, BtfType, Const, DataSec,
     DataSecEntry, DeclTag, Endianness, Enum, Enum64, Float, Func, FuncLinkage, FuncProto, Fwd, Int,
     IntEncoding, Ptr, Restrict, Struct, TypeTag, Typedef, Union, Var, VarLinkage, Volatile,
 };
+use sample_tables::{ORDERS, spelled};
 use std::alloc::{AllocError, Global};
 use std::process::Abort;
 
@@ -304,9 +304,11 @@ fn items_by_place(rt: HostRuntime) {
 /// The words of an enum with as many variants as there may be.
 fn longest(rt: &impl Abort, alloc: Global) -> Vec<u32> {
     let mut words = Vec::new(alloc);
-    append(rt, &mut words, &[3, 0x0600_ffff, 4]);
+    words
+        .extend_from_slice(&[3, 0x0600_ffff, 4])
+        .expect(rt, "words");
     for value in 0..65535 {
-        append(rt, &mut words, &[1, value]);
+        words.extend_from_slice(&[1, value]).expect(rt, "words");
     }
     words
 }
