@@ -3,14 +3,15 @@
 use crate::answer::{Answer, Question, yes_or_no};
 use crate::asking::{Case, ask_case};
 use crate::sections::{
-    ARRAY, CONST, FUNC, FWD, INT, PROTO, PROTO_2, PTR, STRUCT, TYPEDEF, UNION, append, parse,
+    ARRAY, CONST, FUNC, FWD, INT, PROTO, PROTO_1, PROTO_2, PTR, STRUCT, TYPEDEF, UNION, append,
+    parse,
 };
 use btf::{Btf, Endianness, types_are_compatible};
 use sample_tables::section;
 use std::alloc::Global;
 use std::process::Abort;
 
-static CASES: [Case<'static>; 5] = [
+static CASES: [Case<'static>; 6] = [
     // an INT, one after four bits, a TYPEDEF and a CONST of the first, a CONST of the TYPEDEF, a
     // FUNC
     Case {
@@ -63,6 +64,27 @@ static CASES: [Case<'static>; 5] = [
             (Question::Types(2, 2), Answer::MaximumTypeDepthReached(2)),
             (Question::Types(4, 5), Answer::No),
             (Question::Types(4, 4), Answer::MaximumTypeDepthReached(4)),
+        ],
+    },
+    // rings of three PTRs and of two, an INT, three PTRs that lead to it; rings of three signatures
+    // and of two that each take the INT and return the next, and one that takes a PTR
+    Case {
+        title: "two rings are too deep",
+        words: &[
+            0, PTR, 2, 0, PTR, 3, 0, PTR, 1, 0, PTR, 5, 0, PTR, 4, 0, INT, 4, 0x20, 0, PTR, 8, 0,
+            PTR, 9, 0, PTR, 6, 0, PROTO_1, 11, 0, 6, 0, PROTO_1, 12, 0, 6, 0, PROTO_1, 10, 0, 6, 0,
+            PROTO_1, 14, 0, 6, 0, PROTO_1, 13, 0, 6, 0, PROTO_1, 13, 0, 4,
+        ],
+        strings: &[0],
+        asked: &[
+            (Question::Types(1, 4), Answer::MaximumTypeDepthReached(1)),
+            (Question::Types(5, 2), Answer::MaximumTypeDepthReached(5)),
+            (Question::Types(1, 7), Answer::No),
+            (Question::Types(7, 4), Answer::No),
+            (Question::Types(7, 7), Answer::Yes),
+            (Question::Types(10, 13), Answer::MaximumTypeDepthReached(10)),
+            (Question::Types(14, 12), Answer::MaximumTypeDepthReached(14)),
+            (Question::Types(10, 15), Answer::No),
         ],
     },
     // FWDs named `task_struct___old`, `task_`, with a name past the end, and named `task_struct`
