@@ -10,7 +10,7 @@ use Rattle.btf_records.specs.declared.types.BtfType.{BtfType}
 use Rattle.btf_records.specs.declared.types.BtfType.TheVariants as types
 use Rattle.btf_records.specs.declared.variables.DataSec.{DataSec}
 use Rattle.string_table.specs.Texts.{text_at}
-use Rattle.btf_sanitizing.specs.Additions.{Added, has_byte, next_id, next_offset, small_int, static_var, with_filler, with_filler_int, with_filler_var, with_new_placeholder, with_placeholder, with_renamed, with_text, with_texts}
+use Rattle.btf_sanitizing.specs.Additions.{Added, next_id, next_offset, small_int, static_var, with_filler, with_filler_int, with_filler_var, with_new_placeholder, with_placeholder, with_renamed, with_text, with_texts}
 use Rattle.btf_parts.specs.Ids.{record_of_id}
 use Rattle.btf_sanitizing.specs.Facts.{Facts, name_at}
 use Rattle.btf_sanitizing.specs.Kept.{AllGranted, Becomes, EachGranted, Keeps, needed_after}
@@ -18,6 +18,7 @@ use Rattle.btf_sanitizing.specs.Names.{param_texts, replaced}
 use Rattle.btf_sanitizing.specs.Needs.{stays_global}
 use Rattle.btf_sanitizing.specs.Rewritten.{after, after_all, after_section, after_enum64, all_rewritten, granted_section, is_filled, placed, rewritten, rewritten_func, rewritten_section, section_struct, sized, with_new_name}
 use Rattle.btf_sanitizing.specs.Sanitized.{all_added, at_first, sanitized_types}
+use Rattle.byte_index.specs.ByteIndex.{has_byte}
 use Rattle.btf_sanitizing.proofs.Stays.{stays_alone}
 
 -- ---- what is left needs granted features alone

@@ -6,4 +6,3 @@ pub mod Questions
 pub mod Kept
 pub mod OwnTexts
 pub mod Stays
-pub mod Stretches

@@ -9,12 +9,13 @@ use Rattle.btf_records.specs.declared.types.BtfType.{BtfType}
 use Rattle.btf_records.specs.declared.types.BtfType.TheVariants as types
 use Rattle.btf_records.specs.declared.variables.DataSec.{DataSec}
 use Rattle.btf_records.specs.declared.words.Endianness.{Endianness}
-use Rattle.btf_sanitizing.specs.Additions.{Added, has_byte, next_offset, with_filler, with_renamed, with_text}
+use Rattle.btf_sanitizing.specs.Additions.{Added, next_offset, with_filler, with_renamed, with_text}
 use Rattle.btf_sanitizing.specs.Facts.{Facts, name_at}
 use Rattle.btf_sanitizing.specs.Names.{replaced}
 use Rattle.btf_sanitizing.specs.OwnTexts.{own_text, own_texts}
 use Rattle.btf_sanitizing.specs.Rewritten.{after, after_all, after_granted, is_filled, with_new_name}
 use Rattle.btf_sanitizing.specs.Sanitized.{SanitizingFault, at_first}
+use Rattle.byte_index.specs.ByteIndex.{has_byte}
 use Rattle.btf_sanitizing.proofs.Elements.{next_left}
 use Rattle.btf_sanitizing.proofs.Passes.{IsAtLeast, least_after, least_filler, refused_all}
 

@@ -17,12 +17,13 @@ use Rattle.btf_records.specs.declared.types.BtfType.{BtfType}
 use Rattle.btf_records.specs.declared.types.BtfType.TheVariants as types
 use Rattle.btf_records.specs.declared.variables.DataSec.{DataSec}
 use Rattle.btf_records.specs.declared.words.Endianness.{Endianness}
-use Rattle.btf_sanitizing.specs.Additions.{Added, has_byte, next_id, next_offset, small_int, static_var, with_filler, with_filler_int, with_filler_var, with_new_placeholder, with_placeholder, with_renamed, with_text, with_texts}
+use Rattle.btf_sanitizing.specs.Additions.{Added, next_id, next_offset, small_int, static_var, with_filler, with_filler_int, with_filler_var, with_new_placeholder, with_placeholder, with_renamed, with_text, with_texts}
 use Rattle.btf_sanitizing.specs.Facts.{Facts, name_at}
 use Rattle.btf_sanitizing.specs.Faults.{IsTooMuch, KindFault}
 use Rattle.btf_sanitizing.specs.Names.{filler_int_name, filler_name, param_texts, placeholder_name, replaced}
 use Rattle.btf_sanitizing.specs.Rewritten.{after, after_all, after_enum64, after_granted, after_section, after_signature, all_rewritten, is_filled, rewritten, with_new_name}
 use Rattle.btf_sanitizing.specs.Sanitized.{AnyFault, IsOverfull, NextFault, SanitizingFault, all_added, at_first, sanitized_strings, sanitized_types}
+use Rattle.byte_index.specs.ByteIndex.{has_byte}
 use Rattle.btf_sanitizing.proofs.Elements.{next_left, none_left, past_length}
 use Rattle.btf_sanitizing.proofs.Faultless.{none_of_any, none_of_either}
 use Rattle.btf_parts.specs.Faultless.{IsFaultless}

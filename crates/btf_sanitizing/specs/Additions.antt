@@ -1,11 +1,11 @@
 -- What a rewriting appends to a table's strings and types.
-use Rattle.std.specs.Prelude.{ℕ, ◌+◌, ◌==◌, if◌then◌else◌, Bool, List, [], ◌∷◌, ◌++◌, length, Option, None, Some, is_some, unwrap_or, false}
-use Rattle.std.specs.List.{list_any}
+use Rattle.std.specs.Prelude.{ℕ, ◌+◌, if◌then◌else◌, List, [], ◌∷◌, ◌++◌, length, Option, None, Some, is_some, unwrap_or, false}
 use Rattle.btf_records.specs.Info.{flagged, int_word_of}
 use Rattle.btf_records.specs.declared.encoding.VarLinkage.TheVariants.{Static}
 use Rattle.btf_records.specs.declared.types.BtfType.{BtfType}
 use Rattle.btf_records.specs.declared.types.BtfType.TheVariants.{Int, Var}
 use Rattle.btf_sanitizing.specs.Names.{filler_int_name, filler_name, placeholder_name, replaced}
+use Rattle.byte_index.specs.ByteIndex.{has_byte}
 
 -- after a number of bytes of strings and a number of types: texts, types, and the ids of two of
 -- these types where they are there
@@ -70,9 +70,6 @@ static_var name_offset btf_type =
     })
 
 -- a name in which one byte is put in the place of another is appended where it has that byte
-abbrev pub has_byte : ℕ → List ℕ → Bool
-has_byte from name = list_any (λ b. b == from) name
-
 abbrev pub renamed_offset : ℕ → List ℕ → ℕ → Added → ℕ
 renamed_offset from name name_offset a = if has_byte from name then next_offset a else name_offset
 

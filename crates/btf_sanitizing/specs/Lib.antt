@@ -1,6 +1,5 @@
 pub mod Additions
 pub mod Answers
-pub mod ByteIndex
 pub mod Facts
 pub mod Faults
 pub mod Kept
@@ -10,4 +9,5 @@ pub mod Needs
 pub mod OwnTexts
 pub mod Rewritten
 pub mod Sanitized
+pub mod SectionNames
 pub mod Stays

@@ -2,9 +2,9 @@
 use Rattle.std.specs.Prelude.{ℕ, ◌+◌, List, [], ◌∷◌, if◌then◌else◌, length}
 use Rattle.btf_records.specs.declared.types.BtfType.{BtfType}
 use Rattle.btf_records.specs.declared.types.BtfType.TheVariants as types
-use Rattle.btf_sanitizing.specs.Additions.{has_byte}
-use Rattle.btf_sanitizing.specs.ByteIndex.{sought}
 use Rattle.btf_sanitizing.specs.Facts.{Facts, name_at}
+use Rattle.btf_sanitizing.specs.SectionNames.{sought}
+use Rattle.byte_index.specs.ByteIndex.{has_byte}
 
 -- the bytes of a name that must be written anew, with its NUL; 0 where it needn't be
 abbrev pub own_text_of : Facts → List ℕ → ℕ

@@ -6,10 +6,10 @@ ghost use Rattle.btf_sanitizing.specs.Additions.{next_id, next_offset, nothing_a
 ghost use Rattle.btf_sanitizing.specs.Faults.{IsTooMuch};
 ghost use Rattle.string_table.specs.Texts.{text_at};
 
-use crate::byte_index::ByteIndex;
 use crate::names::replaced;
 use btf_parts::MOST;
 use btf_records::{BtfError, BtfType, Int, IntEncoding, Var, VarLinkage};
+use byte_index::ByteIndex;
 use std::alloc::Global;
 use std::marker::Model;
 

@@ -4,7 +4,6 @@
 
 mod additions;
 mod answers;
-mod byte_index;
 mod items;
 mod known;
 mod names;

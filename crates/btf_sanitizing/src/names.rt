@@ -2,7 +2,6 @@
 
 ghost use Rattle.std.specs.Prelude.{◌≡◌, ◌==◌, IfOk, if◌then◌else◌};
 ghost use Rattle.std.specs.String.{string_bytes};
-ghost use Rattle.btf_sanitizing.specs.Additions.{has_byte};
 ghost use Rattle.btf_sanitizing.specs.Names.{is_memory_function, is_nameless, param_name, replaced};
 
 use btf_records::BtfParam;
@@ -14,13 +13,6 @@ pub fn is_memory_function(name: &str) -> bool
     ensures { result ≡ is_memory_function name.now }
 {
     name == "memset" || name == "memcpy" || name == "memmove" || name == "memcmp"
-}
-
-/// Whether a byte stands in a name.
-pub(crate) fn has_byte(name: &[u8], from: u8) -> bool
-    ensures { result ≡ has_byte from name.now }
-{
-    name.iter().any(|byte| *byte == from)
 }
 
 /// A byte, or the one that stands in its place.

@@ -2,15 +2,15 @@
 
 ghost use Rattle.std.specs.Prelude.{◌≡◌, ◌+◌, ◌<◌, ◌^◌, false, length, true};
 ghost use Rattle.btf_parts.specs.Growth.{TooMany};
-ghost use Rattle.btf_sanitizing.specs.ByteIndex.{section_names};
 ghost use Rattle.btf_sanitizing.specs.Knowledge.{facts_of};
 ghost use Rattle.btf_sanitizing.specs.OwnTexts.{own_text, own_texts};
+ghost use Rattle.btf_sanitizing.specs.SectionNames.{section_names};
 
-use crate::byte_index::ByteIndex;
 use crate::known::Known;
 use btf_encoding::TypeRef;
 use btf_parts::MOST;
 use btf_records::BtfKind;
+use byte_index::ByteIndex;
 
 /// How many bytes the text has that a record's name becomes, with its NUL; 0 where the record
 /// isn't a section or its name stays.

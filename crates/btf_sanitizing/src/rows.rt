@@ -4,14 +4,13 @@ ghost use Rattle.std.specs.Prelude.{◌≡◌, ◌≢◌, ◌⊎◌, IfErr, IfOk
 ghost use Rattle.btf_records.specs.Info.{flagged};
 ghost use Rattle.btf_records.specs.declared.error.BtfError.TheVariants.{OutOfMemory};
 ghost use Rattle.btf_records.specs.declared.types.BtfType.TheVariants as types;
-ghost use Rattle.btf_sanitizing.specs.ByteIndex.{section_names};
 ghost use Rattle.btf_sanitizing.specs.Faults.{IsTooMuch, KindFault};
 ghost use Rattle.btf_sanitizing.specs.Knowledge.{facts_of};
 ghost use Rattle.btf_sanitizing.specs.Rewritten.{after, after_enum64, after_signature, is_alone, member_of_variant, rewritten, rewritten_enum64, rewritten_func, rewritten_signature, variant_of_param};
+ghost use Rattle.btf_sanitizing.specs.SectionNames.{section_names};
 ghost use Rattle.btf_parts.specs.Faultless.{IsFaultless};
 
 use crate::additions::{Additions, small_int};
-use crate::byte_index::ByteIndex;
 use crate::items::{members_of_variants, variants_of_params};
 use crate::known::Known;
 use crate::names::is_memory_function;
@@ -21,6 +20,7 @@ use btf_records::{
     BtfError, BtfFeature, BtfType, Const, Enum, Enum64, Enum64Fallback, Func, FuncLinkage,
     FuncProto, InfoBits, Items, Ptr, Struct, Typedef, Union,
 };
+use byte_index::ByteIndex;
 use std::alloc::{AllocError, Global};
 
 /// The number of global linkage.

@@ -4,18 +4,18 @@ ghost use Rattle.std.specs.Prelude.{◌≡◌, ◌≢◌, ◌⊎◌, ◌∷◌, 
 ghost use Rattle.btf_records.specs.declared.error.BtfError.TheVariants.{OutOfMemory};
 ghost use Rattle.btf_sanitizing.specs.Faults.{IsTooMuch, MemberFault, PlaceFault, SectionFault, SizeFault, UnsizedFault};
 ghost use Rattle.btf_sanitizing.specs.Additions.{with_renamed};
-ghost use Rattle.btf_sanitizing.specs.ByteIndex.{section_names};
 ghost use Rattle.string_table.specs.Texts.{text_at};
 ghost use Rattle.btf_sanitizing.specs.Knowledge.{facts_of};
 ghost use Rattle.btf_sanitizing.specs.Rewritten.{after_granted, after_section, filler_entry, granted_section, member_of_entry, placed, rewritten_section, section_size, section_struct, sized};
+ghost use Rattle.btf_sanitizing.specs.SectionNames.{section_names};
 ghost use Rattle.btf_parts.specs.Faultless.{IsFaultless};
 
 use crate::additions::Additions;
-use crate::byte_index::ByteIndex;
 use crate::known::Known;
 use btf_records::{
     BtfError, BtfFeature, BtfMember, BtfType, DataSec, DataSecEntry, Items, Struct, VarLinkage,
 };
+use byte_index::ByteIndex;
 use std::alloc::{AllocError, Global};
 
 /// The member that stands for an entry: its type's name, its type, and its offset in bits.

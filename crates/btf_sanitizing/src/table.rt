@@ -2,18 +2,17 @@
 
 ghost use Rattle.std.specs.Prelude.{◌≡◌, ◌≢◌, ◌<◌, ◌++◌, ◌^◌, ◌∷◌, [], Any, IfErr, IfOk, OnOk, length, true};
 ghost use Rattle.btf_records.specs.declared.error.BtfError.TheVariants.{InvalidTypeInfo, OutOfMemory};
-ghost use Rattle.btf_sanitizing.specs.ByteIndex.{section_names, sought};
 ghost use Rattle.btf_sanitizing.specs.Faults.{KindFault};
 ghost use Rattle.btf_sanitizing.specs.Kept.{Keeps};
 ghost use Rattle.btf_sanitizing.specs.Knowledge.{facts_of};
 ghost use Rattle.btf_sanitizing.specs.Rewritten.{after, after_all, all_rewritten, rewritten};
+ghost use Rattle.btf_sanitizing.specs.SectionNames.{section_names, sought};
 ghost use Rattle.btf_sanitizing.specs.Stays.{stays};
 ghost use Rattle.btf_sanitizing.specs.Sanitized.{AnyFault, NextFault, SanitizingFault, sanitized_strings, sanitized_types};
 ghost use Rattle.btf_parts.specs.Faultless.{IsFaultless};
 ghost use Rattle.btf_parts.specs.Growth.{AreFew, AreTooMany};
 
 use crate::additions::Additions;
-use crate::byte_index::{ByteIndex, SHORT};
 use crate::known::Known;
 use crate::own_texts::own_texts_fit;
 use crate::rows::rewritten;
@@ -21,6 +20,7 @@ use crate::staying::stays;
 use btf_encoding::TypeRef;
 use btf_parts::TypeRecords;
 use btf_records::{BtfError, BtfFeature, BtfKind, BtfType};
+use byte_index::{ByteIndex, SHORT};
 use std::alloc::{AllocError, Global};
 
 /// Whether a section has a long name.

@@ -1,7 +1,7 @@
 use Rattle.std.proofs.Common.{◌≤◌, ◌+◌, arith, sym}
 use Rattle.std.proofs.lemmas.Bool.Decides.{nat_tests}
-use Rattle.btf_sanitizing.proofs.Stretches.{none_within}
-use Rattle.btf_sanitizing.proofs.byte_index.ByteIndex.found.Goals as goal
+use Rattle.byte_index.proofs.Stretches.{none_within}
+use Rattle.byte_index.proofs.byte_index.ByteIndex.found.Goals as goal
 
 pub returns-then-len-left : goal.returns-then-len-left
 returns-then-len-left c =

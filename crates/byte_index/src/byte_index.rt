@@ -1,16 +1,15 @@
 //! Where a byte stands in the strings of a table.
 
 ghost use Rattle.std.specs.Prelude.{◌≡◌, ◌≤◌, IfOk, IfSome, Some, drop, length, slice_get, take};
-ghost use Rattle.btf_sanitizing.specs.Additions.{has_byte};
-ghost use Rattle.btf_sanitizing.specs.ByteIndex.{AreStretches, IsStretch};
+ghost use Rattle.byte_index.specs.ByteIndex.{AreStretches, IsStretch, has_byte};
 ghost use Rattle.string_table.specs.Texts.{text_at};
 
 use crate::names::has_byte;
 use std::alloc::{AllocError, Global};
 use std::marker::Model;
 
-/// The most bytes that a name has which is looked through each time.
-pub(crate) const SHORT: usize = 256;
+/// The most bytes that a name has which is looked through each time it is asked about.
+pub const SHORT: usize = 256;
 
 /// From one offset up to another the byte doesn't stand.
 #[derive(Clone, Copy, Debug)]
@@ -20,16 +19,16 @@ pub(crate) struct Stretch {
 }
 
 /// The strings of a table and a byte, with the stretches of the strings where the byte doesn't
-/// stand, so that a long name is looked through once, however many sections have it.
+/// stand, so that a long name is looked through once, however often it is asked about.
 #[derive(Debug, Drop)]
-pub(crate) struct ByteIndex<'s> {
+pub struct ByteIndex<'s> {
     strings: &'s [u8],
     byte: u8,
     stretches: Vec<Stretch>,
 }
 
 impl<'s> Model for ByteIndex<'s> {
-    ghost use Rattle.btf_sanitizing.specs.ByteIndex.{AreStretches, Sought};
+    ghost use Rattle.byte_index.specs.ByteIndex.{AreStretches, Sought};
 
     ghost Value = { Sought };
 
@@ -67,7 +66,7 @@ fn stretches(alloc: Global, strings: &[u8], byte: u8) -> Result<Vec<Stretch>, Al
 impl<'s> ByteIndex<'s> {
     /// These strings, in which each name is looked through.
     #[tactic(auto, using(crate::proofs::Stretches::no_stretches))]
-    pub(crate) fn empty(alloc: Global, strings: &'s [u8], byte: u8) -> ByteIndex<'s>
+    pub fn empty(alloc: Global, strings: &'s [u8], byte: u8) -> ByteIndex<'s>
         ensures { result ≡ record { strings = strings.now; byte = byte } }
     {
         ByteIndex {
@@ -78,11 +77,7 @@ impl<'s> ByteIndex<'s> {
     }
 
     /// These strings, which are looked through once.
-    pub(crate) fn new(
-        alloc: Global,
-        strings: &'s [u8],
-        byte: u8,
-    ) -> Result<ByteIndex<'s>, AllocError>
+    pub fn new(alloc: Global, strings: &'s [u8], byte: u8) -> Result<ByteIndex<'s>, AllocError>
         ensures { IfOk result (λ index. index ≡ record { strings = strings.now; byte = byte }) }
     {
         Ok(ByteIndex {
@@ -124,15 +119,17 @@ impl<'s> ByteIndex<'s> {
         }
     }
 
-    pub(crate) fn byte(&self) -> u8
+    /// The byte that is sought.
+    pub fn byte(&self) -> u8
         ensures { result ≡ self.now.byte }
     {
         self.byte
     }
 
-    /// Whether the byte stands in the name at an offset.
+    /// Whether the byte stands in the name at an offset of the strings. Looks through a name of
+    /// more than `SHORT` bytes only where no stretch tells.
     #[tactic(auto, using(crate::proofs::Stretches::in_name))]
-    pub(crate) fn is_in(&self, name: &str, offset: u32) -> bool
+    pub fn is_in(&self, name: &str, offset: u32) -> bool
         requires { text_at self.now.strings offset ≡ Some name.now }
         ensures { result ≡ has_byte self.now.byte name.now }
     {

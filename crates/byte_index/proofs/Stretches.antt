@@ -10,9 +10,8 @@ use Rattle.std.proofs.lemmas.List.Folds.{list_any_at, list_any_none}
 use Rattle.std.proofs.lemmas.List.Quantifiers.{position-Some}
 use Rattle.std.proofs.lemmas.Option.{get_or_from_slice_get, slice_get_within}
 use Rattle.string_table.specs.Texts.{text_at, text_of}
-use Rattle.btf_sanitizing.specs.Additions.{has_byte}
-use Rattle.btf_sanitizing.specs.ByteIndex.{AreStretches, IsStretch}
-use Rattle.btf_sanitizing.specs.declared.byte_index.Stretch.{Stretch}
+use Rattle.byte_index.specs.ByteIndex.{AreStretches, IsStretch, has_byte}
+use Rattle.byte_index.specs.declared.byte_index.Stretch.{Stretch}
 
 abbrev stretch_of : ℕ → ℕ → Stretch
 stretch_of start end = record { start = start; end = end }
