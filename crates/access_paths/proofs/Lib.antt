@@ -3,3 +3,5 @@ pub mod FieldPaths
 pub mod Held
 pub mod LookupsAlike
 pub mod PathsAlike
+pub mod Units
+pub mod ValuesAlike

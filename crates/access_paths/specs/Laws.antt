@@ -1,9 +1,11 @@
--- Laws of paths and of what is looked up for them.
-use Rattle.std.specs.Prelude.{◌≡◌, ℕ, Bool, true, slice_get, All, IfOk, Some, Ok}
+-- Laws of paths, of what is looked up for them, and of their values.
+use Rattle.std.specs.Prelude.{◌≡◌, ℕ, Bool, true, slice_get, All, IfOk, IfSome, Some, Ok}
 use Rattle.access_paths.specs.FieldPaths.{step_place}
 use Rattle.access_paths.specs.LocalPaths.{local_path}
+use Rattle.access_paths.specs.PathValues.{path_value}
 use Rattle.access_paths.specs.Variants.{variant_name}
 use Rattle.access_paths.specs.declared.path.AccessPath.{AccessPath}
+use Rattle.access_paths.specs.declared.value.RelocationValue.{RelocationValue}
 use Rattle.btf_records.specs.Fields.{members_of, name_offset_of}
 use Rattle.btf_records.specs.declared.item.BtfMember.{BtfMember}
 use Rattle.btf_records.specs.declared.types.BtfType.{BtfType}
@@ -62,3 +64,17 @@ pub record PathsRest : Type 0 where
   pub within : (reached : ℕ → Bool) (one other : Table) → AreAlike reached one other
       → (kind : RelocationKind) (id access : ℕ) → reached id ≡ true
       → IfOk (local_path one kind id access) (IsReachedPath reached)
+
+-- the type of the field that a value is of is reached, if it is of one
+abbrev pub HasReachedField : (ℕ → Bool) → RelocationValue → Type 0
+HasReachedField reached v = IfSome v.field (λ f. reached f.type_id ≡ true)
+
+-- the value of a path is the same in every other table that agrees on what the path reaches, and
+-- its field's type is reached
+pub record ValuesRest : Type 0 where
+  pub same : (reached : ℕ → Bool) (one other : Table) → AreAlike reached one other
+      → (kind : RelocationKind) (path : AccessPath) → IsReachedPath reached path
+      → path_value other kind path ≡ path_value one kind path
+  pub within : (reached : ℕ → Bool) (one other : Table) → AreAlike reached one other
+      → (kind : RelocationKind) (path : AccessPath) → IsReachedPath reached path
+      → IfOk (path_value one kind path) (HasReachedField reached)

@@ -1,7 +1,11 @@
 pub mod AccessStrings
+pub mod Extents
 pub mod FieldPaths
+pub mod FieldValues
 pub mod Laws
-pub mod Lookups
 pub mod LocalPaths
+pub mod Lookups
+pub mod PathValues
 pub mod Subjects
+pub mod VariantValues
 pub mod Variants

@@ -1,6 +1,7 @@
-//! Laws of paths. The functions here compute nothing: their contracts are the theorems.
+//! Laws of paths and of their values. The functions here compute nothing: their contracts are the
+//! theorems.
 
-ghost use Rattle.access_paths.specs.Laws.{LookupsRest, PathsRest};
+ghost use Rattle.access_paths.specs.Laws.{LookupsRest, PathsRest, ValuesRest};
 
 /// What is looked up at types rests on the records that are reached from these, and on their texts.
 pub fn lookups_rest()
@@ -12,3 +13,10 @@ pub fn lookups_rest()
 pub fn paths_rest()
     ensures { PathsRest }
 {}
+
+/// The value of a path rests on the records that the path reaches.
+pub fn values_rest()
+    ensures { ValuesRest }
+{
+    lookups_rest();
+}

@@ -1,8 +1,7 @@
 //! What type relocations come to, in values that can be compared.
 
-use access_paths::AccessError;
+use access_paths::{AccessError, RelocationValue, WholeField};
 use btf_records::BtfError;
-use relocation_values::{RelocationValue, WholeField};
 use type_match::{Outcome, RelocationOutcome, TypeRelocationError};
 
 /// Why something is refused.

@@ -9,12 +9,11 @@ ghost use Rattle.access_paths.specs.declared.error.AccessError.TheVariants.{BtfE
 ghost use Rattle.btf_records.specs.declared.error.BtfError.TheVariants.{OutOfMemory as NoMemory};
 
 use crate::candidates::{PlainWanted, plain_candidates};
-use access_paths::{AccessError, AccessPath, local_path, subject_of};
+use access_paths::{AccessError, AccessPath, RelocationValue, local_path, path_value, subject_of};
 use btf_records::BtfError;
 use btf_tables::Btf;
 use ebpf_items::RelocationKind;
 use matching_paths::matching_path;
-use relocation_values::{RelocationValue, path_value};
 use std::alloc::AllocError;
 use type_candidates::KernelType;
 use type_match::{

@@ -2,14 +2,13 @@
 
 use crate::tables::{ACCESS, ORDERS, parse, section_of};
 use crate::worked::{AT_64, OBJECT};
-use access_paths::{AccessPath, Step, Subject, local_path, subject_of};
+use access_paths::{AccessPath, Step, Subject, local_path, path_value, subject_of};
 use btf_records::Endianness;
 use btf_tables::Btf;
 use ebpf_items::RelocationKind;
 use matching_paths::matching_path;
 use member_search::find_member;
 use plain_matching::{Answer, Fault};
-use relocation_values::path_value;
 use std::alloc::Global;
 use std::process::Abort;
 use type_match::{kernel_matches, outcome_of};

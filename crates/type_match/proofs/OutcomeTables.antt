@@ -5,15 +5,15 @@ use Rattle.std.specs.Option.{option_map_or, option_to_list}
 use Rattle.std.specs.Prelude.{IfOk, IfSome, slice_get}
 use Rattle.access_paths.specs.LocalPaths.{local_path}
 use Rattle.access_paths.specs.Lookups.{and_then}
+use Rattle.access_paths.specs.PathValues.{path_value}
 use Rattle.access_paths.specs.Subjects.{subject_of}
 use Rattle.access_paths.specs.declared.error.AccessError.{AccessError}
 use Rattle.access_paths.specs.declared.path.AccessPath.{AccessPath}
+use Rattle.access_paths.specs.declared.value.RelocationValue.{RelocationValue}
 use Rattle.btf_records.specs.declared.error.BtfError.{BtfError}
 use Rattle.btf_tables.specs.Tables.{Table}
 use Rattle.ebpf_items.specs.declared.relocation_kind.RelocationKind.{RelocationKind}
 use Rattle.matching_paths.specs.Matches.{matching_path}
-use Rattle.relocation_values.specs.PathValues.{path_value}
-use Rattle.relocation_values.specs.declared.value.RelocationValue.{RelocationValue}
 use Rattle.type_candidates.specs.Candidates.{candidates, wanted_for}
 use Rattle.type_candidates.specs.declared.error.CandidateError.{CandidateError}
 use Rattle.type_candidates.specs.declared.kernel_type.KernelType.{KernelType}

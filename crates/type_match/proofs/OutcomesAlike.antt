@@ -2,12 +2,13 @@
 use Rattle.std.proofs.Common.{◌≡◌, ℕ, Bool, true, List, [], ◌∷◌, ◌++◌, None, Some, Ok, Err, Option, Result, refl, ap, subst, ◌∙◌}
 use Rattle.std.specs.Prelude.{IfOk, IfSome, slice_get}
 use Rattle.std.specs.Option.{option_map_or, option_to_list}
-use Rattle.access_paths.specs.Laws.{AreAlike, IsReachedPath, LookupsRest, PathsRest}
+use Rattle.access_paths.specs.Laws.{AreAlike, HasReachedField, IsReachedPath, LookupsRest, PathsRest, ValuesRest}
 use Rattle.access_paths.specs.LocalPaths.{local_path}
 use Rattle.access_paths.specs.Lookups.{and_then}
 use Rattle.access_paths.specs.Subjects.{subject_of}
 use Rattle.access_paths.specs.declared.error.AccessError.{AccessError}
 use Rattle.access_paths.specs.declared.path.AccessPath.{AccessPath}
+use Rattle.access_paths.specs.declared.value.RelocationValue.{RelocationValue}
 use Rattle.btf_records.specs.Fields.{name_offset_of}
 use Rattle.btf_records.specs.declared.error.BtfError.{BtfError}
 use Rattle.btf_records.specs.declared.error.BtfError.TheVariants.{InvalidStringOffset, UnknownBtfType}
@@ -16,8 +17,6 @@ use Rattle.btf_tables.specs.Tables.{Table, type_by_id}
 use Rattle.ebpf_items.specs.declared.relocation_kind.RelocationKind.{RelocationKind}
 use Rattle.ebpf_items.specs.declared.relocation_kind.RelocationKind.TheVariants as kinds
 use Rattle.matching_paths.specs.Laws.{MatchesRest}
-use Rattle.relocation_values.specs.Laws.{HasReachedField, ValuesRest}
-use Rattle.relocation_values.specs.declared.value.RelocationValue.{RelocationValue}
 use Rattle.string_table.specs.Texts.{text_at}
 use Rattle.type_candidates.specs.Candidates.{Wanted, candidates, wanted_for, wanted_of}
 use Rattle.type_candidates.specs.declared.error.CandidateError.{CandidateError}

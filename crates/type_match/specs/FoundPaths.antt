@@ -4,15 +4,15 @@ use Rattle.std.specs.Prelude.{◌≡◌, Bool, false, true, List, [], ◌∷◌,
 use Rattle.std.specs.Option.{option_map, option_map_or, option_to_list}
 use Rattle.std.specs.Result.{result_ok}
 use Rattle.access_paths.specs.LocalPaths.{local_path}
+use Rattle.access_paths.specs.PathValues.{path_value}
 use Rattle.access_paths.specs.Subjects.{subject_of}
 use Rattle.access_paths.specs.declared.path.AccessPath.{AccessPath}
 use Rattle.access_paths.specs.declared.subject.Subject.{Subject}
 use Rattle.access_paths.specs.declared.subject.Subject.TheVariants as subjects
+use Rattle.access_paths.specs.declared.value.RelocationValue.{RelocationValue}
 use Rattle.btf_tables.specs.Tables.{Table}
 use Rattle.ebpf_items.specs.declared.relocation_kind.RelocationKind.{RelocationKind}
 use Rattle.matching_paths.specs.Matches.{matching_path}
-use Rattle.relocation_values.specs.PathValues.{path_value}
-use Rattle.relocation_values.specs.declared.value.RelocationValue.{RelocationValue}
 use Rattle.type_candidates.specs.Candidates.{candidates, wanted_for}
 use Rattle.type_candidates.specs.declared.kernel_type.KernelType.{KernelType}
 use Rattle.type_match.specs.Matches.{followed_by, with_candidates, with_kernel, with_own_type}

@@ -5,12 +5,12 @@ use Rattle.std.specs.List.{range_with_len}
 use Rattle.std.specs.Option.{option_map_or, option_to_list}
 use Rattle.access_paths.specs.LocalPaths.{local_path}
 use Rattle.access_paths.specs.declared.path.AccessPath.{AccessPath}
+use Rattle.access_paths.specs.declared.value.RelocationValue.{RelocationValue}
 use Rattle.btf_records.specs.Fields.{name_offset_of}
 use Rattle.btf_records.specs.declared.types.BtfType.{BtfType}
 use Rattle.btf_tables.specs.Tables.{Table, type_by_id}
 use Rattle.ebpf_items.specs.declared.relocation_kind.RelocationKind.{RelocationKind}
 use Rattle.ebpf_items.specs.declared.relocation_kind.RelocationKind.TheVariants as kinds
-use Rattle.relocation_values.specs.declared.value.RelocationValue.{RelocationValue}
 use Rattle.type_candidates.specs.Candidates.{Wanted, is_named, is_unreadable, wanted_for}
 use Rattle.type_candidates.specs.declared.kernel_type.KernelType.{KernelType}
 use Rattle.type_match.specs.Matches.{followed_by, match_in, with_kernel, with_local, with_own_type}

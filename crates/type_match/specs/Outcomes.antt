@@ -1,10 +1,10 @@
 -- What matches come to (`bpf_core_calc_relo_insn`, tools/lib/bpf/relo_core.c).
 use Rattle.std.specs.Prelude.{◌==◌, ◌&&◌, not, Bool, true, filter, List, [], ◌∷◌, Option, None, Some, Result, Ok, Err, if◌then◌else◌}
 use Rattle.std.specs.List.{list_all}
+use Rattle.access_paths.specs.FieldValues.{plain}
+use Rattle.access_paths.specs.declared.value.RelocationValue.{RelocationValue}
 use Rattle.ebpf_items.specs.declared.relocation_kind.RelocationKind.{RelocationKind}
 use Rattle.ebpf_items.specs.declared.relocation_kind.RelocationKind.TheVariants as kinds
-use Rattle.relocation_values.specs.FieldValues.{plain}
-use Rattle.relocation_values.specs.declared.value.RelocationValue.{RelocationValue}
 use Rattle.type_match.specs.declared.error.TypeRelocationError.{TypeRelocationError}
 use Rattle.type_match.specs.declared.error.TypeRelocationError.TheVariants.{ConflictingCandidates, MissingTargetDefinition}
 use Rattle.type_match.specs.declared.matches.Match.{Match}

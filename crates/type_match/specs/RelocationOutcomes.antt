@@ -1,14 +1,14 @@
 -- What a type relocation comes to.
 use Rattle.std.specs.Prelude.{ℕ, ◌<◌, List, [], ◌∷◌, length, Option, None, Some, IfSome, Result, Ok}
+use Rattle.access_paths.specs.FieldValues.{plain}
 use Rattle.access_paths.specs.LocalPaths.{local_path}
+use Rattle.access_paths.specs.PathValues.{path_value}
 use Rattle.access_paths.specs.declared.error.AccessError.{AccessError}
 use Rattle.access_paths.specs.declared.path.AccessPath.{AccessPath}
+use Rattle.access_paths.specs.declared.value.RelocationValue.{RelocationValue}
 use Rattle.btf_tables.specs.Tables.{Table}
 use Rattle.ebpf_items.specs.declared.relocation_kind.RelocationKind.{RelocationKind}
 use Rattle.ebpf_items.specs.declared.relocation_kind.RelocationKind.TheVariants as kinds
-use Rattle.relocation_values.specs.FieldValues.{plain}
-use Rattle.relocation_values.specs.PathValues.{path_value}
-use Rattle.relocation_values.specs.declared.value.RelocationValue.{RelocationValue}
 use Rattle.type_match.specs.Matches.{followed_by, kernel_matches, with_local}
 use Rattle.type_match.specs.Outcomes.{outcome_of}
 use Rattle.type_match.specs.declared.error.TypeRelocationError.{TypeRelocationError}

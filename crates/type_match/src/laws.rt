@@ -2,9 +2,8 @@
 
 ghost use Rattle.type_match.specs.Laws.{ListsOfOneTable, OutcomesRest};
 
-use access_paths::{lookups_rest, paths_rest};
+use access_paths::{lookups_rest, paths_rest, values_rest};
 use matching_paths::matches_rest;
-use relocation_values::values_rest;
 
 /// A list of one table is searched as that table is, and a type relocation comes to what that table
 /// gives alone.

@@ -9,11 +9,10 @@ ghost use Rattle.btf_records.specs.declared.error.BtfError.TheVariants.{OutOfMem
 
 use crate::error::{TypeRelocationError, at_kernel_type};
 use crate::matcher::TypeMatcher;
-use access_paths::{AccessError, AccessPath, subject_of};
+use access_paths::{AccessError, AccessPath, RelocationValue, path_value, subject_of};
 use btf_tables::Btf;
 use ebpf_items::RelocationKind;
 use matching_paths::matching_path;
-use relocation_values::{RelocationValue, path_value};
 use type_candidates::KernelType;
 
 /// A type of a kernel's that has what a type relocation asks for.

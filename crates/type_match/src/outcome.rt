@@ -6,8 +6,8 @@ ghost use Rattle.type_match.specs.Outcomes.{agree, conflicts, no_match, of_first
 
 use crate::error::TypeRelocationError;
 use crate::matches::Match;
+use access_paths::RelocationValue;
 use ebpf_items::RelocationKind;
-use relocation_values::RelocationValue;
 use std::alloc::{AllocError, Global};
 
 /// What a type relocation comes to.

@@ -8,10 +8,9 @@ use crate::error::TypeRelocationError;
 use crate::finders::TableFinders;
 use crate::matches::Match;
 use crate::relocation::TypeRelocation;
-use access_paths::{AccessPath, Subject, subject_of};
+use access_paths::{AccessPath, Subject, path_value, subject_of};
 use btf_tables::Btf;
 use ebpf_items::RelocationKind;
-use relocation_values::path_value;
 use std::alloc::{AllocError, Global};
 use type_candidates::KernelType;
 

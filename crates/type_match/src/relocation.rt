@@ -8,10 +8,9 @@ use crate::error::TypeRelocationError;
 use crate::matcher::TypeMatcher;
 use crate::matches::Match;
 use crate::outcome::{Outcome, outcome_of};
-use access_paths::{AccessError, AccessPath};
+use access_paths::{AccessError, AccessPath, RelocationValue, WholeField, path_value};
 use btf_tables::Btf;
 use ebpf_items::RelocationKind;
-use relocation_values::{RelocationValue, WholeField, path_value};
 
 /// What a type relocation asks for (`struct bpf_core_relo`, include/uapi/linux/bpf.h).
 #[derive(Clone, Copy, Debug, PartialEq, Eq)]

@@ -3,11 +3,11 @@
 -- tools/lib/bpf/relo_core.c).
 use Rattle.std.specs.Prelude.{ℕ, ◌%◌, ◌==◌, ◌&&◌, ◌||◌, Bool, false, true, List, Option, Some, option_and_then, slice_get, if◌then◌else◌}
 use Rattle.std.specs.Option.{option_map_or}
+use Rattle.access_paths.specs.declared.field_values.WholeField.{WholeField}
 use Rattle.btf_records.specs.Info.{encoding_in}
 use Rattle.btf_records.specs.declared.types.BtfType.{BtfType}
 use Rattle.btf_records.specs.declared.types.BtfType.TheVariants as types
 use Rattle.btf_tables.specs.Tables.{Table, type_by_id}
-use Rattle.relocation_values.specs.declared.field.WholeField.{WholeField}
 use Rattle.type_match.specs.declared.outcome.Outcome.{Outcome}
 use Rattle.type_match.specs.declared.outcome.Outcome.TheVariants as outcomes
 use Rattle.type_match.specs.declared.relocation.RelocationOutcome.{RelocationOutcome}

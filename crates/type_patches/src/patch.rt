@@ -4,10 +4,10 @@ ghost use Rattle.std.specs.Prelude.{◌≡◌, None, Some, slice_get, option_and
 ghost use Rattle.std.specs.Option.{option_copied};
 ghost use Rattle.type_patches.specs.Patches.{are_alike, is_unsigned, may_stand_for, patch_for, patch_of, field_size, type_of, width_of};
 
+use access_paths::WholeField;
 use btf_encoding::TypeRef;
 use btf_records::BtfKind;
 use btf_tables::Btf;
-use relocation_values::WholeField;
 use type_match::{Outcome, RelocationOutcome};
 
 /// What becomes of the width of a load or a store.

@@ -5,6 +5,7 @@ use Rattle.std.specs.Prelude.{◌==◌, All, IfOk, IfSome, option_and_then, slic
 use Rattle.std.specs.Option.{option_map, option_to_list}
 use Rattle.std.specs.Result.{result_ok}
 use Rattle.access_paths.specs.Laws.{AreAlike}
+use Rattle.access_paths.specs.declared.field_values.WholeField.{WholeField}
 use Rattle.btf_extension.specs.Groups.{Group}
 use Rattle.btf_extension.specs.declared.record.bpf_core_relo.{bpf_core_relo}
 use Rattle.btf_records.specs.declared.types.BtfType.{BtfType}
@@ -13,7 +14,6 @@ use Rattle.ebpf_items.specs.RelocationKind.{relocation_kinds}
 use Rattle.ebpf_items.specs.declared.relocation_kind.RelocationKind.{RelocationKind}
 use Rattle.object_parts.specs.Content.{FunctionContent, key_of}
 use Rattle.object_parts.specs.Installed.{AreChanged}
-use Rattle.relocation_values.specs.declared.field.WholeField.{WholeField}
 use Rattle.string_table.specs.Texts.{text_at}
 use Rattle.type_match.specs.Laws.{OutcomesRest}
 use Rattle.type_match.specs.declared.error.TypeRelocationError.{TypeRelocationError}

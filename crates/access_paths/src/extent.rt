@@ -1,7 +1,7 @@
 //! Where a field is read from.
 
 ghost use Rattle.std.specs.Prelude.{◌≡◌, ◌<◌, ◌+◌, ◌*◌, ◌/◌, ◌^◌, IfSome};
-ghost use Rattle.relocation_values.specs.Extents.{bit_field_extent, extent_of, fits_unit, unit_of};
+ghost use Rattle.access_paths.specs.Extents.{bit_field_extent, extent_of, fits_unit, unit_of};
 
 /// No type has more units to try: one of a byte has 1, 2, 4 and 8 bytes.
 const UNITS: u32 = 4;

@@ -2,8 +2,8 @@
 -- tools/lib/bpf/relo_core.c).
 use Rattle.std.specs.Prelude.{ℕ, zero, suc, ◌+◌, ◌*◌, ◌/◌, ◌%◌, ◌==◌, Bool, Option, None, Some, if◌then◌else◌, nat_lt, nat_le}
 use Rattle.std.specs.Option.{option_map}
-use Rattle.relocation_values.specs.declared.extent.Extent.{Extent}
-use Rattle.relocation_values.specs.declared.extent.Field.{Field}
+use Rattle.access_paths.specs.declared.extent.Extent.{Extent}
+use Rattle.access_paths.specs.declared.extent.Field.{Field}
 
 -- a field of that many bits from a bit on lies in the aligned unit of that many bytes in which it
 -- begins

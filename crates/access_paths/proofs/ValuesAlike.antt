@@ -3,15 +3,23 @@ use Rattle.std.proofs.Common.{◌≡◌, ◌≤◌, ◌<◌, ◌-◌, ◌+◌, �
 use Rattle.std.proofs.lemmas.List.Elements.{All-head, All-tail}
 use Rattle.std.specs.Prelude.{All, IfOk, IfSome, slice_get, ◌==◌, nat_lt, if◌then◌else◌}
 use Rattle.std.specs.Option.{option_map_or}
+use Rattle.access_paths.specs.Extents.{extent_of}
 use Rattle.access_paths.specs.FieldPaths.{step_place}
-use Rattle.access_paths.specs.Laws.{AreAlike, IsReachedPath, LookupsRest}
+use Rattle.access_paths.specs.FieldValues.{element_value, field_at, member_value, of_extent, of_field, plain, shift_past, with_extent}
+use Rattle.access_paths.specs.Laws.{AreAlike, HasReachedField, IsReachedPath, LookupsRest, ValuesRest}
 use Rattle.access_paths.specs.Lookups.{found_type, with_found, with_type}
+use Rattle.access_paths.specs.PathValues.{enum_value_at, last_step, path_value, type_size_value, value_at}
+use Rattle.access_paths.specs.VariantValues.{variant_value}
 use Rattle.access_paths.specs.declared.error.AccessError.{AccessError}
 use Rattle.access_paths.specs.declared.error.AccessError.TheVariants as errors
+use Rattle.access_paths.specs.declared.extent.Extent.{Extent}
+use Rattle.access_paths.specs.declared.extent.Field.{Field}
+use Rattle.access_paths.specs.declared.field_values.WholeField.{WholeField}
 use Rattle.access_paths.specs.declared.path.AccessPath.{AccessPath}
 use Rattle.access_paths.specs.declared.path.Place.{Place}
 use Rattle.access_paths.specs.declared.path.Step.{Step}
 use Rattle.access_paths.specs.declared.path.Step.TheVariants.{Element, Member, Variant}
+use Rattle.access_paths.specs.declared.value.RelocationValue.{RelocationValue}
 use Rattle.btf_encoding.specs.Records.{bits_of}
 use Rattle.btf_records.specs.Fields.{members_of}
 use Rattle.btf_records.specs.Items.{bit_size_of}
@@ -24,15 +32,6 @@ use Rattle.btf_tables.specs.Tables.{Table, type_by_id}
 use Rattle.btf_tables.specs.TypeSizes.{type_size_in_32_bits}
 use Rattle.ebpf_items.specs.declared.relocation_kind.RelocationKind.{RelocationKind}
 use Rattle.ebpf_items.specs.declared.relocation_kind.RelocationKind.TheVariants as kinds
-use Rattle.relocation_values.specs.Extents.{extent_of}
-use Rattle.relocation_values.specs.FieldValues.{element_value, field_at, member_value, of_extent, of_field, plain, shift_past, with_extent}
-use Rattle.relocation_values.specs.Laws.{HasReachedField, ValuesRest}
-use Rattle.relocation_values.specs.PathValues.{enum_value_at, last_step, path_value, type_size_value, value_at}
-use Rattle.relocation_values.specs.VariantValues.{variant_value}
-use Rattle.relocation_values.specs.declared.extent.Extent.{Extent}
-use Rattle.relocation_values.specs.declared.extent.Field.{Field}
-use Rattle.relocation_values.specs.declared.field.WholeField.{WholeField}
-use Rattle.relocation_values.specs.declared.value.RelocationValue.{RelocationValue}
 
 -- the tables, and what is reached
 pub record Both : Type 0 where

@@ -2,19 +2,19 @@
 -- tools/lib/bpf/relo_core.c).
 use Rattle.std.specs.Prelude.{ℕ, ◌-◌, length, slice_get, Option, Some, Result, Ok, Err}
 use Rattle.std.specs.Option.{option_map_or}
+use Rattle.access_paths.specs.FieldValues.{element_value, member_value, plain}
 use Rattle.access_paths.specs.Lookups.{with_found, with_type}
+use Rattle.access_paths.specs.VariantValues.{variant_value}
 use Rattle.access_paths.specs.declared.error.AccessError.{AccessError}
 use Rattle.access_paths.specs.declared.error.AccessError.TheVariants.{InvalidRelocationKindForType}
 use Rattle.access_paths.specs.declared.path.AccessPath.{AccessPath}
 use Rattle.access_paths.specs.declared.path.Step.{Step}
 use Rattle.access_paths.specs.declared.path.Step.TheVariants.{Element, Member, Variant}
+use Rattle.access_paths.specs.declared.value.RelocationValue.{RelocationValue}
 use Rattle.btf_tables.specs.Tables.{Table}
 use Rattle.btf_tables.specs.TypeSizes.{type_size_in_32_bits}
 use Rattle.ebpf_items.specs.declared.relocation_kind.RelocationKind.{RelocationKind}
 use Rattle.ebpf_items.specs.declared.relocation_kind.RelocationKind.TheVariants as kinds
-use Rattle.relocation_values.specs.FieldValues.{element_value, member_value, plain}
-use Rattle.relocation_values.specs.VariantValues.{variant_value}
-use Rattle.relocation_values.specs.declared.value.RelocationValue.{RelocationValue}
 
 -- the step at which a path ends
 abbrev pub last_step : AccessPath → Option Step

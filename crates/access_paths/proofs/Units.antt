@@ -1,7 +1,7 @@
 -- Units of bit fields, one after the other.
 use Rattle.std.proofs.Common.{◌≡◌, ℕ, suc, ◌+◌, ◌-◌, ◌*◌, ◌<◌, ◌≤◌, None, Some, refl, arith, true, false, nat_lt}
 use Rattle.std.proofs.lemmas.Bool.Decides.{nat_tests}
-use Rattle.relocation_values.specs.Extents.{fits_unit, unit_from}
+use Rattle.access_paths.specs.Extents.{fits_unit, unit_from}
 
 one_fewer : (n i : ℕ) → i < n → n - i ≡ suc (n - (i + 1))
 one_fewer n i lt = omega arith

@@ -1,11 +1,12 @@
 //! Values of paths.
 
 ghost use Rattle.std.specs.Prelude.{◌≡◌};
-ghost use Rattle.relocation_values.specs.PathValues.{enum_value, field_value, path_value, type_size_value};
+ghost use Rattle.access_paths.specs.PathValues.{enum_value, field_value, path_value, type_size_value};
 
-use crate::field::{WholeField, element_value, member_value, plain};
-use crate::variant::variant_value;
-use access_paths::{AccessError, AccessPath, Step};
+use crate::error::AccessError;
+use crate::field_values::{WholeField, element_value, member_value, plain};
+use crate::path::{AccessPath, Step};
+use crate::variant_values::variant_value;
 use btf_tables::Btf;
 use ebpf_items::RelocationKind;
 

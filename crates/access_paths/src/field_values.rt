@@ -1,11 +1,12 @@
 //! Values of fields.
 
 ghost use Rattle.std.specs.Prelude.{◌≡◌, ◌<◌, ◌+◌, ◌^◌};
-ghost use Rattle.relocation_values.specs.FieldValues.{element_value, field_at, is_signed, member_value, of_extent, plain, shift_past};
+ghost use Rattle.access_paths.specs.FieldValues.{element_value, field_at, is_signed, member_value, of_extent, plain, shift_past};
 
+use crate::error::AccessError;
 use crate::extent::{Extent, Field, extent_of};
+use crate::path::Place;
 use crate::value::RelocationValue;
-use access_paths::{AccessError, Place};
 use btf_encoding::TypeRef;
 use btf_records::{BtfError, BtfKind, IntEncoding};
 use btf_tables::Btf;

@@ -1,7 +1,7 @@
 //! Values of variants of enums.
 
 ghost use Rattle.std.specs.Prelude.{◌≡◌};
-ghost use Rattle.relocation_values.specs.VariantValues.{sign_extended, variant_value};
+ghost use Rattle.access_paths.specs.VariantValues.{sign_extended, variant_value};
 
 use btf_encoding::TypeRef;
 use btf_records::BtfKind;

@@ -1,10 +1,14 @@
 -- Values of fields (`bpf_core_calc_field_relo`, tools/lib/bpf/relo_core.c).
 use Rattle.std.specs.Prelude.{ℕ, ◌+◌, ◌-◌, ◌/◌, ◌%◌, ◌==◌, Bool, false, slice_get, Option, None, Some, Result, Ok, Err, if◌then◌else◌, nat_lt}
 use Rattle.std.specs.Option.{option_map_or}
+use Rattle.access_paths.specs.Extents.{extent_of}
 use Rattle.access_paths.specs.Lookups.{with_found, with_type}
 use Rattle.access_paths.specs.declared.error.AccessError.{AccessError}
 use Rattle.access_paths.specs.declared.error.AccessError.TheVariants as errors
+use Rattle.access_paths.specs.declared.extent.Extent.{Extent}
+use Rattle.access_paths.specs.declared.extent.Field.{Field}
 use Rattle.access_paths.specs.declared.path.Place.{Place}
+use Rattle.access_paths.specs.declared.value.RelocationValue.{RelocationValue}
 use Rattle.btf_encoding.specs.Records.{bits_of}
 use Rattle.btf_records.specs.Encodings.{encoding_of, number_of_encoding}
 use Rattle.btf_records.specs.Fields.{members_of}
@@ -18,10 +22,6 @@ use Rattle.btf_tables.specs.Tables.{Table}
 use Rattle.btf_tables.specs.TypeSizes.{type_size_in_32_bits}
 use Rattle.ebpf_items.specs.declared.relocation_kind.RelocationKind.{RelocationKind}
 use Rattle.ebpf_items.specs.declared.relocation_kind.RelocationKind.TheVariants as kinds
-use Rattle.relocation_values.specs.Extents.{extent_of}
-use Rattle.relocation_values.specs.declared.extent.Extent.{Extent}
-use Rattle.relocation_values.specs.declared.extent.Field.{Field}
-use Rattle.relocation_values.specs.declared.value.RelocationValue.{RelocationValue}
 
 abbrev pub plain : ℕ → RelocationValue
 plain value = record { value = value; field = None }
