@@ -1,1 +1,3 @@
+pub mod Counts
+pub mod Frames
 pub mod Looks

@@ -10,10 +10,11 @@ use Rattle.btf_tables.specs.Tables.{Table, type_by_id}
 use Rattle.member_search.specs.EmptyTypes.{AreApart, HoldNothing, NotesOne, free, is_noted}
 use Rattle.member_looks.specs.Looks.{Search, look_at}
 use Rattle.member_search.specs.Searches.{found_in, is_among, members_found, most_open}
-use Rattle.member_search.specs.Stacks.{AllPassed, ArePassed, AreSearched, Ends, IsPassed, IsSound, Passes, first_id, ids, inside, is_open, opened, or_noted}
+use Rattle.member_looks.specs.Frames.{is_open}
+use Rattle.member_search.specs.Stacks.{AllPassed, ArePassed, AreSearched, Ends, IsPassed, IsSound, Passes, first_id, ids, inside, opened, or_noted}
 use Rattle.member_looks.specs.declared.look.Look.TheVariants.{Inside}
 use Rattle.member_search.specs.declared.search.Found.{Found}
-use Rattle.member_search.specs.declared.turn.Frame.{Frame}
+use Rattle.member_looks.specs.declared.stack.Frame.{Frame}
 use Rattle.member_search.proofs.Free.{among-kept, among-new, among-push, free-none, free-pop, free-push, length-push, not-twice}
 use Rattle.member_search.proofs.Nesting.{IsKnown, known-below}
 use Rattle.member_search.proofs.Passed.{passed-more, passed-next, passed-none}

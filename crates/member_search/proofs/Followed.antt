@@ -14,11 +14,12 @@ use Rattle.btf_tables.specs.Tables.{type_by_id}
 use Rattle.member_search.specs.EmptyTypes.{is_noted}
 use Rattle.member_looks.specs.Looks.{Search, look_at}
 use Rattle.member_search.specs.Searches.{found_in, is_among, member_found, member_here, most_open, or_next}
-use Rattle.member_search.specs.Stacks.{Ends, GoesOnAround, IsFollowed, IsLeft, IsSound, IsSoundTurn, IsTooDeep, IsTurn, Passes, found_of, frames_of, inside, is_open, left_of, opened, rest_of, stack_value, work}
+use Rattle.member_looks.specs.Frames.{is_open}
+use Rattle.member_search.specs.Stacks.{Ends, GoesOnAround, IsFollowed, IsLeft, IsSound, IsSoundTurn, IsTooDeep, IsTurn, Passes, found_of, frames_of, inside, left_of, opened, rest_of, stack_value, work}
 use Rattle.member_looks.specs.declared.look.Look.{Look}
 use Rattle.member_looks.specs.declared.look.Look.TheVariants.{GoOn, Here, Inside, NotHere}
 use Rattle.member_search.specs.declared.search.Found.{Found}
-use Rattle.member_search.specs.declared.turn.Frame.{Frame}
+use Rattle.member_looks.specs.declared.stack.Frame.{Frame}
 use Rattle.member_search.specs.declared.turn.Turn.{Turn}
 use Rattle.member_search.specs.declared.turn.Turn.TheVariants as turns
 use Rattle.member_search.proofs.EmptyTypes.{sound-first, sound-in, sound-left, sound-on, sound-skips}

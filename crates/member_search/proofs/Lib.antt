@@ -1,6 +1,5 @@
 pub mod Answered
 pub mod Collected
-pub mod Counts
 pub mod EmptyTypes
 pub mod Entries
 pub mod Followed

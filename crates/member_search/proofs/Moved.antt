@@ -12,11 +12,12 @@ use Rattle.btf_tables.specs.Tables.{Table}
 use Rattle.member_search.specs.Collecting.{moved_frame, moved_stack, moved_turn}
 use Rattle.member_search.specs.Indexes.{moved, rebased}
 use Rattle.member_search.specs.Searches.{most_open}
-use Rattle.member_search.specs.Stacks.{GoesOnAround, IsFollowed, IsLeft, IsTooDeep, ids, is_open}
+use Rattle.member_looks.specs.Frames.{is_open}
+use Rattle.member_search.specs.Stacks.{GoesOnAround, IsFollowed, IsLeft, IsTooDeep, ids}
 use Rattle.member_looks.specs.declared.look.Look.{Look}
 use Rattle.member_looks.specs.declared.look.Look.TheVariants.{GoOn, Here, Inside, NotHere}
 use Rattle.member_search.specs.declared.search.Found.{Found}
-use Rattle.member_search.specs.declared.turn.Frame.{Frame}
+use Rattle.member_looks.specs.declared.stack.Frame.{Frame}
 use Rattle.member_search.specs.declared.turn.Turn.{Turn}
 use Rattle.member_search.specs.declared.turn.Turn.TheVariants as turns
 use Rattle.member_search.proofs.Followed.{here_in, same-found}

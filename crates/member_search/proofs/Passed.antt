@@ -13,7 +13,7 @@ use Rattle.member_search.specs.Stacks.{ArePassed, AreSearched, Ends, IsPassed, P
 use Rattle.member_looks.specs.declared.look.Look.{Look}
 use Rattle.member_looks.specs.declared.look.Look.TheVariants.{GoOn, Here, Inside, NotHere}
 use Rattle.member_search.specs.declared.search.Found.{Found}
-use Rattle.member_search.specs.declared.turn.Frame.{Frame}
+use Rattle.member_looks.specs.declared.stack.Frame.{Frame}
 use Rattle.member_search.proofs.Rests.{after_next}
 
 -- ---- one more is passed

@@ -11,7 +11,7 @@ use Rattle.member_search.specs.Stacks.{stack_value}
 use Rattle.member_search.specs.Visits.{followed, innermost, is_number, is_within}
 use Rattle.member_search.specs.declared.named_members.NamedMember.{NamedMember}
 use Rattle.member_search.specs.declared.search.Found.{Found}
-use Rattle.member_search.specs.declared.turn.Frame.{Frame}
+use Rattle.member_looks.specs.declared.stack.Frame.{Frame}
 use Rattle.member_search.proofs.Followed.{value-skipping}
 use Rattle.member_search.proofs.Moved.{pushed}
 use Rattle.member_search.proofs.Rests.{after_next, skipping}

@@ -13,7 +13,7 @@ use Rattle.member_search.specs.Searches.{found_in, member_here, members_found, m
 use Rattle.member_search.specs.Stacks.{rest_of}
 use Rattle.member_looks.specs.declared.look.Look.TheVariants.{GoOn, Here, Inside, NotHere}
 use Rattle.member_search.specs.declared.search.Found.{Found}
-use Rattle.member_search.specs.declared.turn.Frame.{Frame}
+use Rattle.member_looks.specs.declared.stack.Frame.{Frame}
 
 drop-past : {A : Type 0} (xs : List A) (n : ℕ) → None ≡ slice_get xs n → drop n xs ≡ []
 drop-past [] zero e = refl

@@ -23,7 +23,7 @@ use Rattle.member_search.specs.Stacks.{IsSound, IsTurn, found_of, frames_of, sta
 use Rattle.member_looks.specs.declared.look.Look.{Look}
 use Rattle.member_looks.specs.declared.look.Look.TheVariants.{GoOn}
 use Rattle.member_search.specs.declared.own_names.NameHashes.{NameHashes}
-use Rattle.member_search.specs.declared.turn.Frame.{Frame}
+use Rattle.member_looks.specs.declared.stack.Frame.{Frame}
 use Rattle.member_search.specs.declared.search.Found.{Found}
 use Rattle.member_search.specs.declared.turn.Turn.{Turn}
 use Rattle.member_search.specs.declared.turn.Turn.TheVariants as turns

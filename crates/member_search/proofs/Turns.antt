@@ -5,9 +5,10 @@ use Rattle.access_paths.specs.declared.error.AccessError.{AccessError}
 use Rattle.access_paths.specs.declared.error.AccessError.TheVariants.{MaximumNestingLevelReached}
 use Rattle.member_looks.specs.Looks.{Search}
 use Rattle.member_search.specs.Searches.{found_in, is_among, member_found, most_open, or_next}
-use Rattle.member_search.specs.Stacks.{ids, inside, is_open, opened, rest_of, stack_value, value_above}
+use Rattle.member_looks.specs.Frames.{is_open}
+use Rattle.member_search.specs.Stacks.{ids, inside, opened, rest_of, stack_value, value_above}
 use Rattle.member_search.specs.declared.search.Found.{Found}
-use Rattle.member_search.specs.declared.turn.Frame.{Frame}
+use Rattle.member_looks.specs.declared.stack.Frame.{Frame}
 
 pub next-next : (a b c : Result (Option Found) AccessError) → or_next (or_next a b) c ≡ or_next a (or_next b c)
 next-next (Ok None) b c = refl

@@ -10,7 +10,7 @@ use Rattle.btf_records.specs.declared.types.BtfType.{BtfType}
 use Rattle.btf_tables.specs.Tables.{Table, type_by_id}
 use Rattle.member_search.specs.Searches.{most_open}
 use Rattle.member_search.specs.Stacks.{left_of, work, work_from}
-use Rattle.member_search.specs.declared.turn.Frame.{Frame}
+use Rattle.member_looks.specs.declared.stack.Frame.{Frame}
 use Rattle.member_search.proofs.Rests.{after_next, skipping}
 
 -- what a member is worth at this depth

@@ -11,7 +11,7 @@ use Rattle.member_search.specs.Visits.{followed, is_within}
 use Rattle.member_search.specs.declared.named_members.NamedMember.{NamedMember}
 use Rattle.member_search.specs.declared.named_members.NamedMembers.{NamedMembers}
 use Rattle.member_search.specs.declared.search.Found.{Found}
-use Rattle.member_search.specs.declared.turn.Frame.{Frame}
+use Rattle.member_looks.specs.declared.stack.Frame.{Frame}
 use Rattle.member_search.specs.declared.turn.Turn.{Turn}
 use Rattle.member_search.specs.declared.turn.Turn.TheVariants as turns
 

@@ -1,5 +1,4 @@
 pub mod Collecting
-pub mod Counts
 pub mod EmptyTypes
 pub mod Finders
 pub mod Indexes

@@ -10,7 +10,7 @@ use Rattle.btf_tables.specs.Tables.{Table, type_by_id}
 use Rattle.string_table.specs.NameHashes.{name_hash}
 use Rattle.string_table.specs.Texts.{text_at}
 use Rattle.member_search.specs.declared.own_names.NameHashes.{NameHashes}
-use Rattle.member_search.specs.declared.turn.Frame.{Frame}
+use Rattle.member_looks.specs.declared.stack.Frame.{Frame}
 
 -- the struct or union has a member of this index, of which this holds
 abbrev pub HasMember : Table → ℕ → ℕ → (BtfMember → Type 0) → Type 0

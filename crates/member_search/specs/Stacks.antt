@@ -1,6 +1,5 @@
 -- A search by the structs and unions that are open, the innermost last.
 use Rattle.std.specs.Prelude.{◌≡◌, ℕ, zero, suc, ◌+◌, ◌<◌, ◌≤◌, ◌⊎◌, ⊤, true, false, ◌-◌, ◌*◌, ◌^◌, ◌==◌, ◌||◌, Bool, List, [], ◌∷◌, ◌++◌, drop, length, map, IfSome, Option, None, Some, Result, Ok, slice_get}
-use Rattle.std.specs.List.{list_any}
 use Rattle.std.specs.Option.{option_map_or}
 use Rattle.access_paths.specs.Lookups.{with_type}
 use Rattle.access_paths.specs.declared.error.AccessError.{AccessError}
@@ -10,21 +9,19 @@ use Rattle.btf_records.specs.declared.item.BtfMember.{BtfMember}
 use Rattle.btf_records.specs.declared.types.BtfType.{BtfType}
 use Rattle.btf_tables.specs.Tables.{Table, type_by_id}
 use Rattle.member_search.specs.EmptyTypes.{AreApart, HoldNothing, NotesOne, free, is_noted}
+use Rattle.member_looks.specs.Frames.{is_open}
 use Rattle.member_looks.specs.Looks.{Search, look_at}
 use Rattle.member_search.specs.Searches.{found_in, members_found, most_open, or_next}
 use Rattle.member_looks.specs.declared.look.Look.{Look}
 use Rattle.member_looks.specs.declared.look.Look.TheVariants.{GoOn, Here, Inside, NotHere}
 use Rattle.member_search.specs.declared.search.Found.{Found}
-use Rattle.member_search.specs.declared.turn.Frame.{Frame}
+use Rattle.member_looks.specs.declared.stack.Frame.{Frame}
 use Rattle.member_search.specs.declared.turn.Turn.{Turn}
 use Rattle.member_search.specs.declared.turn.Turn.TheVariants as turns
 
 -- a struct or union before its members are looked at
 abbrev pub inside : ℕ → Option ℕ → Frame
 inside id bits = record { type_id = id; next = 0; bits = bits; skipped = false }
-
-abbrev pub is_open : List Frame → ℕ → Bool
-is_open stack id = list_any (λ f. f.type_id == id) stack
 
 abbrev pub ids : List Frame → List ℕ
 ids stack = map (λ f. f.type_id) stack

@@ -10,11 +10,11 @@ ghost use Rattle.member_search.specs.Namesakes.{AreFresh};
 
 use crate::member_index::{MemberIndex, WalkEnd, failed_end};
 use crate::named_members::{NamedMember, NamedMembers};
-use crate::turn::{Frame, Memory, Turn, entered, follow, leave, member_at, member_here};
+use crate::turn::{Memory, Turn, entered, follow, leave, member_at, member_here};
 use crate::visits::Visits;
 use access_paths::AccessError;
 use btf_tables::Btf;
-use member_looks::look_inside;
+use member_looks::{Frame, look_inside};
 use std::alloc::AllocError;
 use string_table::name_hash;
 

@@ -10,7 +10,6 @@ mod member_types;
 mod named_members;
 mod own_names;
 mod search;
-mod stack;
 mod turn;
 mod visits;
 

@@ -11,10 +11,11 @@ ghost use Rattle.member_search.specs.Stacks.{IsSound, IsSoundTurn, IsTurn, found
 ghost use Rattle.string_table.specs.NameHashes.{name_hash};
 
 use crate::search::Found;
-use crate::turn::{Frame, Memory, Turn, entered, next_turn};
+use crate::turn::{Memory, Turn, entered, next_turn};
 use access_paths::AccessError;
 use btf_encoding::TypeRef;
 use btf_tables::Btf;
+use member_looks::Frame;
 use std::alloc::AllocError;
 use std::collections::BTreeMap;
 use std::marker::Model;

@@ -2,34 +2,22 @@
 
 ghost use Rattle.std.specs.Prelude.{◌≡◌, ◌≢◌, ◌+◌, ◌<◌, ◌≤◌, ◌⊎◌, ◌++◌, ◌∷◌, [], IfOk, IfErr, IfSome, Err, true, false, length, slice_get};
 ghost use Rattle.member_search.specs.EmptyTypes.{is_noted};
+ghost use Rattle.member_looks.specs.Frames.{is_open};
 ghost use Rattle.member_looks.specs.Looks.{searched};
 ghost use Rattle.member_search.specs.Searches.{member_here, most_open};
-ghost use Rattle.member_search.specs.Stacks.{IsEntered, IsFollowed, IsLeft, IsSound, IsSoundTurn, IsTooDeep, IsTurn, found_of, frames_of, inside, is_open, left_of, stack_value};
+ghost use Rattle.member_search.specs.Stacks.{IsEntered, IsFollowed, IsLeft, IsSound, IsSoundTurn, IsTooDeep, IsTurn, found_of, frames_of, inside, left_of, stack_value};
 ghost use Rattle.access_paths.specs.declared.error.AccessError.TheVariants.{BtfError as TypeError, MaximumNestingLevelReached};
 ghost use Rattle.btf_records.specs.Fields.{members_of};
 ghost use Rattle.btf_records.specs.declared.error.BtfError.TheVariants.{OutOfMemory};
 
 use crate::search::Found;
-use crate::stack::Stack;
 use access_paths::{AccessError, Place, bits_after};
 use btf_encoding::TypeRef;
 use btf_records::BtfMember;
 use btf_tables::Btf;
-use member_looks::{Look, look_at};
+use member_looks::{Frame, Look, Stack, look_at};
 use std::alloc::{AllocError, Global};
 use std::collections::BTreeSet;
-
-/// A struct or union whose members are being looked at.
-#[derive(Clone, Copy, Debug)]
-pub(crate) struct Frame {
-    pub(crate) type_id: u32,
-    /// The index of the member that is the next.
-    pub(crate) next: usize,
-    /// The bits of its beginning.
-    pub(crate) bits: Option<u32>,
-    /// Whether members in it were skipped, which searches may find by another way.
-    pub(crate) skipped: bool,
-}
 
 /// What a search remembers between turns.
 #[derive(Debug)]

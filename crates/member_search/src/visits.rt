@@ -4,7 +4,7 @@ ghost use Rattle.std.specs.Prelude.{◌≡◌, ◌<◌, ◌^◌, [], OnOk};
 ghost use Rattle.member_search.specs.Visits.{followed, innermost, is_within};
 
 use crate::named_members::NamedMember;
-use crate::turn::Frame;
+use member_looks::Frame;
 use std::alloc::{AllocError, Global};
 use std::collections::BTreeSet;
 use std::marker::Model;

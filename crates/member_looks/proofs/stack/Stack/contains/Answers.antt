@@ -1,7 +1,7 @@
 use Rattle.std.proofs.Common.{◌∙◌, ap, refl, take}
-use Rattle.member_search.specs.Counts.{count_at}
-use Rattle.member_search.proofs.Counts.{contains_by, found_counted, found_first}
-use Rattle.member_search.proofs.stack.Stack.contains.Goals as goal
+use Rattle.member_looks.specs.Counts.{count_at}
+use Rattle.member_looks.proofs.Counts.{contains_by, found_counted, found_first}
+use Rattle.member_looks.proofs.stack.Stack.contains.Goals as goal
 
 pub returns-then-is_open : goal.returns-then-is_open
 returns-then-is_open c =

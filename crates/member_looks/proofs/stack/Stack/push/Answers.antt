@@ -1,8 +1,8 @@
 use Rattle.std.proofs.Common.{◌∙◌, ◌≤◌, ◌<◌, List, ap, sym, subst, drop, length, arith}
-use Rattle.member_search.specs.Counts.{AreCounts}
-use Rattle.member_search.specs.declared.turn.Frame.{Frame}
-use Rattle.member_search.proofs.Counts.{counted, few-counted, same-counts}
-use Rattle.member_search.proofs.stack.Stack.push.Goals as goal
+use Rattle.member_looks.specs.Counts.{AreCounts}
+use Rattle.member_looks.specs.declared.stack.Frame.{Frame}
+use Rattle.member_looks.proofs.Counts.{counted, few-counted, same-counts}
+use Rattle.member_looks.proofs.stack.Stack.push.Goals as goal
 
 pub invariant_of-self-then-len-lt-OUTERMOST : goal.invariant_of-self-then-len-lt-OUTERMOST
 invariant_of-self-then-len-lt-OUTERMOST c =

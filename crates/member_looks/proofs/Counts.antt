@@ -2,9 +2,9 @@
 use Rattle.std.proofs.Common.{◌≡◌, ℕ, zero, suc, ◌+◌, ◌-◌, ◌<◌, ◌≤◌, Bool, true, false, nat_lt, List, [], ◌∷◌, ◌++◌, drop, take, length, length-drop, refl, sym, ap, ◌∙◌, arith}
 use Rattle.std.specs.Prelude.{◌==◌, ◌||◌, if◌then◌else◌}
 use Rattle.std.proofs.lemmas.Bool.Decides.{nat_tests}
-use Rattle.member_search.specs.Counts.{AreCounts, count_at, times}
-use Rattle.member_search.specs.Stacks.{is_open}
-use Rattle.member_search.specs.declared.turn.Frame.{Frame}
+use Rattle.member_looks.specs.Counts.{AreCounts, count_at, times}
+use Rattle.member_looks.specs.Frames.{is_open}
+use Rattle.member_looks.specs.declared.stack.Frame.{Frame}
 
 pub times-end : (id : ℕ) (fs : List Frame) (f : Frame) → times id (fs ++ f ∷ []) ≡ (if f.type_id == id then 1 else 0) + times id fs
 times-end id [] f = refl

@@ -1,8 +1,8 @@
 use Rattle.std.proofs.Common.{◌∙◌, ◌≤◌, ◌<◌, List, ap, subst, drop, length, arith, ◌++◌, ◌∷◌, []}
-use Rattle.member_search.specs.Counts.{AreCounts}
-use Rattle.member_search.specs.declared.turn.Frame.{Frame}
-use Rattle.member_search.proofs.Counts.{discounted, same-counts}
-use Rattle.member_search.proofs.stack.Stack.pop.Goals as goal
+use Rattle.member_looks.specs.Counts.{AreCounts}
+use Rattle.member_looks.specs.declared.stack.Frame.{Frame}
+use Rattle.member_looks.proofs.Counts.{discounted, same-counts}
+use Rattle.member_looks.proofs.stack.Stack.pop.Goals as goal
 
 pub invariant_of-self-then-len-ge-OUTERMOST : goal.invariant_of-self-then-len-ge-OUTERMOST
 invariant_of-self-then-len-ge-OUTERMOST c =

@@ -1,20 +1,31 @@
 //! The structs and unions that are open in a search.
 
 ghost use Rattle.std.specs.Prelude.{◌≡◌, ◌+◌, ◌-◌, ◌<◌, ◌^◌, ◌==◌, ◌++◌, ◌∷◌, ℕ, [], None, OnErr, OnOk, IfSome, length, take, if◌then◌else◌};
-ghost use Rattle.member_search.specs.Counts.{count_at};
-ghost use Rattle.member_search.specs.Stacks.{is_open};
+ghost use Rattle.member_looks.specs.Counts.{count_at};
+ghost use Rattle.member_looks.specs.Frames.{is_open};
 
-use crate::turn::Frame;
 use std::alloc::{AllocError, Global};
 use std::collections::BTreeMap;
 use std::marker::Model;
+
+/// A struct or union whose members are being looked at.
+#[derive(Clone, Copy, Debug)]
+pub struct Frame {
+    pub type_id: u32,
+    /// The index of the member that is the next.
+    pub next: usize,
+    /// The bits of its beginning.
+    pub bits: Option<u32>,
+    /// Whether members in it were skipped, which searches may find by another way.
+    pub skipped: bool,
+}
 
 /// The outermost ones, which are gone over; those inside them are counted by their ids.
 const OUTERMOST: usize = 64;
 
 /// Structs and unions one inside the other, the innermost last.
 #[derive(Debug)]
-pub(crate) struct Stack {
+pub struct Stack {
     frames: Vec<Frame>,
     /// How often each id is among those that aren't gone over.
     counts: BTreeMap<u32, usize>,
@@ -32,8 +43,8 @@ impl Drop for Stack {
 
 impl Model for Stack {
     ghost use Rattle.std.specs.Prelude.{List, drop};
-    ghost use Rattle.member_search.specs.Counts.{AreCounts};
-    ghost use Rattle.member_search.specs.declared.turn.Frame.{Frame};
+    ghost use Rattle.member_looks.specs.Counts.{AreCounts};
+    ghost use Rattle.member_looks.specs.declared.stack.Frame.{Frame};
 
     ghost Value = { List Frame };
 
@@ -88,7 +99,7 @@ fn is_open(frames: &[Frame], type_id: u32) -> bool
 }
 
 impl Stack {
-    pub(crate) fn new(alloc: Global) -> Stack
+    pub fn new(alloc: Global) -> Stack
         ensures { result ≡ [] }
     {
         Stack {
@@ -97,7 +108,7 @@ impl Stack {
         }
     }
 
-    pub(crate) fn len(&self) -> usize
+    pub fn len(&self) -> usize
         ensures value { result ≡ length self.now }
         ensures few { result < 2 ^ 63 }
     {
@@ -105,14 +116,14 @@ impl Stack {
     }
 
     /// Whether the struct or union of an id is open.
-    pub(crate) fn contains(&self, type_id: u32) -> bool
+    pub fn contains(&self, type_id: u32) -> bool
         ensures { result ≡ is_open self.now type_id }
     {
         is_open(outermost(self.frames.as_slice()), type_id) || count_of(&self.counts, type_id) > 0
     }
 
     /// Opens one inside the innermost.
-    pub(crate) fn push(&mut self, frame: Frame) -> Result<(), AllocError>
+    pub fn push(&mut self, frame: Frame) -> Result<(), AllocError>
         ensures { OnOk result (self.new ≡ self.old ++ frame ∷ []) }
     {
         if self.frames.len() < OUTERMOST {
@@ -130,7 +141,7 @@ impl Stack {
     }
 
     /// Leaves the innermost.
-    pub(crate) fn pop(&mut self) -> Option<Frame>
+    pub fn pop(&mut self) -> Option<Frame>
         ensures some { IfSome result (λ frame. self.old ≡ self.new ++ frame ∷ []) }
         ensures none { result ≡ None → (self.old ≡ []) × (self.new ≡ []) }
     {

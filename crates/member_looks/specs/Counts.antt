@@ -3,7 +3,7 @@ use Rattle.std.specs.Prelude.{◌≡◌, ℕ, ◌+◌, ◌==◌, List, [], ◌�
 use Rattle.std.specs.BTreeMap.{is_at}
 use Rattle.std.specs.Map.{lookup}
 use Rattle.std.specs.Ordering.{nat_cmp}
-use Rattle.member_search.specs.declared.turn.Frame.{Frame}
+use Rattle.member_looks.specs.declared.stack.Frame.{Frame}
 
 -- an id among some
 abbrev pub times : ℕ → List Frame → ℕ
