@@ -1,10 +1,11 @@
 //! Type relocations, and what they come to.
 
-use crate::tables::{ACCESS, ORDERS, parse, section_of};
+use crate::tables::{ACCESS, parse, section_of};
 use btf_records::Endianness;
 use btf_tables::Btf;
 use ebpf_items::RelocationKind;
 use plain_matching::Answer;
+use sample_tables::ORDERS;
 use std::alloc::Global;
 use std::process::Abort;
 use type_match::{

@@ -2,14 +2,15 @@
 
 use crate::case::{Case, check, check_one};
 use crate::tables::{
-    A, ACCESS, B, C, ENUM_1, ENUM_2, ENUM64_1, ENUM64_2, FLAVOURED_C, INT, ORDERS, S, TYPEDEF,
-    UNION_1, UNREADABLE, parse, section_of,
+    A, ACCESS, B, C, ENUM_1, ENUM_2, ENUM64_1, ENUM64_2, FLAVOURED_C, INT, S, TYPEDEF, UNION_1,
+    UNREADABLE, parse, section_of,
 };
 use btf_records::BtfFeature;
 use btf_rewriting::fixup_and_sanitize;
 use btf_tables::Btf;
 use ebpf_items::RelocationKind;
 use plain_matching::{Answer, Fault};
+use sample_tables::ORDERS;
 use std::alloc::{AllocError, Global};
 use std::process::Abort;
 use text_order::TextMap;

@@ -1,6 +1,6 @@
 //! The calls that a type relocation is made of.
 
-use crate::tables::{ACCESS, ORDERS, parse, section_of};
+use crate::tables::{ACCESS, parse, section_of};
 use crate::worked::{AT_64, OBJECT};
 use access_paths::{AccessPath, Step, Subject, local_path, path_value, subject_of};
 use btf_records::Endianness;
@@ -9,6 +9,7 @@ use ebpf_items::RelocationKind;
 use matching_paths::matching_path;
 use member_search::find_member;
 use plain_matching::{Answer, Fault};
+use sample_tables::ORDERS;
 use std::alloc::Global;
 use std::process::Abort;
 use type_match::{kernel_matches, outcome_of};

@@ -6,8 +6,6 @@ use sample_tables::section;
 use std::alloc::{AllocError, Global};
 use std::process::Abort;
 
-pub(crate) const ORDERS: [Endianness; 2] = [Endianness::Little, Endianness::Big];
-
 /// The strings of all tables. An access string stands after those of the object's own.
 pub(crate) const STRINGS: &[u8; 25] = b"\0s\0a\0b\0s___x\0c\0d\0c___y\0\xff\0";
 
