@@ -7,6 +7,7 @@ pub mod Left
 pub mod Places
 pub mod Sayings
 pub mod NumberedNames
+pub mod NumbersByOffset
 pub mod SectionIndexes
 pub mod Shown
 pub mod Unreadable

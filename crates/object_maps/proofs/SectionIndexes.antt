@@ -1,6 +1,6 @@
 -- Sections by the numbers of their names.
-use Rattle.std.proofs.Common.{◌≡◌, ℕ, ◌≤◌, ◌<◌, ◌==◌, Bool, true, false, cond, List, [], ◌∷◌, ◌++◌, length, filter, is_some, Option, Some, None, refl, ap, sym, ◌∙◌, append_assoc, append-nil, arith}
-use Rattle.std.specs.Prelude.{bytes_eq}
+use Rattle.std.proofs.Common.{◌≡◌, ℕ, ◌≤◌, ◌<◌, ◌==◌, Bool, true, false, ◌&&◌, cond, List, [], ◌∷◌, ◌++◌, length, filter, is_some, Option, Some, None, refl, ap, sym, ◌∙◌, append_assoc, append-nil, arith}
+use Rattle.std.specs.Prelude.{bytes_eq, option_and_then}
 use Rattle.std.specs.Option.{option_map_or, option_or}
 use Rattle.std.proofs.lemmas.Bool.Decides.{nat_tests}
 use Rattle.std.proofs.lemmas.List.{length-append}
@@ -11,6 +11,7 @@ use Rattle.btf_tables.specs.Tables.{Table}
 use Rattle.string_table.specs.Texts.{text_at}
 use Rattle.object_maps.specs.DataSections.{is_data_section, is_section_named}
 use Rattle.object_maps.specs.NumberedNames.{AddsAt, Lists, listed, number_of, with_name}
+use Rattle.object_maps.specs.NumbersByOffset.{number_at, with_name_at}
 use Rattle.object_maps.specs.SectionIndexes.{HasNoneFrom, group_of}
 use Rattle.object_maps.proofs.ByName.{same_text, text-self}
 use Rattle.object_maps.proofs.NumberedNames.{number_more, stands}
@@ -82,6 +83,17 @@ none_further names all old new name n t none are is adds =
           ∙ none.each m (omega (arith, long, past));
     }
 
+-- ---- a section by the offset of its name
+
+pub added_at : (table : Table) (names all : List (List ℕ)) (old new : Lists BtfType) (n : ℕ) (t : BtfType) → is_data_section t ≡ true → HasNoneFrom old (length names) → all ≡ with_name_at table.strings names (name_offset_of t) → number_at table.strings all (name_offset_of t) ≡ Some n → AddsAt old new n (t ∷ []) → (other : List ℕ) → group_of all new other ≡ group_of names old other ++ cond (is_section_named table other t) (t ∷ []) []
+added_at table names all old new n t section none are is adds other =
+    by (text_at table.strings (name_offset_of t)) are is
+    ∙ ap (λ b. group_of names old other ++ cond (b && option_map_or (λ text. bytes_eq text other) (text_at table.strings (name_offset_of t)) false) (t ∷ []) []) (sym section)
+  where
+    by : (o : Option (List ℕ)) → all ≡ option_map_or (with_name names) o names → option_and_then (number_of all) o ≡ Some n → group_of all new other ≡ group_of names old other ++ cond (option_map_or (λ text. bytes_eq text other) o false) (t ∷ []) []
+    by (Some name) are is = section_added names all old new name n t none are is adds other
+    by None are is = absurd cc
+
 -- ---- the sections of a table
 
 moved : (b : Bool) (g rest : List BtfType) (t : BtfType) → (g ++ cond b (t ∷ []) []) ++ rest ≡ g ++ cond b (t ∷ rest) rest
@@ -89,10 +101,8 @@ moved true g rest t = append_assoc g (t ∷ []) rest
 moved false g rest t = ap (λ xs. xs ++ rest) (append-nil g)
 
 -- the next section of a table goes to those of its name
-pub kept : (table : Table) (name : List ℕ) (t : BtfType) (text : List ℕ) (before after left all : List BtfType) → is_data_section t ≡ true → text_at table.strings (name_offset_of t) ≡ Some text → after ≡ before ++ cond (bytes_eq text name) (t ∷ []) [] → before ++ filter (is_section_named table name) (t ∷ left) ≡ all → after ++ filter (is_section_named table name) left ≡ all
-kept table name t text before after left all is named adds whole =
-    let test : is_section_named table name t ≡ bytes_eq text name = rw (is, named) refl in
+pub kept : (table : Table) (name : List ℕ) (t : BtfType) (before after left all : List BtfType) → after ≡ before ++ cond (is_section_named table name t) (t ∷ []) [] → before ++ filter (is_section_named table name) (t ∷ left) ≡ all → after ++ filter (is_section_named table name) left ≡ all
+kept table name t before after left all adds whole =
     ap (λ xs. xs ++ filter (is_section_named table name) left) adds
-    ∙ moved (bytes_eq text name) before (filter (is_section_named table name) left) t
-    ∙ ap (λ b. before ++ cond b (t ∷ filter (is_section_named table name) left) (filter (is_section_named table name) left)) (sym test)
+    ∙ moved (is_section_named table name t) before (filter (is_section_named table name) left) t
     ∙ whole

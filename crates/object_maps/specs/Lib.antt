@@ -8,5 +8,6 @@ pub mod KnownMaps
 pub mod LegacyMaps
 pub mod Maps
 pub mod NumberedNames
+pub mod NumbersByOffset
 pub mod SectionIndexes
 pub mod Overwritten

@@ -1,8 +1,7 @@
 //! Maps of sections of variables.
 
-ghost use Rattle.std.specs.Prelude.{◌≡◌, ◌≢◌, ◌<◌, ◌^◌, [], IfErr, IfOk, OnOk};
+ghost use Rattle.std.specs.Prelude.{◌≡◌, ◌≢◌, [], IfErr, IfOk, OnOk};
 ghost use Rattle.ebpf_items.specs.declared.error.ParseError.TheVariants.{OutOfMemory};
-ghost use Rattle.object_file.specs.Kinds.{kind_of};
 ghost use Rattle.object_maps.specs.DataMaps.{data_contents, data_map_faults, data_map, flags_of_kind};
 ghost use Rattle.object_maps.specs.Faults.{Says};
 ghost use Rattle.object_maps.specs.Found.{entered};

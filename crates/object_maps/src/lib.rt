@@ -11,6 +11,7 @@ mod found_maps;
 mod legacy_maps;
 mod lists;
 mod maps;
+mod offset_numbers;
 mod reading;
 mod section_index;
 mod section_names;

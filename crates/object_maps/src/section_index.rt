@@ -1,11 +1,13 @@
 //! The sections of variables of a type table by name.
 
-ghost use Rattle.std.specs.Prelude.{◌≡◌, [], length, Some, IfOk, OnOk};
+ghost use Rattle.std.specs.Prelude.{◌≡◌, [], length, true, Some, IfOk, OnOk};
 ghost use Rattle.std.specs.Option.{option_map_or, option_or};
 ghost use Rattle.object_maps.specs.DataSections.{is_data_section};
+ghost use Rattle.object_maps.specs.NumbersByOffset.{AreNumbersAt};
 ghost use Rattle.object_maps.specs.SectionIndexes.{AddsSection, HasNoneFrom, IsIndexOf, sections_at};
 
 use crate::lists::add_at;
+use crate::offset_numbers::OffsetNumbers;
 use crate::section_names::SectionNames;
 use btf_encoding::TypeRef;
 use btf_records::BtfKind;
@@ -29,13 +31,26 @@ fn is_data_section(t: &TypeRef<'_>) -> bool
 }
 
 impl<'t> SectionIndex<'t> {
-    fn add(&mut self, name: &'t str, section: TypeRef<'t>) -> Result<(), AllocError>
-        requires { HasNoneFrom self.old.groups (length self.old.names) }
+    /// Adds a section to those of its name, if this can be read.
+    fn add(
+        &mut self,
+        offsets: &mut OffsetNumbers,
+        table: &'t Btf<'_>,
+        section: TypeRef<'t>,
+    ) -> Result<(), AllocError>
+        requires section { is_data_section section ≡ true }
+        requires numbers { AreNumbersAt table.now.strings self.old.names offsets.old.numbers }
+        requires none { HasNoneFrom self.old.groups (length self.old.names) }
+        ensures numbers { OnOk result
+            (AreNumbersAt table.now.strings self.new.names offsets.new.numbers) }
         ensures none { OnOk result (HasNoneFrom self.new.groups (length self.new.names)) }
-        ensures adds { OnOk result (AddsSection self.old self.new name.now section.entry) }
+        ensures adds { OnOk result (AddsSection table.now self.old self.new section.entry) }
     {
-        let number = self.names.enter(name)?;
-        add_at(&mut self.groups, number as u64, section)?;
+        let offset = section.name_offset();
+        match offsets.number_at(&mut self.names, table, offset)? {
+            Some(number) => add_at(&mut self.groups, number as u64, section)?,
+            None => self.note_unreadable(offset),
+        }
         Ok(())
     }
 
@@ -47,7 +62,6 @@ impl<'t> SectionIndex<'t> {
         self.unreadable = self.unreadable.or(Some(offset));
     }
 
-    #[tactic(auto, using(crate::proofs::Unreadable::noted))]
     pub(crate) fn of_table(
         alloc: Global,
         table: &'t Btf<'_>,
@@ -59,13 +73,10 @@ impl<'t> SectionIndex<'t> {
             groups: BTreeMap::new(alloc),
             unreadable: None,
         };
+        let mut offsets = OffsetNumbers::new(alloc);
         for t in table.types() {
-            if !is_data_section(&t) {
-                continue;
-            }
-            match table.string_at(t.name_offset()) {
-                Ok(name) => index.add(name, t)?,
-                Err(_error) => index.note_unreadable(t.name_offset()),
+            if is_data_section(&t) {
+                index.add(&mut offsets, table, t)?;
             }
         }
         Ok(index)

@@ -1,12 +1,10 @@
-use Rattle.std.proofs.Common.{refl, rules}
-use Rattle.object_maps.proofs.SectionIndexes.{none_further, section_added}
+use Rattle.std.proofs.Common.{rules}
+use Rattle.object_maps.proofs.SectionIndexes.{added_at}
+use Rattle.object_maps.proofs.Unreadable.{readable}
 use Rattle.object_maps.proofs.section_index.SectionIndex.add.Goals as goal
 
-pub returns-clause-none : goal.returns-clause-none
-returns-clause-none c = none_further c.args.self.now.names c.enter.new.self c.args.self.now.groups c.add_at.new.lists c.args.name.now c.in_ok-number.number c.args.section c.requires (search rules) (search rules) (search rules)
-
-pub returns-clause-adds : goal.returns-clause-adds
-returns-clause-adds c = record {
-  at = section_added c.args.self.now.names c.enter.new.self c.args.self.now.groups c.add_at.new.lists c.args.name.now c.in_ok-number.number c.args.section c.requires (search rules) (search rules) (search rules);
-  unreadable = refl;
+pub returns-in_ok-add_at-in-Some-clause-adds : goal.returns-in_ok-add_at-in-Some-clause-adds
+returns-in_ok-add_at-in-Some-clause-adds c = record {
+  at = added_at c.args.table.now c.args.self.now.names c.number_at.new.names c.args.self.now.groups c.add_at.new.lists c.in-Some.number c.args.section c.requires.section c.requires.none (search rules) (search rules) (search rules);
+  unreadable = readable c.args.table.now c.number_at.new.names c.args.section c.in-Some.number c.args.self.now.unreadable (search rules);
 }
