@@ -7,7 +7,7 @@ ghost use Rattle.bpf_prepare.specs.Program.{status_of};
 use command_line::WordError;
 use load_plan::PrepareError;
 use program_io::{InputError, Unwritten};
-use refusal_texts::Refusal;
+use diagnostics::Refusal;
 use std::alloc::{AllocError, AllocFailed};
 use thiserror::Error;
 

@@ -1,7 +1,7 @@
 //! What a user is told about a text of settings, in one line.
 
 use command_line::first_paragraph;
-use line_words::Text;
+use quoting::Text;
 use run_settings::invalid_key;
 use std::alloc::{AllocError, Global};
 

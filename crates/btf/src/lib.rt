@@ -3,7 +3,7 @@
 
 pub use btf_compatibility::{fields_are_compatible, types_are_compatible};
 pub use btf_encoding::TypeRef;
-pub use btf_extension::{
+pub use btf_ext::{
     BtfExt, FuncInfo, FuncSecInfo, LineSecInfo, SecInfo, SecInfoIter, bpf_core_relo, bpf_func_info,
     bpf_line_info,
 };
@@ -13,6 +13,6 @@ pub use btf_records::{
     Float, Func, FuncLinkage, FuncProto, Fwd, InfoBits, Int, IntEncoding, Items, Ptr, Restrict,
     Struct, TypeTag, Typedef, Union, Var, VarLinkage, Volatile,
 };
-pub use btf_rewriting::{Answers, KsymsIds, fixup_and_sanitize, fixup_ksyms_datasec};
+pub use btf_rewrite::{Answers, KsymsIds, fixup_and_sanitize, fixup_ksyms_datasec};
 pub use btf_tables::{Btf, Types, essential_name};
-pub use text_order::{TextMap, TextMapBuilder};
+pub use string_map::{TextMap, TextMapBuilder};

@@ -4,7 +4,7 @@ use Rattle.std.specs.List.{All, slice_get}
 use Rattle.std.specs.Prelude.{Any}
 use Rattle.std.proofs.lemmas.Option.{slice_get_within}
 use Rattle.std.proofs.lemmas.List.{get_or_default, take_all}
-use Rattle.btf_parts.specs.Faultless.{IsFaultless}
+use Rattle.btf_storage.specs.Faultless.{IsFaultless}
 use Rattle.btf_records.specs.declared.error.BtfError.{BtfError}
 
 -- ---- what holds of each

@@ -4,8 +4,8 @@ use Rattle.std.specs.Result.{IfErr, IsErrAnd}
 use Rattle.std.proofs.lemmas.Grind.{flat_map-append}
 use Rattle.std.specs.List.{flat_map}
 use Rattle.btf_encoding.specs.Records.{record_bytes}
-use Rattle.btf_parts.specs.Faultless.{IsFaultless}
-use Rattle.btf_parts.specs.Growth.{AreTooMany}
+use Rattle.btf_storage.specs.Faultless.{IsFaultless}
+use Rattle.btf_storage.specs.Growth.{AreTooMany}
 use Rattle.btf_records.specs.declared.error.BtfError.{BtfError}
 use Rattle.btf_records.specs.declared.types.BtfType.{BtfType}
 use Rattle.btf_records.specs.declared.words.Endianness.{Endianness}

@@ -4,7 +4,7 @@ use Rattle.std.specs.List.{slice_get}
 use Rattle.std.proofs.lemmas.Bool.Decides.{nat_tests}
 use Rattle.btf_records.specs.declared.types.BtfType.{BtfType}
 use Rattle.btf_records.specs.declared.types.BtfType.TheVariants as types
-use Rattle.btf_parts.specs.Ids.{record_of_id}
+use Rattle.btf_storage.specs.Ids.{record_of_id}
 use Rattle.btf_ksyms.proofs.Left.{left_alone}
 use Rattle.btf_ksyms.specs.Ksyms.{Ksyms, StepKeeps, stepped, stepped_from, stepped_types}
 

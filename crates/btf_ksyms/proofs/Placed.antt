@@ -9,7 +9,7 @@ use Rattle.btf_records.specs.declared.item.DataSecEntry.{DataSecEntry}
 use Rattle.btf_records.specs.declared.kind.BtfKind.TheVariants as kinds
 use Rattle.btf_ksyms.specs.Ksyms.{EntryFault, Ksyms, names_a, placed_entry, placed_from}
 use Rattle.btf_ksyms.proofs.Elements.{HoldsOfFirst, next_left}
-use Rattle.btf_parts.specs.Faultless.{IsFaultless}
+use Rattle.btf_storage.specs.Faultless.{IsFaultless}
 
 pub record PlacedFirst (k : Ksyms) (entries : List DataSecEntry) (i : ℕ) (done : List DataSecEntry) (has_variables : Bool) : Type 0 where
   pub made : done ++ placed_from k i (drop i entries) ≡ placed_from k 0 entries

@@ -6,7 +6,7 @@ use Rattle.btf_records.specs.declared.words.Endianness.{Endianness}
 use Rattle.btf_ksyms.specs.Ksyms.{Ksyms, stepped, stepped_from}
 use Rattle.btf_ksyms.proofs.Elements.{next_left, none_left}
 use Rattle.btf_ksyms.proofs.Growth.{too_many_more}
-use Rattle.btf_parts.specs.Growth.{AreFew, AreTooMany}
+use Rattle.btf_storage.specs.Growth.{AreFew, AreTooMany}
 
 pub record HaveStepped (k : Ksyms) (order : Endianness) (i : ℕ) (done : List BtfType) : Type 0 where
   pub made : done ++ stepped_from k (i + 1) (drop i k.types) ≡ stepped_from k 1 k.types

@@ -4,8 +4,8 @@
 use Rattle.std.specs.Prelude.{◌≡◌, ℕ, ◌+◌, ◌*◌, ◌==◌, ◌&&◌, ◌⊎◌, Any, Bool, true, false, not, if◌then◌else◌, List, [], ◌∷◌, ◌++◌, codes, length, Option, Some, None, is_none, unwrap_or}
 use Rattle.std.specs.List.{list_any}
 use Rattle.std.specs.Option.{IsSomeAnd, option_map_or}
-use Rattle.btf_parts.specs.Growth.{AreTooMany, TooMany}
-use Rattle.btf_parts.specs.Ids.{record_of_id}
+use Rattle.btf_storage.specs.Growth.{AreTooMany, TooMany}
+use Rattle.btf_storage.specs.Ids.{record_of_id}
 use Rattle.btf_records.specs.Fields.{entries_of, int_of, kind_of_type}
 use Rattle.btf_records.specs.Info.{flagged, int_word_of}
 use Rattle.btf_records.specs.declared.encoding.VarLinkage.TheVariants.{Global}

@@ -5,12 +5,12 @@ ghost use Rattle.std.specs.List.{list_any};
 ghost use Rattle.btf_records.specs.declared.error.BtfError.TheVariants.{InvalidTypeInfo, OutOfMemory};
 ghost use Rattle.btf_records.specs.declared.kind.BtfKind.TheVariants as kinds;
 ghost use Rattle.btf_ksyms.specs.Ksyms.{EntryFault, KsymsFault, int4_from, int_id, is_int4, names_a, placed_entry, placed_from, section_entries, signed_int, stepped, stepped_from, stepped_texts, stepped_types};
-ghost use Rattle.btf_parts.specs.Faultless.{IsFaultless};
+ghost use Rattle.btf_storage.specs.Faultless.{IsFaultless};
 ghost use Rattle.btf_ksyms.specs.Steps.{AreMarks, ksyms_of};
-ghost use Rattle.btf_parts.specs.Growth.{AreFew, AreTooMany};
+ghost use Rattle.btf_storage.specs.Growth.{AreFew, AreTooMany};
 
 use btf_encoding::TypeRef;
-use btf_parts::{Strings, TypeRecords};
+use btf_storage::{Strings, TypeRecords};
 use btf_records::{BtfError, BtfKind, DataSecEntry};
 use std::alloc::{AllocError, Global};
 

@@ -2,15 +2,15 @@
 
 ghost use Rattle.std.specs.Prelude.{◌≡◌, ◌≢◌, ◌+◌, ◌<◌, ◌++◌, ◌^◌, ◌∷◌, ◌⊎◌, [], Any, false, IfErr, IfOk, OnOk, length};
 ghost use Rattle.std.proofs.Math.ListN.{get_or};
-ghost use Rattle.btf_parts.specs.Growth.{AreFew, AreTooMany, TooMany};
+ghost use Rattle.btf_storage.specs.Growth.{AreFew, AreTooMany, TooMany};
 ghost use Rattle.btf_records.specs.declared.error.BtfError.TheVariants.{InvalidTypeInfo, OutOfMemory};
 ghost use Rattle.btf_ksyms.specs.Ksyms.{EntryFault, IsOverfull, KsymsFault, StepKeeps, SubjectFault, adds_int, int4_from, int_name, leaves, section_entries, signed_int, stepped, stepped_from, stepped_texts, stepped_types};
-ghost use Rattle.btf_parts.specs.Faultless.{IsFaultless};
+ghost use Rattle.btf_storage.specs.Faultless.{IsFaultless};
 ghost use Rattle.btf_ksyms.specs.Steps.{IsStep, ksyms_of};
 
 use crate::section::{KsymsSection, int4_id, marks, placed_entries};
 use btf_encoding::TypeRef;
-use btf_parts::{MOST, TypeRecords};
+use btf_storage::{MOST, TypeRecords};
 use btf_records::{
     BtfError, BtfKind, BtfType, DataSec, DataSecEntry, FuncLinkage, Int, IntEncoding, Items, Var,
     VarLinkage,

@@ -1,7 +1,7 @@
 -- What becomes of a table to which a string or a type is added, or that gets other records.
 use Rattle.std.specs.Prelude.{◌≡◌, ℕ, ◌+◌, List, [], ◌∷◌, ◌++◌, length, ◌⊎◌, Some}
-use Rattle.btf_parts.specs.Growth.{TooMany}
-use Rattle.btf_parts.specs.Layout.{RecordList}
+use Rattle.btf_storage.specs.Growth.{TooMany}
+use Rattle.btf_storage.specs.Layout.{RecordList}
 use Rattle.btf_tables.specs.Tables.{Table, type_by_id, type_bytes}
 use Rattle.string_table.specs.Texts.{text_at}
 use Rattle.btf_records.specs.declared.types.BtfType.{BtfType}

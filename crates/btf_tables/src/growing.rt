@@ -2,13 +2,13 @@
 
 ghost use Rattle.std.specs.Prelude.{◌≡◌, ◌≢◌, ◌+◌, ◌<◌, ◌^◌, ◌∷◌, ◌++◌, [], All, IfErr, IfOk, OnErr, OnOk, Some, length};
 ghost use Rattle.btf_tables.specs.GrownTables.{IsFull, TextsStay, TypesStay, with_records, with_string, with_type};
-ghost use Rattle.btf_parts.specs.Growth.{TooMany};
+ghost use Rattle.btf_storage.specs.Growth.{TooMany};
 ghost use Rattle.btf_tables.specs.Tables.{new_table, type_by_id};
 ghost use Rattle.string_table.specs.Texts.{text_at};
 ghost use Rattle.btf_records.specs.declared.error.BtfError.TheVariants.{InvalidTypeInfo, OutOfMemory};
 
 use crate::table::Btf;
-use btf_parts::{MOST, Strings, TypeRecords};
+use btf_storage::{MOST, Strings, TypeRecords};
 use btf_records::{BtfError, BtfType, Endianness};
 use std::alloc::{AllocError, Global};
 

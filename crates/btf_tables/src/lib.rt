@@ -9,6 +9,6 @@ mod other_texts;
 mod section;
 mod table;
 
-pub use btf_parts::{Strings, Types};
+pub use btf_storage::{Strings, Types};
 pub use essential_names::essential_name;
 pub use table::Btf;

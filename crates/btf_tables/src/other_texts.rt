@@ -4,7 +4,7 @@ ghost use Rattle.std.specs.Prelude.{◌≡◌, IfOk, None, Some, true, false};
 ghost use Rattle.btf_tables.specs.OtherTexts.{AreOthers, IsOther};
 ghost use Rattle.string_table.specs.Texts.{text_at};
 
-use btf_parts::Strings;
+use btf_storage::Strings;
 use std::alloc::AllocError;
 use std::collections::BTreeSet;
 

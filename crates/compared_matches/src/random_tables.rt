@@ -2,14 +2,14 @@
 //! name, beside what the plain definitions say.
 
 use crate::tally::Tally;
-use access_paths::{AccessError, Subject, subject_of};
+use core_spec::{AccessError, Subject, subject_of};
 use btf::{Btf, BtfError, BtfFeature, BtfKind, Endianness, TextMap, TypeRef, fixup_and_sanitize};
 use ebpf_items::RelocationKind;
-use member_search::{Found, MemberFinder, find_member};
+use core_members::{Found, MemberFinder, find_member};
 use plain_matching::{Answer, Fault, plain_member, plain_outcome};
-use sample_tables::{Dice, Texts, random_types, section};
+use test_table_samples::{Dice, Texts, random_types, section};
 use std::alloc::{AllocError, Global};
-use type_match::{
+use core_resolve::{
     RelocationOutcome, TypeMatcher, TypeRelocation, TypeRelocationError, relocation_outcome,
 };
 

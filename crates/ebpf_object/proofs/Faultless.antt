@@ -2,12 +2,12 @@
 use Rattle.std.proofs.Common.{◌≡◌, ℕ, List, [], Option, Some, None, refl, sym, ap, inl, inr, subst, arith}
 use Rattle.std.specs.Option.{IsSomeAnd, option_map}
 use Rattle.std.specs.Prelude.{◌≢◌, Contains, IfErr, IfSome, OnOk, Result, Ok, Err, codes}
-use Rattle.btf_extension.specs.Extensions.{Extension}
+use Rattle.btf_ext.specs.Extensions.{Extension}
 use Rattle.btf_records.specs.declared.error.BtfError.{BtfError}
 use Rattle.btf_records.specs.declared.error.BtfError.TheVariants as btf
 use Rattle.ebpf_items.specs.Error.{parse_error_of}
 use Rattle.btf_records.specs.declared.words.Endianness.{Endianness}
-use Rattle.btf_parts.specs.Faultless.{IsFaultless as AreFaultless}
+use Rattle.btf_storage.specs.Faultless.{IsFaultless as AreFaultless}
 use Rattle.btf_tables.specs.Tables.{Table, TableFault}
 use Rattle.ebpf_items.specs.declared.error.ParseError.{ParseError}
 use Rattle.ebpf_items.specs.declared.error.ParseError.TheVariants as error
@@ -19,7 +19,7 @@ use Rattle.object_file.specs.Reading.{contents_named}
 use Rattle.object_maps.specs.Faults.{MapFault, Says}
 use Rattle.object_maps.specs.Maps.{HasMapsFault, maps_faults}
 use Rattle.object_parse.specs.Faults.{HasSoundFunctions}
-use Rattle.btf_extension.specs.Faults.{ExtensionFault}
+use Rattle.btf_ext.specs.Faults.{ExtensionFault}
 use Rattle.ebpf_object.specs.Faults.{HasFault, HasMapFault, HasObjectFault, HasTableFault, IsFaultless, IsSound, TableFaultOf}
 use Rattle.ebpf_object.specs.Types.{HoldsRecords, HoldsRecordsIn, RecordsFault}
 use Rattle.object_externs.specs.Types.{HoldsTypes, HoldsTypesIn, SaysOfTypes, TypesFault, completed}

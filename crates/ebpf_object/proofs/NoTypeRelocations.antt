@@ -3,14 +3,14 @@ use Rattle.std.proofs.Common.{◌≡◌, ◌==◌, ℕ, Bool, false, List, [], �
 use Rattle.std.proofs.lemmas.Grind.{common_steps}
 use Rattle.std.specs.Option.{option_map, option_map_or}
 use Rattle.std.specs.Prelude.{not}
-use Rattle.btf_extension.specs.Extensions.{Extension}
+use Rattle.btf_ext.specs.Extensions.{Extension}
 use Rattle.btf_tables.specs.Tables.{Table}
 use Rattle.ebpf_object.specs.ParsedObject.{ObjectContent}
 use Rattle.ebpf_object.specs.TypeRelocations.{groups_beside, type_groups, types_of}
 use Rattle.object_parts.specs.Content.{FunctionContent, function_at}
-use Rattle.type_relocation.specs.Faults.{CanBeRelocated, HasTypesFault, WritesFault}
-use Rattle.type_relocation.specs.Relocations.{Groups, TypesGiven}
-use Rattle.type_relocation.specs.Writes.{AreRelocated, types_inside, with_types}
+use Rattle.core_relocation.specs.Faults.{CanBeRelocated, HasTypesFault, WritesFault}
+use Rattle.core_relocation.specs.Relocations.{Groups, TypesGiven}
+use Rattle.core_relocation.specs.Writes.{AreRelocated, types_inside, with_types}
 use Rattle.relocation_errors.specs.declared.type_relocations.BtfRelocationCause.{BtfRelocationCause}
 
 abbrev Keyed : Type 0

@@ -1,11 +1,11 @@
 -- What refuses to rewrite a table.
 use Rattle.std.proofs.Common.{◌≡◌, ℕ, ◌==◌, ◌⊎◌, List, [], Option, Some, Bool, false, length, refl, inl, inr}
 use Rattle.std.specs.Fn.{Mut}
-use Rattle.btf_parts.specs.Faultless.{IsFaultless}
+use Rattle.btf_storage.specs.Faultless.{IsFaultless}
 use Rattle.btf_records.specs.declared.error.BtfError.{BtfError}
 use Rattle.btf_records.specs.declared.feature.BtfFeature.{BtfFeature}
-use Rattle.btf_rewriting.specs.Sanitizing as tables
-use Rattle.btf_rewriting.specs.Sanitizing.{StepFault, stepped}
+use Rattle.btf_rewrite.specs.Sanitizing as tables
+use Rattle.btf_rewrite.specs.Sanitizing.{StepFault, stepped}
 use Rattle.btf_tables.specs.Tables.{Table}
 use Rattle.ebpf_object.specs.Rewriting.{AreAnswered, AreNumbersOf, IsRefused, IsRefusedTable}
 

@@ -8,7 +8,7 @@ use Rattle.std.specs.Iterator.{DrainsIf}
 use Rattle.std.specs.Ordering.{nat_cmp}
 use Rattle.ebpf_items.specs.Maps.{map_view}
 use Rattle.ebpf_items.specs.declared.maps.Map.{Map}
-use Rattle.global_values.specs.Content.{GlobalContent}
+use Rattle.settings.specs.ValuesContent.{GlobalContent}
 use Rattle.slot_relocation.specs.Maps.{NumberedMap}
 
 -- numbers in rising order, and some more

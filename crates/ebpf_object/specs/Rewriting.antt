@@ -2,20 +2,20 @@
 use Rattle.std.specs.Prelude.{◌≡◌, ◌⊎◌, ℕ, length, ◌==◌, Bool, true, false, List, [], Option, Some, None}
 use Rattle.std.specs.Fn.{Mut}
 use Rattle.std.specs.Option.{IsSomeAnd, option_map}
-use Rattle.btf_parts.specs.Faultless.{IsFaultless}
+use Rattle.btf_storage.specs.Faultless.{IsFaultless}
 use Rattle.btf_records.specs.declared.error.BtfError.{BtfError}
 use Rattle.btf_records.specs.declared.feature.BtfFeature.{BtfFeature}
-use Rattle.btf_sanitizing.specs.Answers.{Answers, AreDistinct, AreGiven, features}
-use Rattle.btf_sanitizing.specs.Kept.{Keeps}
-use Rattle.btf_sanitizing.specs.Needs.{AreQuestions}
-use Rattle.btf_sanitizing.specs.Sanitized.{SanitizingFault}
-use Rattle.btf_rewriting.specs.Carrying.{Carries, stays_in}
+use Rattle.btf_sanitize.specs.Answers.{Answers, AreDistinct, AreGiven, features}
+use Rattle.btf_sanitize.specs.Kept.{Keeps}
+use Rattle.btf_sanitize.specs.Needs.{AreQuestions}
+use Rattle.btf_sanitize.specs.Sanitized.{SanitizingFault}
+use Rattle.btf_rewrite.specs.Carrying.{Carries, stays_in}
 use Rattle.btf_tables.specs.GrownTables.{TextsStay}
-use Rattle.btf_rewriting.specs.Sanitizing.{IsAccepted, StepFault, StepStays, facts_in, sanitized, stepped}
+use Rattle.btf_rewrite.specs.Sanitizing.{IsAccepted, StepFault, StepStays, facts_in, sanitized, stepped}
 use Rattle.btf_tables.specs.Tables.{Table}
 use Rattle.elf64.specs.Symbols.{symbols_of}
 use Rattle.object_file.specs.Reading.{read_sections}
-use Rattle.object_names.specs.Named.{last_section, last_symbol}
+use Rattle.object_file.specs.Named.{last_section, last_symbol}
 
 -- the sizes of sections and the offsets of symbols by name, as a file has them
 pub record AreNumbersOf (file : List ℕ) (sizes offsets : List ℕ → Option ℕ) : Type 0 where

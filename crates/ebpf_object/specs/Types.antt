@@ -1,8 +1,8 @@
 -- What the section `.BTF.ext` of an object says beside its types.
 use Rattle.std.specs.Prelude.{ℕ, List, codes, ⊤, Option, Some, None}
 use Rattle.std.specs.Option.{IsSomeAnd}
-use Rattle.btf_extension.specs.Extensions.{Extension, HoldsExtension}
-use Rattle.btf_extension.specs.Faults.{ExtensionFault}
+use Rattle.btf_ext.specs.Extensions.{Extension, HoldsExtension}
+use Rattle.btf_ext.specs.Faults.{ExtensionFault}
 use Rattle.btf_records.specs.declared.error.BtfError.{BtfError}
 use Rattle.btf_records.specs.declared.words.Endianness.{Endianness}
 use Rattle.btf_tables.specs.Tables.{Table}

@@ -3,7 +3,7 @@
 ghost use Rattle.std.specs.Prelude.{◌≡◌, [], IfOk, OnOk};
 
 use crate::object::{Object, put, unread};
-use btf_extension::BtfExt;
+use btf_ext::BtfExt;
 use btf_tables::Btf;
 use std::alloc::AllocError;
 

@@ -7,7 +7,7 @@ ghost use Rattle.global_data.specs.GlobalData.{Says, extents, first_fault, patch
 use crate::object::Object;
 use ebpf_items::ParseError;
 use global_data::patch_map_data;
-use global_values::GlobalValues;
+use settings::GlobalValues;
 
 impl<'a> Object<'a> {
     /// Puts the values of global variables into the maps: [`patch_map_data`].

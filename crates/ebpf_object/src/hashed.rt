@@ -15,7 +15,7 @@ ghost use Rattle.slot_relocation.specs.Writes.{AreRelocated, CanBeRelocated, Has
 
 use crate::object::Object;
 use ebpf_items::{Map, ParseError};
-use global_values::GlobalValues;
+use settings::GlobalValues;
 use relocation_errors::EbpfRelocationError;
 use slot_relocation::NumberedMap;
 use std::alloc::{AllocError, Global};

@@ -21,7 +21,7 @@ pub use ebpf_items::{
     parse_map_info,
 };
 pub use extern_resolution::{KernelExterns, KsymsError};
-pub use global_values::{GlobalValue, GlobalValues};
+pub use settings::{GlobalValue, GlobalValues};
 pub use object::Object;
 pub use object_externs::{ExternDesc, Externs};
 pub use object_file::{ObjectFile, ReadSection, ReadSymbol, unnamed_symbol};
@@ -32,5 +32,5 @@ pub use relocation_errors::{
     BtfRelocationCause, BtfRelocationError, EbpfRelocationError, RelocationError, RelocationPlace,
 };
 pub use slot_relocation::NumberedMap;
-pub use text_order::{TextMap, TextMapBuilder};
-pub use type_relocation::Candidates;
+pub use string_map::{TextMap, TextMapBuilder};
+pub use core_relocation::Candidates;

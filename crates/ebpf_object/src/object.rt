@@ -16,7 +16,7 @@ ghost use Rattle.object_file.specs.License.{license_of, HasNoNul};
 ghost use Rattle.object_file.specs.Version.{version_of, IsKnownVersion};
 ghost use Rattle.object_maps.specs.Maps.{HasMapsFault, maps_faults, maps_of};
 ghost use Rattle.object_parts.specs.Content.{HaveFunctions, key_cmp};
-ghost use Rattle.btf_parts.specs.Faultless.{IsFaultless as AreFaultless};
+ghost use Rattle.btf_storage.specs.Faultless.{IsFaultless as AreFaultless};
 ghost use Rattle.ebpf_object.specs.Faults.{HasFault, HasObjectFault, IsFaultless, IsSound};
 ghost use Rattle.ebpf_object.specs.ParsedObject.{IsParsed};
 ghost use Rattle.linker.specs.Linked.{AllCanBeLinked, AreLinked, HasFaultOf, program_keys, unlinked};
@@ -29,9 +29,9 @@ ghost use Rattle.btf_records.specs.declared.error.BtfError.TheVariants as BtfErr
 use crate::rewriting::rewrite;
 use crate::text_sections::text_sections;
 use crate::types::read_types;
-use btf_extension::BtfExt;
+use btf_ext::BtfExt;
 use btf_records::{BtfError, BtfFeature, Endianness};
-use btf_sanitizing::Answers;
+use btf_sanitize::Answers;
 use btf_tables::Btf;
 use ebpf_items::ParseError;
 use linker::relocate_calls;
@@ -301,14 +301,14 @@ impl<'a> Object<'a> {
     }
 
     /// Rewrites the table of types to the features that a kernel grants, as the predicate tells:
-    /// [`btf_rewriting::fixup_and_sanitize`] with the sizes of the sections, the offsets of the
+    /// [`btf_rewrite::fixup_and_sanitize`] with the sizes of the sections, the offsets of the
     /// symbols and, where a section of externs has an entry, its ids. Asks and changes nothing
     /// where the object has no table or an empty one. Answers the features that were asked about,
     /// each once, with their answers.
     ///
     /// # Errors
     ///
-    /// Those of [`btf_rewriting::fixup_and_sanitize`]; the object is as before then.
+    /// Those of [`btf_rewrite::fixup_and_sanitize`]; the object is as before then.
     pub fn fixup_and_sanitize_btf<F: FnMut(BtfFeature) -> bool>(
         &mut self,
         predicate: F,

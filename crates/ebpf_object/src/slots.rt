@@ -6,12 +6,12 @@ ghost use Rattle.std.specs.String.{string_bytes};
 ghost use Rattle.ebpf_object.specs.Helpers.{IsSanitized};
 ghost use Rattle.object_parts.specs.Content.{has_newer_helper};
 ghost use Rattle.relocation_errors.specs.declared.error.RelocationError.TheVariants as RelocationError;
-ghost use Rattle.extern_relocation.specs.Externs.{extern_rule};
+ghost use Rattle.slot_relocation.specs.Externs.{extern_rule};
 ghost use Rattle.slot_relocation.specs.Maps.{given, map_rule};
 ghost use Rattle.slot_relocation.specs.Writes.{AreRelocated, CanBeRelocated, HasErrorIn};
 
 use crate::object::Object;
-use extern_relocation::relocate_externs;
+use slot_relocation::relocate_externs;
 use relocation_errors::EbpfRelocationError;
 use slot_relocation::{NumberedMap, relocate_maps};
 use std::collections::BTreeSet;

@@ -3,14 +3,14 @@
 ghost use Rattle.std.specs.Prelude.{◌≡◌, ◌≢◌, ◌≤◌, ◌^◌, length, IfErr, IfSome, OnErr, OnOk};
 ghost use Rattle.std.specs.Option.{option_copied};
 ghost use Rattle.ebpf_object.specs.TypeRelocations.{type_groups, types_of};
-ghost use Rattle.type_relocation.specs.Faults.{CanBeRelocated, HasTypesFault};
-ghost use Rattle.type_relocation.specs.Writes.{AreRelocated};
+ghost use Rattle.core_relocation.specs.Faults.{CanBeRelocated, HasTypesFault};
+ghost use Rattle.core_relocation.specs.Writes.{AreRelocated};
 ghost use Rattle.relocation_errors.specs.declared.type_relocations.BtfRelocationCause.TheVariants.{OutOfMemory};
 
 use crate::object::Object;
 use btf_tables::Btf;
 use relocation_errors::BtfRelocationError;
-use type_relocation::{Candidates, relocate_types};
+use core_relocation::{Candidates, relocate_types};
 
 impl<'a> Object<'a> {
     /// Writes what the object's type relocations come to in a kernel's tables into the slots at

@@ -7,7 +7,7 @@ ghost use Rattle.ebpf_object.specs.Faults.{HasObjectFault};
 ghost use Rattle.ebpf_object.specs.Types.{HoldsRecords, RecordsFault};
 ghost use Rattle.object_externs.specs.Types.{HoldsTypes, SaysOfTypes};
 
-use btf_extension::BtfExt;
+use btf_ext::BtfExt;
 use btf_tables::Btf;
 use ebpf_items::ParseError;
 use object_externs::read_table;

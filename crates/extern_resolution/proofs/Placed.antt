@@ -15,7 +15,7 @@ use Rattle.std.proofs.lemmas.List.Quantifiers.{position-Some}
 use Rattle.std.proofs.lemmas.Map.Text.{is_eq-slice_cmp}
 use Rattle.std.proofs.lemmas.Option.{slice_get-get_or, slice_get_past}
 use Rattle.std.proofs.lemmas.Slice.Eq.{bytes_eq-Decides}
-use Rattle.text_order.specs.Orders.{by_bytes, texts_of}
+use Rattle.string_map.specs.Orders.{by_bytes, texts_of}
 use Rattle.extern_resolution.specs.Wanted.{entered, ids_under}
 
 -- whether an entry has this name

@@ -16,7 +16,7 @@ use Rattle.extern_resolution.specs.declared.named_records.NamedRecords.{NamedRec
 use Rattle.extern_resolution.specs.declared.named_records.WantedNames.{WantedNames}
 use Rattle.object_externs.specs.Externs.{ExternContent}
 use Rattle.string_table.specs.Texts.{text_at}
-use Rattle.text_order.specs.Orders.{value_of}
+use Rattle.string_map.specs.Orders.{value_of}
 use Rattle.type_headers.specs.Beginnings.{BeginningMarks, MayBegin}
 
 -- what stands under a name: nothing where it isn't wanted

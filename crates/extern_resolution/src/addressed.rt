@@ -14,7 +14,7 @@ use kernel_symbols::{Addresses, SymbolsError, read_addresses};
 use object_externs::{ExternDesc, Externs};
 use std::alloc::{AllocError, Global};
 use std::io::BufRead;
-use text_order::{TextMap, TextMapBuilder};
+use string_map::{TextMap, TextMapBuilder};
 use watched::Watched;
 
 /// Whether an extern is looked for among the kernel's symbols.

@@ -7,7 +7,7 @@ ghost use Rattle.extern_resolution.specs.Wanted.{entered, ids_under, is_any_left
 
 use std::alloc::{AllocError, Global};
 use std::marker::Model;
-use text_order::{Iter, TextMapBuilder, place_of};
+use string_map::{Iter, TextMapBuilder, place_of};
 
 /// The id under each wanted name, where a record was met that has it, as a list sorted by name.
 #[derive(Debug, Drop)]
@@ -20,7 +20,7 @@ impl<'n> Model for NamedIds<'n> {
     ghost use Rattle.std.specs.Cmp.Lexicographic.{slice_cmp};
     ghost use Rattle.std.specs.List.Sorted.{IsStrictlySortedBy};
     ghost use Rattle.std.specs.Ordering.{nat_cmp};
-    ghost use Rattle.text_order.specs.Orders.{by_bytes, texts_of};
+    ghost use Rattle.string_map.specs.Orders.{by_bytes, texts_of};
 
     ghost Value = { List (List ℕ × Option ℕ) };
 

@@ -11,7 +11,7 @@ use btf_records::BtfKind;
 use btf_tables::Btf;
 use std::alloc::{AllocError, Global};
 use std::collections::BTreeSet;
-use text_order::TextMapBuilder;
+use string_map::TextMapBuilder;
 use type_headers::NameBeginnings;
 
 /// Names of at least this many bytes are looked up once.

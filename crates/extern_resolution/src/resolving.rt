@@ -16,7 +16,7 @@ use btf_tables::Btf;
 use object_externs::{ExternDesc, Externs};
 use std::alloc::Global;
 use std::io::BufRead;
-use text_order::TextMap;
+use string_map::TextMap;
 use watched::Watched;
 
 /// The externs of an object with a table, resolved.

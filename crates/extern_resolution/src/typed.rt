@@ -15,7 +15,7 @@ use btf_records::BtfKind;
 use btf_tables::{Btf, essential_name};
 use object_externs::{ExternDesc, Externs};
 use std::alloc::Global;
-use text_order::TextMapBuilder;
+use string_map::TextMapBuilder;
 
 /// The id of the kernel's function for a function of the program.
 fn find_function(

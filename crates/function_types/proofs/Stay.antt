@@ -4,21 +4,21 @@ use Rattle.std.proofs.lemmas.List.Folds.{list_any-append}
 use Rattle.std.specs.Prelude.{Option, unwrap_or, if◌then◌else◌, flat_map, not, ◌&&◌, ◌||◌, slice_get, is_some}
 use Rattle.std.specs.List.{list_any}
 use Rattle.std.specs.Option.{option_map_or}
-use Rattle.btf_parts.specs.Ids.{record_of_id}
+use Rattle.btf_storage.specs.Ids.{record_of_id}
 use Rattle.btf_records.specs.declared.feature.BtfFeature.{BtfFeature}
 use Rattle.btf_records.specs.declared.feature.BtfFeature.TheVariants as feature
 use Rattle.btf_records.specs.declared.functions.Func.{Func}
 use Rattle.btf_records.specs.declared.types.BtfType.{BtfType}
 use Rattle.btf_records.specs.declared.types.BtfType.TheVariants as types
 use Rattle.btf_encoding.specs.Records.{without_fallback}
-use Rattle.btf_sanitizing.specs.Additions.{Added}
-use Rattle.btf_sanitizing.specs.Answers.{Answers, answer_to, features, granted, is_same, noted, noted_all}
-use Rattle.btf_sanitizing.specs.Kept.{Becomes, Keeps}
-use Rattle.btf_sanitizing.specs.Needs.{AreQuestions, needs_of}
-use Rattle.btf_sanitizing.specs.Rewritten.{rewritten, rewritten_func}
-use Rattle.btf_sanitizing.specs.Facts.{Facts}
+use Rattle.btf_sanitize.specs.Additions.{Added}
+use Rattle.btf_sanitize.specs.Answers.{Answers, answer_to, features, granted, is_same, noted, noted_all}
+use Rattle.btf_sanitize.specs.Kept.{Becomes, Keeps}
+use Rattle.btf_sanitize.specs.Needs.{AreQuestions, needs_of}
+use Rattle.btf_sanitize.specs.Rewritten.{rewritten, rewritten_func}
+use Rattle.btf_sanitize.specs.Facts.{Facts}
 use Rattle.btf_tables.specs.GrownTables.{TextsStay}
-use Rattle.btf_rewriting.specs.Sanitizing.{StepStays, facts_in, ksyms_in, stepped}
+use Rattle.btf_rewrite.specs.Sanitizing.{StepStays, facts_in, ksyms_in, stepped}
 use Rattle.btf_tables.specs.Sections.{without_fallbacks}
 use Rattle.btf_tables.specs.Tables.{Table, type_by_id}
 use Rattle.string_table.specs.Texts.{text_at}

@@ -4,11 +4,11 @@ use Rattle.std.specs.Option.{option_map_or}
 use Rattle.btf_records.specs.declared.feature.BtfFeature.TheVariants as feature
 use Rattle.btf_records.specs.declared.functions.Func.{Func}
 use Rattle.btf_records.specs.declared.types.BtfType.TheVariants as types
-use Rattle.btf_sanitizing.specs.Answers.{Answers, answer_to}
-use Rattle.btf_sanitizing.specs.Kept.{Keeps}
-use Rattle.btf_sanitizing.specs.Needs.{AreQuestions}
+use Rattle.btf_sanitize.specs.Answers.{Answers, answer_to}
+use Rattle.btf_sanitize.specs.Kept.{Keeps}
+use Rattle.btf_sanitize.specs.Needs.{AreQuestions}
 use Rattle.btf_tables.specs.GrownTables.{TextsStay}
-use Rattle.btf_rewriting.specs.Sanitizing.{StepStays, facts_in, stepped}
+use Rattle.btf_rewrite.specs.Sanitizing.{StepStays, facts_in, stepped}
 use Rattle.btf_tables.specs.Sections.{without_fallbacks}
 use Rattle.btf_tables.specs.Tables.{Table, type_by_id}
 use Rattle.string_table.specs.Texts.{text_at}

@@ -4,7 +4,7 @@ ghost use Rattle.std.specs.Prelude.{◌≡◌};
 ghost use Rattle.function_types.specs.Rewritten.{is_denied};
 
 use btf_records::BtfFeature;
-use btf_sanitizing::Answers;
+use btf_sanitize::Answers;
 
 /// Whether the kernel was asked for functions and doesn't take them: `BTF_KIND_FUNC` was denied.
 pub fn is_denied(answers: &Answers) -> bool

@@ -5,7 +5,7 @@ ghost use Rattle.std.specs.List.{list_any};
 ghost use Rattle.std.specs.Option.{option_copied};
 ghost use Rattle.function_types.specs.Named.{all_named, is_named_function, keeps_nameless, keeps_type, names_function, IsNameless};
 
-use btf_extension::FuncSecInfo;
+use btf_ext::FuncSecInfo;
 use btf_records::BtfKind;
 use btf_tables::Btf;
 use object_parts::{Function, Functions};

@@ -14,7 +14,7 @@ use Rattle.std.proofs.lemmas.Slice.Eq.{bytes_eq-Decides}
 use Rattle.ebpf_items.specs.Maps.{MapView}
 use Rattle.elf64.specs.Symbols.{Symbol, symbols_of}
 use Rattle.object_file.specs.Symbols.{last_named}
-use Rattle.global_values.specs.Content.{GlobalContent}
+use Rattle.settings.specs.ValuesContent.{GlobalContent}
 use Rattle.global_data.specs.GlobalData.{GlobalFault, bad_data, first_fault, global_fault, is_inside, map_fault, map_of, or_fault, symbol_fault, write_over}
 use Rattle.global_data.specs.Writes.{Fit, write_list, writes_of}
 

@@ -6,7 +6,7 @@ use Rattle.ebpf_items.specs.Maps.{MapView}
 use Rattle.ebpf_items.specs.declared.error.ParseError.{ParseError}
 use Rattle.elf64.specs.Symbols.{Symbol, symbols_of}
 use Rattle.object_file.specs.Symbols.{last_named}
-use Rattle.global_values.specs.Content.{GlobalContent}
+use Rattle.settings.specs.ValuesContent.{GlobalContent}
 use Rattle.global_data.specs.GlobalData.{GlobalFault, Says, Write, first_fault, global_fault, or_fault, patched, symbol_fault, write_of, write_over}
 use Rattle.global_data.specs.Writes.{writes_of}
 use Rattle.global_data.proofs.Fitting.{first-stays}

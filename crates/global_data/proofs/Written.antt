@@ -16,7 +16,7 @@ use Rattle.ebpf_items.specs.Maps.{MapView}
 use Rattle.elf64.specs.Symbols.{Symbol, symbols_of}
 use Rattle.object_file.specs.Symbols.{last_named}
 use Rattle.object_maps.specs.Overwritten.{HasRange, entry_overwritten, map_overwritten, overwritten, with_bytes}
-use Rattle.global_values.specs.Content.{GlobalContent}
+use Rattle.settings.specs.ValuesContent.{GlobalContent}
 use Rattle.global_data.specs.GlobalData.{Write, extent_of, extents, map_of, patched, patched_one, write_of, write_over, written}
 use Rattle.global_data.specs.Writes.{Fit, write_list, writes_of}
 

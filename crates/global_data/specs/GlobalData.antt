@@ -8,7 +8,7 @@ use Rattle.ebpf_items.specs.declared.error.ParseError.TheVariants as error
 use Rattle.elf64.specs.Symbols.{Symbol, symbols_of}
 use Rattle.object_file.specs.Symbols.{last_named}
 use Rattle.object_maps.specs.Overwritten.{with_bytes}
-use Rattle.global_values.specs.Content.{GlobalContent}
+use Rattle.settings.specs.ValuesContent.{GlobalContent}
 
 -- the map of a section: of several the first by name
 abbrev pub map_of : List (List ℕ × MapView) → Option ℕ → Option (List ℕ × MapView)

@@ -5,7 +5,7 @@ use Rattle.std.specs.Option.{option_map_or}
 use Rattle.ebpf_items.specs.Maps.{MapView}
 use Rattle.elf64.specs.Symbols.{Symbol}
 use Rattle.object_maps.specs.Overwritten.{HasRange}
-use Rattle.global_values.specs.Content.{GlobalContent}
+use Rattle.settings.specs.ValuesContent.{GlobalContent}
 use Rattle.global_data.specs.GlobalData.{Write, write_of}
 
 abbrev pub write_list : List Symbol → List (List ℕ × MapView) → List ℕ × GlobalContent → List Write

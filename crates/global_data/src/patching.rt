@@ -7,7 +7,7 @@ ghost use Rattle.global_data.specs.Writes.{Fit};
 
 use crate::writes::{MapWrite, writes_of};
 use ebpf_items::ParseError;
-use global_values::GlobalValues;
+use settings::GlobalValues;
 use object_file::ObjectFile;
 use object_maps::Maps;
 use std::alloc::Global;

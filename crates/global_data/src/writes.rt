@@ -12,7 +12,7 @@ ghost use Rattle.global_data.specs.Writes.{writes_of};
 
 use crate::section_maps::SectionMaps;
 use ebpf_items::ParseError;
-use global_values::{GlobalValue, GlobalValues};
+use settings::{GlobalValue, GlobalValues};
 use object_file::{ObjectFile, ReadSymbol, SymbolNames};
 use object_maps::Maps;
 use std::alloc::Global;

@@ -9,8 +9,8 @@ use Rattle.object_file.specs.Kinds.{kind_of}
 use Rattle.program_kinds.specs.Bindings.{prog_type_number}
 use Rattle.program_kinds.specs.declared.section_kind.EbpfSectionKind.{EbpfSectionKind}
 use Rattle.program_kinds.specs.declared.section_kind.EbpfSectionKind.TheVariants as kind
-use Rattle.program_types.specs.declared.attributes.LoadAttributes.{LoadAttributes}
-use Rattle.line_words.specs.Words.{number_word, text_word}
+use Rattle.program_kinds.specs.declared.attributes.LoadAttributes.{LoadAttributes}
+use Rattle.quoting.specs.Words.{number_word, text_word}
 
 -- words with a space between them, and then more
 abbrev pub words_onto : List (List ℕ) → List ℕ → List ℕ

@@ -3,11 +3,11 @@
 ghost use Rattle.std.specs.Prelude.{OnOk};
 ghost use Rattle.std.specs.Io.KnownBytes.{Appends};
 ghost use Rattle.inspect_object.specs.Lines.{load_line};
-ghost use Rattle.program_types.specs.Attributes.{attributes_of};
+ghost use Rattle.program_kinds.specs.Attributes.{attributes_of};
 
 use ebpf_object::{Function, Object, Program, ProgramSection, Slots};
-use line_words::{Hex, Id, Text};
-use program_types::load_attributes;
+use quoting::{Hex, Id, Text};
+use program_kinds::load_attributes;
 use std::io;
 use std::io::Write;
 

@@ -7,7 +7,7 @@ ghost use Rattle.inspect_object.specs.declared.error.ProgramError.TheVariants.{I
 
 use ebpf_object::ParseError;
 use program_io::{InputError, Unwritten};
-use refusal_texts::Refusal;
+use diagnostics::Refusal;
 use std::alloc::{AllocError, AllocFailed};
 use thiserror::Error;
 

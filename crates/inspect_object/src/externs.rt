@@ -1,7 +1,7 @@
 //! Externs.
 
 use ebpf_object::{ExternDesc, Object};
-use line_words::{Id, Number, Text};
+use quoting::{Id, Number, Text};
 use std::io;
 use std::io::Write;
 

@@ -7,7 +7,7 @@ ghost use Rattle.inspect_object.specs.Lines.{relocation_line, section_line};
 use crate::names::kind_name;
 use ebpf_object::{ObjectFile, ReadSection};
 use elf64::RelocView;
-use line_words::{Number, Text};
+use quoting::{Number, Text};
 use std::io;
 use std::io::Write;
 

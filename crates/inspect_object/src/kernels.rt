@@ -7,13 +7,13 @@ use crate::refused;
 use btf::Btf;
 use command_line::InspectArguments;
 use ebpf_object::Object;
-use extern_reports::assumed_symbols;
+use kernel_reports::assumed_symbols;
 use kernel_reports::{
     KernelReport, PlanAnswer, Reported, every_map_numbered, relocations_in, report_on,
 };
 use program_io::{kernel_table, print_text, read};
-use refusal_texts::{KernelFiles, prepare_text};
-use relocation_reports::RelocationAt;
+use diagnostics::{KernelFiles, prepare_text};
+use kernel_reports::RelocationAt;
 use report_texts::{Column, Rows, lines_text, rows_of, summary_text};
 use std::alloc::{AllocError, Global};
 use std::io::IsTerminal;

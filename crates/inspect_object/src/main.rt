@@ -18,7 +18,7 @@ use error::{InspectError, ProgramError};
 use inspecting::inspect;
 use kernels::print_reports;
 use program_io::{Kept, Unwritten, print_text, read, words_of};
-use refusal_texts::{Refusal, parse_text};
+use diagnostics::{Refusal, parse_text};
 use std::alloc::Global;
 use std::io;
 use std::io::{BufWriter, Write};

@@ -2,7 +2,7 @@
 
 use crate::names::{kind_name, pinning_name};
 use ebpf_object::{Map, Object};
-use line_words::{Hex, Number, Text};
+use quoting::{Hex, Number, Text};
 use std::io;
 use std::io::Write;
 

@@ -1,6 +1,6 @@
 //! Notes.
 
-use object_notes::Note;
+use lints::Note;
 use std::io;
 use std::io::Write;
 

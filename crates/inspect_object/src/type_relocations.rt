@@ -6,7 +6,7 @@ ghost use Rattle.string_table.specs.Texts.{text_at};
 
 use btf::{Btf, SecInfo, bpf_core_relo};
 use ebpf_object::Object;
-use line_words::Text;
+use quoting::Text;
 use std::io;
 use std::io::Write;
 

@@ -6,8 +6,8 @@ use Rattle.load_plan.specs.Content.{PlanContent}
 use Rattle.load_plan.specs.Inputs.{Answers, AreAnswered, BtfFeature, Inputs, IsSaid, Predicate, SettingsContent, Table, inputs, symbols_given}
 use Rattle.load_plan.specs.Known.{GoByFeature, IsPlanFor, IsRefusalFor}
 use Rattle.load_plan.specs.Planned.{IsPlanned, IsRefusal}
-use Rattle.prepare_errors.specs.declared.error.PrepareError.{PrepareError}
-use Rattle.prepare_errors.specs.declared.error.PrepareError.TheVariants.{OutOfMemory}
+use Rattle.plan_errors.specs.declared.error.PrepareError.{PrepareError}
+use Rattle.plan_errors.specs.declared.error.PrepareError.TheVariants.{OutOfMemory}
 use Rattle.load_plan.specs.declared.order.Order.TheVariants.{RelocateFirst}
 use Rattle.kernel_reports.specs.Plans.{IsPlanAnswer, takes_all}
 use Rattle.kernel_reports.specs.declared.planned.PlanAnswer.TheVariants.{Planned, Refused}

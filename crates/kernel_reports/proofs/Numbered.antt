@@ -11,7 +11,7 @@ use Rattle.std.specs.declared.cmp.Ordering.TheVariants.{Less, Equal, Greater}
 use Rattle.ebpf_items.specs.Maps.{MapView}
 use Rattle.load_plan.specs.Inputs.{SettingsContent}
 use Rattle.kernel_reports.specs.MapNumbers.{NumbersEach}
-use Rattle.plan_maps.specs.Numbers.{set_number}
+use Rattle.plan_contents.specs.Numbers.{set_number}
 
 abbrev at : List ℕ → List (List ℕ × ℕ) → Option ℕ
 at name entries = lookup (is_at (slice_cmp nat_cmp name)) entries

@@ -1,3 +1,7 @@
+pub mod Answers
 pub mod MapNumbers
 pub mod Plans
+pub mod Presences
+pub mod Relocations
 pub mod Reports
+pub mod Symbols

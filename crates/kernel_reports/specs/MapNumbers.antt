@@ -2,7 +2,7 @@
 use Rattle.std.specs.Prelude.{◌≡◌, ℕ, true, List, []}
 use Rattle.ebpf_items.specs.Maps.{MapView}
 use Rattle.load_plan.specs.Inputs.{SettingsContent}
-use Rattle.plan_maps.specs.Numbers.{are_numbered}
+use Rattle.plan_contents.specs.Numbers.{are_numbered}
 
 -- a number is set for each map, and no value for a variable
 pub record NumbersEach (maps : List (List ℕ × MapView)) (settings : SettingsContent) : Type 0 where

@@ -4,7 +4,7 @@ use Rattle.std.specs.Prelude.{◌≢◌, ℕ, List, Bool, true, false, Some}
 use Rattle.load_plan.specs.Content.{PlanContent}
 use Rattle.load_plan.specs.Inputs.{BtfFeature, Inputs, SettingsContent, Table, inputs, symbols_given}
 use Rattle.load_plan.specs.Known.{IsPlanFor, IsRefusalFor}
-use Rattle.prepare_errors.specs.declared.error.PrepareError.TheVariants.{OutOfMemory}
+use Rattle.plan_errors.specs.declared.error.PrepareError.TheVariants.{OutOfMemory}
 use Rattle.load_plan.specs.declared.order.Order.TheVariants.{RelocateFirst}
 use Rattle.kernel_reports.specs.declared.planned.PlanAnswer.{PlanAnswer}
 use Rattle.kernel_reports.specs.declared.planned.PlanAnswer.TheVariants.{Planned, Refused}

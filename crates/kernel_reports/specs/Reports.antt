@@ -3,11 +3,11 @@ use Rattle.std.specs.Prelude.{◌≡◌, ℕ, List, [], Bool, slice_get}
 use Rattle.ebpf_object.specs.ParsedObject.{ObjectContent}
 use Rattle.ebpf_object.specs.TypeRelocations.{type_groups, types_of}
 use Rattle.load_plan.specs.Inputs.{SettingsContent, Table}
-use Rattle.relocation_reports.specs.Answers.{answers_to}
-use Rattle.relocation_reports.specs.Relocations.{relocations_of}
+use Rattle.kernel_reports.specs.Answers.{answers_to}
+use Rattle.kernel_reports.specs.Relocations.{relocations_of}
 use Rattle.kernel_reports.specs.Plans.{IsPlanAnswer}
-use Rattle.extern_reports.specs.Presences.{SaysOfExterns}
-use Rattle.relocation_reports.specs.declared.relocations.RelocationAt.{RelocationAt}
+use Rattle.kernel_reports.specs.Presences.{SaysOfExterns}
+use Rattle.kernel_reports.specs.declared.relocations.RelocationAt.{RelocationAt}
 use Rattle.kernel_reports.specs.declared.report.KernelReport.{KernelReport}
 
 -- the type relocations that stand beside an object's own types

@@ -2,12 +2,23 @@
 //! to, and which of its externs are there.
 #![tactic(auto)]
 
+mod answers;
 mod map_numbers;
 mod object_relocations;
 mod planned;
+mod presences;
+mod relocations;
 mod report;
+mod symbols;
 
+pub use answers::{RelocationAnswer, candidates_of, relocation_answers};
 pub use map_numbers::every_map_numbered;
 pub use object_relocations::relocations_in;
 pub use planned::{PlanAnswer, plan_answer};
+pub use presences::{Presence, presences_of};
+pub use relocations::{Place, RelocationAt, relocations_of};
 pub use report::{KernelReport, Reported, report_on};
+pub use slot_relocation::Outcome;
+pub use symbols::assumed_symbols;
+pub use core_resolve::{Candidates, TypeRelocationError};
+pub use core_patch::{Patch, WriteFault};

@@ -4,7 +4,7 @@ ghost use Rattle.std.specs.Prelude.{◌≡◌, IfOk};
 ghost use Rattle.kernel_reports.specs.Reports.{relocations_in};
 
 use ebpf_object::Object;
-use relocation_reports::{RelocationAt, relocations_of};
+use crate::relocations::{RelocationAt, relocations_of};
 use std::alloc::{AllocError, Global};
 
 /// The type relocations of an object, group by group; none where it has no types, or nothing stands

@@ -2,7 +2,7 @@
 
 ghost use Rattle.std.specs.Prelude.{◌≡◌, ◌≢◌, ◌≤◌, ◌^◌, length, IfOk};
 ghost use Rattle.load_plan.specs.Gathered.{AreGathered};
-ghost use Rattle.prepare_errors.specs.declared.error.PrepareError.TheVariants.{OutOfMemory};
+ghost use Rattle.plan_errors.specs.declared.error.PrepareError.TheVariants.{OutOfMemory};
 ghost use Rattle.kernel_reports.specs.Plans.{IsPlanAnswer};
 
 use load_plan::{Btf, Gathered, Order, PrepareError, Settings, Watched, prepare_among};

@@ -6,9 +6,10 @@ ghost use Rattle.kernel_reports.specs.Reports.{IsReport};
 
 use crate::planned::{PlanAnswer, plan_answer};
 use ebpf_object::Object;
-use extern_reports::{Presence, presences_of};
+use crate::presences::{Presence, presences_of};
 use load_plan::{Btf, Candidates, Gathered, KernelExterns, Settings};
-use relocation_reports::{RelocationAnswer, RelocationAt, candidates_of, relocation_answers};
+use crate::answers::{RelocationAnswer, candidates_of, relocation_answers};
+use crate::relocations::RelocationAt;
 use std::alloc::{AllocError, Global};
 
 /// An object of which it is reported.

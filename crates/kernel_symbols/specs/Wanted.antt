@@ -1,7 +1,7 @@
 -- Wanted names, and marks of names, by which most names of a text need no look-up.
 use Rattle.std.specs.Prelude.{◌≡◌, ℕ, ◌+◌, ◌-◌, ◌*◌, ◌%◌, Bool, true, false, List, length, slice_index, slice_index_or, Option, is_some}
 use Rattle.std.specs.Option.{option_map}
-use Rattle.text_order.specs.Orders.{value_of}
+use Rattle.string_map.specs.Orders.{value_of}
 use Rattle.kernel_symbols.specs.declared.wanted.Wanted.{Wanted}
 
 -- what is known under a name

@@ -8,7 +8,7 @@ ghost use Rattle.kernel_symbols.specs.Wanted.{AreMarked, mark, under, with_addre
 use crate::wanted::{Addresses, Wanted};
 use std::alloc::{AllocError, Global};
 use std::marker::Model;
-use text_order::{TextMapBuilder, place_of};
+use string_map::{TextMapBuilder, place_of};
 
 /// How many marks there are.
 const MARKS: usize = 256;
@@ -40,7 +40,7 @@ impl<'a> Model for WantedByName<'a> {
     ghost use Rattle.std.specs.Cmp.Lexicographic.{slice_cmp};
     ghost use Rattle.std.specs.List.Sorted.{IsStrictlySortedBy};
     ghost use Rattle.std.specs.Ordering.{nat_cmp};
-    ghost use Rattle.text_order.specs.Orders.{by_bytes, texts_of};
+    ghost use Rattle.string_map.specs.Orders.{by_bytes, texts_of};
     ghost use Rattle.kernel_symbols.specs.Wanted.{AreMarked};
     ghost use Rattle.kernel_symbols.specs.declared.wanted.Wanted.{Wanted};
 

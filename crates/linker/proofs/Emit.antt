@@ -4,8 +4,8 @@ use Rattle.std.specs.Prelude.{slice_get, ◌&&◌}
 use Rattle.std.proofs.lemmas.List.{take_more, reverse-append, take_all, append-nil, take-append-drop}
 use Rattle.std.specs.BTreeMap.{get}
 use Rattle.ebpf_items.specs.declared.instruction.bpf_insn.{bpf_insn}
-use Rattle.btf_extension.specs.declared.record.bpf_func_info.{bpf_func_info}
-use Rattle.btf_extension.specs.declared.record.bpf_line_info.{bpf_line_info}
+use Rattle.btf_ext.specs.declared.record.bpf_func_info.{bpf_func_info}
+use Rattle.btf_ext.specs.declared.record.bpf_line_info.{bpf_line_info}
 use Rattle.object_parts.specs.Content.{FunctionContent, function_at, has_function}
 use Rattle.function_layout.specs.Layout.{Key, key_cmp, Table, flat_option, ref_at, aimed, placed, copy_of, copies_of, end_of, start_of, IsOrder}
 use Rattle.function_layout.specs.Walking.{OrderLaws, PlaceLaws}

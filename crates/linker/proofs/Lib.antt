@@ -1,9 +1,10 @@
 pub mod Alone
-pub mod Gets
-pub mod Opens
-pub mod Walk
-pub mod Short
 pub mod Emit
-pub mod Sound
+pub mod Gets
 pub mod Installs
+pub mod Opens
+pub mod ReferenceRows
 pub mod Rows
+pub mod Short
+pub mod Sound
+pub mod Walk

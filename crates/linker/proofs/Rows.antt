@@ -1,7 +1,7 @@
 -- Worked records, computed: a program of two slots, to which a function of two slots is linked.
 use Rattle.std.proofs.Common.{◌≡◌, ℕ, List, [], ◌∷◌, refl, pos, negsuc, true, false}
-use Rattle.btf_extension.specs.declared.record.bpf_func_info.{bpf_func_info}
-use Rattle.btf_extension.specs.declared.record.bpf_line_info.{bpf_line_info}
+use Rattle.btf_ext.specs.declared.record.bpf_func_info.{bpf_func_info}
+use Rattle.btf_ext.specs.declared.record.bpf_line_info.{bpf_line_info}
 use Rattle.ebpf_items.specs.declared.instruction.bpf_insn.{bpf_insn}
 use Rattle.object_parts.specs.Content.{FunctionContent}
 use Rattle.linker.specs.Unlinked.{Unlinked, table_of}

@@ -13,8 +13,8 @@ use Rattle.linker.specs.declared.order.Open.{Open}
 use Rattle.linker.specs.declared.order.Frame.{Frame}
 use Rattle.linker.specs.declared.order.Order.{Order}
 use Rattle.linker.specs.Unlinked.{Unlinked, table_of, refs_from, refs_of, refs_in, slots_in, found, if_there, key_at, target_at}
-use Rattle.function_references.specs.declared.target.Target.{Target}
-use Rattle.function_references.specs.declared.target.Target.TheVariants as target
+use Rattle.linker.specs.declared.target.Target.{Target}
+use Rattle.linker.specs.declared.target.Target.TheVariants as target
 use Rattle.ebpf_items.specs.declared.instruction.bpf_insn.{bpf_insn}
 use Rattle.std.specs.Prelude.{slice_get, option_and_then}
 use Rattle.linker.specs.Records.{mismatches}

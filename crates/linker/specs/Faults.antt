@@ -7,8 +7,8 @@ use Rattle.object_parts.specs.Content.{FunctionContent, function_at}
 use Rattle.relocation_errors.specs.declared.error.RelocationError.{RelocationError}
 use Rattle.relocation_errors.specs.declared.error.RelocationError.TheVariants as error
 use Rattle.function_layout.specs.Layout.{Key, IsOrder, end_of}
-use Rattle.function_references.specs.declared.target.Target.{Target}
-use Rattle.function_references.specs.declared.target.Target.TheVariants as target
+use Rattle.linker.specs.declared.target.Target.{Target}
+use Rattle.linker.specs.declared.target.Target.TheVariants as target
 use Rattle.linker.specs.Unlinked.{Unlinked, function_in, target_at, table_of}
 use Rattle.linker.specs.Records.{mismatches}
 

@@ -1,7 +1,8 @@
-pub mod Unlinked
-pub mod Records
 pub mod Faults
-pub mod Linked
-pub mod Walks
 pub mod Installed
 pub mod Lengths
+pub mod Linked
+pub mod Records
+pub mod Targets
+pub mod Unlinked
+pub mod Walks

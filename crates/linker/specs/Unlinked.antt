@@ -6,9 +6,9 @@ use Rattle.std.specs.Ordering.{nat_cmp}
 use Rattle.ebpf_items.specs.declared.instruction.bpf_insn.{bpf_insn}
 use Rattle.object_parts.specs.Content.{FunctionContent, function_at, has_function}
 use Rattle.function_layout.specs.Layout.{Key, Table}
-use Rattle.function_references.specs.declared.target.Target.{Target}
-use Rattle.function_references.specs.declared.target.Target.TheVariants as target
-use Rattle.function_references.specs.Targets.{target_of}
+use Rattle.linker.specs.declared.target.Target.{Target}
+use Rattle.linker.specs.declared.target.Target.TheVariants as target
+use Rattle.linker.specs.Targets.{target_of}
 
 -- an object's file, the indexes of its sections with functions, and the functions by key
 pub record Unlinked : Type 0 where

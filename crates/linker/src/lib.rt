@@ -9,8 +9,12 @@ mod lengths;
 mod linking;
 mod order;
 mod records;
+mod reference;
 mod source;
+mod target;
 mod writing;
 
 pub use lengths::programs_are_short;
 pub use linking::relocate_calls;
+pub use reference::target_of;
+pub use target::Target;

@@ -13,7 +13,7 @@ ghost use Rattle.std.specs.String.{string_bytes};
 use crate::order::Order;
 use crate::source::{Key, Source};
 use crate::writing::Copies;
-use btf_extension::{FuncSecInfo, LineSecInfo};
+use btf_ext::{FuncSecInfo, LineSecInfo};
 use ebpf_items::{Slots, bpf_insn};
 use function_layout::{linked_visits_same, order_laws, reached_are_appended};
 use object_file::ObjectFile;

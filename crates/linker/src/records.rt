@@ -5,7 +5,7 @@ ghost use Rattle.relocation_errors.specs.declared.error.RelocationError.TheVaria
 ghost use Rattle.linker.specs.Records.{goes_back, mismatches, moved_function, moved_line, moved_lines};
 ghost use Rattle.linker.specs.Faults.{IsMismatchOf};
 
-use btf_extension::{FuncSecInfo, LineSecInfo, bpf_func_info, bpf_line_info};
+use btf_ext::{FuncSecInfo, LineSecInfo, bpf_func_info, bpf_line_info};
 use object_parts::Function;
 use relocation_errors::RelocationError;
 use std::alloc::{AllocError, Global};

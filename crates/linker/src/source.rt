@@ -7,7 +7,8 @@ ghost use Rattle.linker.specs.Unlinked.{function_in, key_at, ref_of, target_at};
 ghost use Rattle.linker.specs.Faults.{IsTargetFault, IsUnknownAt, is_sound};
 
 use ebpf_items::bpf_insn;
-use function_references::{Target, target_of};
+use crate::reference::target_of;
+use crate::target::Target;
 use object_file::ObjectFile;
 use object_parts::{Function, Functions};
 use relocation_errors::RelocationError;

@@ -13,7 +13,7 @@ ghost use Rattle.linker.specs.Walks.{AllSound, IsOrdered, StartsFit, copy_in, pl
 use crate::order::Order;
 use crate::records::{push_functions, push_lines, push_moved_lines};
 use crate::source::{Key, Source, slot_at, slot_count};
-use btf_extension::{bpf_func_info, bpf_line_info};
+use btf_ext::{bpf_func_info, bpf_line_info};
 use ebpf_items::bpf_insn;
 use function_layout::{order_laws, place_laws};
 use object_parts::Function;

@@ -6,10 +6,10 @@ use Rattle.ebpf_object.specs.TypeRelocations.{type_groups, types_of}
 use Rattle.ebpf_items.specs.Instruction.{calls_newer_helper, dst_reg_of, is_helper_call, older_helper, src_reg_of, with_older_helper}
 use Rattle.ebpf_items.specs.declared.instruction.bpf_insn.{bpf_insn}
 use Rattle.elf64.specs.Relocations.{Relocation}
-use Rattle.extern_relocation.specs.Externs.{missing_number}
-use Rattle.extern_relocation.specs.Laws as externs
-use Rattle.extern_relocation.specs.declared.extern_rule.Resolution.{Resolution}
-use Rattle.extern_relocation.specs.declared.extern_rule.Resolution.TheVariants.{Id, Address, Missing, Unresolved}
+use Rattle.slot_relocation.specs.Externs.{missing_number}
+use Rattle.slot_relocation.specs.ExternLaws as externs
+use Rattle.slot_relocation.specs.declared.extern_rule.Resolution.{Resolution}
+use Rattle.slot_relocation.specs.declared.extern_rule.Resolution.TheVariants.{Id, Address, Missing, Unresolved}
 use Rattle.function_layout.specs.Copies.{SlotsAreCopied}
 use Rattle.function_layout.specs.Copies.{IsCopy}
 use Rattle.function_layout.specs.Layout.{Key, linked, placed, ref_at}
@@ -28,7 +28,7 @@ use Rattle.load_plan.specs.Programs.{AreSlotsOf, Carries, HasBecome, HasMap, IsC
 use Rattle.load_plan.specs.declared.order.Order.{Order}
 use Rattle.load_plan.specs.declared.order.Order.TheVariants.{RelocateFirst, RewriteFirst}
 use Rattle.load_plan.proofs.Changes.{relocating_in}
-use Rattle.type_relocation.specs.Laws as types
+use Rattle.core_relocation.specs.Laws as types
 
 abbrev Keyed : Type 0
 Keyed = List (Key × FunctionContent)

@@ -2,7 +2,7 @@
 use Rattle.std.proofs.Common.{◌≡◌, List, [], ◌∷◌, Option, None, Some, refl, inl, inr}
 use Rattle.std.specs.Option.{MatchOption}
 use Rattle.std.specs.Prelude.{IfOk, IfSome, Result, Ok, Err}
-use Rattle.btf_sanitizing.specs.Answers.{Answers}
+use Rattle.btf_sanitize.specs.Answers.{Answers}
 use Rattle.btf_tables.specs.Tables.{Table}
 use Rattle.ebpf_object.specs.Rewriting.{AreAnswered}
 use Rattle.extern_resolution.specs.Resolution.{AreResolved}
@@ -11,7 +11,7 @@ use Rattle.load_plan.specs.Inputs.{Inputs, Predicate, State, Symbols, Under}
 use Rattle.load_plan.specs.Made.{AreTypesMade, AreTypesRefused, IsRefusedTypes, MakesTypes, RefusesTypes}
 use Rattle.load_plan.specs.Passes.{CannotLink, CannotPutValues, CannotRelocateTypes, CannotResolve, CannotWriteExterns, CannotWriteNumbers, ExternSlots, HasKernelTypes, HasNamelessRecord, IsNumbered, KeepsNamed, LacksKernelTypes, LacksNumber, Made, MapSlots, OfKsyms, OfParse, OfRelocation, OfTypeRelocation, Pass, PutsValues, Refused, RelocatesTypes, ResolvesExterns, RewritesTypes, WritesExterns, WritesNumbers, first_of, first_table, linking, passes, second_of}
 use Rattle.load_plan.specs.Planned.{IsRefusedObject}
-use Rattle.prepare_errors.specs.declared.error.PrepareError.{PrepareError}
+use Rattle.plan_errors.specs.declared.error.PrepareError.{PrepareError}
 use Rattle.load_plan.specs.declared.order.Order.{Order}
 use Rattle.load_plan.specs.declared.order.Order.TheVariants.{RelocateFirst, RewriteFirst}
 

@@ -1,7 +1,7 @@
 -- What a chain of passes says of each state on its way.
 use Rattle.std.proofs.Common.{◌≡◌, List, Bool, true, false, Option, Some, None, refl, sym, ap, ◌∙◌, subst}
 use Rattle.std.specs.Prelude.{is_some, unwrap_or}
-use Rattle.btf_sanitizing.specs.Answers.{Answers}
+use Rattle.btf_sanitize.specs.Answers.{Answers}
 use Rattle.btf_tables.specs.Tables.{Table}
 use Rattle.ebpf_object.specs.Helpers.{IsSanitized, IsSanitizedIf, for_kernel}
 use Rattle.ebpf_object.specs.Rewriting.{IsRewritten}
@@ -13,7 +13,7 @@ use Rattle.load_plan.specs.Inputs.{Inputs, IsSaid, State, Under}
 use Rattle.load_plan.specs.Passes.{LinksPrograms, Made, Makes, PutsValues, RenamesHelpers, ResolvesExterns, WritesExterns, WritesNumbers, first_of, first_table, linking, patching, second_of}
 use Rattle.load_plan.specs.declared.order.Order.{Order}
 use Rattle.load_plan.specs.declared.order.Order.TheVariants.{RelocateFirst, RewriteFirst}
-use Rattle.type_relocation.specs.Writes as types
+use Rattle.core_relocation.specs.Writes as types
 
 abbrev Keyed : Type 0
 Keyed = List (Key × FunctionContent)

@@ -2,15 +2,15 @@
 use Rattle.std.proofs.Common.{◌≡◌, ℕ, zero, suc, ◌-◌, ◌≤◌, ◌==◌, List, [], ◌∷◌, Bool, true, false, Option, Some, None, length, drop, refl, sym, ap, ◌∙◌, subst, arith}
 use Rattle.std.proofs.lemmas.Bool.Decides.{nat_tests}
 use Rattle.std.specs.Prelude.{if◌then◌else◌, slice_get, unwrap_or}
-use Rattle.btf_parts.specs.Ids.{record_of_id}
+use Rattle.btf_storage.specs.Ids.{record_of_id}
 use Rattle.btf_records.specs.declared.feature.BtfFeature.{BtfFeature}
 use Rattle.btf_records.specs.declared.types.BtfType.{BtfType}
 use Rattle.btf_records.specs.declared.types.BtfType.TheVariants.{Unknown}
-use Rattle.btf_sanitizing.specs.Answers.{Answers, granted}
-use Rattle.btf_sanitizing.specs.Facts.{Facts}
-use Rattle.btf_sanitizing.specs.Kept.{AllGranted, EachGranted, Keeps, needed_after}
-use Rattle.btf_sanitizing.specs.Rewritten.{rewritten}
-use Rattle.btf_rewriting.specs.Sanitizing.{facts_in, stepped}
+use Rattle.btf_sanitize.specs.Answers.{Answers, granted}
+use Rattle.btf_sanitize.specs.Facts.{Facts}
+use Rattle.btf_sanitize.specs.Kept.{AllGranted, EachGranted, Keeps, needed_after}
+use Rattle.btf_sanitize.specs.Rewritten.{rewritten}
+use Rattle.btf_rewrite.specs.Sanitizing.{facts_in, stepped}
 use Rattle.btf_tables.specs.Tables.{Table}
 use Rattle.ebpf_object.specs.Rewriting.{IsRewritten, IsRewrittenIf}
 use Rattle.load_plan.specs.Granted.{AreGranted, NeedGranted, came_as}

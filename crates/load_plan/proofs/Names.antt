@@ -5,8 +5,8 @@ use Rattle.std.specs.Option.{option_map, option_map_or}
 use Rattle.std.specs.Prelude.{Option, if◌then◌else◌, is_some, slice_get}
 use Rattle.btf_records.specs.declared.types.BtfType.{BtfType}
 use Rattle.btf_records.specs.declared.types.BtfType.TheVariants as types
-use Rattle.btf_sanitizing.specs.Answers.{Answers}
-use Rattle.btf_rewriting.specs.Sanitizing.{stepped}
+use Rattle.btf_sanitize.specs.Answers.{Answers}
+use Rattle.btf_rewrite.specs.Sanitizing.{stepped}
 use Rattle.btf_tables.specs.Tables.{Table}
 use Rattle.ebpf_object.specs.Helpers.{for_kernel}
 use Rattle.ebpf_object.specs.Rewriting.{IsRewritten, IsRewrittenIf}
@@ -18,8 +18,8 @@ use Rattle.linker.specs.Records.{functions_in}
 use Rattle.linker.specs.Unlinked.{Unlinked}
 use Rattle.object_parts.specs.Content.{FunctionContent, ProgramContent, function_at}
 use Rattle.object_parts.specs.Installed.{AreChanged}
-use Rattle.object_plan.specs.Laws.{HaveRecordsOf, NamesAreCarried, RecordsName}
-use Rattle.object_plan.specs.Plans.{AllNamed, HoldsTypeBytes, Names, plan_program_of, type_bytes, type_bytes_of}
+use Rattle.plan_contents.specs.Laws.{HaveRecordsOf, NamesAreCarried, RecordsName}
+use Rattle.plan_contents.specs.Plans.{AllNamed, HoldsTypeBytes, Names, plan_program_of, type_bytes, type_bytes_of}
 
 abbrev Keyed : Type 0
 Keyed = List (Key × FunctionContent)

@@ -3,14 +3,14 @@ use Rattle.std.proofs.Common.{◌≡◌, ◌==◌, ◌≤◌, ℕ, List, [], len
 use Rattle.std.specs.Option.{MatchOption}
 use Rattle.std.specs.Prelude.{is_some}
 use Rattle.btf_records.specs.declared.feature.BtfFeature.{BtfFeature}
-use Rattle.btf_sanitizing.specs.Answers.{Answers, AreDistinct, features, times}
+use Rattle.btf_sanitize.specs.Answers.{Answers, AreDistinct, features, times}
 use Rattle.btf_tables.specs.Tables.{Table}
 use Rattle.elf64.specs.Relocations.{Relocation}
 use Rattle.ebpf_object.specs.TextSections.{text_sections}
 use Rattle.ebpf_object.specs.Helpers.{for_kernel}
 use Rattle.ebpf_object.specs.Rewriting.{IsRewritten, IsRewrittenIf}
 use Rattle.ebpf_object.specs.TypeRelocations.{type_groups, types_of}
-use Rattle.extern_relocation.specs.Laws.{ExternsAreWritten}
+use Rattle.slot_relocation.specs.ExternLaws.{ExternsAreWritten}
 use Rattle.extern_resolution.specs.Resolution.{AreResolved}
 use Rattle.object_externs.specs.Externs.{ExternsContent}
 use Rattle.function_layout.specs.Copies.{SlotsAreCopied}
@@ -19,16 +19,16 @@ use Rattle.function_layout.specs.Renamed.{RenamedVisitsSame}
 use Rattle.function_layout.specs.Theorems.{ReachedAreAppended}
 use Rattle.linker.specs.Linked.{IsLinkedIn, program_keys}
 use Rattle.object_parts.specs.Content.{FunctionContent, ProgramContent}
-use Rattle.object_plan.specs.Laws.{HaveRecordsOf, NamesAreCarried, RecordsName}
-use Rattle.object_plan.specs.Plans.{AllNamed, HoldsTypeBytes, plan_of, plan_program_of, type_bytes}
-use Rattle.plan_maps.specs.PlanMaps.{plan_map}
+use Rattle.plan_contents.specs.Laws.{HaveRecordsOf, NamesAreCarried, RecordsName}
+use Rattle.plan_contents.specs.Plans.{AllNamed, HoldsTypeBytes, plan_of, plan_program_of, type_bytes}
+use Rattle.plan_contents.specs.PlanMaps.{plan_map}
 use Rattle.plan_text.specs.Content.{MapContent, PlanContent}
 use Rattle.plan_text.specs.Content as plan
 use Rattle.slot_relocation.specs.Laws.{NumbersAreWritten, map_of}
 use Rattle.slot_relocation.specs.Maps.{NumberedMap, map_rule}
 use Rattle.slot_relocation.specs.Writes.{relocated}
-use Rattle.type_relocation.specs.Laws.{TypesAreWritten}
-use Rattle.type_relocation.specs.Writes.{with_types}
+use Rattle.core_relocation.specs.Laws.{TypesAreWritten}
+use Rattle.core_relocation.specs.Writes.{with_types}
 use Rattle.load_plan.specs.Inputs.{Inputs, Predicate, State, Symbols, Under, keeps_helpers}
 use Rattle.load_plan.specs.Made.{IsMade}
 use Rattle.load_plan.specs.Passes.{Made, ResolvesExterns, first_table, linking, maps_given, patching, rule_of_externs, unlinked_of}

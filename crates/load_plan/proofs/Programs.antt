@@ -8,8 +8,8 @@ use Rattle.std.specs.Ordering.{is_eq, nat_cmp, ordering_then}
 use Rattle.std.specs.Prelude.{◌||◌, not, is_some, if◌then◌else◌}
 use Rattle.std.specs.declared.cmp.Ordering.{Ordering}
 use Rattle.std.specs.declared.cmp.Ordering.TheVariants.{Equal}
-use Rattle.btf_extension.specs.declared.record.bpf_func_info.{bpf_func_info}
-use Rattle.btf_extension.specs.declared.record.bpf_line_info.{bpf_line_info}
+use Rattle.btf_ext.specs.declared.record.bpf_func_info.{bpf_func_info}
+use Rattle.btf_ext.specs.declared.record.bpf_line_info.{bpf_line_info}
 use Rattle.ebpf_items.specs.Instruction.{with_older_helper}
 use Rattle.ebpf_items.specs.declared.instruction.bpf_insn.{bpf_insn}
 use Rattle.ebpf_object.specs.Helpers.{for_kernel}
@@ -24,7 +24,7 @@ use Rattle.linker.specs.Linked.{IsLinked, IsLinkedIn, program_keys}
 use Rattle.linker.specs.Records.{functions_of, lines_of, tables_of}
 use Rattle.linker.specs.Unlinked.{Unlinked, table_of}
 use Rattle.object_parts.specs.Content.{FunctionContent, ProgramContent, function_at, key_cmp, with_older_helpers}
-use Rattle.object_plan.specs.Plans.{AllName, AllNamed, plan_program_of, program_of}
+use Rattle.plan_contents.specs.Plans.{AllName, AllNamed, plan_program_of, program_of}
 use Rattle.plan_text.specs.Content as plan
 use Rattle.plan_text.specs.Content.{PlanContent}
 use Rattle.load_plan.specs.Inputs.{Inputs, State, Under, keeps_helpers}

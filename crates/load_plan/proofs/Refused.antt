@@ -8,11 +8,11 @@ use Rattle.ebpf_items.specs.declared.error.ParseError.TheVariants as parse
 use Rattle.ebpf_object.specs.Rewriting.{IsRefused}
 use Rattle.extern_resolution.specs.declared.error.KsymsError.{KsymsError}
 use Rattle.extern_resolution.specs.declared.error.KsymsError.TheVariants as ksyms
-use Rattle.prepare_errors.specs.Errors.{of_ksyms, of_parse, of_types}
+use Rattle.plan_errors.specs.Errors.{of_ksyms, of_parse, of_types}
 use Rattle.load_plan.specs.Inputs.{Predicate, State}
 use Rattle.load_plan.specs.Made.{IsRefusedTypes}
 use Rattle.load_plan.specs.Passes.{OfKsyms, OfParse}
-use Rattle.prepare_errors.specs.declared.error.PrepareError.TheVariants.{OutOfMemory}
+use Rattle.plan_errors.specs.declared.error.PrepareError.TheVariants.{OutOfMemory}
 
 pub parse_refused : (Stands : ParseError → Type 0) (e : ParseError) → (e ≢ parse.OutOfMemory → Stands e) → of_parse e ≢ OutOfMemory → OfParse Stands (of_parse e)
 parse_refused Stands parse.OutOfMemory stands other = absurd (other refl)

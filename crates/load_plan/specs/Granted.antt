@@ -1,10 +1,10 @@
 -- What the types of a plan need.
 use Rattle.std.specs.Prelude.{◌≡◌, ℕ, List, Option, None, Some, unwrap_or}
-use Rattle.btf_parts.specs.Ids.{record_of_id}
+use Rattle.btf_storage.specs.Ids.{record_of_id}
 use Rattle.btf_records.specs.declared.types.BtfType.{BtfType}
-use Rattle.btf_sanitizing.specs.Answers.{Answers, granted}
-use Rattle.btf_sanitizing.specs.Kept.{AllGranted, needed_after}
-use Rattle.btf_rewriting.specs.Sanitizing.{stepped}
+use Rattle.btf_sanitize.specs.Answers.{Answers, granted}
+use Rattle.btf_sanitize.specs.Kept.{AllGranted, needed_after}
+use Rattle.btf_rewrite.specs.Sanitizing.{stepped}
 use Rattle.btf_tables.specs.Tables.{Table}
 
 -- the record that an id had before, or that it has where it had none

@@ -2,7 +2,7 @@
 use Rattle.std.specs.Prelude.{ℕ, List, Bool, Option, None, Some, unwrap_or, true}
 use Rattle.std.specs.Fn.{Mut}
 pub use Rattle.btf_records.specs.declared.feature.BtfFeature.{BtfFeature}
-pub use Rattle.btf_sanitizing.specs.Answers.{Answers}
+pub use Rattle.btf_sanitize.specs.Answers.{Answers}
 pub use Rattle.btf_tables.specs.Tables.{Table}
 use Rattle.ebpf_object.specs.ParsedObject.{ObjectContent}
 pub use Rattle.ebpf_object.specs.Rewriting.{AreAnswered}

@@ -2,13 +2,13 @@
 -- feature goes by the feature alone.
 use Rattle.std.specs.Prelude.{◌≡◌, ◌⊎◌, Bool, [], ◌∷◌}
 use Rattle.btf_records.specs.declared.feature.BtfFeature.{BtfFeature}
-use Rattle.btf_sanitizing.specs.Answers.{Answers}
+use Rattle.btf_sanitize.specs.Answers.{Answers}
 use Rattle.ebpf_object.specs.Faults.{HasFault}
 use Rattle.plan_text.specs.Content.{PlanContent}
 use Rattle.load_plan.specs.Inputs.{Inputs, IsSaid, State, Under}
 use Rattle.load_plan.specs.Passes.{OfParse, Refused, passes}
 use Rattle.load_plan.specs.Planned.{IsPlanOf, IsWholeObject}
-use Rattle.prepare_errors.specs.declared.error.PrepareError.{PrepareError}
+use Rattle.plan_errors.specs.declared.error.PrepareError.{PrepareError}
 
 -- each answer about a feature is the one that goes by the feature
 abbrev pub GoByFeature : (BtfFeature → Bool) → Answers → Type 0

@@ -2,16 +2,16 @@
 use Rattle.std.specs.Prelude.{◌≡◌, ◌⊎◌, ◌==◌, ◌&&◌, not, length, List, [], ◌∷◌, ◌++◌, map, Bool, true, false, Option, None, is_some, slice_get}
 use Rattle.std.specs.Option.{IsSomeAnd, MatchOption, option_map, option_map_or}
 use Rattle.std.specs.String.{string_bytes}
-use Rattle.btf_extension.specs.Extensions.{Extension}
+use Rattle.btf_ext.specs.Extensions.{Extension}
 use Rattle.btf_records.specs.declared.error.BtfError.{BtfError}
-use Rattle.btf_sanitizing.specs.Answers.{Answers}
+use Rattle.btf_sanitize.specs.Answers.{Answers}
 use Rattle.btf_tables.specs.Tables.{Table}
 use Rattle.ebpf_items.specs.declared.error.ParseError.{ParseError}
 use Rattle.ebpf_object.specs.TextSections.{text_sections}
 use Rattle.ebpf_object.specs.Helpers.{for_kernel}
 use Rattle.ebpf_object.specs.Rewriting.{CannotRewrite, IsRewritten}
 use Rattle.ebpf_object.specs.TypeRelocations.{type_groups, types_of}
-use Rattle.extern_relocation.specs.Externs.{extern_rule}
+use Rattle.slot_relocation.specs.Externs.{extern_rule}
 use Rattle.extern_resolution.specs.Resolution.{AreResolved}
 use Rattle.extern_resolution.specs.Resolution as resolution
 use Rattle.extern_resolution.specs.declared.error.KsymsError.{KsymsError}
@@ -20,18 +20,18 @@ use Rattle.global_data.specs.GlobalData.{Says, first_fault, patched}
 use Rattle.linker.specs.Linked.{AllCanBeLinked, AreLinked, HasFaultOf, program_keys, unlinked}
 use Rattle.linker.specs.Unlinked.{Unlinked}
 use Rattle.object_parts.specs.Content.{has_newer_helper}
-use Rattle.plan_maps.specs.Numbers.{are_numbered, lacks_number, numbered}
+use Rattle.plan_contents.specs.Numbers.{are_numbered, lacks_number, numbered}
 use Rattle.relocation_errors.specs.declared.error.EbpfRelocationError.{EbpfRelocationError}
 use Rattle.settings.specs.Content.{SettingsContent}
 use Rattle.slot_relocation.specs.Maps.{MapsGiven, given, map_rule}
 use Rattle.slot_relocation.specs.Writes.{AreRelocated, CanBeRelocated, HasErrorIn, Rule}
 use Rattle.load_plan.specs.Inputs.{Inputs, State, Symbols, Under, keeps_helpers}
-use Rattle.prepare_errors.specs.declared.error.PrepareError.{PrepareError}
-use Rattle.prepare_errors.specs.declared.error.PrepareError.TheVariants as error
+use Rattle.plan_errors.specs.declared.error.PrepareError.{PrepareError}
+use Rattle.plan_errors.specs.declared.error.PrepareError.TheVariants as error
 use Rattle.load_plan.specs.declared.order.Order.{Order}
 use Rattle.load_plan.specs.declared.order.Order.TheVariants.{RelocateFirst, RewriteFirst}
-use Rattle.type_relocation.specs.Faults as faults
-use Rattle.type_relocation.specs.Writes as types
+use Rattle.core_relocation.specs.Faults as faults
+use Rattle.core_relocation.specs.Writes as types
 use Rattle.relocation_errors.specs.declared.type_relocations.BtfRelocationCause.{BtfRelocationCause}
 
 -- the names of the passes

@@ -3,14 +3,14 @@ use Rattle.std.specs.Prelude.{◌≡◌, ◌⊎◌, ℕ, List, map, Bool}
 use Rattle.ebpf_object.specs.Faults.{HasFault, IsFaultless}
 use Rattle.ebpf_object.specs.ParsedObject.{IsParsed}
 use Rattle.ebpf_object.specs.Rewriting.{AreAnswered}
-use Rattle.object_plan.specs.Plans.{HoldsTypeBytes, plan_of}
-use Rattle.plan_maps.specs.PlanMaps.{plan_map}
+use Rattle.plan_contents.specs.Plans.{HoldsTypeBytes, plan_of}
+use Rattle.plan_contents.specs.PlanMaps.{plan_map}
 use Rattle.plan_text.specs.Content.{PlanContent}
 use Rattle.load_plan.specs.Granted.{AreGranted}
 use Rattle.load_plan.specs.Inputs.{AreSaid, Inputs, Predicate, State, Under}
 use Rattle.load_plan.specs.Passes.{Made, OfParse, Refused, linking, passes, patching}
 use Rattle.load_plan.specs.Programs.{ArePlanPrograms}
-use Rattle.prepare_errors.specs.declared.error.PrepareError.{PrepareError}
+use Rattle.plan_errors.specs.declared.error.PrepareError.{PrepareError}
 
 -- the object that a file without a fault holds
 pub record IsWholeObject (file : List ℕ) (object : State) : Type 0 where

@@ -1,8 +1,8 @@
 -- The programs of a plan, each by itself.
 use Rattle.std.specs.Prelude.{◌≡◌, ◌⊎◌, ◌||◌, not, ℕ, ◌+◌, pos, Bool, true, false, is_some, if◌then◌else◌, List, [], ◌∷◌, None, Some, slice_get}
-use Rattle.btf_extension.specs.declared.record.bpf_func_info.{bpf_func_info}
-use Rattle.btf_extension.specs.declared.record.bpf_line_info.{bpf_line_info}
-use Rattle.btf_sanitizing.specs.Answers.{Answers}
+use Rattle.btf_ext.specs.declared.record.bpf_func_info.{bpf_func_info}
+use Rattle.btf_ext.specs.declared.record.bpf_line_info.{bpf_line_info}
+use Rattle.btf_sanitize.specs.Answers.{Answers}
 use Rattle.ebpf_items.specs.Instruction.{with_older_helper}
 use Rattle.ebpf_items.specs.declared.instruction.bpf_insn.{bpf_insn}
 use Rattle.ebpf_object.specs.TypeRelocations.{type_groups, types_of}
@@ -16,16 +16,16 @@ use Rattle.function_types.specs.Rewritten.{is_denied}
 use Rattle.linker.specs.Records.{functions_of, lines_of, tables_of}
 use Rattle.linker.specs.Unlinked.{Unlinked, table_of}
 use Rattle.object_parts.specs.Content.{FunctionContent, ProgramContent, function_at}
-use Rattle.object_plan.specs.Plans.{AllName}
+use Rattle.plan_contents.specs.Plans.{AllName}
 use Rattle.plan_text.specs.Content as plan
 use Rattle.plan_text.specs.Content.{MapContent, PlanContent}
-use Rattle.extern_relocation.specs.Laws as externs
+use Rattle.slot_relocation.specs.ExternLaws as externs
 use Rattle.slot_relocation.specs.Laws as maps
 use Rattle.slot_relocation.specs.Laws.{CarriesNumber, map_of}
 use Rattle.slot_relocation.specs.Maps.{MapsGiven, NumberedMap}
 use Rattle.slot_relocation.specs.Writes.{index_of_slot}
 use Rattle.slot_relocation.specs.declared.outcome.Write.{Write}
-use Rattle.type_relocation.specs.Laws as types
+use Rattle.core_relocation.specs.Laws as types
 use Rattle.load_plan.specs.Inputs.{Inputs, State, Under, keeps_helpers}
 use Rattle.load_plan.specs.Passes.{ExternSlots, Made, MapSlots, Pass, TypeSlots, maps_given, patching, unlinked_of}
 

@@ -6,7 +6,7 @@ ghost use Rattle.load_plan.specs.Gathered.{AreGathered};
 ghost use Rattle.load_plan.specs.Inputs.{inputs, symbols_given};
 ghost use Rattle.load_plan.specs.Passes.{OfParse};
 ghost use Rattle.load_plan.specs.Planned.{IsPlanned, IsPlannedObject, IsRefusal, IsRefusedObject, IsWholeObject};
-ghost use Rattle.prepare_errors.specs.declared.error.PrepareError.TheVariants.{OutOfMemory};
+ghost use Rattle.plan_errors.specs.declared.error.PrepareError.TheVariants.{OutOfMemory};
 ghost use Rattle.watched.specs.Watched.{has_failed, watched_inner};
 
 use crate::gathered::Gathered;
@@ -15,17 +15,17 @@ use crate::order::Order;
 use btf_records::BtfFeature;
 use btf_tables::Btf;
 use ebpf_object::{Object, Watched};
-use extern_relocation::externs_are_written;
+use slot_relocation::externs_are_written;
 use function_layout::{reached_are_appended, renamed_visits_same, slots_are_copied};
-use object_plan::{names_are_carried, plan_of, records_name};
-use plan_maps::plan_maps;
+use plan_contents::{names_are_carried, plan_of, records_name};
+use plan_contents::plan_maps;
 use plan_text::Plan;
-use prepare_errors::PrepareError;
+use plan_errors::PrepareError;
 use settings::Settings;
 use slot_relocation::numbers_are_written;
 use std::alloc::Global;
 use std::io::BufRead;
-use type_relocation::types_are_written;
+use core_relocation::types_are_written;
 
 /// The object that a file holds.
 fn parse<'a>(alloc: Global, file: &'a [u8]) -> Result<Object<'a>, PrepareError>

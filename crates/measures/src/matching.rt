@@ -9,7 +9,7 @@ use exercise_words::{ExerciseError, read_next};
 use std::alloc::AllocError;
 use std::env::Args;
 use std::time::Instant;
-use type_match::{TypeMatcher, TypeRelocation};
+use core_resolve::{TypeMatcher, TypeRelocation};
 
 /// How many times each is measured.
 const ROUNDS: u32 = 11;

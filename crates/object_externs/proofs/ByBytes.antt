@@ -7,7 +7,7 @@ use Rattle.std.specs.List.{list_any}
 use Rattle.std.specs.List.Sorted.{IsStrictlySortedBy}
 use Rattle.std.specs.Ordering.{nat_cmp}
 use Rattle.object_externs.specs.Names.{by_bytes}
-use Rattle.text_order.specs.Orders.{texts_of}
+use Rattle.string_map.specs.Orders.{texts_of}
 
 pub texts_are : {V : Type 0} (entries : List (Bor (List ℕ) × V)) → texts_of entries ≡ map (λ e. e.0) (by_bytes entries)
 texts_are [] = refl

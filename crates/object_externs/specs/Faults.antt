@@ -1,7 +1,7 @@
 -- What is wrong with the externs of an object.
 use Rattle.std.specs.Prelude.{◌≡◌, ℕ, ◌⊎◌, Any, true, false, List, length, None, Err}
 use Rattle.std.specs.Option.{IsSomeAnd}
-use Rattle.btf_parts.specs.Growth.{TooMany}
+use Rattle.btf_storage.specs.Growth.{TooMany}
 use Rattle.btf_records.specs.Fields.{kind_of_type, name_offset_of}
 use Rattle.btf_records.specs.declared.error.BtfError.{BtfError}
 use Rattle.btf_records.specs.declared.error.BtfError.TheVariants.{InvalidDatasec, InvalidStringOffset, InvalidSymbolName, InvalidTypeInfo, UnknownBtfType}

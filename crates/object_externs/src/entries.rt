@@ -4,7 +4,7 @@ ghost use Rattle.std.specs.Prelude.{◌≡◌, ◌≢◌, [], Any, Some, fold, o
 ghost use Rattle.std.specs.List.{list_any};
 ghost use Rattle.btf_records.specs.Fields.{kind_of_type};
 ghost use Rattle.btf_records.specs.declared.error.BtfError.TheVariants.{OutOfMemory};
-ghost use Rattle.btf_parts.specs.Faultless.{IsFaultless};
+ghost use Rattle.btf_storage.specs.Faultless.{IsFaultless};
 ghost use Rattle.object_externs.specs.Externs.{declared, declared_name, declared_type, declares, names_function, with_extern};
 ghost use Rattle.object_externs.specs.Faults.{EntryFault, NameFault, RecordFault, TypeFault};
 ghost use Rattle.object_externs.specs.Names.{by_bytes};
@@ -16,7 +16,7 @@ use btf_records::{BtfError, BtfKind, DataSecEntry};
 use btf_tables::{Btf, essential_name};
 use object_file::{ReadSymbol, SymbolNames};
 use std::alloc::Global;
-use text_order::{TextMap, TextMapBuilder};
+use string_map::{TextMap, TextMapBuilder};
 
 /// The type of what a record declares, after modifiers; a variable of void has none.
 fn declared_type(table: &Btf<'_>, t: &TypeRef<'_>) -> Result<Option<u32>, BtfError>

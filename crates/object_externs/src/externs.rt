@@ -13,7 +13,7 @@ use crate::extern_desc::ExternDesc;
 use btf_ksyms::KsymsIds;
 use std::alloc::{AllocError, Global};
 use std::marker::Model;
-use text_order::{Iter, TextMap};
+use string_map::{Iter, TextMap};
 
 /// The externs of an object, by name, and what a rewriting of their section is handed.
 #[derive(Debug)]

@@ -2,7 +2,7 @@
 
 ghost use Rattle.std.specs.Prelude.{◌≡◌, ◌≢◌, if◌then◌else◌, IfErr, IfOk, OnErr, OnOk};
 ghost use Rattle.btf_records.specs.declared.error.BtfError.TheVariants.{OutOfMemory};
-ghost use Rattle.btf_parts.specs.Faultless.{IsFaultless};
+ghost use Rattle.btf_storage.specs.Faultless.{IsFaultless};
 ghost use Rattle.btf_tables.specs.GrownTables.{TextsStay, TypesStay};
 ghost use Rattle.object_externs.specs.Externs.{externs_of, has_function};
 ghost use Rattle.object_externs.specs.Faults.{ExternsFault};

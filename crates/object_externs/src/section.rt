@@ -3,7 +3,7 @@
 ghost use Rattle.std.specs.Prelude.{◌≡◌, ◌≢◌, ℕ, IfErr, IfOk, IsSome, OnOk, false, true};
 ghost use Rattle.btf_records.specs.Fields.{name_offset_of};
 ghost use Rattle.btf_records.specs.declared.error.BtfError.TheVariants.{InvalidStringOffset, OutOfMemory};
-ghost use Rattle.btf_parts.specs.Faultless.{IsFaultless};
+ghost use Rattle.btf_storage.specs.Faultless.{IsFaultless};
 ghost use Rattle.object_externs.specs.Faults.{SectionFault};
 ghost use Rattle.btf_tables.specs.Tables.{type_by_id};
 ghost use Rattle.object_externs.specs.Section.{entries_at, is_ksyms, is_unreadable, ksyms_section};

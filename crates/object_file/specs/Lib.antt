@@ -2,11 +2,12 @@ pub mod ByteOrders
 pub mod Faults
 pub mod Kinds
 pub mod License
+pub mod Named
+pub mod NamedSymbols
 pub mod ObjectFile
 pub mod Reading
-pub mod Relocations
 pub mod RelocationTable
-pub mod NamedSymbols
-pub mod Symbols
+pub mod Relocations
 pub mod SymbolTable
+pub mod Symbols
 pub mod Version

@@ -5,12 +5,16 @@
 mod file;
 mod license;
 mod names;
+mod offsets;
 mod reading;
 mod relocations;
+mod section_maps;
 mod symbol_names;
 mod symbols;
 mod version;
 
 pub use file::{ObjectFile, unnamed_symbol};
 pub use names::{ReadSection, ReadSymbol};
+pub use offsets::symbol_offsets;
+pub use section_maps::{section_indexes, section_sizes};
 pub use symbol_names::SymbolNames;

@@ -22,7 +22,7 @@ use Rattle.elf64.specs.Symbols.{Symbol}
 use Rattle.map_definitions.specs.Definitions.{Definition, IsFaultAmong, defined, definition_of, map_variable, refusals}
 use Rattle.map_definitions.specs.declared.definition.BtfDefinition.{BtfDefinition}
 use Rattle.object_file.specs.Symbols.{last_named}
-use Rattle.text_order.specs.Orders.{HasLast, texts_of}
+use Rattle.string_map.specs.Orders.{HasLast, texts_of}
 use Rattle.object_maps.specs.BtfMaps.{entries_faults, entries_maps, entry_faults, entry_map, named_faults, named_maps, variable_faults, variable_map}
 use Rattle.object_maps.specs.DataSections.{sections_named}
 use Rattle.object_maps.specs.DefinedMaps.{all_defined, all_struct_faults, all_unnamed_faults, by_name, defined_after, defined_map, entries_defined, entries_struct_faults, entry_defined, entry_struct_faults, named_definition, named_definitions, symbol_view, unnamed_faults, variable_defined, variable_struct_faults, with_definition}

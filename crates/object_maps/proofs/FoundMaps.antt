@@ -6,7 +6,7 @@ use Rattle.std.specs.List.Sorted.{IsStrictlySortedBy}
 use Rattle.std.specs.Ordering.{nat_cmp}
 use Rattle.ebpf_items.specs.Maps.{MapView, map_view}
 use Rattle.ebpf_items.specs.declared.maps.Map.{Map}
-use Rattle.text_order.specs.Orders.{HasLast, texts_of}
+use Rattle.string_map.specs.Orders.{HasLast, texts_of}
 use Rattle.object_maps.specs.Found.{entered, with_map}
 use Rattle.object_maps.specs.Maps.{entry_shown, shown}
 use Rattle.object_maps.proofs.ByName.{rising_entered, rising_none}

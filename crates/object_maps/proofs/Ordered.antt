@@ -10,7 +10,7 @@ use Rattle.std.specs.Ordering.{is_eq, nat_cmp}
 use Rattle.std.proofs.lemmas.List.{map-append}
 use Rattle.std.proofs.lemmas.Map.Text.{is_eq-slice_cmp}
 use Rattle.std.proofs.lemmas.Simd.{map-map}
-use Rattle.text_order.specs.Orders.{HasLast, last_of, texts_of}
+use Rattle.string_map.specs.Orders.{HasLast, last_of, texts_of}
 use Rattle.object_maps.proofs.ByName.{IsRising, alike, at, at_entered, fold_append, last_rising, last_value, or_none, rising_entered, rising_none, with_entry}
 
 module _ {V W : Type 0} (view : V → W) where

@@ -14,7 +14,7 @@ use Rattle.std.proofs.lemmas.List.Quantifiers.{position-Some}
 use Rattle.std.proofs.lemmas.Map.Text.{is_eq-slice_cmp}
 use Rattle.ebpf_items.specs.Maps.{MapView, map_view}
 use Rattle.ebpf_items.specs.declared.maps.Map.{Map}
-use Rattle.text_order.specs.Orders.{texts_of}
+use Rattle.string_map.specs.Orders.{texts_of}
 use Rattle.object_maps.specs.Maps.{shown}
 use Rattle.object_maps.specs.Overwritten.{HasRange, entry_overwritten, map_overwritten, with_bytes}
 use Rattle.object_maps.proofs.ByName.{same_text}

@@ -7,7 +7,7 @@ use Rattle.std.specs.List.Sorted.{IsStrictlySortedBy}
 use Rattle.std.specs.Ordering.{nat_cmp}
 use Rattle.ebpf_items.specs.Maps.{MapView, map_view}
 use Rattle.ebpf_items.specs.declared.maps.Map.{Map}
-use Rattle.text_order.specs.Orders.{texts_of}
+use Rattle.string_map.specs.Orders.{texts_of}
 use Rattle.object_maps.specs.Maps.{shown}
 
 pub none_rising : (entries : List (Bor (List ℕ) × Map)) → entries ≡ [] → IsStrictlySortedBy (slice_cmp nat_cmp) (texts_of entries)

@@ -8,7 +8,7 @@ use map_definitions::BtfDefinition;
 use std::alloc::{AllocError, Global};
 use std::collections::VecDeque;
 use std::marker::Model;
-use text_order::in_text_order;
+use string_map::in_text_order;
 
 /// Definitions in the order in which they are found. Contracts see them sorted by name, the last of
 /// each name alone; they are sorted once, when all are found, since names with long common prefixes

@@ -10,12 +10,12 @@ ghost use Rattle.std.specs.Ordering.{nat_cmp};
 ghost use Rattle.ebpf_items.specs.Maps.{map_view};
 ghost use Rattle.object_maps.specs.Maps.{shown};
 ghost use Rattle.object_maps.specs.Overwritten.{HasRange, map_overwritten, with_bytes};
-ghost use Rattle.text_order.specs.Orders.{texts_of};
+ghost use Rattle.string_map.specs.Orders.{texts_of};
 
 use ebpf_items::Map;
 use std::alloc::{AllocError, Global};
 use std::marker::Model;
-use text_order::{Iter, place_of};
+use string_map::{Iter, place_of};
 
 /// Puts bytes over those of a map, from a place on.
 fn overwrite(map: &mut Map, start: usize, bytes: &[u8])
@@ -46,7 +46,7 @@ impl<'a> Model for Maps<'a> {
     ghost use Rattle.std.specs.Ordering.{nat_cmp};
     ghost use Rattle.ebpf_items.specs.Maps.{MapView};
     ghost use Rattle.object_maps.specs.Maps.{shown};
-    ghost use Rattle.text_order.specs.Orders.{texts_of};
+    ghost use Rattle.string_map.specs.Orders.{texts_of};
 
     ghost Value = { List (List ℕ × MapView) };
 

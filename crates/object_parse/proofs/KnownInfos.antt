@@ -6,7 +6,7 @@ use Rattle.std.specs.Map.{lookup, remove_entry, values_of}
 use Rattle.std.specs.declared.cmp.Ordering.{Ordering}
 use Rattle.std.proofs.lemmas.List.Elements.{All-nil}
 use Rattle.std.proofs.lemmas.Map.Views.{All-map-remove_entry, All-values-insert_entry, IfSome-lookup_from_All}
-use Rattle.btf_extension.specs.Extensions.{Extension}
+use Rattle.btf_ext.specs.Extensions.{Extension}
 use Rattle.object_parse.specs.KnownInfos.{AreKnown}
 use Rattle.object_parse.specs.SectionInfos.{SectionInfo, info_named}
 use Rattle.object_parse.specs.declared.section_info.KnownInfo.{KnownInfo}

@@ -1,8 +1,11 @@
 pub mod Complete
+pub mod Counts
 pub mod Definitions
 pub mod Entered
 pub mod Faultless
 pub mod KnownInfos
 pub mod PlaceFaults
+pub mod Records
 pub mod Repeats
 pub mod Sound
+pub mod Stretches

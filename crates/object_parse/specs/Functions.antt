@@ -1,6 +1,6 @@
 -- The programs and functions of a file.
 use Rattle.std.specs.Prelude.{ℕ, List, [], fold, Option, if◌then◌else◌}
-use Rattle.btf_extension.specs.Extensions.{Extension}
+use Rattle.btf_ext.specs.Extensions.{Extension}
 use Rattle.elf64.specs.Sections.{Section}
 use Rattle.elf64.specs.Symbols.{Symbol, symbols_of}
 use Rattle.object_file.specs.License.{license_of}

@@ -1,6 +1,6 @@
 -- What an extension says of sections, as it is kept by their names.
 use Rattle.std.specs.Prelude.{◌≡◌, All, List, Option}
-use Rattle.btf_extension.specs.Extensions.{Extension}
+use Rattle.btf_ext.specs.Extensions.{Extension}
 use Rattle.object_parse.specs.SectionInfos.{info_named}
 use Rattle.object_parse.specs.declared.section_info.KnownInfo.{KnownInfo}
 

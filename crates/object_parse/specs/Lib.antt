@@ -1,9 +1,11 @@
 pub mod Addresses
 pub mod Faults
 pub mod Functions
+pub mod Kept
 pub mod KnownInfos
 pub mod LackingCode
 pub mod Places
 pub mod Programs
 pub mod SectionInfos
+pub mod SlotIndexes
 pub mod TextSections

@@ -9,7 +9,7 @@ use Rattle.elf64.specs.Symbols.{Symbol}
 use Rattle.elf64.specs.declared.kind.SymbolKind.{SymbolKind}
 use Rattle.elf64.specs.declared.kind.SymbolKind.TheVariants as symbol
 use Rattle.ebpf_items.specs.Instruction.{slots_of}
-use Rattle.function_records.specs.Kept.{kept_functions, kept_lines}
+use Rattle.object_parse.specs.Kept.{kept_functions, kept_lines}
 use Rattle.object_file.specs.Kinds.{kind_of}
 use Rattle.object_file.specs.Symbols.{symbols_in}
 use Rattle.object_parts.specs.Content.{ProgramContent, FunctionContent, key_cmp}

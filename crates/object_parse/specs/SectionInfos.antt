@@ -1,11 +1,11 @@
 -- What the object's extension says of the functions of a section.
 use Rattle.std.specs.Prelude.{ℕ, List, [], Option, unwrap_or}
 use Rattle.std.specs.Option.{option_map_or}
-use Rattle.btf_extension.specs.Extensions.{Extension}
-use Rattle.btf_extension.specs.declared.record.bpf_func_info.{bpf_func_info}
-use Rattle.btf_extension.specs.declared.record.bpf_line_info.{bpf_line_info}
+use Rattle.btf_ext.specs.Extensions.{Extension}
+use Rattle.btf_ext.specs.declared.record.bpf_func_info.{bpf_func_info}
+use Rattle.btf_ext.specs.declared.record.bpf_line_info.{bpf_line_info}
 use Rattle.elf64.specs.Sections.{Section}
-use Rattle.function_records.specs.Kept.{section_content}
+use Rattle.object_parse.specs.Kept.{section_content}
 
 -- records of functions and of lines, and their sizes in bytes
 pub record SectionInfo : Type 0 where

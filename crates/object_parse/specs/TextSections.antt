@@ -7,7 +7,7 @@ use Rattle.std.specs.Option.{option_map_or}
 use Rattle.elf64.specs.Sections.{Section}
 use Rattle.elf64.specs.Symbols.{Symbol}
 use Rattle.ebpf_items.specs.Instruction.{slots_of}
-use Rattle.function_records.specs.Kept.{kept_functions, kept_lines}
+use Rattle.object_parse.specs.Kept.{kept_functions, kept_lines}
 use Rattle.object_file.specs.Kinds.{kind_of}
 use Rattle.object_file.specs.Symbols.{symbols_in}
 use Rattle.object_parts.specs.Content.{FunctionContent, key_cmp}

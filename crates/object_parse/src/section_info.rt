@@ -4,8 +4,8 @@ ghost use Rattle.std.specs.Prelude.{◌≡◌, IfOk};
 ghost use Rattle.std.specs.Option.{option_copied};
 ghost use Rattle.object_parse.specs.SectionInfos.{info_of};
 
-use btf_extension::BtfExt;
-use function_records::SectionRecords;
+use btf_ext::BtfExt;
+use crate::section_records::SectionRecords;
 use object_file::ReadSection;
 use std::alloc::{AllocError, Global};
 use std::collections::BTreeMap;
@@ -86,7 +86,7 @@ impl<'a, 'e> Model for SectionInfos<'a, 'e> {
     ghost use Rattle.std.specs.Prelude.{Option};
     ghost use Rattle.std.specs.Map.{values_of};
     ghost use Rattle.std.specs.Option.{option_copied};
-    ghost use Rattle.btf_extension.specs.Extensions.{Extension};
+    ghost use Rattle.btf_ext.specs.Extensions.{Extension};
     ghost use Rattle.object_parse.specs.KnownInfos.{AreKnown};
 
     ghost Value = { Option Extension };

@@ -14,7 +14,7 @@ use crate::code_builder::CodeBuilder;
 use crate::program_sections::add_programs;
 use crate::section_info::SectionInfos;
 use crate::text_sections::add_text;
-use btf_extension::BtfExt;
+use btf_ext::BtfExt;
 use ebpf_items::{EbpfSectionKind, ParseError};
 use object_file::{ObjectFile, ReadSection};
 use object_parts::Code;

@@ -5,7 +5,7 @@ use Rattle.std.specs.Ordering.{nat_cmp}
 use Rattle.std.specs.Cmp.Lexicographic.{slice_cmp}
 use Rattle.std.specs.List.{AllZip}
 use Rattle.std.specs.List.Sorted.{IsStrictlySortedBy}
-use Rattle.text_order.specs.Orders.{texts_of}
+use Rattle.string_map.specs.Orders.{texts_of}
 use Rattle.object_parts.specs.Names.{by_bytes}
 
 names : {V : Type 0} (entries : List (Bor (List ℕ) × V)) → texts_of entries ≡ map (λ e. e.0) (by_bytes entries)

@@ -10,7 +10,7 @@ use crate::by_name::Programs;
 use crate::program::Program;
 use std::alloc::{AllocError, Global};
 use std::marker::Model;
-use text_order::TextMapBuilder;
+use string_map::TextMapBuilder;
 
 /// Programs that are entered by name one after the other, and put in order once.
 #[derive(Debug)]

@@ -11,7 +11,7 @@ ghost use Rattle.object_parts.specs.Names.{by_bytes};
 use crate::program::Program;
 use std::alloc::{AllocError, Global};
 use std::marker::Model;
-use text_order::{Iter, TextMap};
+use string_map::{Iter, TextMap};
 
 /// The programs of an object, by name.
 #[derive(Debug)]

@@ -4,7 +4,7 @@ ghost use Rattle.std.specs.Prelude.{◌≡◌, ◌≤◌, IfOk};
 ghost use Rattle.object_parts.specs.Geometry.{end_of, is_inside, with_instructions};
 
 use crate::matched_tables::MatchedTables;
-use btf_extension::{FuncSecInfo, LineSecInfo};
+use btf_ext::{FuncSecInfo, LineSecInfo};
 use ebpf_items::Slots;
 use std::alloc::AllocError;
 use std::marker::Model;

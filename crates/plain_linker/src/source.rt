@@ -7,7 +7,7 @@ ghost use Rattle.function_layout.specs.Layout.{ref_at};
 ghost use Rattle.linker.specs.Unlinked.{function_in, key_at, ref_of, table_of};
 
 use ebpf_items::bpf_insn;
-use function_references::{Target, target_of};
+use linker::{Target, target_of};
 use object_file::ObjectFile;
 use object_parts::{Function, Functions};
 use std::alloc::Global;

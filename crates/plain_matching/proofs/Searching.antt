@@ -1,14 +1,14 @@
 -- A search, one struct or union after the other.
 use Rattle.std.proofs.Common.{◌≡◌, ℕ, zero, suc, ◌+◌, ◌-◌, ◌<◌, ◌++◌, List, [], ◌∷◌, length, Ok, Err, false, true, None, Some, Option, Result, refl, arith, add-one, ap, ◌∙◌}
-use Rattle.access_paths.specs.Lookups.{and_then, with_type}
-use Rattle.access_paths.specs.declared.error.AccessError.{AccessError}
-use Rattle.access_paths.specs.declared.error.AccessError.TheVariants.{MaximumNestingLevelReached}
+use Rattle.core_spec.specs.Lookups.{and_then, with_type}
+use Rattle.core_spec.specs.declared.error.AccessError.{AccessError}
+use Rattle.core_spec.specs.declared.error.AccessError.TheVariants.{MaximumNestingLevelReached}
 use Rattle.btf_records.specs.Fields.{members_of}
 use Rattle.btf_records.specs.declared.item.BtfMember.{BtfMember}
 use Rattle.btf_records.specs.declared.types.BtfType.{BtfType}
-use Rattle.member_looks.specs.Looks.{Search, look_at, look_inside}
-use Rattle.member_search.specs.Searches.{by_look, found_in, is_among, member_here, members_found}
-use Rattle.member_search.specs.declared.search.Found.{Found}
+use Rattle.core_members.specs.Looks.{Search, look_at, look_inside}
+use Rattle.core_members.specs.Searches.{by_look, found_in, is_among, member_here, members_found}
+use Rattle.core_members.specs.declared.search.Found.{Found}
 use Rattle.string_table.specs.Texts.{text_at}
 
 pub none_left : (s : Search) (ids : List ℕ) (id : ℕ) (bits : Option ℕ) (n : ℕ) → n ≡ 0 → found_in n s ids id bits ≡ Err MaximumNestingLevelReached

@@ -3,8 +3,8 @@ use Rattle.std.proofs.Common.{◌≡◌, ℕ, zero, suc, ◌+◌, List, [], ◌�
 use Rattle.std.proofs.lemmas.Grind.{flat_map-append}
 use Rattle.std.proofs.lemmas.List.FromFn.{map-range_with_len_more}
 use Rattle.std.specs.List.{flat_map, range_with_len}
-use Rattle.type_candidates.specs.Candidates.{first_types}
-use Rattle.type_candidates.specs.declared.kernel_type.KernelType.{KernelType}
+use Rattle.core_candidates.specs.Candidates.{first_types}
+use Rattle.core_candidates.specs.declared.kernel_type.KernelType.{KernelType}
 
 pub next_id : (table id : ℕ) → first_types table (id + 1) ≡ first_types table id ++ record { table = table; type_id = id } ∷ []
 next_id table id = map-range_with_len_more (λ i. record { table = table; type_id = i }) 0 id id (omega arith)

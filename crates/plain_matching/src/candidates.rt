@@ -1,15 +1,15 @@
 //! The types of a kernel's tables that may be taken for a local one.
 
 ghost use Rattle.std.specs.Prelude.{◌≡◌, ◌≢◌, ◌≤◌, ◌^◌, filter, find, MatchResult, IfOk, IfErr, Ok, Err};
-ghost use Rattle.type_candidates.specs.Candidates.{all_types, candidates, first_types, is_candidate, is_named, is_of_kind, is_unreadable, is_unreadable_at, name_offset_at, types_at, wanted_for};
-ghost use Rattle.type_candidates.specs.declared.error.CandidateError.TheVariants.{OutOfMemory};
+ghost use Rattle.core_candidates.specs.Candidates.{all_types, candidates, first_types, is_candidate, is_named, is_of_kind, is_unreadable, is_unreadable_at, name_offset_at, types_at, wanted_for};
+ghost use Rattle.core_candidates.specs.declared.error.CandidateError.TheVariants.{OutOfMemory};
 
 use btf_encoding::TypeRef;
 use btf_records::{BtfError, BtfKind};
 use btf_tables::{Btf, essential_name};
 use std::alloc::{AllocError, Global};
 use std::marker::Model;
-use type_candidates::{CandidateError, KernelType};
+use core_candidates::{CandidateError, KernelType};
 
 /// The kind and the name that are wanted.
 #[derive(Drop)]
@@ -20,7 +20,7 @@ pub struct PlainWanted<'l> {
 }
 
 impl<'l> Model for PlainWanted<'l> {
-    ghost use Rattle.type_candidates.specs.Candidates.{Wanted};
+    ghost use Rattle.core_candidates.specs.Candidates.{Wanted};
 
     ghost Value = { Wanted };
 

@@ -1,7 +1,7 @@
 //! Plain matching: the definitions of what type relocations come to, clause by clause, without
 //! regard to time.
 //!
-//! Each function computes what one definition of `member_search`, `type_candidates` or `type_match`
+//! Each function computes what one definition of `core_members`, `core_candidates` or `core_resolve`
 //! says, from the beginning each time and by recursion where the definition has one. It is there
 //! for tests to compare those crates with.
 #![tactic(auto)]

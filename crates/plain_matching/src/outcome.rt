@@ -2,21 +2,21 @@
 
 ghost use Rattle.std.specs.Prelude.{◌≡◌, ◌≢◌, ◌++◌, [], IfOk, IfErr, Ok, Err};
 ghost use Rattle.std.specs.Option.{option_to_list};
-ghost use Rattle.type_match.specs.Matches.{kernel_matches, match_at, match_in, match_of, matches_of, searched_tables};
-ghost use Rattle.type_match.specs.RelocationOutcomes.{decided, first_table, local_value, relocation_outcome, settled};
-ghost use Rattle.type_match.specs.declared.error.TypeRelocationError.TheVariants.{OutOfMemory};
-ghost use Rattle.access_paths.specs.declared.error.AccessError.TheVariants.{BtfError as TypeError};
+ghost use Rattle.core_resolve.specs.Matches.{kernel_matches, match_at, match_in, match_of, matches_of, searched_tables};
+ghost use Rattle.core_resolve.specs.RelocationOutcomes.{decided, first_table, local_value, relocation_outcome, settled};
+ghost use Rattle.core_resolve.specs.declared.error.TypeRelocationError.TheVariants.{OutOfMemory};
+ghost use Rattle.core_spec.specs.declared.error.AccessError.TheVariants.{BtfError as TypeError};
 ghost use Rattle.btf_records.specs.declared.error.BtfError.TheVariants.{OutOfMemory as NoMemory};
 
 use crate::candidates::{PlainWanted, plain_candidates};
-use access_paths::{AccessError, AccessPath, RelocationValue, local_path, path_value, subject_of};
+use core_spec::{AccessError, AccessPath, RelocationValue, local_path, path_value, subject_of};
 use btf_records::BtfError;
 use btf_tables::Btf;
 use ebpf_items::RelocationKind;
-use matching_paths::matching_path;
+use core_match::matching_path;
 use std::alloc::AllocError;
-use type_candidates::KernelType;
-use type_match::{
+use core_candidates::KernelType;
+use core_resolve::{
     Match, Outcome, RelocationOutcome, TypeRelocation, TypeRelocationError, outcome_of,
 };
 
@@ -123,7 +123,7 @@ fn with_match(matches: Vec<Match>, found: Option<Match>) -> Result<Vec<Match>, A
 }
 
 /// The matches so far, and those of these candidates.
-#[tactic(auto, unfolding(type_match::specs::Matches::matches_of))]
+#[tactic(auto, unfolding(core_resolve::specs::Matches::matches_of))]
 fn matches_of<'t>(
     kind: RelocationKind,
     local: &Btf<'t>,

@@ -1,19 +1,19 @@
 //! Members by name.
 
 ghost use Rattle.std.specs.Prelude.{◌≡◌, ◌≢◌, ◌+◌, ◌<◌, IfOk, IfErr, Ok, Err, length};
-ghost use Rattle.member_looks.specs.Looks.{is_composite, look_inside, searched};
-ghost use Rattle.access_paths.specs.Lookups.{and_then};
-ghost use Rattle.member_search.specs.Searches.{by_look, found_in, is_among, member_found, member_here, members_found};
-ghost use Rattle.access_paths.specs.declared.error.AccessError.TheVariants.{BtfError as TypeError};
+ghost use Rattle.core_members.specs.Looks.{is_composite, look_inside, searched};
+ghost use Rattle.core_spec.specs.Lookups.{and_then};
+ghost use Rattle.core_members.specs.Searches.{by_look, found_in, is_among, member_found, member_here, members_found};
+ghost use Rattle.core_spec.specs.declared.error.AccessError.TheVariants.{BtfError as TypeError};
 ghost use Rattle.btf_records.specs.Fields.{members_of};
 ghost use Rattle.btf_records.specs.declared.error.BtfError.TheVariants.{OutOfMemory};
 
-use access_paths::{AccessError, Place, bits_after};
+use core_spec::{AccessError, Place, bits_after};
 use btf_compatibility::fields_are_compatible;
 use btf_encoding::TypeRef;
 use btf_records::{BtfKind, BtfMember, BtfType};
 use btf_tables::Btf;
-use member_search::Found;
+use core_members::Found;
 use std::marker::Model;
 
 /// What is searched for in a table: a name, and a type of another table that is to be compatible.
@@ -26,7 +26,7 @@ pub(crate) struct Sought<'s, 't> {
 }
 
 impl<'s, 't> Model for Sought<'s, 't> {
-    ghost use Rattle.member_looks.specs.Looks.{Search, searched};
+    ghost use Rattle.core_members.specs.Looks.{Search, searched};
 
     ghost Value = { Search };
 

@@ -6,7 +6,7 @@ use Rattle.load_plan.specs.Inputs.{Inputs, State, Under}
 use Rattle.load_plan.specs.Known.{IsPlanFor, IsRefusalFor}
 use Rattle.load_plan.specs.Passes.{Refused, passes}
 use Rattle.load_plan.specs.Planned.{IsPlanOf, IsWholeObject}
-use Rattle.prepare_errors.specs.declared.error.PrepareError.{PrepareError}
+use Rattle.plan_errors.specs.declared.error.PrepareError.{PrepareError}
 use Rattle.load_plan.specs.declared.order.Order.{Order}
 use Rattle.load_plan.specs.declared.order.Order.TheVariants.{RelocateFirst, RewriteFirst}
 use Rattle.plan_laws.proofs.Determining.{agree-itself, agree-known, for-object, is-made, not-both, not-faulty, plan-one, said-same, whole-sound}
@@ -16,7 +16,7 @@ use Rattle.plan_laws.proofs.Passes.{Agree, Sound}
 use Rattle.plan_laws.specs.Determined.{IsKnown, IsPlanUnder, IsRefusalUnder}
 use Rattle.plan_laws.specs.Orders.{IsMadePlan, IsOrderFree, IsOrderFreeFor, OrdersPlanAlike, OrdersRefuseAlike, in_order}
 use Rattle.plan_text.specs.Content.{PlanContent}
-use Rattle.type_relocation.specs.Laws.{RelocationsRest}
+use Rattle.core_relocation.specs.Laws.{RelocationsRest}
 
 -- a plan in one order, in the other
 to-order : (law : RelocationsRest) (order other : Order) (i : Inputs) (u : Under) (object : State)

@@ -9,8 +9,8 @@ use Rattle.btf_records.specs.declared.kind.BtfKind.{BtfKind}
 use Rattle.btf_records.specs.declared.kind.BtfKind.TheVariants as kinds
 use Rattle.btf_records.specs.declared.types.BtfType.{BtfType}
 use Rattle.btf_encoding.specs.Records.{count_of}
-use Rattle.btf_sanitizing.specs.Answers.{Answers, answer_to, features, granted, is_same, noted, noted_all, feature_number}
-use Rattle.btf_sanitizing.specs.Needs.{AreQuestions, is_empty_section, needs_as, needs_of, stays_global}
+use Rattle.btf_sanitize.specs.Answers.{Answers, answer_to, features, granted, is_same, noted, noted_all, feature_number}
+use Rattle.btf_sanitize.specs.Needs.{AreQuestions, is_empty_section, needs_as, needs_of, stays_global}
 use Rattle.string_table.specs.Texts.{text_at}
 use Rattle.load_plan.specs.Known.{GoByFeature}
 

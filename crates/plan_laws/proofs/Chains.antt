@@ -5,7 +5,7 @@ use Rattle.btf_tables.specs.Tables.{Table}
 use Rattle.function_layout.specs.Theorems.{LayoutIsUnique}
 use Rattle.load_plan.specs.Inputs.{Inputs, State, Under}
 use Rattle.load_plan.specs.Passes.{ExternSlots, Helpers, Links, Made, Makes, MapSlots, Pass, Refused, Types, linking, patching}
-use Rattle.prepare_errors.specs.declared.error.PrepareError.{PrepareError}
+use Rattle.plan_errors.specs.declared.error.PrepareError.{PrepareError}
 use Rattle.load_plan.specs.declared.order.Order.{Order}
 use Rattle.load_plan.specs.declared.order.Order.TheVariants.{RelocateFirst, RewriteFirst}
 use Rattle.plan_laws.proofs.Passes.{Agree, Needs, Sound, answers-same, makes-one, refuses-not, stays-sound}

@@ -3,13 +3,13 @@ use Rattle.std.proofs.Common.{◌≡◌, ◌==◌, ℕ, zero, suc, ◌-◌, Bool
 use Rattle.std.specs.List.{AllByRecursion, AllZip}
 use Rattle.std.specs.Option.{option_map, unwrap_or}
 use Rattle.btf_encoding.specs.Records.{without_fallback}
-use Rattle.btf_parts.specs.Ids.{record_of_id}
+use Rattle.btf_storage.specs.Ids.{record_of_id}
 use Rattle.btf_records.specs.declared.types.BtfType.{BtfType}
 use Rattle.btf_records.specs.declared.types.BtfType.TheVariants as types
 use Rattle.btf_records.specs.declared.words.Endianness.{Endianness}
-use Rattle.btf_sanitizing.specs.Answers.{Answers, granted}
-use Rattle.btf_sanitizing.specs.Kept.{AllGranted, needed_after}
-use Rattle.btf_rewriting.specs.Sanitizing.{stepped}
+use Rattle.btf_sanitize.specs.Answers.{Answers, granted}
+use Rattle.btf_sanitize.specs.Kept.{AllGranted, needed_after}
+use Rattle.btf_rewrite.specs.Sanitizing.{stepped}
 use Rattle.btf_tables.specs.Sections.{HoldsTable, without_fallbacks}
 use Rattle.btf_tables.specs.Tables.{Table}
 use Rattle.ebpf_object.specs.Rewriting.{IsRewritten, IsRewrittenIf}
@@ -19,7 +19,7 @@ use Rattle.load_plan.specs.Passes.{ExternSlots, Externs, FunctionRecords, Global
 use Rattle.load_plan.specs.Planned.{IsPlanOf}
 use Rattle.load_plan.specs.Programs.{ArePlanPrograms, func_records_of, own_key, source}
 use Rattle.object_parts.specs.Content.{ProgramContent}
-use Rattle.object_plan.specs.Plans.{HoldsTypeBytes}
+use Rattle.plan_contents.specs.Plans.{HoldsTypeBytes}
 use Rattle.plan_laws.proofs.Kept.{made-keeps}
 use Rattle.plan_laws.specs.Programs.{AreDescribed, IsDescribed, PlanProgramsAreDescribed, TypesAreGranted}
 use Rattle.plan_text.specs.Content as plan

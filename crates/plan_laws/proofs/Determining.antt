@@ -1,7 +1,7 @@
 -- Plans and refusals are determined by inputs and answers.
 use Rattle.std.proofs.Common.{◌≡◌, inl, inr, ℕ, Bool, true, List, [], ◌∷◌, ◌++◌, map, Option, None, Some, is_some, refl, sym, ap, ap₂, ◌∙◌, subst}
 use Rattle.btf_records.specs.declared.feature.BtfFeature.{BtfFeature}
-use Rattle.btf_sanitizing.specs.Answers.{Answers}
+use Rattle.btf_sanitize.specs.Answers.{Answers}
 use Rattle.ebpf_items.specs.declared.instruction.bpf_insn.{bpf_insn}
 use Rattle.ebpf_object.specs.Faults.{HasFault}
 use Rattle.function_layout.specs.Layout.{Key}
@@ -10,18 +10,18 @@ use Rattle.load_plan.specs.Inputs.{Inputs, IsSaid, State, Under}
 use Rattle.load_plan.specs.Known.{GoByFeature, IsPlanFor, IsRefusalFor}
 use Rattle.load_plan.specs.Passes.{ExternSlots, Externs, FunctionRecords, GlobalValues, Helpers, KernelTypes, Made, MapNumbers, MapSlots, OfParse, Pass, Refused, TypeSlots, Types, linking, passes, patching}
 use Rattle.load_plan.specs.Planned.{IsPlanOf, IsWholeObject}
-use Rattle.prepare_errors.specs.declared.error.PrepareError.{PrepareError}
+use Rattle.plan_errors.specs.declared.error.PrepareError.{PrepareError}
 use Rattle.load_plan.specs.declared.order.Order.{Order}
 use Rattle.load_plan.specs.declared.order.Order.TheVariants.{RelocateFirst, RewriteFirst}
 use Rattle.object_parts.specs.Content.{FunctionContent, ProgramContent, function_at}
-use Rattle.object_plan.specs.Plans.{plan_of, plan_program_of, program_of, type_bytes}
+use Rattle.plan_contents.specs.Plans.{plan_of, plan_program_of, program_of, type_bytes}
 use Rattle.plan_laws.proofs.Asked.{asked-same}
 use Rattle.plan_laws.proofs.Chains.{blind-same, has_types, made-answers, made-not-refused, made-one, made-parts, made-sound, made-whole, passes-need, patching-needs}
 use Rattle.plan_laws.proofs.Parsed.{whole-rises, whole-same}
 use Rattle.plan_laws.proofs.Passes.{Agree, Needs, Sound, of-parse}
 use Rattle.plan_laws.specs.Determined.{FeaturesLeaveSlotsAndMaps, IsKnown, IsPlanUnder, IsRefusalUnder, PlansAreDetermined, PlansExcludeRefusals, SameSlotsAndMaps, slots_of}
 use Rattle.plan_laws.specs.Orders.{IsMadePlan}
-use Rattle.plan_maps.specs.PlanMaps.{plan_map}
+use Rattle.plan_contents.specs.PlanMaps.{plan_map}
 use Rattle.plan_text.specs.Content.{PlanContent}
 use Rattle.plan_text.specs.PlanGrammar.{text_of}
 use Rattle.program_kinds.specs.declared.program_section.ProgramSection.{ProgramSection}

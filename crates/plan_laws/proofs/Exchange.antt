@@ -2,10 +2,10 @@
 use Rattle.std.proofs.Common.{◌≡◌, ◌==◌, ℕ, Bool, true, false, List, length, None, Some, Option, refl, sym, ap, subst, ◌∙◌}
 use Rattle.std.specs.Prelude.{All, IfSome, is_some, unwrap_or}
 use Rattle.std.specs.Option.{MatchOption}
-use Rattle.access_paths.specs.Laws.{AreAlike}
-use Rattle.btf_extension.specs.Extensions.{Extension}
+use Rattle.core_spec.specs.Laws.{AreAlike}
+use Rattle.btf_ext.specs.Extensions.{Extension}
 use Rattle.btf_records.specs.declared.types.BtfType.{BtfType}
-use Rattle.btf_sanitizing.specs.Answers.{Answers}
+use Rattle.btf_sanitize.specs.Answers.{Answers}
 use Rattle.btf_tables.specs.GrownTables.{TextsStay}
 use Rattle.btf_tables.specs.Holdings.{held_names}
 use Rattle.btf_tables.specs.Tables.{Table, type_by_id}
@@ -19,10 +19,10 @@ use Rattle.object_externs.specs.Externs.{ExternsContent}
 use Rattle.object_parts.specs.Content.{FunctionContent}
 use Rattle.plan_text.specs.Content.{PlanContent}
 use Rattle.string_table.specs.Texts.{text_at}
-use Rattle.type_relocation.specs.Faults.{CanBeRelocated, HasTypesFault}
-use Rattle.type_relocation.specs.Laws.{AgreeOnReach, RelocationsRest}
-use Rattle.type_relocation.specs.Relocations.{Groups, types_given}
-use Rattle.type_relocation.specs.Writes.{AreRelocated}
+use Rattle.core_relocation.specs.Faults.{CanBeRelocated, HasTypesFault}
+use Rattle.core_relocation.specs.Laws.{AgreeOnReach, RelocationsRest}
+use Rattle.core_relocation.specs.Relocations.{Groups, types_given}
+use Rattle.core_relocation.specs.Writes.{AreRelocated}
 use Rattle.relocation_errors.specs.declared.type_relocations.BtfRelocationCause.{BtfRelocationCause}
 use Rattle.plan_laws.specs.Orders.{IsMadePlan, IsOrderFree, IsReach, IsReadable, OrdersAgree, StaysReached, in_order}
 

@@ -14,8 +14,8 @@ use Rattle.plan_laws.proofs.Kept.{made-keeps}
 use Rattle.plan_laws.proofs.Parsed.{maps-rise}
 use Rattle.plan_laws.proofs.Values.{Stays, kept}
 use Rattle.plan_laws.specs.Maps.{IsMapOf, IsOutside, MapsKeepLengths}
-use Rattle.plan_maps.specs.Numbers.{are_numbered, set_number}
-use Rattle.plan_maps.specs.PlanMaps.{plan_map}
+use Rattle.plan_contents.specs.Numbers.{are_numbered, set_number}
+use Rattle.plan_contents.specs.PlanMaps.{plan_map}
 use Rattle.plan_text.specs.Content.{PlanContent}
 use Rattle.settings.specs.Content.{SettingsContent}
 

@@ -6,11 +6,11 @@ use Rattle.std.specs.Map.{keys_of}
 use Rattle.std.specs.Option.{option_map, unwrap_or}
 use Rattle.std.specs.String.{string_bytes}
 use Rattle.std.proofs.lemmas.Slice.Eq.{bytes_eq-Decides}
-use Rattle.btf_parts.specs.Faultless.{IsFaultless}
+use Rattle.btf_storage.specs.Faultless.{IsFaultless}
 use Rattle.btf_records.specs.declared.error.BtfError.{BtfError}
-use Rattle.btf_sanitizing.specs.Answers.{Answers}
-use Rattle.btf_sanitizing.specs.Sanitized.{SanitizingFault}
-use Rattle.btf_rewriting.specs.Sanitizing.{StepFault, facts_in, sanitized, stepped}
+use Rattle.btf_sanitize.specs.Answers.{Answers}
+use Rattle.btf_sanitize.specs.Sanitized.{SanitizingFault}
+use Rattle.btf_rewrite.specs.Sanitizing.{StepFault, facts_in, sanitized, stepped}
 use Rattle.btf_tables.specs.Tables.{Table}
 use Rattle.ebpf_items.specs.Maps.{MapView}
 use Rattle.ebpf_items.specs.declared.error.ParseError.{ParseError}
@@ -27,15 +27,15 @@ use Rattle.linker.specs.Linked.{AllCanBeLinked, AreLinked, HasFaultOf, IsLinked,
 use Rattle.linker.specs.Unlinked.{Unlinked, table_of}
 use Rattle.load_plan.specs.Inputs.{Inputs, State, Under, keeps_helpers}
 use Rattle.load_plan.specs.Passes.{CannotPutValues, CannotRelocateTypes, CannotResolve, CannotWriteExterns, CannotWriteNumbers, ExternSlots, Externs, FunctionRecords, GlobalValues, HasNamelessRecord, Helpers, KernelTypes, LacksKernelTypes, LacksNumber, Links, Makes, MapNumbers, MapSlots, OfKsyms, OfParse, OfRelocation, OfTypeRelocation, OfTypes, Pass, Refuses, TypeSlots, Types, first_table, lacks_kernel_types, maps_given, rule_of_externs, unlinked_of}
-use Rattle.prepare_errors.specs.declared.error.PrepareError.{PrepareError}
-use Rattle.prepare_errors.specs.declared.error.PrepareError.TheVariants as error
+use Rattle.plan_errors.specs.declared.error.PrepareError.{PrepareError}
+use Rattle.plan_errors.specs.declared.error.PrepareError.TheVariants as error
 use Rattle.object_externs.specs.Externs.{ExternsContent}
 use Rattle.object_parts.specs.Content.{FunctionContent, ProgramContent, function_at, key_cmp}
 use Rattle.object_parts.specs.Installed.{AreChanged}
 use Rattle.plan_laws.proofs.Entries.{same-entries}
 use Rattle.plan_laws.proofs.Parsed.{Rising, keys-total}
 use Rattle.plan_laws.proofs.Resolved.{IsUnread, fault-unread, resolved-same, stays-unread}
-use Rattle.plan_maps.specs.Numbers.{are_numbered, is_unnumbered, set_number}
+use Rattle.plan_contents.specs.Numbers.{are_numbered, is_unnumbered, set_number}
 use Rattle.relocation_errors.specs.declared.error.EbpfRelocationError.{EbpfRelocationError}
 use Rattle.relocation_errors.specs.declared.error.RelocationError.{RelocationError}
 use Rattle.settings.specs.Content.{SettingsContent}

@@ -16,7 +16,7 @@ use Rattle.ebpf_items.specs.Maps.{MapView}
 use Rattle.elf64.specs.Symbols.{Symbol}
 use Rattle.object_file.specs.Symbols.{last_named}
 use Rattle.object_maps.specs.Overwritten.{map_overwritten, overwritten, with_bytes}
-use Rattle.global_values.specs.Content.{GlobalContent}
+use Rattle.settings.specs.ValuesContent.{GlobalContent}
 use Rattle.global_data.specs.GlobalData.{GlobalFault, Write, bad_data, global_fault, map_fault, map_of, or_fault, patched_one, symbol_fault, write_over, written}
 use Rattle.plan_laws.specs.Maps.{IsOutside, IsPutOver}
 

@@ -7,9 +7,9 @@ use Rattle.global_data.specs.GlobalData.{map_of}
 use Rattle.load_plan.specs.Inputs.{Inputs, State, Under}
 use Rattle.load_plan.specs.Planned.{IsPlanOf, IsWholeObject}
 use Rattle.object_file.specs.Symbols.{last_named}
-use Rattle.plan_maps.specs.Numbers.{set_number}
+use Rattle.plan_contents.specs.Numbers.{set_number}
 use Rattle.plan_text.specs.Content.{MapContent, PlanContent}
-use Rattle.global_values.specs.Content.{GlobalContent}
+use Rattle.settings.specs.ValuesContent.{GlobalContent}
 
 -- an object's maps, and a value for each global variable that one is set for
 abbrev pub Maps : Type 0

@@ -2,7 +2,7 @@
 use Rattle.std.specs.Prelude.{◌≡◌, ℕ, Bool, true, map, All, IfSome, Some, is_some}
 use Rattle.btf_records.specs.declared.feature.BtfFeature.{BtfFeature}
 use Rattle.btf_records.specs.declared.types.BtfType.{BtfType}
-use Rattle.btf_sanitizing.specs.Answers.{Answers}
+use Rattle.btf_sanitize.specs.Answers.{Answers}
 use Rattle.btf_tables.specs.Holdings.{held_ids, held_names}
 use Rattle.btf_tables.specs.Tables.{Table, type_by_id}
 use Rattle.ebpf_object.specs.Rewriting.{IsRewritten}
@@ -11,15 +11,15 @@ use Rattle.load_plan.specs.Inputs.{Inputs, State, Under}
 use Rattle.load_plan.specs.Known.{GoByFeature, IsPlanFor, IsRefusalFor}
 use Rattle.load_plan.specs.Passes.{Made, linking, patching}
 use Rattle.load_plan.specs.Planned.{IsWholeObject}
-use Rattle.prepare_errors.specs.declared.error.PrepareError.{PrepareError}
+use Rattle.plan_errors.specs.declared.error.PrepareError.{PrepareError}
 use Rattle.load_plan.specs.declared.order.Order.{Order}
 use Rattle.load_plan.specs.declared.order.Order.TheVariants.{RelocateFirst, RewriteFirst}
-use Rattle.object_plan.specs.Plans.{plan_of}
+use Rattle.plan_contents.specs.Plans.{plan_of}
 use Rattle.plan_laws.specs.Determined.{IsKnown, IsPlanUnder, IsRefusalUnder}
-use Rattle.plan_maps.specs.PlanMaps.{plan_map}
+use Rattle.plan_contents.specs.PlanMaps.{plan_map}
 use Rattle.plan_text.specs.Content.{PlanContent}
 use Rattle.string_table.specs.Texts.{text_at}
-use Rattle.type_relocation.specs.Relocations.{Groups}
+use Rattle.core_relocation.specs.Relocations.{Groups}
 
 -- the same inputs, with the passes on types in an order
 abbrev pub in_order : Order → Inputs → Inputs

@@ -1,8 +1,8 @@
 -- What each program of a plan is, described by itself.
 use Rattle.std.specs.Prelude.{◌≡◌, ℕ, List, Option, Some, None}
 use Rattle.std.specs.List.{AllZip}
-use Rattle.btf_sanitizing.specs.Answers.{Answers}
-use Rattle.btf_rewriting.specs.Sanitizing.{stepped}
+use Rattle.btf_sanitize.specs.Answers.{Answers}
+use Rattle.btf_rewrite.specs.Sanitizing.{stepped}
 use Rattle.btf_tables.specs.Sections.{HoldsTable}
 use Rattle.btf_tables.specs.Tables.{Table}
 use Rattle.function_layout.specs.Layout.{IsLayout, Key, Table as Functions, linked}
@@ -14,7 +14,7 @@ use Rattle.load_plan.specs.Passes.{Made, patching, unlinked_of}
 use Rattle.load_plan.specs.Planned.{IsPlanOf}
 use Rattle.load_plan.specs.Programs.{func_records_of, own_key, source}
 use Rattle.object_parts.specs.Content as parts
-use Rattle.object_plan.specs.Plans.{AllName}
+use Rattle.plan_contents.specs.Plans.{AllName}
 use Rattle.plan_text.specs.Content.{PlanContent, ProgramContent}
 
 -- The bytes of a plan's types hold a table, of which the record of each id needs features alone

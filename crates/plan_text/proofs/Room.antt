@@ -3,7 +3,7 @@ use Rattle.std.proofs.Common.{◌≡◌, suc, ◌+◌, ◌<◌, ◌≤◌, true,
 use Rattle.std.specs.Prelude.{◌||◌}
 use Rattle.btf_records.specs.declared.feature.BtfFeature.{BtfFeature}
 use Rattle.btf_records.specs.declared.feature.BtfFeature.TheVariants.{Func, FuncGlobal, DataSec, DataSecZero, Float, DeclTag, TypeTag, Enum64}
-use Rattle.btf_sanitizing.specs.Answers.{Answers, AreDistinct, features, is_same, times}
+use Rattle.btf_sanitize.specs.Answers.{Answers, AreDistinct, features, is_same, times}
 use Rattle.plan_text.specs.Machine.{is_asked}
 
 pub times_none : (f : BtfFeature) (answers : Answers) → is_asked answers f ≡ false → times f (features answers) ≡ 0

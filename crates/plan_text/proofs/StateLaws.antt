@@ -14,10 +14,10 @@ use Rattle.std.proofs.lemmas.Int.{of_z-to_z}
 use Rattle.std.proofs.lemmas.List.{map-append}
 use Rattle.std.proofs.lemmas.List.Elements.{All-cons, All-drop, All-head, All-nil, All-push, All-tail, All-take}
 use Rattle.std.proofs.lemmas.Nat.{le_bytes_2, le_bytes_4}
-use Rattle.btf_extension.specs.declared.record.bpf_func_info.{bpf_func_info}
-use Rattle.btf_extension.specs.declared.record.bpf_line_info.{bpf_line_info}
+use Rattle.btf_ext.specs.declared.record.bpf_func_info.{bpf_func_info}
+use Rattle.btf_ext.specs.declared.record.bpf_line_info.{bpf_line_info}
 use Rattle.btf_records.specs.declared.feature.BtfFeature.{BtfFeature}
-use Rattle.btf_sanitizing.specs.Answers.{Answers, AreDistinct, features, is_same, feature_number, times}
+use Rattle.btf_sanitize.specs.Answers.{Answers, AreDistinct, features, is_same, feature_number, times}
 use Rattle.ebpf_items.specs.Instruction.{bytes_of, slot_of, slots_in, slots_of}
 use Rattle.object_file.specs.Version.{IsKnownVersion}
 use Rattle.plan_lines.specs.LineReading.{are_words_of}

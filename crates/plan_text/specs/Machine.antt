@@ -4,10 +4,10 @@ use Rattle.std.specs.Cmp.Lexicographic.{slice_cmp}
 use Rattle.std.specs.List.{list_any}
 use Rattle.std.specs.Option.{option_map}
 use Rattle.std.specs.Ordering.{is_lt, nat_cmp}
-use Rattle.btf_extension.specs.declared.record.bpf_func_info.{bpf_func_info}
-use Rattle.btf_extension.specs.declared.record.bpf_line_info.{bpf_line_info}
+use Rattle.btf_ext.specs.declared.record.bpf_func_info.{bpf_func_info}
+use Rattle.btf_ext.specs.declared.record.bpf_line_info.{bpf_line_info}
 use Rattle.btf_records.specs.declared.feature.BtfFeature.{BtfFeature}
-use Rattle.btf_sanitizing.specs.Answers.{Answers, is_same}
+use Rattle.btf_sanitize.specs.Answers.{Answers, is_same}
 use Rattle.ebpf_items.specs.Instruction.{slots_of}
 use Rattle.plan_lines.specs.LineReading.{are_words_of}
 use Rattle.plan_lines.specs.LineReads.{line_text}

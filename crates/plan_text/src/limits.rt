@@ -9,7 +9,7 @@ ghost use Rattle.plan_lines.specs.Words.{AreBytes};
 ghost use Rattle.plan_text.specs.Content.{FitsFunc, FitsMap, FitsProgram, FitsSlot, FitsSource};
 
 use crate::plan::{PlanMap, PlanProgram};
-use btf_extension::{FuncSecInfo, LineSecInfo, bpf_func_info, bpf_line_info};
+use btf_ext::{FuncSecInfo, LineSecInfo, bpf_func_info, bpf_line_info};
 use ebpf_items::{Slots, bpf_insn};
 use plan_lines::{MapWords, bytes_fit, words_fit};
 

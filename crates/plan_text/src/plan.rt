@@ -4,7 +4,7 @@ ghost use Rattle.std.specs.Prelude.{◌≡◌, Some, None};
 ghost use Rattle.std.specs.List.{All};
 ghost use Rattle.std.specs.Option.{option_map};
 ghost use Rattle.std.specs.String.{string_bytes};
-ghost use Rattle.btf_sanitizing.specs.Answers as answers;
+ghost use Rattle.btf_sanitize.specs.Answers as answers;
 ghost use Rattle.object_file.specs.License.{HasNoNul};
 ghost use Rattle.object_file.specs.Version.{IsKnownVersion};
 ghost use Rattle.plan_text.specs.Content.{map_names, plan_content, program_names, AreRising, AreTypeBytes, FitsMap, FitsProgram, IsPlan, IsSoundMap, IsSoundPlan, IsSoundProgram};
@@ -14,9 +14,9 @@ use crate::limits::{
     funcs_fit, inner_fits, maps_fit, programs_fit, slots_fit, sources_fit, type_bytes_fit,
     version_fits,
 };
-use btf_extension::{FuncSecInfo, LineSecInfo};
+use btf_ext::{FuncSecInfo, LineSecInfo};
 use btf_records::BtfFeature;
-use btf_sanitizing::Answers;
+use btf_sanitize::Answers;
 use ebpf_items::{ProgramSection, Slots};
 use plan_lines::{MapWords, bytes_fit, name_fits, words_fit};
 use std::alloc::Global;

@@ -8,7 +8,7 @@ ghost use Rattle.plan_lines.specs.Words.{text_of_lines};
 ghost use Rattle.plan_lines.specs.declared.line.TextVersion.TheVariants.{Second};
 
 use crate::plan::PlanProgram;
-use btf_extension::{FuncSecInfo, LineSecInfo, bpf_func_info, bpf_line_info};
+use btf_ext::{FuncSecInfo, LineSecInfo, bpf_func_info, bpf_line_info};
 use ebpf_items::{Slots, Watched};
 use plan_lines::{KindNumbers, kind_numbers, send_bytes, send_numbers, send_slots, send_tables};
 use std::io::Write;

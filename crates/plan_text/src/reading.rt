@@ -3,7 +3,7 @@
 ghost use Rattle.std.specs.Prelude.{◌≡◌, ◌<◌, ◌^◌, ◌++◌, ◌∷◌, Some, None, nat_lt, ◌+◌, ◌-◌, length, IfErr, IfOk, IsTrue, MatchOption, OnOk, ◌↔◌};
 ghost use Rattle.std.specs.Option.{option_map};
 ghost use Rattle.std.specs.String.{string_bytes};
-ghost use Rattle.btf_sanitizing.specs.Answers.{features, AreDistinct};
+ghost use Rattle.btf_sanitize.specs.Answers.{features, AreDistinct};
 ghost use Rattle.ebpf_items.specs.Instruction.{slots_of};
 ghost use Rattle.plan_lines.specs.LineViews.{line_view};
 ghost use Rattle.plan_lines.specs.WordReading.{IsUnbroken};
@@ -15,9 +15,9 @@ ghost use Rattle.plan_text.specs.declared.reading.PlanReadError.TheVariants.{Out
 
 use crate::plan::{Plan, PlanMap, PlanProgram};
 use arrayvec::ArrayVec;
-use btf_extension::{FuncSecInfo, LineSecInfo, bpf_func_info, bpf_line_info};
+use btf_ext::{FuncSecInfo, LineSecInfo, bpf_func_info, bpf_line_info};
 use btf_records::BtfFeature;
-use btf_sanitizing::Answers;
+use btf_sanitize::Answers;
 use ebpf_items::{ProgramSection, Slots, bpf_insn, copy_instructions};
 use plan_lines::{
     LineError, MapLine, MapWords, PlanLine, TextVersion, are_words_of, lines_are_unbroken,

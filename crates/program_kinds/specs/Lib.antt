@@ -1,4 +1,5 @@
 pub mod Attach
+pub mod Attributes
 pub mod Bindings
 pub mod ProgramSection
 pub mod SectionKind

@@ -5,11 +5,14 @@ pub mod attach;
 pub mod bindings;
 pub mod program_section;
 pub mod section_kind;
+mod attributes;
+mod numbers;
 
 pub use attach::{
     CgroupSkbAttachType, CgroupSockAddrAttachType, CgroupSockAttachType, CgroupSockoptAttachType,
     SkReuseportAttachType, SkSkbKind, XdpAttachType,
 };
+pub use attributes::{LoadAttributes, load_attributes};
 pub use bindings::{InvalidTypeBinding, bpf_attach_type, bpf_map_type, bpf_prog_type};
 pub use program_section::{InvalidSection, ProgramSection};
 pub use section_kind::EbpfSectionKind;

@@ -3,9 +3,9 @@
 use crate::rows::{ExternRow, RelocationRow, Rows};
 use crate::summary::Column;
 use crate::texts::{AnswerWords, extern_kind_word, presence_word};
-use extern_reports::Presence;
-use line_words::{QuotedText, Text};
-use relocation_reports::RelocationAnswer;
+use kernel_reports::Presence;
+use quoting::{QuotedText, Text};
+use kernel_reports::RelocationAnswer;
 use std::alloc::{AllocError, Global};
 
 /// A name as a word, or a dash where there is none.

@@ -5,8 +5,8 @@ use btf_tables::Btf;
 use ebpf_items::RelocationKind;
 use object_externs::{ExternDesc, Externs};
 use object_parts::{Functions, SLOT_SIZE};
-use path_texts::relocation_text;
-use relocation_reports::RelocationAt;
+use core_spec::relocation_text;
+use kernel_reports::RelocationAt;
 use std::alloc::{AllocError, Global};
 
 /// A type relocation, by name.

@@ -2,9 +2,9 @@
 
 use crate::rows::Rows;
 use crate::texts::{AnswerCell, presence_word};
-use extern_reports::Presence;
-use line_words::{QuotedText, Text};
-use relocation_reports::RelocationAnswer;
+use kernel_reports::Presence;
+use quoting::{QuotedText, Text};
+use kernel_reports::RelocationAnswer;
 use std::alloc::{AllocError, Global};
 
 /// What is reported of the kernel of a file: a column of the table.

@@ -8,7 +8,7 @@ use Rattle.std.specs.Ordering.{nat_cmp, match_ordering, is_eq}
 use Rattle.std.specs.Cmp.Lexicographic.{slice_cmp}
 use Rattle.std.specs.BTreeMap.{insert_entry, is_at}
 use Rattle.std.specs.Map.{lookup}
-use Rattle.global_values.specs.Names.{by_bytes}
+use Rattle.settings.specs.Names.{by_bytes}
 
 by_bytes-match : {Y V : Type 0} (o : Ordering) (a b c : List (String Y × V)) → by_bytes (match_ordering o a b c) ≡ match_ordering o (by_bytes a) (by_bytes b) (by_bytes c)
 by_bytes-match Less a b c = refl

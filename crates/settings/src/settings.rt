@@ -6,7 +6,7 @@ ghost use Rattle.std.specs.Cmp.Lexicographic.{slice_cmp};
 ghost use Rattle.std.specs.Map.{lookup};
 ghost use Rattle.std.specs.Ordering.{nat_cmp};
 
-use global_values::GlobalValues;
+use crate::global_values::GlobalValues;
 use std::alloc::{AllocError, Global};
 use std::collections::BTreeMap;
 use std::marker::Model;
@@ -32,7 +32,7 @@ impl Drop for Settings {
 
 impl Model for Settings {
     ghost use Rattle.settings.specs.Content.{SettingsContent, AreMapNumbers};
-    ghost use Rattle.global_values.specs.Names.{by_bytes};
+    ghost use Rattle.settings.specs.Names.{by_bytes};
 
     ghost Value = { SettingsContent };
 

@@ -1,5 +1,6 @@
 pub mod AfterAll
 pub mod BySymbol
+pub mod ExternsWritten
 pub mod Fitting
 pub mod Indexes
 pub mod Inside

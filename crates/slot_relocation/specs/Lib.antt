@@ -1,7 +1,9 @@
-pub mod Slots
-pub mod Writes
 pub mod BySymbol
-pub mod Maps
+pub mod ExternLaws
+pub mod Externs
 pub mod Laws
-pub mod WriteLaws
+pub mod Maps
+pub mod Slots
 pub mod Walks
+pub mod WriteLaws
+pub mod Writes

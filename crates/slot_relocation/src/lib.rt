@@ -10,6 +10,8 @@
 mod by_symbol;
 mod driver;
 mod errors;
+mod extern_laws;
+mod extern_rule;
 mod laws;
 mod map_index;
 mod map_rule;
@@ -19,6 +21,8 @@ mod rule;
 pub use by_symbol::SymbolRule;
 pub use driver::{FaultAt, Stop, relocate_functions, relocated_functions};
 pub use errors::relocate_by_symbol;
+pub use extern_laws::externs_are_written;
+pub use extern_rule::{Resolution, relocate_externs};
 pub use laws::{
     lengths_remain, numbers_are_written, one_writes, slots_carry_numbers, unwritten_stay,
     writes_are_kept,

@@ -1,4 +1,5 @@
 pub mod Ends
+pub mod FirstBytes
 pub mod LongTexts
 pub mod NameHashes
 pub mod Names

@@ -1,7 +1,7 @@
 //! Small objects in both byte orders, read and refused.
 
 use elf64::{ElfError, ElfFile, RelocView, SectionView, SymbolKind};
-use sample_objects::{ONE_PROGRAM, ONE_PROGRAM_BIG, with_bytes};
+use test_object_samples::{ONE_PROGRAM, ONE_PROGRAM_BIG, with_bytes};
 use std::alloc::{AllocError, Global};
 use std::process::Abort;
 use std::test::Fail;

@@ -8,7 +8,7 @@ use ebpf_items::{
     Section, Slots, bpf_insn, bpf_map_def, bpf_map_info, copy_instructions, parse_map_info,
 };
 use elf64::{ElfError, ElfFile};
-use sample_objects::{ONE_PROGRAM, with_bytes};
+use test_object_samples::{ONE_PROGRAM, with_bytes};
 use std::alloc::{AllocError, Global};
 use std::process::Abort;
 

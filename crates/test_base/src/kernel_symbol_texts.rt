@@ -1,7 +1,7 @@
 //! Texts of kernel symbols, and readers that give them in pieces.
 
 use kernel_symbols::{SymbolsError, read_addresses};
-use sample_objects::SlowText;
+use test_object_samples::SlowText;
 use std::alloc::Global;
 use std::io::BufRead;
 use watched::Watched;

@@ -3,7 +3,7 @@
 use std::alloc::{AllocError, Global};
 use std::collections::VecDeque;
 use std::test::Fail;
-use text_order::{TextMap, TextMapBuilder, in_text_order, place_of};
+use string_map::{TextMap, TextMapBuilder, in_text_order, place_of};
 
 const ENTRIES: [(&str, u32); 11] = [
     ("ab", 1),

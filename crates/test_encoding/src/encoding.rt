@@ -9,7 +9,7 @@ use btf_records::{
     DataSecEntry, DeclTag, Endianness, Enum, Enum64, Float, Func, FuncLinkage, FuncProto, Fwd, Int,
     IntEncoding, Ptr, Restrict, Struct, TypeTag, Typedef, Union, Var, VarLinkage, Volatile,
 };
-use sample_tables::{ORDERS, spelled};
+use test_table_samples::{ORDERS, spelled};
 use std::alloc::{AllocError, Global};
 use std::process::Abort;
 

@@ -9,7 +9,7 @@ use std::alloc::Global;
 use std::io::BufRead;
 use std::process::Abort;
 use std::slice;
-use text_order::{TextMap, TextMapBuilder};
+use string_map::{TextMap, TextMapBuilder};
 use watched::Watched;
 
 /// An extern: its name, the id of what declares it, its type, whether it is weak, and the address

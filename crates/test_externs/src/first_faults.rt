@@ -3,7 +3,7 @@
 
 use crate::answers::{Answer, Declared, Refusal, UNKNOWN, check_with_kernel, check_without_kernel};
 use crate::tables::{FUNCTION, INTEGER, NOTHING, SIGNATURE, VARIABLE};
-use sample_objects::SlowText;
+use test_object_samples::SlowText;
 use std::alloc::Global;
 use std::process::Abort;
 

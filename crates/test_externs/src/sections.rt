@@ -1,15 +1,15 @@
 //! An object whose two sections of programs have a relocation each, and their functions.
 
-use btf_extension::{FuncSecInfo, LineSecInfo};
+use btf_ext::{FuncSecInfo, LineSecInfo};
 use ebpf_items::Slots;
-use extern_relocation::relocate_externs;
+use slot_relocation::relocate_externs;
 use object_externs::{ExternDesc, Externs};
 use object_file::ObjectFile;
 use object_parts::{Function, Functions, MatchedTables};
 use relocation_errors::{EbpfRelocationError, RelocationError};
-use sample_objects::with_bytes;
+use test_object_samples::with_bytes;
 use std::alloc::Global;
-use text_order::TextMapBuilder;
+use string_map::TextMapBuilder;
 
 /// An object with the sections `kprobe` (index 2) and `xdp` (3), and a relocation of each, of `xdp`
 /// at 120 and of `kprobe` at 136: eight bytes of offset, four of type, four of symbol. That of

@@ -2,7 +2,7 @@
 
 use crate::answers::{Answer, Declared, Known, MISSING, check_with_kernel, check_without_kernel};
 use crate::tables::{FUNCTION, INTEGER, SIGNATURE, VARIABLE};
-use sample_objects::SlowText;
+use test_object_samples::SlowText;
 use std::alloc::Global;
 use std::process::Abort;
 

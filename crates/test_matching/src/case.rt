@@ -5,10 +5,10 @@ use btf_records::Endianness;
 use btf_tables::Btf;
 use ebpf_items::RelocationKind;
 use plain_matching::Answer;
-use sample_tables::ORDERS;
+use test_table_samples::ORDERS;
 use std::alloc::Global;
 use std::process::Abort;
-use type_match::{
+use core_resolve::{
     RelocationOutcome, TypeMatcher, TypeRelocation, TypeRelocationError, relocation_outcome,
 };
 

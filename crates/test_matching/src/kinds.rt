@@ -6,15 +6,15 @@ use crate::tables::{
     UNREADABLE, parse, section_of,
 };
 use btf_records::BtfFeature;
-use btf_rewriting::fixup_and_sanitize;
+use btf_rewrite::fixup_and_sanitize;
 use btf_tables::Btf;
 use ebpf_items::RelocationKind;
 use plain_matching::{Answer, Fault};
-use sample_tables::ORDERS;
+use test_table_samples::ORDERS;
 use std::alloc::{AllocError, Global};
 use std::process::Abort;
-use text_order::TextMap;
-use type_match::{TypeRelocation, relocation_outcome};
+use string_map::TextMap;
+use core_resolve::{TypeRelocation, relocation_outcome};
 
 const EXISTS: RelocationKind = RelocationKind::EnumVariantExists;
 

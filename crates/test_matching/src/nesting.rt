@@ -5,7 +5,7 @@ use crate::tables::{A, B, INT, S, STRUCT_1, STRUCT_2, append};
 use crate::worked::OBJECT;
 use ebpf_items::RelocationKind;
 use plain_matching::{Answer, Fault};
-use sample_tables::ORDERS;
+use test_table_samples::ORDERS;
 use std::alloc::Global;
 use std::process::Abort;
 

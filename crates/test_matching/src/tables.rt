@@ -2,7 +2,7 @@
 
 use btf_records::Endianness;
 use btf_tables::Btf;
-use sample_tables::section;
+use test_table_samples::section;
 use std::alloc::{AllocError, Global};
 use std::process::Abort;
 

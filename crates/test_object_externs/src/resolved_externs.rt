@@ -9,7 +9,7 @@ use btf_tables::Btf;
 use ebpf_object::Object;
 use extern_resolution::KsymsError;
 use object::{BINDINGS, ENTRIES, OBJECT, PARAMETER, TYPES_NAME, WEAK};
-use sample_objects::{SlowText, with_bytes};
+use test_object_samples::{SlowText, with_bytes};
 use std::alloc::{AllocError, Global};
 use std::io::BufRead;
 use std::process::Abort;

@@ -36,5 +36,5 @@ pub(crate) fn section(
     words: &[u32],
     added: &[u8],
 ) -> Result<Vec<u8>, AllocError> {
-    sample_tables::section(alloc, order, words, &STRINGS, added)
+    test_table_samples::section(alloc, order, words, &STRINGS, added)
 }

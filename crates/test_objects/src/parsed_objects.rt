@@ -8,7 +8,7 @@ use btf_records::{BtfError, Endianness};
 use ebpf_items::{ParseError, ProgramSection, Slots};
 use ebpf_object::Object;
 use elf64::ElfError;
-use sample_objects::{ONE_PROGRAM, ONE_PROGRAM_BIG, with_bytes};
+use test_object_samples::{ONE_PROGRAM, ONE_PROGRAM_BIG, with_bytes};
 use std::alloc::Global;
 
 /// Other bytes at some offsets of the object of one program: `license` is named at 142 and has four

@@ -9,7 +9,7 @@ use object_file::ObjectFile;
 use object_parse::read_code;
 use object_parts::{Code, Functions};
 use relocation_errors::{EbpfRelocationError, RelocationError};
-use sample_objects::with_bytes;
+use test_object_samples::with_bytes;
 use std::alloc::Global;
 use std::collections::BTreeSet;
 use std::process::Abort;

@@ -1,6 +1,6 @@
 //! Settings that are made.
 
-use global_values::GlobalValue;
+use settings::GlobalValue;
 use settings::Settings;
 use std::process::Abort;
 use std::test::Fail;

@@ -2,10 +2,10 @@
 
 use ebpf_items::ParseError;
 use global_data::patch_map_data;
-use global_values::GlobalValues;
+use settings::GlobalValues;
 use object_file::ObjectFile;
 use object_maps::{Maps, read_maps};
-use sample_objects::{VARIABLES, with_bytes};
+use test_object_samples::{VARIABLES, with_bytes};
 use std::alloc::Global;
 use std::process::Abort;
 

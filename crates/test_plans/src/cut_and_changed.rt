@@ -2,7 +2,7 @@
 
 use crate::plans_of_objects::planned;
 use load_plan::{Order, ParseError, Plan, PrepareError, Settings, Watched};
-use sample_objects::{ONE_PROGRAM, with_bytes};
+use test_object_samples::{ONE_PROGRAM, with_bytes};
 use std::alloc::Global;
 
 /// The plan of an object under no settings, for a kernel that lacks nothing.

@@ -2,9 +2,9 @@
 
 use object_file::ObjectFile;
 use object_maps::{Maps, read_maps};
-use plan_maps::{numbered_maps, plan_maps, unnumbered_map};
+use plan_contents::{numbered_maps, plan_maps, unnumbered_map};
 use plan_text::{MapWords, PlanMap};
-use sample_objects::VARIABLES;
+use test_object_samples::VARIABLES;
 use settings::Settings;
 use std::alloc::Global;
 use std::process::Abort;

@@ -4,7 +4,7 @@ mod objects;
 
 use load_plan::{BtfFeature, Order, ParseError, Plan, PrepareError, Settings, Watched, prepare};
 use objects::{FLOATS, RECORDS};
-use sample_objects::{ONE_PROGRAM, ONE_PROGRAM_PLAN, with_bytes};
+use test_object_samples::{ONE_PROGRAM, ONE_PROGRAM_PLAN, with_bytes};
 use std::alloc::{AllocError, Global};
 use std::io;
 use std::process::Abort;

@@ -2,7 +2,7 @@
 use Rattle.std.proofs.Common.{◌≡◌, ℕ, Bool, true}
 use Rattle.btf_records.specs.declared.types.BtfType.{BtfType}
 use Rattle.btf_tables.specs.Agreement.{RestsOn, size_ids}
-use Rattle.btf_rewriting.specs.Carrying.{AreLeft, Carries}
+use Rattle.btf_rewrite.specs.Carrying.{AreLeft, Carries}
 use Rattle.btf_tables.specs.Holdings.{AreHeld}
 use Rattle.btf_tables.specs.Tables.{Table}
 use Rattle.btf_tables.specs.TypeSizes.{type_size}

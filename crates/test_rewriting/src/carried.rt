@@ -2,9 +2,9 @@
 //! public calls.
 
 ghost use Rattle.std.specs.Prelude.{◌≡◌, Bool, IfOk, true, ℕ};
-ghost use Rattle.btf_sanitizing.specs.Facts.{number_named};
-ghost use Rattle.btf_rewriting.specs.Carrying.{AreLeft, stays_in};
-ghost use Rattle.btf_rewriting.specs.Sanitizing.{facts_in, stepped};
+ghost use Rattle.btf_sanitize.specs.Facts.{number_named};
+ghost use Rattle.btf_rewrite.specs.Carrying.{AreLeft, stays_in};
+ghost use Rattle.btf_rewrite.specs.Sanitizing.{facts_in, stepped};
 
 use btf::{Answers, Btf, BtfError, BtfFeature, KsymsIds, TextMap, fixup_and_sanitize};
 

@@ -4,7 +4,7 @@ use btf::{
     Answers, Btf, BtfError, BtfFeature, Endianness, KsymsIds, TextMap, TextMapBuilder,
     fixup_and_sanitize,
 };
-use sample_tables::{ORDERS, section};
+use test_table_samples::{ORDERS, section};
 use std::alloc::Global;
 use std::process::Abort;
 

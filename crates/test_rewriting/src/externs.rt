@@ -6,7 +6,7 @@ use crate::sections::{
     STRUCT_2, TYPEDEF, VAR,
 };
 use btf::{BtfFeature, Endianness, fixup_ksyms_datasec};
-use sample_tables::{ORDERS, section};
+use test_table_samples::{ORDERS, section};
 use std::alloc::Global;
 use std::process::Abort;
 

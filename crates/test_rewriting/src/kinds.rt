@@ -7,7 +7,7 @@ use crate::sections::{
     UNION, UNION_1, UNION_2, VAR, VOLATILE,
 };
 use btf::{Btf, BtfFeature, Endianness};
-use sample_tables::{ORDERS, section};
+use test_table_samples::{ORDERS, section};
 use std::alloc::Global;
 use std::process::Abort;
 

@@ -3,7 +3,7 @@
 use crate::case::{ALL, SIZES, is_written, parse, sanitize};
 use crate::sections::{DATASEC, DATASEC_1, DATASEC_2, ENUM, EXTERN, GLOBAL, INT, VAR};
 use btf::{Btf, BtfError, BtfFeature, Endianness, KsymsIds, fixup_ksyms_datasec};
-use sample_tables::{ORDERS, section};
+use test_table_samples::{ORDERS, section};
 use std::alloc::Global;
 use std::process::Abort;
 

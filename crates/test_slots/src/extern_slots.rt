@@ -3,12 +3,12 @@
 use crate::functions::{
     Both, EXIT, FAR, Refused, Relocated, Relocation, ZERO, functions, relocated, with_relocations,
 };
-use extern_relocation::relocate_externs;
+use slot_relocation::relocate_externs;
 use object_externs::{ExternDesc, Externs};
 use object_file::ObjectFile;
 use std::alloc::Global;
 use std::process::Abort;
-use text_order::{TextMap, TextMapBuilder};
+use string_map::{TextMap, TextMapBuilder};
 
 /// An object with a section `kprobe` (index 2) and two relocations of it (at 96 and 112: eight
 /// bytes of offset, four of type, four of symbol). Symbol 1 is its function `f`. Symbols 2 to 6 and

@@ -1,10 +1,10 @@
 //! Two functions `f` and `g` of one section, and what becomes of their slots.
 
-use btf_extension::{FuncSecInfo, LineSecInfo};
+use btf_ext::{FuncSecInfo, LineSecInfo};
 use ebpf_items::Slots;
 use object_parts::{Function, Functions, MatchedTables};
 use relocation_errors::{EbpfRelocationError, RelocationError};
-use sample_objects::with_bytes;
+use test_object_samples::with_bytes;
 use std::alloc::Global;
 
 /// The offset and the symbol of a relocation.

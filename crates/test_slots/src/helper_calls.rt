@@ -1,6 +1,6 @@
 //! Functions with calls of helpers.
 
-use btf_extension::{FuncSecInfo, LineSecInfo};
+use btf_ext::{FuncSecInfo, LineSecInfo};
 use ebpf_items::Slots;
 use object_parts::{Function, Functions, MatchedTables};
 use std::alloc::Global;

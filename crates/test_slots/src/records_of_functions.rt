@@ -1,9 +1,9 @@
 //! The records of a section by hand ("BTF.ext section"), which don't stand in order.
 
-use btf_extension::{BtfExt, FuncSecInfo, LineSecInfo, bpf_func_info, bpf_line_info};
+use btf_ext::{BtfExt, FuncSecInfo, LineSecInfo, bpf_func_info, bpf_line_info};
 use btf_records::Endianness;
 use btf_tables::Btf;
-use function_records::SectionRecords;
+use object_parse::SectionRecords;
 use std::alloc::Global;
 
 /// A table without types, whose strings hold `kprobe` at 1.

@@ -3,7 +3,7 @@
 use crate::answer::{Answer, Question};
 use crate::sections::parse;
 use btf::{Btf, Endianness};
-use sample_tables::{ORDERS, section};
+use test_table_samples::{ORDERS, section};
 use std::alloc::Global;
 use std::process::Abort;
 

@@ -7,7 +7,7 @@ use crate::sections::{
     parse,
 };
 use btf::{Btf, Endianness, types_are_compatible};
-use sample_tables::section;
+use test_table_samples::section;
 use std::alloc::Global;
 use std::process::Abort;
 

@@ -6,7 +6,7 @@ use btf::{
     BtfError, BtfExt, Endianness, FuncSecInfo, LineSecInfo, SecInfo, bpf_func_info, bpf_line_info,
 };
 use btf_records::push_half_word;
-use sample_tables::{ORDERS, push_words};
+use test_table_samples::{ORDERS, push_words};
 use std::alloc::{AllocError, Global};
 use std::process::Abort;
 

@@ -4,7 +4,7 @@ use crate::answer::{Answer, Question, id};
 use crate::asking::{Asked, Case, ask, ask_case};
 use crate::sections::{ARRAY, CONST, FWD, INT, INT_SECTION, PTR, STRUCT_1, VAR, append, parse};
 use btf::{Btf, BtfKind, BtfType, Endianness, Enum64Fallback, Int, IntEncoding, Items, Ptr, Union};
-use sample_tables::{ORDERS, section};
+use test_table_samples::{ORDERS, section};
 use std::alloc::Global;
 use std::process::Abort;
 

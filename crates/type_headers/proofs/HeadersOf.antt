@@ -9,7 +9,7 @@ use Rattle.btf_records.specs.declared.kind.BtfKind.{BtfKind}
 use Rattle.btf_records.specs.declared.kind.BtfKind.TheVariants as kinds
 use Rattle.btf_records.specs.declared.types.BtfType.{BtfType}
 use Rattle.btf_tables.specs.Tables.{Table, type_by_id}
-use Rattle.first_bytes.specs.FirstBytes.{AreTexts, is_marked}
+use Rattle.string_table.specs.FirstBytes.{AreTexts, is_marked}
 use Rattle.string_table.specs.Texts.{text_at}
 use Rattle.type_headers.specs.Beginnings.{BeginningMarks, MayBegin, beginning}
 use Rattle.type_headers.specs.Headers.{AreHeadersOf, BeginsOtherwise, Headers, IsNameOf}

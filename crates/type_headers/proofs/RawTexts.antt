@@ -6,7 +6,7 @@ use Rattle.std.proofs.lemmas.Bool.Decides.{nat_tests}
 use Rattle.std.specs.List.{position_or_len}
 use Rattle.std.specs.Option.{IsSomeAnd, option_map}
 use Rattle.std.specs.Str.{is_utf8}
-use Rattle.first_bytes.specs.FirstBytes.{first_byte, is_marked}
+use Rattle.string_table.specs.FirstBytes.{first_byte, is_marked}
 use Rattle.type_headers.specs.Beginnings.{BeginningMarks, BeginsAsOne, MayBegin, beginning, beginning_of, long_beginning, next_number, number_after}
 use Rattle.string_table.specs.Texts.{before_nul, text_at, text_of}
 

@@ -2,7 +2,7 @@
 use Rattle.std.specs.Prelude.{◌≡◌, ℕ, zero, suc, ◌+◌, ◌*◌, ◌%◌, ◌==◌, ◌⊎◌, if◌then◌else◌, Bool, true, List, [], ◌∷◌, drop, Option, None, Some}
 use Rattle.std.specs.Option.{IsSomeAnd}
 use Rattle.btf_tables.specs.EssentialNames.{essential_name}
-use Rattle.first_bytes.specs.FirstBytes.{first_byte, is_marked}
+use Rattle.string_table.specs.FirstBytes.{first_byte, is_marked}
 
 -- a number that all texts have which begin with these two bytes, a NUL after the last byte of a text
 -- being one of them; others may have it too

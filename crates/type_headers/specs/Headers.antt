@@ -4,7 +4,7 @@ use Rattle.std.specs.Option.{IsSomeAnd}
 use Rattle.btf_records.specs.Fields.{kind_of_type, name_offset_of}
 use Rattle.btf_records.specs.declared.kind.BtfKind.{BtfKind}
 use Rattle.btf_tables.specs.Tables.{Table, type_by_id}
-use Rattle.first_bytes.specs.FirstBytes.{AreTexts}
+use Rattle.string_table.specs.FirstBytes.{AreTexts}
 use Rattle.string_table.specs.Texts.{text_at}
 use Rattle.type_headers.specs.Beginnings.{BeginningMarks, MayBegin}
 

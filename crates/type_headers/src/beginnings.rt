@@ -1,11 +1,11 @@
 //! How names begin.
 
 ghost use Rattle.std.specs.Prelude.{◌≡◌, ◌&&◌, ℕ, List, Some, drop, false};
-ghost use Rattle.first_bytes.specs.FirstBytes.{is_marked};
+ghost use Rattle.string_table.specs.FirstBytes.{is_marked};
 ghost use Rattle.string_table.specs.Texts.{text_at};
 ghost use Rattle.type_headers.specs.Beginnings.{MarksName, MarksTwoBytes, MayBegin, beginning, beginning_of, long_beginning, next_number};
 
-use first_bytes::MarkedBytes;
+use string_table::MarkedBytes;
 use std::marker::Model;
 
 /// A number that all texts have which begin with these two bytes, a NUL after the last byte of a

@@ -5,7 +5,7 @@ ghost use Rattle.std.specs.List.{list_any};
 ghost use Rattle.btf_records.specs.Kinds.{number_of};
 ghost use Rattle.btf_records.specs.declared.kind.BtfKind.{BtfKind};
 ghost use Rattle.btf_tables.specs.Tables.{Table};
-ghost use Rattle.first_bytes.specs.FirstBytes.{AreTexts, is_marked};
+ghost use Rattle.string_table.specs.FirstBytes.{AreTexts, is_marked};
 ghost use Rattle.type_headers.specs.Beginnings.{BeginningMarks, beginning};
 ghost use Rattle.type_headers.specs.Blocks.{AreIdsByName, AreTypesFrom, is_of_kinds};
 ghost use Rattle.type_headers.specs.Headers.{AreHeadersOf};

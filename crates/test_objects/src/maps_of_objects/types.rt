@@ -77,5 +77,5 @@ pub(crate) fn section(alloc: Global, records: &[&[u32]]) -> Result<Vec<u8>, Allo
     for words in records {
         all.extend_from_slice(words)?;
     }
-    sample_tables::section(alloc, Endianness::Little, &all, STRINGS, &[])
+    test_table_samples::section(alloc, Endianness::Little, &all, STRINGS, &[])
 }

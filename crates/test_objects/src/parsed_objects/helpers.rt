@@ -4,7 +4,7 @@ use super::parsed;
 use super::two_functions::TWO_FUNCTIONS;
 use ebpf_items::Slots;
 use ebpf_object::Object;
-use sample_objects::{ONE_PROGRAM, with_bytes};
+use test_object_samples::{ONE_PROGRAM, with_bytes};
 use std::alloc::Global;
 
 /// Where the two slots of the object of one program stand.

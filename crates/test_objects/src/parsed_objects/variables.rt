@@ -3,7 +3,7 @@
 use super::parsed;
 use btf_records::BtfError;
 use ebpf_object::Object;
-use sample_objects::{ONE_PROGRAM, VARIABLES, with_bytes};
+use test_object_samples::{ONE_PROGRAM, VARIABLES, with_bytes};
 use std::alloc::Global;
 
 /// Where the name of the section of variables stands.

@@ -6,7 +6,7 @@ use Rattle.btf_ksyms.proofs.Growth.{passed_on}
 use Rattle.btf_ksyms.proofs.Stepping.{all_stepped, one_more_stepped, too_many_stepped}
 use Rattle.btf_ksyms.proofs.step.step_all.Goals as goal
 use Rattle.btf_ksyms.specs.Steps.{ksyms_of}
-use Rattle.btf_parts.specs.Growth.{AreFew, AreTooMany}
+use Rattle.btf_storage.specs.Growth.{AreFew, AreTooMany}
 
 pub step_next-requires-clause-within : goal.step_next-requires-clause-within
 step_next-requires-clause-within c = omega (arith, c.requires.marks, slice_get_within (ksyms_of c.args.k.now).types c.loop-t.index c.in-Some.t (sym c.get.ensures.value ∙ c.in-Some.is))

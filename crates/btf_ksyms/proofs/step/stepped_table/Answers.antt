@@ -1,10 +1,10 @@
 use Rattle.std.proofs.Common.{◌≡◌, Any, ap, ◌∙◌, subst}
-use Rattle.btf_parts.specs.Layout.{RecordList}
+use Rattle.btf_storage.specs.Layout.{RecordList}
 use Rattle.btf_records.specs.declared.error.BtfError.{BtfError}
 use Rattle.btf_ksyms.specs.Ksyms.{EntryFault, IsOverfull, SubjectFault, section_entries}
 use Rattle.btf_ksyms.proofs.Growth.{none_of_either}
 use Rattle.btf_ksyms.proofs.step.stepped_table.Goals as goal
-use Rattle.btf_parts.specs.Faultless.{IsFaultless}
+use Rattle.btf_storage.specs.Faultless.{IsFaultless}
 use Rattle.btf_ksyms.specs.Steps.{ksyms_of}
 
 pub returns-clause-accepted : goal.returns-clause-accepted

@@ -1,5 +1,5 @@
 use Rattle.std.proofs.Common.{sym, subst}
-use Rattle.btf_sanitizing.specs.Answers.{Answers}
+use Rattle.btf_sanitize.specs.Answers.{Answers}
 use Rattle.ebpf_object.proofs.RefusedTables.{none_answered}
 use Rattle.ebpf_object.specs.Rewriting.{AreAnswered}
 use Rattle.ebpf_object.proofs.rewriting.rewrite.Goals as goal

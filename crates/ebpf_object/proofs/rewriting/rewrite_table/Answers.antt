@@ -1,4 +1,4 @@
-use Rattle.btf_sanitizing.specs.Facts.{number_named}
+use Rattle.btf_sanitize.specs.Facts.{number_named}
 use Rattle.ebpf_object.proofs.Faultless.{if-err}
 use Rattle.ebpf_object.proofs.RefusedTables.{refused_table}
 use Rattle.ebpf_object.proofs.rewriting.rewrite_table.Goals as goal

@@ -3,7 +3,7 @@ use Rattle.std.proofs.lemmas.Result.{err_from_is_err_and}
 use Rattle.std.specs.Option.{option_copied, option_map_or}
 use Rattle.elf64.specs.Symbols.{Symbol, symbols_of}
 use Rattle.object_file.specs.Symbols.{last_named}
-use Rattle.global_values.specs.Names.{by_bytes}
+use Rattle.settings.specs.Names.{by_bytes}
 use Rattle.global_data.specs.GlobalData.{Write, first_fault, write_of}
 use Rattle.global_data.proofs.Steps.{fault_at_start, fault_said, fault_tail, value_at_start, value_tail, value_told}
 use Rattle.global_data.proofs.writes.writes_of.Goals as goal

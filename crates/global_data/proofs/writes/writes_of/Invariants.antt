@@ -1,6 +1,6 @@
 use Rattle.std.proofs.Common.{◌≡◌, ◌++◌, None, fold}
 use Rattle.elf64.specs.Symbols.{symbols_of}
-use Rattle.global_values.specs.Names.{by_bytes}
+use Rattle.settings.specs.Names.{by_bytes}
 use Rattle.global_data.specs.GlobalData.{first_fault, or_fault}
 use Rattle.global_data.specs.Writes.{writes_of}
 use Rattle.global_data.proofs.writes.writes_of.Given as goal

@@ -1,6 +1,6 @@
 use Rattle.std.proofs.Common.{◌≡◌, List, [], ◌∷◌, ◌∙◌, ap, map, ◌++◌, Some, ℕ}
 use Rattle.std.specs.Prelude.{slice_get}
-use Rattle.btf_extension.specs.declared.record.bpf_line_info.{bpf_line_info}
+use Rattle.btf_ext.specs.declared.record.bpf_line_info.{bpf_line_info}
 use Rattle.linker.specs.Records.{moved_line, moved_lines}
 use Rattle.linker.proofs.Gets.{pushed, pushed_all}
 use Rattle.linker.proofs.records.push_moved_lines.Goals as goal

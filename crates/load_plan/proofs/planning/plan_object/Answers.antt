@@ -1,6 +1,6 @@
 use Rattle.std.proofs.Common.{List, [], map, ◌∙◌, ap}
-use Rattle.object_plan.specs.Plans.{plan_of}
-use Rattle.plan_maps.specs.PlanMaps.{plan_map}
+use Rattle.plan_contents.specs.Plans.{plan_of}
+use Rattle.plan_contents.specs.PlanMaps.{plan_map}
 use Rattle.plan_text.specs.Content.{MapContent}
 use Rattle.load_plan.proofs.Planned.{distinct_made, planned_made}
 use Rattle.load_plan.proofs.planning.plan_object.Goals as goal

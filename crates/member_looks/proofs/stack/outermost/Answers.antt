@@ -1,6 +1,6 @@
 use Rattle.std.proofs.Common.{◌≤◌, length, arith}
-use Rattle.member_looks.proofs.Counts.{take_few, taken-len}
-use Rattle.member_looks.proofs.stack.outermost.Goals as goal
+use Rattle.core_members.proofs.Counts.{take_few, taken-len}
+use Rattle.core_members.proofs.stack.outermost.Goals as goal
 
 pub returns-then-frames-le-OUTERMOST : goal.returns-then-frames-le-OUTERMOST
 returns-then-frames-le-OUTERMOST c = take_few 64 c.args.frames.now c.if-frames-le-OUTERMOST.true

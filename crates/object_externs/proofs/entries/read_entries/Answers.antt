@@ -3,7 +3,7 @@ use Rattle.std.proofs.lemmas.List.Elements.{All-more}
 use Rattle.std.proofs.lemmas.List.Sums.{fold_more}
 use Rattle.btf_records.specs.declared.item.DataSecEntry.{DataSecEntry}
 use Rattle.object_externs.specs.Externs.{ExternContent, with_extern}
-use Rattle.btf_parts.specs.Faultless.{IsFaultless}
+use Rattle.btf_storage.specs.Faultless.{IsFaultless}
 use Rattle.object_externs.specs.Faults.{EntryFault}
 use Rattle.object_externs.proofs.Faultless.{each_of_all, none_of_any}
 use Rattle.object_externs.proofs.entries.read_entries.Goals as goal

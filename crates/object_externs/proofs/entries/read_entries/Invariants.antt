@@ -1,6 +1,6 @@
 use Rattle.std.proofs.Common.{◌≡◌, [], take}
 use Rattle.std.specs.Prelude.{All, fold}
-use Rattle.btf_parts.specs.Faultless.{IsFaultless}
+use Rattle.btf_storage.specs.Faultless.{IsFaultless}
 use Rattle.object_externs.specs.Externs.{with_extern}
 use Rattle.object_externs.specs.Faults.{EntryFault}
 use Rattle.object_externs.proofs.entries.read_entries.Given as goal

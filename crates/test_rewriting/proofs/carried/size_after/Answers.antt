@@ -1,8 +1,8 @@
 use Rattle.std.proofs.Common.{ap, sym, ◌∙◌}
 use Rattle.std.specs.Result.{result_ok}
-use Rattle.btf_sanitizing.specs.Facts.{number_named}
-use Rattle.btf_rewriting.specs.Carrying.{stays_in}
-use Rattle.btf_rewriting.specs.Sanitizing.{facts_in, stepped}
+use Rattle.btf_sanitize.specs.Facts.{number_named}
+use Rattle.btf_rewrite.specs.Carrying.{stays_in}
+use Rattle.btf_rewrite.specs.Sanitizing.{facts_in, stepped}
 use Rattle.test_rewriting.proofs.Sizes.{same_size}
 use Rattle.test_rewriting.proofs.carried.size_after.Goals as goal
 

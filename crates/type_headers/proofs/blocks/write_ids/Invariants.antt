@@ -1,6 +1,6 @@
 use Rattle.std.specs.Prelude.{◌≡◌, ◌≤◌, ◌+◌, length, take}
 use Rattle.btf_tables.specs.Tables.{Table}
-use Rattle.first_bytes.specs.FirstBytes.{AreTexts}
+use Rattle.string_table.specs.FirstBytes.{AreTexts}
 use Rattle.type_headers.specs.Blocks.{AreIdsByName, AreTypesFrom}
 use Rattle.type_headers.proofs.blocks.write_ids.Given as goal
 

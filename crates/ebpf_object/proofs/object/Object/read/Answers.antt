@@ -2,9 +2,9 @@ use Rattle.std.proofs.Common.{List, Option, refl, subst, ap, sym, ◌∙◌}
 use Rattle.std.proofs.lemmas.Result.{err_from_is_err_and}
 use Rattle.std.specs.Option.{IsSomeAnd, option_map, option_map_or}
 use Rattle.std.specs.Prelude.{IfSome}
-use Rattle.btf_parts.specs.Faultless.{IsFaultless as AreFaultless}
+use Rattle.btf_storage.specs.Faultless.{IsFaultless as AreFaultless}
 use Rattle.object_externs.specs.Faults.{ExternsFault}
-use Rattle.btf_extension.specs.Extensions.{Extension}
+use Rattle.btf_ext.specs.Extensions.{Extension}
 use Rattle.btf_tables.specs.Tables.{Table}
 use Rattle.elf64.specs.Symbols.{Symbol, symbols_of}
 use Rattle.object_externs.specs.Externs.{externs_of}

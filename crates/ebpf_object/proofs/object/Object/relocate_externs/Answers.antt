@@ -3,7 +3,7 @@ use Rattle.std.specs.Option.{option_map}
 use Rattle.std.specs.Prelude.{◌≢◌, IfErr, OnOk}
 use Rattle.std.specs.String.{string_bytes}
 use Rattle.ebpf_object.specs.ParsedObject.{ObjectContent}
-use Rattle.extern_relocation.specs.Externs.{extern_rule}
+use Rattle.slot_relocation.specs.Externs.{extern_rule}
 use Rattle.relocation_errors.specs.declared.error.RelocationError.TheVariants.{OutOfMemory}
 use Rattle.slot_relocation.specs.Writes.{CanBeRelocated, HasErrorIn}
 use Rattle.ebpf_object.proofs.object.Object.relocate_externs.Goals as goal

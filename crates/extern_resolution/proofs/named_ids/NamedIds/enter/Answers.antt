@@ -1,5 +1,5 @@
 use Rattle.std.proofs.Common.{Some, ap, sym, ◌∙◌}
-use Rattle.text_order.specs.Orders.{by_bytes}
+use Rattle.string_map.specs.Orders.{by_bytes}
 use Rattle.extern_resolution.proofs.FirstNamed.{entered_under}
 use Rattle.extern_resolution.proofs.Placed.{none_entered, nowhere, placed, written, written_rising}
 use Rattle.extern_resolution.proofs.named_ids.NamedIds.enter.Goals as goal

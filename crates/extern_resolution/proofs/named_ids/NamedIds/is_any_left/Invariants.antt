@@ -1,5 +1,5 @@
 use Rattle.std.proofs.Common.{◌≡◌}
-use Rattle.text_order.specs.Orders.{by_bytes}
+use Rattle.string_map.specs.Orders.{by_bytes}
 use Rattle.extern_resolution.specs.Wanted.{is_any_left}
 use Rattle.extern_resolution.proofs.named_ids.NamedIds.is_any_left.Given as goal
 

@@ -1,6 +1,6 @@
 use Rattle.std.proofs.Common.{Some, ap, cond, sym, ◌∙◌}
 use Rattle.std.specs.Str.{bytes_eq}
-use Rattle.text_order.specs.Orders.{by_bytes}
+use Rattle.string_map.specs.Orders.{by_bytes}
 use Rattle.kernel_symbols.specs.Wanted.{under}
 use Rattle.kernel_symbols.proofs.Placed.{none_put, nowhere, placed, written, written_rising}
 use Rattle.kernel_symbols.proofs.WantedLemmas.{marked_still, put_under}

@@ -1,6 +1,6 @@
 use Rattle.std.proofs.Common.{ap, ◌∙◌}
 use Rattle.object_externs.specs.Externs.{ExternsContent}
-use Rattle.text_order.specs.Orders.{value_of}
+use Rattle.string_map.specs.Orders.{value_of}
 use Rattle.object_externs.proofs.externs.Externs.get.Goals as goal
 
 pub returns : goal.returns

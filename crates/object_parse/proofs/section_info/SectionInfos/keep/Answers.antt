@@ -1,7 +1,7 @@
 use Rattle.std.proofs.Common.{◌≡◌, [], ap, sym, ◌∙◌}
 use Rattle.std.specs.Prelude.{Option, unwrap_or}
 use Rattle.std.specs.Option.{option_copied}
-use Rattle.btf_extension.specs.Extensions.{Extension}
+use Rattle.btf_ext.specs.Extensions.{Extension}
 use Rattle.object_parse.specs.SectionInfos.{info_named, info_of}
 use Rattle.object_parse.proofs.KnownInfos.{one_more}
 use Rattle.object_parse.proofs.section_info.SectionInfos.keep.Goals as goal

@@ -1,5 +1,5 @@
 use Rattle.std.proofs.Common.{rules, ◌≡◌, ◌∷◌, length, Some, ◌∙◌}
-use Rattle.member_search.specs.Searches.{found_in}
+use Rattle.core_members.specs.Searches.{found_in}
 use Rattle.plain_matching.proofs.Searching.{nameless_member, no_members}
 use Rattle.plain_matching.proofs.search.Sought.+searching.Goals as goal
 use Rattle.string_table.specs.Texts.{text_at}

@@ -1,5 +1,5 @@
 use Rattle.std.proofs.Common.{ap, lit<, sym, ◌∙◌}
-use Rattle.btf_sanitizing.specs.Answers.{Answers}
+use Rattle.btf_sanitize.specs.Answers.{Answers}
 use Rattle.plan_text.proofs.Room.{room_for_one}
 use Rattle.plan_text.specs.Machine.{is_asked}
 use Rattle.plan_text.proofs.reading.Reader.feature.Goals as goal

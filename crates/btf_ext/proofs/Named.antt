@@ -1,0 +1,71 @@
+-- Groups looked up by name from the last on.
+use Rattle.std.proofs.Common.{◌≡◌, ℕ, ◌+◌, ◌<◌, Bool, true, false, List, [], ◌∷◌, ◌++◌, length, map, take, drop, get_or, reverse, cond, Option, None, Some, refl, sym, ap, ◌∙◌}
+use Rattle.std.specs.Prelude.{find}
+use Rattle.std.specs.Option.{option_map}
+use Rattle.std.proofs.lemmas.List.{map-append, reverse-append, take_more}
+use Rattle.btf_records.specs.declared.words.Endianness.{Endianness}
+use Rattle.btf_ext.specs.Groups.{Group, group_in}
+use Rattle.btf_ext.specs.Layout.{AreAllKindsKnown, AreLaidOut, AreRecordsOf, AreSameGroups, extension_of, groups_at, is_named}
+use Rattle.btf_ext.specs.Names.{is_text, records_of}
+use Rattle.btf_ext.specs.SecInfos.{records_in}
+use Rattle.btf_ext.specs.declared.group_list.GroupList.{GroupList}
+use Rattle.btf_ext.specs.declared.sec_info.GroupRecords.{GroupRecords}
+
+pub reverse_more : (xs : List ℕ) (i : ℕ) → i < length xs → reverse (take (i + 1) xs) ≡ get_or xs i 0 ∷ reverse (take i xs)
+reverse_more xs i lt = ap reverse (take_more xs i 0 lt) ∙ reverse-append (take i xs) (get_or xs i 0 ∷ [])
+
+-- of the first ones the last wanted one is the last of all
+pub record IsLastIn (p : ℕ → Bool) (xs : List ℕ) (i : ℕ) : Type 0 where
+  pub same : find p (reverse xs) ≡ find p (reverse (take i xs))
+
+pub find_past : (p : ℕ → Bool) (x : ℕ) (xs : List ℕ) → p x ≡ false → find p (x ∷ xs) ≡ find p xs
+find_past p x xs isnt = rw isnt refl
+
+pub find_here : (p : ℕ → Bool) (x : ℕ) (xs : List ℕ) → p x ≡ true → find p (x ∷ xs) ≡ Some x
+find_here p x xs is = rw is refl
+
+pub not_last : (p : ℕ → Bool) (xs : List ℕ) (i : ℕ) → i < length xs → IsLastIn p xs (i + 1) → p (get_or xs i 0) ≡ false → IsLastIn p xs i
+not_last p xs i lt is isnt = record { same = is.same ∙ (ap (find p) (reverse_more xs i lt) ∙ find_past p (get_or xs i 0) (reverse (take i xs)) isnt) }
+
+pub last_found : (p : ℕ → Bool) (xs : List ℕ) (i : ℕ) → i < length xs → IsLastIn p xs (i + 1) → p (get_or xs i 0) ≡ true → find p (reverse xs) ≡ Some (get_or xs i 0)
+last_found p xs i lt is here = is.same ∙ (ap (find p) (reverse_more xs i lt) ∙ find_here p (get_or xs i 0) (reverse (take i xs)) here)
+
+reverse_map : {X Y : Type 0} (f : X → Y) (xs : List X) → reverse (map f xs) ≡ map f (reverse xs)
+reverse_map f [] = refl
+reverse_map {X} {Y} f (x ∷ xs) =
+    reverse-append (f x ∷ []) (map f xs) ∙ (ap (λ (ys : List Y). ys ++ f x ∷ []) (reverse_map f xs) ∙ (sym (map-append f (reverse xs) (x ∷ [])) ∙ ap (map f) (sym (reverse-append (x ∷ []) xs))))
+
+cond_map : {X Y : Type 0} (f : X → Y) (b : Bool) (x : X) (one : Option Y) (other : Option X) → one ≡ option_map f other → cond b (Some (f x)) one ≡ option_map f (cond b (Some x) other)
+cond_map f true x one other e = refl
+cond_map f false x one other e = e
+
+find_map : {X Y : Type 0} (p : Y → Bool) (f : X → Y) (xs : List X) → find p (map f xs) ≡ option_map f (find (λ x. p (f x)) xs)
+find_map p f [] = refl
+find_map {X} p f (x ∷ xs) = cond_map f (p (f x)) x (find p (map f xs)) (find (λ (y : X). p (f y)) xs) (find_map p f xs)
+
+map_twice : {X Y Z : Type 0} (f : X → Y) (g : Y → Z) (found : Option X) → option_map g (option_map f found) ≡ option_map (λ x. g (f x)) found
+map_twice f g None = refl
+map_twice f g (Some x) = refl
+
+pub named_records : {R : Type 0} (read : Endianness → List ℕ → R) (strings name : List ℕ) (g : GroupList) (found : Option ℕ) → find (is_named strings name g) (reverse g.places.items) ≡ found → records_of strings name (groups_at read g) ≡ option_map (λ place. (group_in g.order read g.size (drop place g.bytes.now)).records) found
+named_records {R} read strings name g found is =
+    let group = λ (place : ℕ). group_in g.order read g.size (drop place g.bytes.now) in
+    let named = λ (x : Group R). is_text strings name x.name_offset in
+    let records = λ (x : Group R). x.records in
+    ap (λ (gs : List (Group R)). option_map records (find named gs)) (reverse_map group g.places.items) ∙ (ap (option_map records) (find_map named group (reverse g.places.items)) ∙ (ap (λ (f : Option ℕ). option_map records (option_map group f)) is ∙ map_twice group records found))
+
+pub same_records : {R : Type 0} (read : Endianness → List ℕ → R) (g : GroupList) (place : ℕ) (records : GroupRecords) → AreRecordsOf g place records → records_in read records ≡ (group_in g.order read g.size (drop place g.bytes.now)).records
+same_records read g place records are = rw (are.order, are.size, are.count, are.bytes) refl
+
+-- groups that are the same say the same
+pub same_extension : (strings other : List ℕ) (f l r f' l' r' : GroupList) → other ≡ strings → AreSameGroups f f' → AreSameGroups l l' → AreSameGroups r r' → extension_of other f' l' r' ≡ extension_of strings f l r
+same_extension strings other f l r f' l' r' same sf sl sr = rw (same, sf.order, sf.size, sf.bytes, sf.places, sl.order, sl.size, sl.bytes, sl.places, sr.order, sr.size, sr.bytes, sr.places) refl
+
+pub same_laid_out : (least : ℕ) (g h : GroupList) → AreSameGroups g h → AreLaidOut least g → AreLaidOut least h
+same_laid_out least g h same are = record {
+  whole = record { stand = rw (same.order, same.size, same.bytes, same.places) are.whole.stand };
+  sized = rw (same.size, same.places) are.sized;
+}
+
+pub same_kinds : (g h : GroupList) → AreSameGroups g h → AreAllKindsKnown g → AreAllKindsKnown h
+same_kinds g h same are = record { each = rw (same.order, same.size, same.bytes, same.places) are.each }

@@ -1,0 +1,56 @@
+-- What a `.BTF.ext` section says beside a table of types ("BTF.ext section").
+use Rattle.std.specs.Prelude.{◌≡◌, ℕ, List}
+use Rattle.btf_records.specs.declared.error.BtfError.{BtfError}
+use Rattle.btf_records.specs.declared.words.Endianness.{Endianness}
+use Rattle.btf_ext.specs.Faults.{ExtensionFault}
+use Rattle.btf_ext.specs.Groups.{AreGroups, Group}
+use Rattle.btf_ext.specs.Records.{func_in, line_in, relocation_in}
+use Rattle.btf_ext.specs.Regions.{HasHeader, IsWithin, groups_bytes, region_place, region_in, size_in}
+use Rattle.btf_ext.specs.declared.record.bpf_core_relo.{bpf_core_relo}
+use Rattle.btf_ext.specs.declared.record.bpf_func_info.{bpf_func_info}
+use Rattle.btf_ext.specs.declared.record.bpf_line_info.{bpf_line_info}
+use Rattle.btf_ext.specs.declared.region.RegionKind.{RegionKind}
+use Rattle.btf_ext.specs.declared.region.RegionKind.TheVariants.{Functions, Lines, Relocations}
+
+-- sizes of records are in bytes, as the section gives them; the strings are those of the table,
+-- which name the groups
+pub record Extension : Type 0 where
+  pub order : Endianness
+  pub strings : List ℕ
+  pub func_size : ℕ
+  pub line_size : ℕ
+  pub functions : List (Group bpf_func_info)
+  pub lines : List (Group bpf_line_info)
+  pub relocations : List (Group bpf_core_relo)
+
+-- the region says these groups
+abbrev pub Holds : {R : Type 0}
+    → RegionKind
+    → Endianness
+    → (Endianness → List ℕ → R)
+    → List ℕ
+    → List (Group R)
+    → Type 0
+Holds kind order read bytes groups =
+    IsWithin (region_place kind order bytes)
+    × AreGroups order read (size_in order (region_in kind order bytes))
+    (groups_bytes (region_in kind order bytes)) groups
+
+-- the section says this; neither its magic nor its version is checked
+pub record IsExtension (order : Endianness) (strings bytes : List ℕ) (extension : Extension)
+    : Type 0 where
+  pub header : HasHeader order bytes
+  pub same_order : extension.order ≡ order
+  pub same_strings : extension.strings ≡ strings
+  pub func_size : extension.func_size ≡ size_in order (region_in Functions order bytes)
+  pub line_size : extension.line_size ≡ size_in order (region_in Lines order bytes)
+  pub functions : Holds Functions order func_in bytes extension.functions
+  pub lines : Holds Lines order line_in bytes extension.lines
+  pub relocations : Holds Relocations order relocation_in bytes extension.relocations
+
+-- the section says this and nothing else, and no fault stands
+pub record HoldsExtension (order : Endianness) (strings bytes : List ℕ) (extension : Extension)
+    : Type 0 where
+  pub holds : IsExtension order strings bytes extension
+  pub faultless : (e : BtfError) → ExtensionFault order strings bytes e → ⊥
+  pub alone : (other : Extension) → IsExtension order strings bytes other → other ≡ extension

@@ -1,0 +1,78 @@
+-- The header of the section, and the regions of functions, lines and relocations that it names
+-- ("BTF.ext section").
+use Rattle.std.specs.Prelude.{ℕ, ◌+◌, ◌<◌, ◌≤◌, ◌⊎◌, ◌==◌, if◌then◌else◌, List, [], ◌∷◌, length, take, drop, slice_index_or}
+use Rattle.btf_records.specs.Words.{word_at}
+use Rattle.btf_records.specs.declared.words.Endianness.{Endianness}
+use Rattle.btf_ext.specs.declared.region.Place.{Place}
+use Rattle.btf_ext.specs.declared.region.RegionKind.{RegionKind}
+use Rattle.btf_ext.specs.declared.region.RegionKind.TheVariants.{Functions, Lines, Relocations}
+
+-- the header: magic, version, flags, its own length, and then for each region its offset and its
+-- length
+abbrev pub header_len : Endianness → List ℕ → ℕ
+header_len order bytes = word_at order bytes 4
+
+pub record HasHeader (order : Endianness) (bytes : List ℕ) : Type 0 where
+  pub head : 8 ≤ length bytes
+  pub least : 8 ≤ header_len order bytes
+  pub within : header_len order bytes ≤ length bytes
+
+abbrev pub IsHeaderCut : Endianness → List ℕ → Type 0
+IsHeaderCut order bytes =
+    (length bytes < 8)
+    ⊎ ((8 ≤ length bytes)
+    × ((header_len order bytes < 8) ⊎ (length bytes < header_len order bytes)))
+
+abbrev pub header_in : Endianness → List ℕ → List ℕ
+header_in order bytes = take (header_len order bytes) bytes
+
+-- the word at an offset of the header; bytes past the header's end count as 0
+abbrev pub padded_word : Endianness → List ℕ → ℕ → ℕ
+padded_word order header at =
+    word_at order
+    (slice_index_or header at 0
+    ∷ slice_index_or header (at + 1) 0
+    ∷ slice_index_or header (at + 2) 0
+    ∷ slice_index_or header (at + 3) 0
+    ∷ []) 0
+
+-- where the header names a region
+abbrev pub field_of : RegionKind → ℕ
+field_of Functions = 8
+field_of Lines = 16
+field_of Relocations = 24
+
+-- a region in the section; its offset counts from the header's end
+abbrev pub region_place : RegionKind → Endianness → List ℕ → Place
+region_place kind order bytes = record {
+  offset = header_len order bytes + padded_word order (header_in order bytes) (field_of kind);
+  len = padded_word order (header_in order bytes) (field_of kind + 4);
+  section_len = length bytes;
+}
+
+abbrev pub IsWithin : Place → Type 0
+IsWithin place = place.offset + place.len ≤ place.section_len
+
+abbrev pub IsPastEnd : Place → Type 0
+IsPastEnd place = place.section_len < place.offset + place.len
+
+-- a region that isn't empty has no room for the size of its records
+abbrev pub HasNoSize : Place → Type 0
+HasNoSize place = (0 < place.len) × (place.len < 4)
+
+abbrev pub region_in : RegionKind → Endianness → List ℕ → List ℕ
+region_in kind order bytes =
+    take (region_place kind order bytes).len (drop (region_place kind order bytes).offset bytes)
+
+-- a region: the size of its records, and then its groups; an empty one has neither
+abbrev pub size_in : Endianness → List ℕ → ℕ
+size_in order region = if length region == 0 then 0 else word_at order region 0
+
+abbrev pub groups_bytes : List ℕ → List ℕ
+groups_bytes region = drop 4 region
+
+-- the least size of a region's records
+abbrev pub least_size : RegionKind → ℕ
+least_size Functions = 8
+least_size Lines = 16
+least_size Relocations = 16

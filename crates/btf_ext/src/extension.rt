@@ -1,0 +1,193 @@
+//! A whole section.
+
+ghost use Rattle.std.specs.Prelude.{◌≡◌, ◌≢◌, IfErr, IfOk};
+ghost use Rattle.btf_records.specs.declared.error.BtfError.TheVariants.{OutOfMemory};
+ghost use Rattle.btf_ext.specs.Extensions.{HoldsExtension};
+ghost use Rattle.btf_ext.specs.Faults.{ExtensionFault};
+ghost use Rattle.btf_ext.specs.Names.{records_of};
+
+use crate::group_list::GroupList;
+use crate::header::{header, region_of};
+use crate::names::GroupNames;
+use crate::region::RegionKind;
+use crate::relocations::SecInfoIter;
+use crate::sec_info::{FuncSecInfo, LineSecInfo};
+use btf_records::{BtfError, Endianness};
+use btf_tables::{Btf, Strings};
+use std::alloc::{AllocError, Global};
+use std::marker::Model;
+
+/// What a `.BTF.ext` section says, over the section's bytes: records are read where they are asked
+/// for.
+#[derive(Debug)]
+pub struct BtfExt<'a> {
+    /// The table's strings, which name the groups.
+    strings: Strings<'a>,
+    functions: GroupList<'a>,
+    function_names: GroupNames,
+    lines: GroupList<'a>,
+    line_names: GroupNames,
+    relocations: GroupList<'a>,
+}
+
+impl<'a> Drop for BtfExt<'a> {
+    // One call wherever it is dropped, in place of one for each part.
+    fn drop(self) {
+        let BtfExt {
+            strings: _strings,
+            functions: _functions,
+            function_names: _function_names,
+            lines: _lines,
+            line_names: _line_names,
+            relocations: _relocations,
+        } = self;
+    }
+}
+
+impl<'a> Model for BtfExt<'a> {
+    ghost use Rattle.btf_ext.specs.Extensions.{Extension};
+    ghost use Rattle.btf_ext.specs.Layout.{AreAllKindsKnown, AreLaidOut, extension_of};
+    ghost use Rattle.btf_ext.specs.NameHashes.{AreNames};
+
+    ghost Value = { Extension };
+
+    ghost view = { λ x. extension_of x.strings x.functions x.lines x.relocations };
+
+    ghost invariant = { λ x.
+        AreLaidOut 8 x.functions
+        × AreLaidOut 16 x.lines
+        × AreLaidOut 16 x.relocations
+        × AreAllKindsKnown x.relocations
+        × AreNames x.strings x.functions x.function_names.last.entries
+        × AreNames x.strings x.lines x.line_names.last.entries };
+}
+
+impl<'a> BtfExt<'a> {
+    /// What a section says, in this byte order, whose groups this table names. Neither magic nor
+    /// version is checked; bytes of the header past its length count as 0.
+    ///
+    /// `InvalidHeader` where the header is shorter than 8 bytes, or cut off; `InvalidInfo` where a
+    /// region goes past the end or has no room for the size of its records; `InvalidInfo`,
+    /// `InvalidLineInfo` and `InvalidRelocationInfo` where records of functions, lines or
+    /// relocations are too short or a group of them is cut off; `InvalidStringOffset` where the
+    /// name of a group of functions or lines can't be read; `InvalidRelocationKind` where a
+    /// relocation's kind is above 11.
+    pub fn parse(
+        alloc: Global,
+        section: &'a [u8],
+        order: Endianness,
+        table: &Btf<'a>,
+    ) -> Result<BtfExt<'a>, BtfError>
+        ensures holds { IfOk result (λ extension.
+            HoldsExtension order table.now.strings section.now extension) }
+        ensures refused { IfErr result (λ e.
+            e ≢ OutOfMemory → ExtensionFault order table.now.strings section.now e) }
+    {
+        let header = header(order, section)?;
+        let function_region = region_of(RegionKind::Functions, order, section, header)?;
+        let line_region = region_of(RegionKind::Lines, order, section, header)?;
+        let relocation_region = region_of(RegionKind::Relocations, order, section, header)?;
+        let functions = GroupList::read(alloc, order, table, function_region)?;
+        let lines = GroupList::read(alloc, order, table, line_region)?;
+        let relocations = GroupList::read(alloc, order, table, relocation_region)?;
+        Ok(BtfExt {
+            function_names: GroupNames::new(alloc, table.strings(), &functions)?,
+            line_names: GroupNames::new(alloc, table.strings(), &lines)?,
+            strings: table.strings().try_clone()?,
+            functions,
+            lines,
+            relocations,
+        })
+    }
+
+    /// The size of a function's record in bytes, as the section gives it; 0 where it has none.
+    pub fn func_info_rec_size(&self) -> usize
+        ensures { result ≡ self.now.func_size }
+    {
+        self.functions.size
+    }
+
+    /// The size of a line's record in bytes, as the section gives it; 0 where it has none.
+    pub fn line_info_rec_size(&self) -> usize
+        ensures { result ≡ self.now.line_size }
+    {
+        self.lines.size
+    }
+
+    /// The records of functions.
+    pub fn func_info(&self) -> FuncInfo<'_>
+        ensures { result ≡ self.now }
+    {
+        FuncInfo { extension: self }
+    }
+
+    /// The records of the functions of a section of instructions.
+    fn functions_of(&self, name: &str) -> Option<FuncSecInfo<'_>>
+        ensures { result ≡ records_of self.now.strings name.now self.now.functions }
+    {
+        let place = self
+            .function_names
+            .last_named(&self.strings, &self.functions, name);
+        match place {
+            Some(place) => Some(FuncSecInfo::of_group(self.functions.records(place))),
+            None => None,
+        }
+    }
+
+    /// The records of the lines of a section of instructions; of several groups of its name the
+    /// last counts.
+    pub fn line_info(&self, name: &str) -> Option<LineSecInfo<'_>>
+        ensures { result ≡ records_of self.now.strings name.now self.now.lines }
+    {
+        let place = self.line_names.last_named(&self.strings, &self.lines, name);
+        match place {
+            Some(place) => Some(LineSecInfo::of_group(self.lines.records(place))),
+            None => None,
+        }
+    }
+
+    /// The type relocations, group by group.
+    pub fn relocations(&self) -> SecInfoIter<'_>
+        ensures { result ≡ self.now.relocations }
+    {
+        SecInfoIter::new(&self.relocations)
+    }
+
+    /// The same section.
+    pub fn try_clone(&self) -> Result<BtfExt<'a>, AllocError>
+        ensures { IfOk result (λ extension. extension ≡ self.now) }
+    {
+        Ok(BtfExt {
+            strings: self.strings.try_clone()?,
+            functions: self.functions.try_clone()?,
+            function_names: self.function_names.try_clone()?,
+            lines: self.lines.try_clone()?,
+            line_names: self.line_names.try_clone()?,
+            relocations: self.relocations.try_clone()?,
+        })
+    }
+}
+
+/// The records of functions, by the name of their section.
+#[derive(Debug, Drop)]
+pub struct FuncInfo<'e> {
+    extension: &'e BtfExt<'e>,
+}
+
+impl<'e> Model for FuncInfo<'e> {
+    ghost use Rattle.btf_ext.specs.Extensions.{Extension};
+
+    ghost Value = { Extension };
+
+    ghost view = { λ f. f.extension.now };
+}
+
+impl<'e> FuncInfo<'e> {
+    /// The records of the functions of a section of instructions; of several groups of its name the
+    /// last counts.
+    pub fn get(&self, name: &str) -> Option<FuncSecInfo<'e>>
+        ensures { result ≡ records_of self.now.strings name.now self.now.functions }
+    {
+        self.extension.functions_of(name)
+    }
+}

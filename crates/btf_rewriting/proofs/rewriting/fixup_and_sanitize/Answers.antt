@@ -1,8 +1,0 @@
-use Rattle.btf_sanitizing.specs.Facts.{number_named}
-use Rattle.btf_rewriting.proofs.Carried.{rewriting_carries}
-use Rattle.btf_rewriting.proofs.rewriting.fixup_and_sanitize.Goals as goal
-
-pub returns-clause-carries : goal.returns-clause-carries
-returns-clause-carries g c =
-    let done = c.in_ok-rewritten in
-    rewriting_carries c.args.ksyms done.rewritten.answers.items (number_named c.args.sizes.now) (number_named c.args.offsets.now) c.args.table.now done.rewritten.table done.ensures.step done.ensures.keeps done.ensures.texts

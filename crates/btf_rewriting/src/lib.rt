@@ -1,9 +1,0 @@
-//! Type tables rewritten for one kernel: their section `.ksyms`, and what that kernel doesn't grant
-//! (`bpf_object__sanitize_btf` and `bpf_object__collect_externs`, tools/lib/bpf/libbpf.c).
-#![tactic(auto)]
-
-mod rewriting;
-
-pub use btf_ksyms::KsymsIds;
-pub use btf_sanitizing::Answers;
-pub use rewriting::{fixup_and_sanitize, fixup_ksyms_datasec};

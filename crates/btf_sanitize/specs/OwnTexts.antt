@@ -1,0 +1,21 @@
+-- The texts that sections get for their names, as bytes.
+use Rattle.std.specs.Prelude.{ℕ, ◌+◌, List, [], ◌∷◌, if◌then◌else◌, length}
+use Rattle.btf_records.specs.declared.types.BtfType.{BtfType}
+use Rattle.btf_records.specs.declared.types.BtfType.TheVariants as types
+use Rattle.btf_sanitize.specs.Facts.{Facts, name_at}
+use Rattle.btf_sanitize.specs.SectionNames.{sought}
+use Rattle.byte_index.specs.ByteIndex.{has_byte}
+
+-- the bytes of a name that must be written anew, with its NUL; 0 where it needn't be
+abbrev pub own_text_of : Facts → List ℕ → ℕ
+own_text_of known name = if has_byte (sought known) name then length name + 1 else 0
+
+-- a record's
+abbrev pub own_text : Facts → BtfType → ℕ
+own_text known (types.DataSec t) = own_text_of known (name_at known t.name_offset)
+own_text known _ = 0
+
+-- those of records together
+abbrev pub own_texts : Facts → List BtfType → ℕ
+own_texts known [] = 0
+own_texts known (t ∷ ts) = own_text known t + own_texts known ts

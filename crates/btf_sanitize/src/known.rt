@@ -1,0 +1,84 @@
+//! What a rewriting knows.
+
+ghost use Rattle.std.specs.Prelude.{◌≡◌, IfErr, IfOk, OnOk, Some};
+ghost use Rattle.std.specs.Option.{option_copied};
+ghost use Rattle.btf_sanitize.specs.Facts.{number_named, type_at};
+ghost use Rattle.btf_sanitize.specs.Faults.{NameFault};
+ghost use Rattle.btf_sanitize.specs.Knowledge.{facts_of};
+ghost use Rattle.string_table.specs.Texts.{text_at};
+ghost use Rattle.btf_storage.specs.Faultless.{IsFaultless};
+
+use crate::answers::{Answers, is_granted};
+use btf_encoding::TypeRef;
+use btf_storage::{Strings, TypeRecords};
+use btf_records::{BtfError, BtfFeature};
+use string_map::TextMap;
+
+/// What is granted, the table's strings and types, and what an object says of its sections and
+/// symbols.
+#[derive(Debug, Drop)]
+pub struct Known<'t, 'm, 'n> {
+    pub answers: &'t Answers,
+    pub strings: &'t Strings<'t>,
+    pub types: &'t TypeRecords<'t>,
+    /// The sizes of the object's sections in bytes, by name.
+    pub sizes: &'m TextMap<'n, u64>,
+    /// The offsets of its symbols in their sections, by name.
+    pub offsets: &'m TextMap<'n, u64>,
+}
+
+/// The number under a name.
+fn number_named(numbers: &TextMap<'_, u64>, name: &str) -> Option<u64>
+    ensures { result ≡ number_named numbers.now name.now }
+{
+    numbers.get(name).copied()
+}
+
+impl<'t, 'm, 'n> Known<'t, 'm, 'n> {
+    pub(crate) fn grants(&self, feature: BtfFeature) -> bool
+        ensures { result ≡ (facts_of self.now).grants feature }
+    {
+        is_granted(self.answers, feature)
+    }
+
+    /// The text at an offset of the strings.
+    pub(crate) fn text_at(&self, offset: u32) -> Option<&'t str>
+        ensures { option_copied result ≡ text_at (facts_of self.now).strings offset }
+    {
+        self.strings.text_at(offset)
+    }
+
+    /// The record of an id; that of id 0 is void.
+    pub(crate) fn type_at(&self, id: u32) -> Option<TypeRef<'t>>
+        ensures { result ≡ type_at (facts_of self.now) id }
+    {
+        self.types.by_id(id as usize)
+    }
+
+    pub(crate) fn size_of(&self, section: &str) -> Option<u64>
+        ensures { result ≡ (facts_of self.now).sizes section.now }
+    {
+        number_named(self.sizes, section)
+    }
+
+    pub(crate) fn offset_of(&self, symbol: &str) -> Option<u64>
+        ensures { result ≡ (facts_of self.now).offsets symbol.now }
+    {
+        number_named(self.offsets, symbol)
+    }
+
+    /// The name at an offset of the strings, where it must be read.
+    pub(crate) fn name_at(&self, offset: u32) -> Result<&'t str, BtfError>
+        ensures value { IfOk result (λ name.
+            text_at (facts_of self.now).strings offset ≡ Some name.now) }
+        ensures refused { IfErr result (NameFault (facts_of self.now) offset) }
+        ensures accepted { OnOk result (IsFaultless (NameFault (facts_of self.now) offset)) }
+    {
+        match self.text_at(offset) {
+            Some(name) => Ok(name),
+            None => Err(BtfError::InvalidStringOffset {
+                offset: offset as usize,
+            }),
+        }
+    }
+}

@@ -1,0 +1,229 @@
+//! The records of a table, one after the other.
+
+ghost use Rattle.std.specs.Prelude.{◌≡◌, ◌≢◌, ◌<◌, ◌++◌, ◌^◌, ◌∷◌, [], Any, IfErr, IfOk, OnOk, length, true};
+ghost use Rattle.btf_records.specs.declared.error.BtfError.TheVariants.{InvalidTypeInfo, OutOfMemory};
+ghost use Rattle.btf_sanitize.specs.Faults.{KindFault};
+ghost use Rattle.btf_sanitize.specs.Kept.{Keeps};
+ghost use Rattle.btf_sanitize.specs.Knowledge.{facts_of};
+ghost use Rattle.btf_sanitize.specs.Rewritten.{after, after_all, all_rewritten, rewritten};
+ghost use Rattle.btf_sanitize.specs.SectionNames.{section_names, sought};
+ghost use Rattle.btf_sanitize.specs.Stays.{stays};
+ghost use Rattle.btf_sanitize.specs.Sanitized.{AnyFault, NextFault, SanitizingFault, sanitized_strings, sanitized_types};
+ghost use Rattle.btf_storage.specs.Faultless.{IsFaultless};
+ghost use Rattle.btf_storage.specs.Growth.{AreFew, AreTooMany};
+
+use crate::additions::Additions;
+use crate::known::Known;
+use crate::own_texts::own_texts_fit;
+use crate::rows::rewritten;
+use crate::staying::stays;
+use btf_encoding::TypeRef;
+use btf_storage::TypeRecords;
+use btf_records::{BtfError, BtfFeature, BtfKind, BtfType};
+use byte_index::{ByteIndex, SHORT};
+use std::alloc::{AllocError, Global};
+
+/// Whether a section has a long name.
+fn has_long_name(known: &Known<'_, '_, '_>) -> bool {
+    for index in 0..known.types.len() {
+        let Some(t) = known.types.get(index) else {
+            return false;
+        };
+        if t.kind() != BtfKind::DataSec {
+            continue;
+        }
+        if let Some(name) = known.text_at(t.name_offset()) {
+            if name.len() > SHORT {
+                return true;
+            }
+        }
+    }
+    false
+}
+
+/// The byte that isn't left in names of sections.
+fn sought(known: &Known<'_, '_, '_>) -> u8
+    ensures { result ≡ sought (facts_of known.now) }
+{
+    if known.grants(BtfFeature::DataSec) {
+        b'/'
+    } else {
+        b'.'
+    }
+}
+
+/// Where that byte stands, if there are long names.
+fn section_names<'s>(
+    alloc: Global,
+    known: &'s Known<'_, '_, '_>,
+) -> Result<ByteIndex<'s>, AllocError>
+    ensures { IfOk result (λ names. names ≡ section_names (facts_of known.now)) }
+{
+    let strings = known.strings.as_slice();
+    if has_long_name(known) {
+        return ByteIndex::new(alloc, strings, sought(known));
+    }
+    Ok(ByteIndex::empty(alloc, strings, sought(known)))
+}
+
+/// Copies a record that stays, after what becomes of those before it.
+#[tactic(auto, using(crate::proofs::Stays::stays_alone))]
+fn keep(
+    known: &Known<'_, '_, '_>,
+    additions: &Additions,
+    records: &mut TypeRecords<'_>,
+    t: &TypeRef<'_>,
+) -> Result<(), BtfError>
+    requires { stays (facts_of known.now) t.now ≡ true }
+    ensures types { OnOk result
+        (records.new.types
+        ≡ records.old.types ++ rewritten (facts_of known.now) additions.now t.now ∷ []) }
+    ensures order { OnOk result (records.new.order ≡ records.old.order) }
+    ensures added { OnOk result (additions.now ≡ after (facts_of known.now) additions.now t.now) }
+    ensures few { OnOk result (AreFew records.new.order records.new.types) }
+    ensures refused { IfErr result (λ e.
+        e ≢ OutOfMemory → NextFault (facts_of known.now) records.old additions.now t.now e) }
+    ensures accepted { OnOk result (IsFaultless (KindFault (facts_of known.now) t.now)) }
+{
+    records.push_copy(t)?;
+    Ok(())
+}
+
+/// Writes what becomes of a record after what becomes of those before it.
+fn rewrite_next(
+    alloc: Global,
+    known: &Known<'_, '_, '_>,
+    names: &ByteIndex<'_>,
+    additions: &mut Additions,
+    records: &mut TypeRecords<'_>,
+    t: &TypeRef<'_>,
+) -> Result<(), BtfError>
+    requires { names.now ≡ section_names (facts_of known.now) }
+    ensures types { OnOk result
+        (records.new.types
+        ≡ records.old.types ++ rewritten (facts_of known.now) additions.old t.now ∷ []) }
+    ensures order { OnOk result (records.new.order ≡ records.old.order) }
+    ensures added { OnOk result (additions.new ≡ after (facts_of known.now) additions.old t.now) }
+    ensures few { OnOk result (AreFew records.new.order records.new.types) }
+    ensures refused { IfErr result (λ e.
+        e ≢ OutOfMemory → NextFault (facts_of known.now) records.old additions.old t.now e) }
+    ensures accepted { OnOk result (IsFaultless (KindFault (facts_of known.now) t.now)) }
+{
+    if stays(known, t) {
+        return keep(known, additions, records, t);
+    }
+    let t = t.to_type(alloc)?;
+    let t = rewritten(alloc, known, names, additions, t)?;
+    records.push(t)
+}
+
+/// Writes what becomes of each record.
+#[tactic(auto, using(crate::proofs::Passes::refused_here))]
+fn rewrite_all(
+    alloc: Global,
+    known: &Known<'_, '_, '_>,
+    names: &ByteIndex<'_>,
+    additions: &mut Additions,
+    records: &mut TypeRecords<'_>,
+) -> Result<(), BtfError>
+    requires none { records.old.types ≡ [] }
+    requires names { names.now ≡ section_names (facts_of known.now) }
+    ensures types { OnOk result
+        (records.new.types
+        ≡ all_rewritten (facts_of known.now) additions.old (facts_of known.now).types) }
+    ensures order { OnOk result (records.new.order ≡ records.old.order) }
+    ensures added { OnOk result
+        (additions.new ≡ after_all (facts_of known.now) additions.old (facts_of known.now).types) }
+    ensures few { OnOk result (AreFew records.new.order records.new.types) }
+    ensures refused { IfErr result (λ e.
+        e ≢ OutOfMemory → AnyFault (facts_of known.now) records.old.order additions.old e) }
+    ensures accepted { OnOk result
+        (IsFaultless (λ e.
+        Any (λ t. KindFault (facts_of known.now) t e) (facts_of known.now).types)) }
+{
+    let mut index = 0;
+    while let Some(t) = known.types.get(index) {
+        rewrite_next(alloc, known, names, additions, records, &t)?;
+        index += 1;
+    }
+    Ok(())
+}
+
+/// Adds types after the others.
+#[tactic(auto, using(crate::proofs::Passes::too_many_next))]
+fn push_all(records: &mut TypeRecords<'_>, types: Vec<BtfType>) -> Result<(), BtfError>
+    requires { AreFew records.old.order records.old.types }
+    ensures types { OnOk result (records.new.types ≡ records.old.types ++ types.items) }
+    ensures order { OnOk result (records.new.order ≡ records.old.order) }
+    ensures few { OnOk result (AreFew records.new.order records.new.types) }
+    ensures refused { IfErr result (λ e.
+        e ≢ OutOfMemory
+        → (e ≡ InvalidTypeInfo) × AreTooMany records.old.order (records.old.types ++ types.items)) }
+{
+    for t in types {
+        records.push(t)?;
+    }
+    Ok(())
+}
+
+/// What a table's records become, and the texts after its strings.
+#[derive(Debug, Drop)]
+pub struct SanitizedTable<'a> {
+    pub records: TypeRecords<'a>,
+    pub texts: Vec<u8>,
+}
+
+/// What the records become, with the types and the texts that are added.
+fn rewritten_table<'a>(
+    alloc: Global,
+    known: &Known<'_, '_, '_>,
+) -> Result<SanitizedTable<'a>, BtfError>
+    requires { length (facts_of known.now).strings < 2 ^ 32 }
+    ensures types { IfOk result (λ s. s.records.types ≡ sanitized_types (facts_of known.now)) }
+    ensures order { IfOk result (λ s. s.records.order ≡ known.now.types.now.order) }
+    ensures strings { IfOk result (λ s.
+        (facts_of known.now).strings ++ s.texts.items ≡ sanitized_strings (facts_of known.now)) }
+    ensures refused { IfErr result (λ e.
+        e ≢ OutOfMemory → SanitizingFault known.now.types.now.order (facts_of known.now) e) }
+    ensures accepted { OnOk result
+        (IsFaultless (SanitizingFault known.now.types.now.order (facts_of known.now))) }
+{
+    let names = section_names(alloc, known)?;
+    if !own_texts_fit(known, &names) {
+        return Err(BtfError::InvalidTypeInfo);
+    }
+    let mut additions = Additions::new(alloc, known.strings.len(), known.types.len());
+    let mut records = TypeRecords::new(alloc, known.types.order());
+    rewrite_all(alloc, known, &names, &mut additions, &mut records)?;
+    let (texts, types) = additions.into_parts();
+    push_all(&mut records, types)?;
+    Ok(SanitizedTable { records, texts })
+}
+
+/// The records of a table of which only granted features are left, each under its id, and after
+/// them the types that are added; the texts that are added after its strings. What is left needs
+/// granted features alone.
+///
+/// `InvalidStringOffset` where a name must be read and can't be, `UnknownBtfType` and
+/// `InvalidDatasec` where an entry of a section names no type, no variable or one too far away,
+/// `UnknownSectionSize` and `SymbolOffsetNotFound` where the object doesn't say what a section
+/// lacks, `InvalidTypeInfo` where the strings, the types, or their bytes are more than 32 bits can
+/// count.
+pub fn sanitize<'a>(
+    alloc: Global,
+    known: &Known<'_, '_, '_>,
+) -> Result<SanitizedTable<'a>, BtfError>
+    requires { length (facts_of known.now).strings < 2 ^ 32 }
+    ensures types { IfOk result (λ s. s.records.types ≡ sanitized_types (facts_of known.now)) }
+    ensures order { IfOk result (λ s. s.records.order ≡ known.now.types.now.order) }
+    ensures strings { IfOk result (λ s.
+        (facts_of known.now).strings ++ s.texts.items ≡ sanitized_strings (facts_of known.now)) }
+    ensures refused { IfErr result (λ e.
+        e ≢ OutOfMemory → SanitizingFault known.now.types.now.order (facts_of known.now) e) }
+    ensures accepted { OnOk result
+        (IsFaultless (SanitizingFault known.now.types.now.order (facts_of known.now))) }
+    ensures keeps { IfOk result (λ s. Keeps (facts_of known.now) s.records.types) }
+{
+    let table = rewritten_table(alloc, known)?;
+    Ok(table)
+}

@@ -1,0 +1,88 @@
+-- The places of records, one after the other.
+use Rattle.std.proofs.Common.{◌≡◌, ℕ, ◌+◌, ◌-◌, ◌<◌, ◌≤◌, ◌^◌, List, [], ◌∷◌, ◌++◌, length, drop, map, refl, sym, ap, subst, ◌∙◌, arith, length-drop}
+use Rattle.std.specs.Prelude.{All}
+use Rattle.std.proofs.lemmas.List.{drop-drop, map_push}
+use Rattle.std.proofs.lemmas.List.Elements.{All-append, All-cons, All-nil}
+use Rattle.btf_storage.specs.Layout.{IsLaidOut, kind_at_place, name_at_place, types_at}
+use Rattle.btf_storage.proofs.Growth.{types_after}
+use Rattle.btf_storage.proofs.Lengths.{begins_more, least_of_all, spelled_few, spelled_tight}
+use Rattle.btf_storage.proofs.Places.{length_types_at}
+use Rattle.btf_encoding.specs.Records.{Begins, HasRecord, ReadsSame, RecordFault, Spells, TypesFault, record_len, type_in}
+use Rattle.btf_records.specs.Fields.{kind_of_type, name_offset_of}
+use Rattle.btf_records.specs.declared.compound.Enum64Fallback.{Enum64Fallback}
+use Rattle.btf_records.specs.declared.error.BtfError.{BtfError}
+use Rattle.btf_records.specs.declared.kind.BtfKind.{BtfKind}
+use Rattle.btf_records.specs.declared.types.BtfType.{BtfType}
+use Rattle.btf_records.specs.declared.words.Endianness.{Endianness}
+
+-- the places, kinds and names of the records that the bytes begin with, and the rest after them
+pub record ArePlaces (order : Endianness) (bytes places : List ℕ) (kinds : List BtfKind) (names : List ℕ) (rest : List ℕ) : Type 0 where
+  pub of_kinds : kinds ≡ map (kind_at_place order bytes) places
+  pub of_names : names ≡ map (name_at_place order bytes) places
+  pub begun : Begins order (types_at order bytes [] 1 places) rest bytes
+  pub stand : All (λ p. ReadsSame order (drop p bytes)) places
+  pub left : rest ≡ drop (length bytes - length rest) bytes
+  pub within : length rest ≤ length bytes
+
+pub no_places : (order : Endianness) (bytes : List ℕ) → ArePlaces order bytes [] [] [] bytes
+unfolding types_at
+no_places order bytes =
+    let none : length bytes - length bytes ≡ 0 = omega arith in
+    record {
+      of_kinds = refl;
+      of_names = refl;
+      begun = refl;
+      stand = All-nil (λ p. ReadsSame order (drop p bytes));
+      left = rw none refl;
+      within = omega arith;
+    }
+
+read_next : {X : Type 0} (read : BtfType → X) (order : Endianness) (bytes places : List ℕ) (values : List X) (rest : List ℕ) → rest ≡ drop (length bytes - length rest) bytes → values ≡ map (λ p. read (type_in order (drop p bytes))) places → values ++ read (type_in order rest) ∷ [] ≡ map (λ p. read (type_in order (drop p bytes))) (places ++ (length bytes - length rest) ∷ [])
+read_next {X} read order bytes places values rest left are =
+    let place = length bytes - length rest in
+    ap (λ (r : List ℕ). values ++ read (type_in order r) ∷ []) left ∙ (ap (λ (vs : List X). vs ++ read (type_in order (drop place bytes)) ∷ []) are ∙ sym (map_push (λ p. read (type_in order (drop p bytes))) places place))
+
+pub one_more_place : (order : Endianness) (bytes places : List ℕ) (kinds : List BtfKind) (names : List ℕ) (rest : List ℕ) → ArePlaces order bytes places kinds names rest → HasRecord order rest → ReadsSame order rest → ArePlaces order bytes (places ++ (length bytes - length rest) ∷ []) (kinds ++ kind_of_type (type_in order rest) ∷ []) (names ++ name_offset_of (type_in order rest) ∷ []) (drop (record_len order rest) rest)
+one_more_place order bytes places kinds names rest are has alone =
+    let place = length bytes - length rest in
+    let len = record_len order rest in
+    let whole = has.whole in
+    let left_len : length (drop len rest) + len ≡ length rest = omega (arith, length-drop len rest) in
+    let types : types_at order bytes [] 1 (places ++ place ∷ []) ≡ types_at order bytes [] 1 places ++ type_in order rest ∷ [] =
+    types_after order bytes [] 1 places place ∙ ap (λ (r : List ℕ). types_at order bytes [] 1 places ++ type_in order r ∷ []) (sym are.left)
+    in
+    let further : place + len ≡ length bytes - length (drop len rest) = omega (arith, are.within) in
+    record {
+      of_kinds = read_next kind_of_type order bytes places kinds rest are.left are.of_kinds;
+      of_names = read_next name_offset_of order bytes places names rest are.left are.of_names;
+      begun = subst (λ (ts : List BtfType). Begins order ts (drop len rest) bytes) (sym types) (begins_more order (types_at order bytes [] 1 places) rest bytes are.begun has);
+      stand = All-append (λ p. ReadsSame order (drop p bytes)) places (place ∷ []) are.stand (All-cons (λ p. ReadsSame order (drop p bytes)) place [] (subst (λ (r : List ℕ). ReadsSame order r) are.left alone) (All-nil (λ p. ReadsSame order (drop p bytes))));
+      left = ap (drop len) are.left ∙ (drop-drop len place bytes ∙ ap (λ (k : ℕ). drop k bytes) further);
+      within = omega (arith, are.within);
+    }
+
+pub fault_after : (order : Endianness) (bytes places : List ℕ) (kinds : List BtfKind) (names : List ℕ) (rest : List ℕ) (e : BtfError) → ArePlaces order bytes places kinds names rest → 0 < length rest → RecordFault order rest e → TypesFault order bytes e
+fault_after order bytes places kinds names rest e are more wrong = record { front = types_at order bytes [] 1 places; rest = rest; begins = are.begun; more = more; wrong = wrong }
+
+nothing : (xs : List ℕ) → length xs ≡ 0 → xs ≡ []
+nothing [] e = refl
+nothing (x ∷ xs) e = absurd (omega (arith, e))
+
+pub all_places : (order : Endianness) (bytes places : List ℕ) (kinds : List BtfKind) (names : List ℕ) (rest : List ℕ) → ArePlaces order bytes places kinds names rest → length rest ≡ 0 → Spells order (types_at order bytes [] 1 places) bytes
+all_places order bytes places kinds names rest are none = subst (λ (r : List ℕ). Begins order (types_at order bytes [] 1 places) r bytes) (nothing rest none) are.begun
+
+pub laid_out : (order : Endianness) (bytes places : List ℕ) (kinds : List BtfKind) (names : List ℕ) → Spells order (types_at order bytes [] 1 places) bytes → All (λ p. ReadsSame order (drop p bytes)) places → kinds ≡ map (kind_at_place order bytes) places → names ≡ map (name_at_place order bytes) places → length bytes < 2 ^ 32 → IsLaidOut order bytes [] places kinds names
+laid_out order bytes places kinds names spelled stand of_kinds of_names few = record {
+  stand = stand;
+  of_kinds = of_kinds;
+  of_names = of_names;
+  in_use = λ id past. refl;
+  spelled = spelled;
+  tight = spelled_tight order (types_at order bytes [] 1 places) bytes spelled;
+  few_bytes = few;
+  few_types = omega (arith, spelled_few order (types_at order bytes [] 1 places) bytes spelled, length_types_at order bytes [] 1 places);
+}
+
+-- the records are few enough for one more
+pub has_room : (order : Endianness) (bytes places : List ℕ) (kinds : List BtfKind) (names : List ℕ) (fallbacks : List (ℕ × Enum64Fallback)) → IsLaidOut order bytes fallbacks places kinds names → length places + 1 < 2 ^ 32
+has_room order bytes places kinds names fallbacks laid = omega (arith, laid.tight, laid.few_bytes, least_of_all order (types_at order bytes fallbacks 1 places), length_types_at order bytes fallbacks 1 places)

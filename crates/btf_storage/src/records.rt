@@ -1,0 +1,489 @@
+//! The records of a table over their bytes.
+
+ghost use Rattle.std.specs.Prelude.{◌≡◌, ◌≢◌, ◌<◌, ◌≤◌, ◌+◌, ◌^◌, ◌∷◌, ◌++◌, ◌⊎◌, [], All, IfErr, IfOk, IfSome, OnOk, OnErr, None, Some, drop, slice_get, length, map, take};
+ghost use Rattle.std.specs.List.{flat_map};
+ghost use Rattle.std.specs.Option.{option_copied, option_map_or};
+ghost use Rattle.btf_records.specs.Fields.{fallback_of, kind_of_type, name_offset_of};
+ghost use Rattle.btf_encoding.specs.Records.{HasRecord, ReadsBack, ReadsSame, Spells, TypesFault, record_bytes, type_in, with_fallback, without_fallback};
+ghost use Rattle.btf_records.specs.declared.error.BtfError.TheVariants.{InvalidTypeInfo, OutOfMemory};
+ghost use Rattle.btf_storage.specs.Growth.{TooMany};
+ghost use Rattle.btf_storage.specs.NewRecords.{record_of};
+ghost use Rattle.btf_storage.specs.Layout.{Entered, fallback_at, kind_at_place, name_at_place, types_at};
+
+use crate::byte_list::ByteList;
+use crate::new_record::NewRecord;
+use btf_encoding::{TypeRef, after, push_types, record_len};
+use btf_records::{BtfError, BtfKind, BtfType, Endianness, Enum64Fallback};
+use std::alloc::{AllocError, Global};
+use std::collections::BTreeMap;
+use std::marker::Model;
+
+/// The records of the ids from 1 on, one after the other.
+#[derive(Debug)]
+pub struct TypeRecords<'a> {
+    order: Endianness,
+    bytes: ByteList<'a>,
+    /// Where the record of each id begins.
+    places: Vec<u32>,
+    /// The kind of each.
+    kinds: Vec<BtfKind>,
+    /// The offset of the name of each.
+    name_offsets: Vec<u32>,
+    /// The enums that unions stand for, by id.
+    fallbacks: BTreeMap<u32, Enum64Fallback>,
+}
+
+impl<'a> Drop for TypeRecords<'a> {
+    // One call wherever it is dropped, in place of one for each part.
+    fn drop(self) {
+        let TypeRecords {
+            order: _,
+            bytes: _bytes,
+            places: _places,
+            kinds: _kinds,
+            name_offsets: _name_offsets,
+            fallbacks: _fallbacks,
+        } = self;
+    }
+}
+
+impl<'a> Model for TypeRecords<'a> {
+    ghost use Rattle.btf_storage.specs.Layout.{IsLaidOut, RecordList, types_at};
+
+    ghost Value = { RecordList };
+
+    ghost view = { λ t.
+        record {
+          order = t.order;
+          types = types_at t.order t.bytes t.fallbacks.entries 1 t.places.items;
+        } };
+
+    ghost invariant = { λ t. IsLaidOut t.order t.bytes t.fallbacks.entries t.places.items t.kinds.items
+        t.name_offsets.items };
+}
+
+/// The enum that the union of an id stands for.
+fn fallback_by_id(fallbacks: &BTreeMap<u32, Enum64Fallback>, id: u32) -> Option<&Enum64Fallback>
+    ensures { option_copied result ≡ fallback_at fallbacks.now.entries id }
+{
+    fallbacks.get(&id)
+}
+
+/// As many bytes, and as many types, as 32 bits can count.
+pub const MOST: usize = u32::MAX as usize;
+
+/// Enters the enum that the record of an id stands for, where there is one.
+fn enter_fallback(
+    fallbacks: &mut BTreeMap<u32, Enum64Fallback>,
+    id: u32,
+    t: NewRecord<'_>,
+) -> Result<(), AllocError>
+    requires { fallback_at fallbacks.old.entries id ≡ None }
+    ensures ok { OnOk result
+        (Entered fallbacks.old.entries fallbacks.new.entries id (fallback_of (record_of t.entry))) }
+    ensures err { OnErr result (fallbacks.new.entries ≡ fallbacks.old.entries) }
+{
+    let Some(fallback) = t.into_fallback()? else {
+        return Ok(());
+    };
+    fallbacks.insert(id, fallback)?;
+    Ok(())
+}
+
+/// Notes the place, kind and name of a record after those of the others, as far as memory reaches.
+fn push_entry(
+    places: &mut Vec<u32>,
+    kinds: &mut Vec<BtfKind>,
+    name_offsets: &mut Vec<u32>,
+    place: u32,
+    kind: BtfKind,
+    name_offset: u32,
+) -> Result<(), AllocError>
+    ensures places { OnOk result (places.new.items ≡ places.old.items ++ place ∷ []) }
+    ensures kinds { OnOk result (kinds.new.items ≡ kinds.old.items ++ kind ∷ []) }
+    ensures names { OnOk result
+        (name_offsets.new.items ≡ name_offsets.old.items ++ name_offset ∷ []) }
+    ensures old_places { OnErr result
+        (take (length places.old.items) places.new.items ≡ places.old.items) }
+    ensures old_kinds { OnErr result
+        (take (length kinds.old.items) kinds.new.items ≡ kinds.old.items) }
+    ensures old_names { OnErr result
+        (take (length name_offsets.old.items) name_offsets.new.items ≡ name_offsets.old.items) }
+{
+    places.push(place)?;
+    kinds.push(kind)?;
+    name_offsets.push(name_offset)?;
+    Ok(())
+}
+
+/// Writes a record after the others, as far as memory reaches.
+fn append(
+    bytes: &mut ByteList<'_>,
+    places: &mut Vec<u32>,
+    kinds: &mut Vec<BtfKind>,
+    name_offsets: &mut Vec<u32>,
+    fallbacks: &mut BTreeMap<u32, Enum64Fallback>,
+    order: Endianness,
+    t: NewRecord<'_>,
+) -> Result<(), BtfError>
+    requires few { length bytes.old < 2 ^ 32 }
+    requires free { fallback_at fallbacks.old.entries (length places.old.items + 1) ≡ None }
+    ensures bytes { OnOk result (bytes.new ≡ bytes.old ++ record_bytes order (record_of t.entry)) }
+    ensures places { OnOk result (places.new.items ≡ places.old.items ++ length bytes.old ∷ []) }
+    ensures kinds { OnOk result
+        (kinds.new.items ≡ kinds.old.items ++ kind_of_type (record_of t.entry) ∷ []) }
+    ensures names { OnOk result
+        (name_offsets.new.items
+        ≡ name_offsets.old.items ++ name_offset_of (record_of t.entry) ∷ []) }
+    ensures fallbacks { OnOk result
+        (Entered fallbacks.old.entries fallbacks.new.entries (length places.old.items + 1)
+        (fallback_of (record_of t.entry))) }
+    ensures read_back { OnOk result (ReadsBack order (record_of t.entry)) }
+    ensures few_bytes { OnOk result (length bytes.new < 2 ^ 32) }
+    ensures few_types { OnOk result (length places.new.items < 2 ^ 32) }
+    ensures refused { IfErr result (λ e.
+        e ≢ OutOfMemory
+        → (e ≡ InvalidTypeInfo)
+        × (TooMany (length bytes.old + length (record_bytes order (record_of t.entry)))
+        ⊎ TooMany (length places.old.items + 1))) }
+    ensures old_bytes { OnErr result (take (length bytes.old) bytes.new ≡ bytes.old) }
+    ensures old_places { OnErr result
+        (take (length places.old.items) places.new.items ≡ places.old.items) }
+    ensures old_kinds { OnErr result
+        (take (length kinds.old.items) kinds.new.items ≡ kinds.old.items) }
+    ensures old_names { OnErr result
+        (take (length name_offsets.old.items) name_offsets.new.items ≡ name_offsets.old.items) }
+    ensures old_fallbacks { OnErr result (fallbacks.new.entries ≡ fallbacks.old.entries) }
+{
+    if places.len() >= MOST {
+        return Err(BtfError::InvalidTypeInfo);
+    }
+    let place = bytes.len() as u32;
+    bytes.push_record(*places.allocator(), order, &t)?;
+    if bytes.len() > MOST {
+        return Err(BtfError::InvalidTypeInfo);
+    }
+    push_entry(
+        places,
+        kinds,
+        name_offsets,
+        place,
+        t.kind(),
+        t.name_offset(),
+    )?;
+    enter_fallback(fallbacks, places.len() as u32, t)?;
+    Ok(())
+}
+
+/// Where the record at an index begins.
+fn place_at(places: &[u32], index: usize) -> Option<u32>
+    ensures value { result ≡ slice_get places.now index }
+    ensures within { IfSome result (λ _. index < length places.now) }
+{
+    places.get(index).copied()
+}
+
+/// The record that begins at a place.
+#[tactic(auto, using(crate::proofs::Places::within_bytes))]
+fn record_at(order: Endianness, bytes: &[u8], place: u32) -> TypeRef<'_>
+    requires { HasRecord order (drop place bytes.now) }
+    ensures { result ≡ type_in order (drop place bytes.now) }
+{
+    TypeRef::new(order, after(bytes, place as usize))
+}
+
+/// The union that stands for this enum, where there is one.
+fn with_fallback<'a>(t: TypeRef<'a>, fallback: Option<&'a Enum64Fallback>) -> TypeRef<'a>
+    ensures { result
+        ≡ option_map_or (λ f. with_fallback (Some f) t.entry) (option_copied fallback.entry)
+        t.entry }
+{
+    match fallback {
+        Some(fallback) => t.with_fallback(fallback),
+        None => t,
+    }
+}
+
+/// The kind of the record that the bytes begin with.
+fn kind_in(order: Endianness, bytes: &[u8]) -> BtfKind
+    requires { HasRecord order bytes.now }
+    ensures { result ≡ kind_of_type (type_in order bytes.now) }
+{
+    TypeRef::new(order, bytes).kind()
+}
+
+/// The offset of the name of the record that the bytes begin with.
+fn name_offset_in(order: Endianness, bytes: &[u8]) -> u32
+    requires { HasRecord order bytes.now }
+    ensures { result ≡ name_offset_of (type_in order bytes.now) }
+{
+    TypeRef::new(order, bytes).name_offset()
+}
+
+/// The least bytes of a record.
+const LEAST_LEN: usize = 12;
+
+/// Where records begin, their kinds and the offsets of their names.
+#[derive(Debug, Drop)]
+struct RecordIndex {
+    places: Vec<u32>,
+    kinds: Vec<BtfKind>,
+    name_offsets: Vec<u32>,
+}
+
+/// Where the records begin that the bytes are, their kinds and the offsets of their names.
+#[tactic(auto, using(crate::proofs::Reading::no_places, crate::proofs::Reading::one_more_place, crate::proofs::Reading::fault_after, crate::proofs::Reading::all_places))]
+fn index_of(alloc: Global, order: Endianness, bytes: &[u8]) -> Result<RecordIndex, BtfError>
+    requires { length bytes.now < 2 ^ 32 }
+    ensures spelled { IfOk result (λ index.
+        Spells order (types_at order bytes.now [] 1 index.places.items) bytes.now) }
+    ensures stand { IfOk result (λ index.
+        All (λ place. ReadsSame order (drop place bytes.now)) index.places.items) }
+    ensures kinds { IfOk result (λ index.
+        index.kinds.items ≡ map (kind_at_place order bytes.now) index.places.items) }
+    ensures names { IfOk result (λ index.
+        index.name_offsets.items ≡ map (name_at_place order bytes.now) index.places.items) }
+    ensures refused { IfErr result (λ e. e ≢ OutOfMemory → TypesFault order bytes.now e) }
+{
+    let most = bytes.len() / LEAST_LEN;
+    let mut places = Vec::with_capacity(alloc, most)?;
+    let mut kinds = Vec::with_capacity(alloc, most)?;
+    let mut name_offsets = Vec::with_capacity(alloc, most)?;
+    let mut rest = bytes;
+    while !rest.is_empty() {
+        let len = record_len(order, rest)?;
+        places.push((bytes.len() - rest.len()) as u32)?;
+        kinds.push(kind_in(order, rest))?;
+        name_offsets.push(name_offset_in(order, rest))?;
+        rest = after(rest, len);
+    }
+    Ok(RecordIndex {
+        places,
+        kinds,
+        name_offsets,
+    })
+}
+
+impl<'a> TypeRecords<'a> {
+    /// The records that the bytes are.
+    ///
+    /// `InvalidTypeInfo` where one of them is cut off, `InvalidTypeKind` where its kind is above
+    /// 19.
+    #[tactic(auto, using(crate::proofs::Reading::laid_out))]
+    pub fn read(
+        alloc: Global,
+        order: Endianness,
+        bytes: &'a [u8],
+    ) -> Result<TypeRecords<'a>, BtfError>
+        requires { length bytes.now < 2 ^ 32 }
+        ensures order { IfOk result (λ r. r.order ≡ order) }
+        ensures spelled { IfOk result (λ r. Spells order r.types bytes.now) }
+        ensures refused { IfErr result (λ e. e ≢ OutOfMemory → TypesFault order bytes.now e) }
+    {
+        let RecordIndex {
+            places,
+            kinds,
+            name_offsets,
+        } = index_of(alloc, order, bytes)?;
+        Ok(TypeRecords {
+            order,
+            bytes: ByteList::borrowed(bytes),
+            places,
+            kinds,
+            name_offsets,
+            fallbacks: BTreeMap::new(alloc),
+        })
+    }
+
+    /// No records, of this byte order.
+    #[tactic(auto, unfolding(crate::specs::Layout::types_at))]
+    pub fn new(alloc: Global, order: Endianness) -> TypeRecords<'a>
+        ensures { result ≡ record { order = order; types = [] } }
+    {
+        TypeRecords {
+            order,
+            bytes: ByteList::owned(Vec::new(alloc)),
+            places: Vec::new(alloc),
+            kinds: Vec::new(alloc),
+            name_offsets: Vec::new(alloc),
+            fallbacks: BTreeMap::new(alloc),
+        }
+    }
+
+    /// How many records there are.
+    #[tactic(auto, using(crate::proofs::Places::length_types_at))]
+    pub fn len(&self) -> usize
+        ensures value { result ≡ length self.now.types }
+        ensures bounded { result < 2 ^ 32 }
+        ensures room { result + 1 < 2 ^ 32 }
+    {
+        self.places.len()
+    }
+
+    /// The allocator of their memory.
+    pub fn allocator(&self) -> Global {
+        *self.places.allocator()
+    }
+
+    /// The byte order of their numbers.
+    pub fn order(&self) -> Endianness
+        ensures { result ≡ self.now.order }
+    {
+        self.order
+    }
+
+    /// The kinds of the records, by index.
+    pub fn kinds(&self) -> &[BtfKind]
+        ensures { result.now ≡ map kind_of_type self.now.types }
+    {
+        self.kinds.as_slice()
+    }
+
+    /// The offsets of the names of the records, by index.
+    pub fn name_offsets(&self) -> &[u32]
+        ensures { result.now ≡ map name_offset_of self.now.types }
+    {
+        self.name_offsets.as_slice()
+    }
+
+    /// The record at an index, which is one less than its id.
+    #[tactic(auto, using(crate::proofs::Places::stands_at, crate::proofs::Places::record_is, crate::proofs::Places::none_at))]
+    pub fn get(&self, index: usize) -> Option<TypeRef<'_>>
+        ensures value { result ≡ slice_get self.now.types index }
+        ensures bounded { IfSome result (λ _. index + 1 < 2 ^ 32) }
+    {
+        match place_at(&self.places, index) {
+            Some(place) => {
+                let t = record_at(self.order, self.bytes.as_slice(), place);
+                let fallback = fallback_by_id(&self.fallbacks, index as u32 + 1);
+                Some(with_fallback(t, fallback))
+            }
+            None => None,
+        }
+    }
+
+    /// The record of an id; that of id 0 is void.
+    pub fn by_id(&self, id: usize) -> Option<TypeRef<'_>>
+        ensures value { result ≡ slice_get (BtfType.Unknown ∷ self.now.types) id }
+        ensures bounded { IfSome result (λ _. id < 2 ^ 32) }
+    {
+        if id == 0 {
+            return Some(TypeRef::void());
+        }
+        self.get(id - 1)
+    }
+
+    /// How many bytes the records are.
+    pub fn byte_len(&self) -> usize
+        ensures value { result ≡ length (flat_map (record_bytes self.now.order) self.now.types) }
+        ensures bounded { result < 2 ^ 32 }
+    {
+        self.bytes.len()
+    }
+
+    /// Adds a record after the others.
+    fn push_record(&mut self, t: NewRecord<'_>) -> Result<(), BtfError>
+        ensures order { OnOk result (self.new.order ≡ self.old.order) }
+        ensures types { OnOk result (self.new.types ≡ self.old.types ++ record_of t.entry ∷ []) }
+        ensures refused { IfErr result (λ e.
+            e ≢ OutOfMemory
+            → (e ≡ InvalidTypeInfo)
+            × (TooMany
+            (length
+            (flat_map (record_bytes self.old.order) (self.old.types ++ record_of t.entry ∷ [])))
+            ⊎ TooMany (length self.old.types + 1))) }
+        ensures few_bytes { OnOk result
+            (length (flat_map (record_bytes self.new.order) self.new.types) < 2 ^ 32) }
+        ensures few_types { OnOk result (length self.new.types < 2 ^ 32) }
+        ensures err { OnErr result (self.new ≡ self.old) }
+    {
+        let len = self.bytes.len();
+        let count = self.places.len();
+        let kind_count = self.kinds.len();
+        let name_count = self.name_offsets.len();
+        match append(
+            &mut self.bytes,
+            &mut self.places,
+            &mut self.kinds,
+            &mut self.name_offsets,
+            &mut self.fallbacks,
+            self.order,
+            t,
+        ) {
+            Ok(()) => Ok(()),
+            Err(error) => {
+                self.bytes.truncate(len);
+                self.places.truncate(count);
+                self.kinds.truncate(kind_count);
+                self.name_offsets.truncate(name_count);
+                Err(error)
+            }
+        }
+    }
+
+    /// Adds a record after the others.
+    ///
+    /// `InvalidTypeInfo` where they would be more than 2^32 - 1, or more than 2^32 - 1 bytes.
+    pub fn push(&mut self, t: BtfType) -> Result<(), BtfError>
+        ensures order { OnOk result (self.new.order ≡ self.old.order) }
+        ensures types { OnOk result (self.new.types ≡ self.old.types ++ t ∷ []) }
+        ensures refused { IfErr result (λ e.
+            e ≢ OutOfMemory
+            → (e ≡ InvalidTypeInfo)
+            × (TooMany (length (flat_map (record_bytes self.old.order) (self.old.types ++ t ∷ [])))
+            ⊎ TooMany (length self.old.types + 1))) }
+        ensures few_bytes { OnOk result
+            (length (flat_map (record_bytes self.new.order) self.new.types) < 2 ^ 32) }
+        ensures few_types { OnOk result (length self.new.types < 2 ^ 32) }
+        ensures err { OnErr result (self.new ≡ self.old) }
+    {
+        self.push_record(NewRecord::Own(t))
+    }
+
+    /// Adds the copy of a record after the others. Where it would be written as it lies there its
+    /// bytes are copied.
+    ///
+    /// `InvalidTypeInfo` as for `push`.
+    pub fn push_copy(&mut self, t: &TypeRef<'_>) -> Result<(), BtfError>
+        ensures order { OnOk result (self.new.order ≡ self.old.order) }
+        ensures types { OnOk result (self.new.types ≡ self.old.types ++ t.now ∷ []) }
+        ensures refused { IfErr result (λ e.
+            e ≢ OutOfMemory
+            → (e ≡ InvalidTypeInfo)
+            × (TooMany
+            (length (flat_map (record_bytes self.old.order) (self.old.types ++ t.now ∷ [])))
+            ⊎ TooMany (length self.old.types + 1))) }
+        ensures few_bytes { OnOk result
+            (length (flat_map (record_bytes self.new.order) self.new.types) < 2 ^ 32) }
+        ensures few_types { OnOk result (length self.new.types < 2 ^ 32) }
+        ensures err { OnErr result (self.new ≡ self.old) }
+    {
+        self.push_record(NewRecord::Copied(t))
+    }
+
+    /// Writes the bytes of the records after what is there.
+    pub fn write(&self, out: &mut Vec<u8>) -> Result<(), AllocError>
+        ensures written { OnOk result
+            (out.new.items
+            ≡ out.old.items ++ flat_map (record_bytes self.now.order) self.now.types) }
+        ensures spelled { OnOk result
+            (Spells self.now.order (map without_fallback self.now.types)
+            (flat_map (record_bytes self.now.order) self.now.types)) }
+    {
+        push_types(out, self.order, self.bytes.as_slice())
+    }
+
+    /// The same records.
+    pub fn try_clone(&self) -> Result<TypeRecords<'a>, AllocError>
+        ensures { IfOk result (λ r. r ≡ self.now) }
+    {
+        Ok(TypeRecords {
+            order: self.order,
+            bytes: self.bytes.try_clone()?,
+            places: self.places.clone()?,
+            kinds: self.kinds.clone()?,
+            name_offsets: self.name_offsets.clone()?,
+            fallbacks: self.fallbacks.clone()?,
+        })
+    }
+}

@@ -1,0 +1,155 @@
+//! The strings of a table.
+
+ghost use Rattle.std.specs.Prelude.{◌≡◌, ◌≤◌, ◌∷◌, ◌++◌, [], IfOk, OnErr, OnOk, length, take, true};
+ghost use Rattle.std.specs.Option.{option_copied};
+ghost use Rattle.string_table.specs.FirstBytes.{AreTexts};
+ghost use Rattle.string_table.specs.LongTexts.{AreLongTextsOf};
+ghost use Rattle.string_table.specs.Texts.{text_at};
+
+use crate::byte_list::ByteList;
+use string_table::are_texts;
+use std::alloc::{AllocError, Global};
+use std::marker::Model;
+use string_table::LongTexts;
+
+/// The strings of a table: its texts by offset, each ended by a NUL. The bytes are borrowed from
+/// the section until some are added, and a text is found without a look at more than 256 bytes.
+#[derive(Debug)]
+pub struct Strings<'a> {
+    bytes: ByteList<'a>,
+    long_texts: LongTexts,
+    /// Whether each byte is known to begin a text.
+    are_texts: bool,
+}
+
+impl<'a> Drop for Strings<'a> {
+    // One call wherever it is dropped, in place of one for each part.
+    fn drop(self) {
+        let Strings {
+            bytes: _bytes,
+            long_texts: _long_texts,
+            are_texts: _,
+        } = self;
+    }
+}
+
+impl<'a> Model for Strings<'a> {
+    ghost use Rattle.std.specs.Prelude.{◌≡◌, ℕ, List, true};
+    ghost use Rattle.string_table.specs.FirstBytes.{AreTexts};
+    ghost use Rattle.string_table.specs.LongTexts.{AreLongTextsOf};
+
+    ghost Value = { List ℕ };
+
+    ghost view = { λ s. s.bytes };
+
+    ghost invariant = { λ s. AreLongTextsOf s.bytes s.long_texts
+        × (s.are_texts ≡ true → AreTexts s.bytes) };
+}
+
+/// Enters the long texts after the first `len` bytes. A text that isn't entered is looked at
+/// again each time it is read.
+fn enter_long_texts(long_texts: &mut LongTexts, bytes: &ByteList<'_>, len: usize)
+    requires within { len ≤ length bytes.now }
+    requires before { AreLongTextsOf (take len bytes.now) long_texts.old }
+    ensures { AreLongTextsOf bytes.now long_texts.new }
+{
+    let _ = long_texts.extend(bytes.as_slice(), len);
+}
+
+impl<'a> Strings<'a> {
+    fn of_bytes(alloc: Global, bytes: ByteList<'a>) -> Result<Strings<'a>, AllocError>
+        ensures { IfOk result (λ strings. strings ≡ bytes.entry) }
+    {
+        let long_texts = LongTexts::new(alloc, bytes.as_slice())?;
+        let are_texts = are_texts(bytes.as_slice());
+        Ok(Strings {
+            bytes,
+            long_texts,
+            are_texts,
+        })
+    }
+
+    pub fn borrowed(alloc: Global, bytes: &'a [u8]) -> Result<Strings<'a>, AllocError>
+        ensures { IfOk result (λ strings. strings ≡ bytes.now) }
+    {
+        Strings::of_bytes(alloc, ByteList::borrowed(bytes))
+    }
+
+    pub fn owned(alloc: Global, bytes: Vec<u8>) -> Result<Strings<'a>, AllocError>
+        ensures { IfOk result (λ strings. strings ≡ bytes.items) }
+    {
+        Strings::of_bytes(alloc, ByteList::owned(bytes))
+    }
+
+    pub fn as_slice(&self) -> &[u8]
+        ensures { result.now ≡ self.now }
+    {
+        self.bytes.as_slice()
+    }
+
+    pub fn len(&self) -> usize
+        ensures { result ≡ length self.now }
+    {
+        self.bytes.len()
+    }
+
+    /// Whether each byte is known to begin a text; of strings to which texts were added that isn't
+    /// known.
+    pub fn are_texts(&self) -> bool
+        ensures { result ≡ true → AreTexts self.now }
+    {
+        self.are_texts
+    }
+
+    /// The text at an offset; none where that lies past the end, no NUL ends the text, or it isn't
+    /// UTF-8.
+    pub fn text_at(&self, offset: u32) -> Option<&str>
+        ensures { option_copied result ≡ text_at self.now offset }
+    {
+        self.long_texts.text_at(self.bytes.as_slice(), offset)
+    }
+
+    /// Writes a text and a NUL after the others.
+    pub fn push(&mut self, alloc: Global, text: &str) -> Result<(), AllocError>
+        ensures ok { OnOk result (self.new ≡ self.old ++ text.now ++ 0 ∷ []) }
+        ensures err { OnErr result (self.new ≡ self.old) }
+    {
+        let len = self.bytes.len();
+        self.bytes.push_text(alloc, text)?;
+        self.are_texts = false;
+        enter_long_texts(&mut self.long_texts, &self.bytes, len);
+        Ok(())
+    }
+
+    /// These strings with more after them; without any, bytes that are borrowed stay so.
+    pub fn with_texts(&self, alloc: Global, texts: &[u8]) -> Result<Strings<'a>, AllocError>
+        ensures { IfOk result (λ strings. strings ≡ self.now ++ texts.now) }
+    {
+        if texts.is_empty() {
+            return self.try_clone();
+        }
+        let len = self.bytes.len();
+        let mut bytes = Vec::with_capacity(alloc, len.saturating_add(texts.len()))?;
+        bytes.extend_from_slice(self.bytes.as_slice())?;
+        bytes.extend_from_slice(texts)?;
+        let bytes = ByteList::owned(bytes);
+        let mut long_texts = self.long_texts.try_clone()?;
+        enter_long_texts(&mut long_texts, &bytes, len);
+        Ok(Strings {
+            bytes,
+            long_texts,
+            are_texts: false,
+        })
+    }
+
+    /// The same strings; bytes that are borrowed stay so.
+    pub fn try_clone(&self) -> Result<Strings<'a>, AllocError>
+        ensures { IfOk result (λ strings. strings ≡ self.now) }
+    {
+        Ok(Strings {
+            bytes: self.bytes.try_clone()?,
+            long_texts: self.long_texts.try_clone()?,
+            are_texts: self.are_texts,
+        })
+    }
+}

@@ -1,0 +1,35 @@
+//! Why candidates can't be told.
+
+ghost use Rattle.std.specs.Prelude.{◌≡◌};
+ghost use Rattle.core_candidates.specs.declared.error.CandidateError.TheVariants.{OutOfMemory};
+
+use crate::kernel_type::KernelType;
+use std::alloc::{AllocError, AllocFailed};
+use thiserror::Error;
+
+/// Why the types of a kernel that may be taken for a local one can't be told.
+#[derive(Debug, Drop, Error)]
+pub enum CandidateError {
+    /// The name of a type of the kind can't be read, at an offset of the strings of its table.
+    #[error("the name of type id {} of table {} can't be read", .place.type_id, .place.table)]
+    UnreadableName { place: KernelType, offset: u32 },
+    /// Memory ran out.
+    #[error("out of memory")]
+    OutOfMemory,
+}
+
+impl From<AllocError> for CandidateError {
+    ghost from_gives = { λ _ e. e ≡ OutOfMemory };
+
+    fn from(_error: AllocError) -> CandidateError {
+        CandidateError::OutOfMemory
+    }
+}
+
+impl<T: Drop> From<AllocFailed<T>> for CandidateError {
+    ghost from_gives = { λ _ e. e ≡ OutOfMemory };
+
+    fn from(_error: AllocFailed<T>) -> CandidateError {
+        CandidateError::OutOfMemory
+    }
+}

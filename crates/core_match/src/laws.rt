@@ -1,0 +1,17 @@
+//! Laws of matching paths. The functions here compute nothing: their contracts are the theorems.
+
+ghost use Rattle.core_match.specs.Laws.{MatchesRest};
+
+use core_spec::lookups_rest;
+use btf_compatibility::comparisons_rest;
+use core_members::searches_rest;
+
+/// The path in a target's type rests, of the local table, on the records that the local path
+/// reaches, and on their texts.
+pub fn matches_rest()
+    ensures { MatchesRest }
+{
+    lookups_rest();
+    comparisons_rest();
+    searches_rest();
+}

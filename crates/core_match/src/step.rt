@@ -1,0 +1,162 @@
+//! Steps of a path, done in other types.
+
+ghost use Rattle.std.specs.Prelude.{◌≡◌, ◌≢◌, IfOk, IfErr, Ok, Err};
+ghost use Rattle.core_match.specs.Steps.{element_in, element_matched, gone_to, has_members, local_member, member_matched, step_matched};
+ghost use Rattle.core_spec.specs.declared.error.AccessError.TheVariants.{BtfError as TypeError};
+ghost use Rattle.btf_records.specs.declared.error.BtfError.TheVariants.{OutOfMemory};
+
+use core_spec::{AccessError, Place, Step, elements_after, is_in_array};
+use btf_encoding::TypeRef;
+use btf_records::BtfMember;
+use btf_tables::Btf;
+use core_members::{Found, MemberFinder};
+
+/// A step isn't begun with this number of parts: libbpf's `BPF_CORE_SPEC_MAX_LEN`.
+const MAX_PARTS: usize = 64;
+
+/// How far a path has come in the target's types.
+#[derive(Clone, Copy, Debug)]
+pub(crate) struct Progress {
+    /// The id of the type of what it has come to.
+    pub(crate) type_id: u32,
+    /// The last step; none before the first.
+    pub(crate) last: Option<Step>,
+    /// The bits so far, where 32 bits hold them.
+    pub(crate) bits: Option<u32>,
+    /// The elements and members so far, those without names too; no more than 64 are counted.
+    pub(crate) parts: usize,
+}
+
+/// The type of the element of this index in a type without modifiers, which isn't there where that
+/// is no array, or too short. The first element is of the type itself.
+fn element_in(
+    target: &Btf<'_>,
+    type_id: u32,
+    last: Option<Step>,
+    index: u64,
+) -> Result<Option<u32>, AccessError>
+    ensures { result ≡ element_in target.now type_id last index }
+{
+    let Some(last) = last else {
+        return Ok(Some(type_id));
+    };
+    let t = target.type_by_id(type_id)?;
+    let Some(array) = t.array() else {
+        return Ok(None);
+    };
+    if !is_in_array(target, array.len, last, index) {
+        return Ok(None);
+    }
+    let element = target.resolve_type(array.element_type)?;
+    Ok(Some(element))
+}
+
+/// A step to an element.
+fn element_matched(
+    target: &Btf<'_>,
+    from: Progress,
+    index: u64,
+) -> Result<Option<Progress>, AccessError>
+    ensures { result ≡ element_matched target.now from index }
+{
+    let type_id = target.resolve_type(from.type_id)?;
+    let Some(element) = element_in(target, type_id, from.last, index)? else {
+        return Ok(None);
+    };
+    if from.parts >= MAX_PARTS {
+        return Err(AccessError::MaximumNestingLevelReached);
+    }
+    let size = target.type_size_u32(element)?;
+    Ok(Some(Progress {
+        type_id: element,
+        last: Some(Step::Element(Place {
+            type_id: element,
+            index,
+        })),
+        bits: elements_after(from.bits, index, size),
+        parts: from.parts + 1,
+    }))
+}
+
+/// The member at a place of the local types.
+fn local_member(local: &Btf<'_>, place: Place) -> Result<BtfMember, AccessError>
+    ensures { result ≡ local_member local.now place }
+{
+    let t = local.type_by_id(place.type_id)?;
+    match t.member(place.index as usize) {
+        Some(member) => Ok(member),
+        None => Err(AccessError::InvalidRelocationKindForType {
+            type_id: place.type_id,
+        }),
+    }
+}
+
+/// Whether a record has members.
+fn has_members(t: &TypeRef<'_>) -> bool
+    ensures { result ≡ has_members t.now }
+{
+    t.member(0).is_some()
+}
+
+/// How far a path comes with a member that was found.
+fn gone_to(from: Progress, found: Option<Found>) -> Option<Progress>
+    ensures { result ≡ gone_to from found }
+{
+    let found = found?;
+    Some(Progress {
+        type_id: found.type_id,
+        last: Some(Step::Member(found.place)),
+        bits: found.bits,
+        parts: usize::min(usize::saturating_add(from.parts, found.parts), MAX_PARTS),
+    })
+}
+
+/// A step to a member of a name.
+fn member_matched<'t>(
+    local: &Btf<'t>,
+    place: Place,
+    members: &mut MemberFinder<'t>,
+    from: Progress,
+) -> Result<Option<Progress>, AccessError>
+    ensures value { IfOk result (λ next.
+        member_matched local.now place members.old from ≡ Ok next) }
+    ensures refused { IfErr result (λ e.
+        e ≢ TypeError OutOfMemory → member_matched local.now place members.old from ≡ Err e) }
+    ensures same { members.new ≡ members.old }
+{
+    let target = members.target();
+    let root = target.resolve_type(from.type_id)?;
+    let member = local_member(local, place)?;
+    let name = local.string_at(member.name_offset)?;
+    let t = target.type_by_id(root)?;
+    if from.parts >= MAX_PARTS && has_members(&t) {
+        return Err(AccessError::MaximumNestingLevelReached);
+    }
+    let found = members.find(local, member.btf_type, name, root, from.bits)?;
+    Ok(gone_to(from, found))
+}
+
+/// How far a path comes with the next step of a local path; none where there is nothing of the
+/// kind.
+///
+/// `MaximumNestingLevelReached` where the step would come after 64 parts or more, or a struct or
+/// union is met inside itself, and what the look-ups of names, sizes and types answer.
+pub(crate) fn step_matched<'t>(
+    local: &Btf<'t>,
+    step: Step,
+    members: &mut MemberFinder<'t>,
+    from: Progress,
+) -> Result<Option<Progress>, AccessError>
+    ensures value { IfOk result (λ next. step_matched local.now step members.old from ≡ Ok next) }
+    ensures refused { IfErr result (λ e.
+        e ≢ TypeError OutOfMemory → step_matched local.now step members.old from ≡ Err e) }
+    ensures same { members.new ≡ members.old }
+{
+    match step {
+        Step::Element(place) => element_matched(members.target(), from, place.index),
+        Step::Member(place) => member_matched(local, place, members, from),
+        Step::Variant(place) => Err(AccessError::InvalidRelocationKindForType {
+            type_id: place.type_id,
+        }),
+    }
+}

@@ -1,0 +1,76 @@
+-- What the members that are left of an open struct or union give, by the look at the next.
+use Rattle.std.proofs.Common.{◌≡◌, ℕ, zero, suc, ◌+◌, ◌-◌, Bool, List, [], ◌∷◌, drop, length, None, Some, Ok, Err, Option, Result, refl, sym, add-one}
+use Rattle.std.specs.Prelude.{slice_get}
+use Rattle.core_spec.specs.declared.error.AccessError.{AccessError}
+use Rattle.core_spec.specs.declared.error.AccessError.TheVariants.{BtfError as TypeError}
+use Rattle.btf_records.specs.Fields.{members_of}
+use Rattle.btf_records.specs.declared.error.BtfError.TheVariants.{UnknownBtfType}
+use Rattle.btf_records.specs.declared.item.BtfMember.{BtfMember}
+use Rattle.btf_records.specs.declared.types.BtfType.{BtfType}
+use Rattle.btf_tables.specs.Tables.{type_by_id}
+use Rattle.core_members.specs.Looks.{Search, look_at}
+use Rattle.core_members.specs.Searches.{found_in, member_here, members_found, most_open, or_next}
+use Rattle.core_members.specs.Stacks.{rest_of}
+use Rattle.core_members.specs.declared.look.Look.TheVariants.{GoOn, Here, Inside, NotHere}
+use Rattle.core_members.specs.declared.search.Found.{Found}
+use Rattle.core_members.specs.declared.stack.Frame.{Frame}
+
+drop-past : {A : Type 0} (xs : List A) (n : ℕ) → None ≡ slice_get xs n → drop n xs ≡ []
+drop-past [] zero e = refl
+drop-past [] (suc n) e = refl
+drop-past (x ∷ xs) zero e = absurd cc
+drop-past (x ∷ xs) (suc n) e = drop-past xs n e
+
+drop-at : {A : Type 0} (xs : List A) (n : ℕ) (x : A) → Some x ≡ slice_get xs n → drop n xs ≡ x ∷ drop (suc n) xs
+drop-at [] n x e = absurd cc
+drop-at (y ∷ xs) zero x e = let same : x ≡ y = cc in rw same refl
+drop-at (y ∷ xs) (suc n) x e = drop-at xs n x e
+
+-- the innermost after its next member
+abbrev pub after_next : Frame → Frame
+after_next f = record f { next = f.next + 1 }
+
+-- and where members in it are skipped, or aren't
+abbrev pub skipping : Bool → Frame → Frame
+skipping skipped f = record f { skipped = skipped }
+
+pub rest_skipping : (search : Search) (open_ids : List ℕ) (skipped : Bool) (f : Frame) → rest_of search open_ids (skipping skipped f) ≡ rest_of search open_ids f
+unfolding rest_of
+rest_skipping search open_ids skipped f = refl
+
+-- searches inside the innermost
+abbrev pub go_inside : Search → List ℕ → ℕ → Option ℕ → Result (Option Found) AccessError
+go_inside search open_ids = found_in (most_open search.target - length open_ids) search open_ids
+
+-- the next member, if it is the one
+abbrev pub next_here : Search → List ℕ → Frame → BtfType → BtfMember → Found
+next_here search open_ids f t m = member_here f.type_id t (length open_ids) f.bits f.next m
+
+pub rest_unknown : (search : Search) (open_ids : List ℕ) (f : Frame) → type_by_id search.target f.type_id ≡ None → rest_of search open_ids f ≡ Err (TypeError (UnknownBtfType f.type_id))
+unfolding rest_of
+rest_unknown search open_ids f none = rw none refl
+
+pub rest_done : (search : Search) (open_ids : List ℕ) (f : Frame) (t : BtfType) → type_by_id search.target f.type_id ≡ Some t → None ≡ slice_get (members_of t) f.next → rest_of search open_ids f ≡ Ok None
+unfolding rest_of members_found
+rest_done search open_ids f t known none = rw (known, drop-past (members_of t) f.next none) refl
+
+pub rest_bad : (search : Search) (open_ids : List ℕ) (f : Frame) (t : BtfType) (m : BtfMember) (e : AccessError) → type_by_id search.target f.type_id ≡ Some t → Some m ≡ slice_get (members_of t) f.next → Err e ≡ look_at search m → rest_of search open_ids f ≡ Err e
+unfolding rest_of members_found
+rest_bad search open_ids f t m e known here seen = rw (known, drop-at (members_of t) f.next m here, sym seen) refl
+
+pub rest_on : (search : Search) (open_ids : List ℕ) (f : Frame) (t : BtfType) (m : BtfMember) → type_by_id search.target f.type_id ≡ Some t → Some m ≡ slice_get (members_of t) f.next → Ok GoOn ≡ look_at search m → rest_of search open_ids f ≡ rest_of search open_ids (after_next f)
+unfolding rest_of members_found
+rest_on search open_ids f t m known here seen = rw (known, drop-at (members_of t) f.next m here, sym seen, add-one) refl
+
+pub rest_not_here : (search : Search) (open_ids : List ℕ) (f : Frame) (t : BtfType) (m : BtfMember) → type_by_id search.target f.type_id ≡ Some t → Some m ≡ slice_get (members_of t) f.next → Ok NotHere ≡ look_at search m → rest_of search open_ids f ≡ Ok None
+unfolding rest_of members_found
+rest_not_here search open_ids f t m known here seen = rw (known, drop-at (members_of t) f.next m here, sym seen) refl
+
+pub rest_here : (search : Search) (open_ids : List ℕ) (f : Frame) (t : BtfType) (m : BtfMember) → type_by_id search.target f.type_id ≡ Some t → Some m ≡ slice_get (members_of t) f.next → Ok Here ≡ look_at search m → rest_of search open_ids f ≡ Ok (Some (next_here search open_ids f t m))
+unfolding rest_of members_found
+rest_here search open_ids f t m known here seen = rw (known, drop-at (members_of t) f.next m here, sym seen) refl
+
+pub rest_inside : (search : Search) (open_ids : List ℕ) (f : Frame) (t : BtfType) (m : BtfMember) (id : ℕ) → type_by_id search.target f.type_id ≡ Some t → Some m ≡ slice_get (members_of t) f.next → Ok (Inside id) ≡ look_at search m
+    → rest_of search open_ids f ≡ or_next (go_inside search open_ids id (next_here search open_ids f t m).bits) (rest_of search open_ids (after_next f))
+unfolding rest_of members_found
+rest_inside search open_ids f t m id known here seen = rw (known, drop-at (members_of t) f.next m here, sym seen, add-one) refl

@@ -1,0 +1,15 @@
+use Rattle.std.proofs.Common.{◌≡◌, [], ◌∷◌, ◌++◌}
+use Rattle.core_members.specs.Looks.{searched}
+use Rattle.core_members.specs.Searches.{member_found}
+use Rattle.core_members.specs.Stacks.{IsSound, stack_value, work}
+use Rattle.core_members.proofs.own_names.OwnNames.find.Given as goal
+
+abbrev pub invariant-loop-memory : goal.invariant-loop-memory
+invariant-loop-memory l = record {
+  names : l.self ≡ l.fn.self;
+  same : stack_value (searched l.local l.type_id l.name l.fn.self) (l.memory.outer ++ l.frame ∷ []) ≡ member_found (searched l.local l.type_id l.name l.fn.self) l.root l.fn.bits;
+  sound : IsSound (searched l.local l.type_id l.name l.fn.self) l.memory.nothing.keys l.memory.outer l.frame;
+}
+
+abbrev pub decreases-loop-memory : goal.decreases-loop-memory
+decreases-loop-memory l = work l.fn.self (l.memory.outer ++ l.frame ∷ [])

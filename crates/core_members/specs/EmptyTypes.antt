@@ -1,0 +1,35 @@
+-- Structs and unions that a search has found to hold nothing; each is gone through once.
+use Rattle.std.specs.Prelude.{◌≡◌, ◌≤◌, ℕ, zero, suc, ◌+◌, ◌==◌, Bool, true, false, List, Option, None, Ok, if◌then◌else◌}
+use Rattle.std.specs.BTreeMap.{is_at}
+use Rattle.std.specs.List.{list_any}
+use Rattle.std.specs.Ordering.{nat_cmp}
+use Rattle.core_members.specs.Looks.{Search}
+use Rattle.core_members.specs.Searches.{found_in, is_among, most_open}
+
+abbrev pub is_noted : List ℕ → ℕ → Bool
+is_noted noted id = list_any (is_at (nat_cmp id)) noted
+
+-- one more is noted
+pub record NotesOne (before after : List ℕ) (id : ℕ) : Type 0 where
+  pub each : (k : ℕ) → is_noted after k ≡ (if k == id then true else is_noted before k)
+
+-- none of the open ones is noted
+pub record AreApart (noted open_ids : List ℕ) : Type 0 where
+  pub each : (id : ℕ) → is_among open_ids id ≡ true → is_noted noted id ≡ false
+
+-- how many numbers below one fail a test
+abbrev pub failing : (ℕ → Bool) → ℕ → ℕ
+failing test zero = 0
+failing test (suc n) = (if test n then 0 else 1) + failing test n
+
+-- how many ids below a number aren't open
+abbrev pub free : ℕ → List ℕ → ℕ
+free n open_ids = failing (is_among open_ids) n
+
+-- nothing is found in these, wherever they are met
+pub record HoldNothing (search : Search) (noted : List ℕ) : Type 0 where
+  pub each : (id : ℕ) → is_noted noted id ≡ true → (open_ids : List ℕ) → AreApart noted open_ids
+      → (n : ℕ)
+      → free (most_open search.target) open_ids ≤ n
+      → (bits : Option ℕ)
+      → found_in n search open_ids id bits ≡ Ok None

@@ -1,0 +1,254 @@
+-- Type relocations over tables of an object's types that agree on what is reached.
+use Rattle.std.proofs.Common.{◌≡◌, ℕ, suc, Bool, true, List, [], ◌∷◌, ◌++◌, None, Some, Ok, Err, Option, Result, refl, sym, ap, subst, inl, inr, ◌∙◌}
+use Rattle.std.proofs.lemmas.List.Elements.{All-head, All-tail}
+use Rattle.std.specs.Prelude.{◌==◌, All, IfOk, IfSome, option_and_then, slice_get, if◌then◌else◌}
+use Rattle.std.specs.Option.{option_map, option_to_list}
+use Rattle.std.specs.Result.{result_ok}
+use Rattle.core_spec.specs.Laws.{AreAlike}
+use Rattle.core_spec.specs.declared.field_values.WholeField.{WholeField}
+use Rattle.btf_ext.specs.Groups.{Group}
+use Rattle.btf_ext.specs.declared.record.bpf_core_relo.{bpf_core_relo}
+use Rattle.btf_records.specs.declared.types.BtfType.{BtfType}
+use Rattle.btf_tables.specs.Tables.{Table}
+use Rattle.ebpf_items.specs.RelocationKind.{relocation_kinds}
+use Rattle.ebpf_items.specs.declared.relocation_kind.RelocationKind.{RelocationKind}
+use Rattle.object_parts.specs.Content.{FunctionContent, key_of}
+use Rattle.object_parts.specs.Installed.{AreChanged}
+use Rattle.string_table.specs.Texts.{text_at}
+use Rattle.core_resolve.specs.Laws.{OutcomesRest}
+use Rattle.core_resolve.specs.declared.error.TypeRelocationError.{TypeRelocationError}
+use Rattle.core_resolve.specs.declared.outcome.Outcome.{Outcome}
+use Rattle.core_resolve.specs.declared.outcome.Outcome.TheVariants as outcomes
+use Rattle.core_resolve.specs.declared.relocation.RelocationOutcome.{RelocationOutcome}
+use Rattle.core_patch.specs.Patches.{field_size, may_stand_for, patch_for, patch_of, type_of, width_of}
+use Rattle.core_patch.specs.declared.patch.Patch.{Patch}
+use Rattle.core_patch.specs.declared.patch.Patch.TheVariants.{Value}
+use Rattle.core_patch.specs.declared.patch.Width.{Width}
+use Rattle.core_patch.specs.declared.patch.Width.TheVariants.{Changed, Kept, Unknown}
+use Rattle.core_relocation.specs.Faults.{FaultOfGroup, GroupsFault, HasTypesFault, RecordsFault, WritesFault}
+use Rattle.core_relocation.specs.Laws.{AgreeOnReach, RelocationsRest, with_types_of}
+use Rattle.core_relocation.specs.Relocations.{Groups, TypesGiven, all_from, all_placed, function_holding, outcome_of_kind, placed, placed_as, placed_from, placed_group, placed_in, record_outcome, section_at, section_named}
+use Rattle.core_relocation.specs.Writes.{AreRelocated, after_types, inside_of}
+use Rattle.relocation_errors.specs.declared.type_relocations.BtfRelocationCause.{BtfRelocationCause}
+use Rattle.relocation_errors.specs.declared.type_relocations.BtfRelocationCause.TheVariants as cause
+use Rattle.core_relocation.specs.declared.placed.Placed.{Placed}
+use Rattle.core_relocation.specs.declared.placed.Position.{Position}
+
+-- what is given, the other table, and what is reached
+record Both : Type 0 where
+  outcomes : OutcomesRest
+  reached : ℕ → Bool
+  given : TypesGiven
+  other : Table
+  alike : AreAlike reached given.local other
+
+abbrev there : Both → TypesGiven
+there b = with_types_of b.given b.other
+
+-- a relocation's type is reached, and its access string the same
+record IsReached (b : Both) (r : bpf_core_relo) : Type 0 where
+  type : b.reached r.type_id ≡ true
+  access : text_at b.other.strings r.access_str_off ≡ text_at b.given.local.strings r.access_str_off
+
+abbrev AllReached : Both → List bpf_core_relo → Type 0
+AllReached b [] = Unit {0}
+AllReached b (r ∷ rs) = IsReached b r × AllReached b rs
+
+-- and the name of a group's section
+record IsReachedGroup (b : Both) (x : Group bpf_core_relo) : Type 0 where
+  records : AllReached b x.records
+  section : text_at b.other.strings x.name_offset ≡ text_at b.given.local.strings x.name_offset
+
+abbrev AllReachedGroups : Both → Groups → Type 0
+AllReachedGroups b [] = Unit {0}
+AllReachedGroups b (x ∷ xs) = IsReachedGroup b x × AllReachedGroups b xs
+
+-- ---- outcomes
+
+of-kind : (b : Both) (r : bpf_core_relo) → IsReached b r → (k : Option RelocationKind) → outcome_of_kind (there b) r k ≡ outcome_of_kind b.given r k
+of-kind b r here None = refl
+of-kind b r here (Some kind) = b.outcomes.same b.reached b.given.local b.other b.alike (record { kind = kind; type_id = r.type_id; access_str_off = r.access_str_off }) here.type here.access b.given.targets
+
+outcome-same : (b : Both) (r : bpf_core_relo) → IsReached b r → record_outcome (there b) r ≡ record_outcome b.given r
+outcome-same b r here = of-kind b r here (slice_get relocation_kinds r.kind)
+
+-- the type of the field that an instruction was compiled for is reached
+abbrev HasReached : Both → RelocationOutcome → Type 0
+HasReached b o = IfSome o.local_field (λ f. b.reached f.type_id ≡ true)
+
+within-kind : (b : Both) (r : bpf_core_relo) → IsReached b r → (k : Option RelocationKind) → IfOk (outcome_of_kind b.given r k) (HasReached b)
+within-kind b r here None = tt
+within-kind b r here (Some kind) = b.outcomes.field b.reached b.given.local b.other b.alike (record { kind = kind; type_id = r.type_id; access_str_off = r.access_str_off }) here.type b.given.targets
+
+outcome-within : (b : Both) (r : bpf_core_relo) → IsReached b r → IfOk (record_outcome b.given r) (HasReached b)
+outcome-within b r here = within-kind b r here (slice_get relocation_kinds r.kind)
+
+-- ---- what outcomes give to instructions
+
+type-same : (b : Both) (field : Option WholeField) → IfSome field (λ f. b.reached f.type_id ≡ true) → type_of (Some b.other) field ≡ type_of (Some b.given.local) field
+type-same b None here = refl
+type-same b (Some f) here = b.alike.records.same f.type_id here
+
+width-same : (b : Both) (target : Option Table) (compiled field : Option WholeField) → IfSome compiled (λ f. b.reached f.type_id ≡ true) → width_of b.other target compiled field ≡ width_of b.given.local target compiled field
+width-same b target compiled field here =
+    ap (λ (t : Option BtfType). if field_size compiled == field_size field then Kept else if may_stand_for t (type_of target field) then Changed (field_size field) else Unknown) (type-same b compiled here)
+
+patch-same : (b : Both) (target : Option Table) (compiled : Option WholeField) (outcome : Outcome) → IfSome compiled (λ f. b.reached f.type_id ≡ true) → patch_for b.other target compiled outcome ≡ patch_for b.given.local target compiled outcome
+patch-same b target compiled (outcomes.Value v) here = ap (λ (w : Width). Value v.value w) (width-same b target compiled v.field here)
+patch-same b target compiled outcomes.Poison here = refl
+
+patch_of-same : (b : Both) (o : RelocationOutcome) → HasReached b o → patch_of b.other b.given.targets o ≡ patch_of b.given.local b.given.targets o
+patch_of-same b o here = patch-same b (option_and_then (slice_get b.given.targets) o.table) o.local_field o.outcome here
+
+-- ---- relocations at their places
+
+as-same : (b : Both) (position : Position) (r : bpf_core_relo) (f : FunctionContent) (o : RelocationOutcome) → HasReached b o → placed_as (there b) position r f o ≡ placed_as b.given position r f o
+as-same b position r f o here =
+    ap (λ (p : Patch). record { key = key_of f; offset = r.insn_off; position = position; patch = p; table = o.table }) (patch_of-same b o here)
+
+in-result : (b : Both) (position : Position) (r : bpf_core_relo) (f : FunctionContent) (result : Result RelocationOutcome TypeRelocationError) → IfOk result (HasReached b)
+    → option_map (placed_as (there b) position r f) (result_ok result) ≡ option_map (placed_as b.given position r f) (result_ok result)
+in-result b position r f (Ok o) here = ap (λ (p : Placed). Some p) (as-same b position r f o here)
+in-result b position r f (Err e) here = refl
+
+in-same : (b : Both) (position : Position) (r : bpf_core_relo) (f : FunctionContent) → IsReached b r → placed_in (there b) position r f ≡ placed_in b.given position r f
+in-same b position r f here =
+    ap (λ (result : Result RelocationOutcome TypeRelocationError). option_map (placed_as (there b) position r f) (result_ok result)) (outcome-same b r here)
+    ∙ in-result b position r f (record_outcome b.given r) (outcome-within b r here)
+
+holding-same : (b : Both) (position : Position) (r : bpf_core_relo) → IsReached b r → (o : Option FunctionContent) → option_and_then (placed_in (there b) position r) o ≡ option_and_then (placed_in b.given position r) o
+holding-same b position r here None = refl
+holding-same b position r here (Some f) = in-same b position r f here
+
+placed-same : (b : Both) (position : Position) (section : Option ℕ) (r : bpf_core_relo) → IsReached b r → placed (there b) position section r ≡ placed b.given position section r
+placed-same b position None r here = refl
+placed-same b position (Some s) r here = holding-same b position r here (function_holding b.given.functions s r.insn_off)
+
+from-same : (b : Both) (group name : ℕ) (section : Option ℕ) (number : ℕ) (rs : List bpf_core_relo) → AllReached b rs → placed_from (there b) group name section number rs ≡ placed_from b.given group name section number rs
+from-same b group name section number [] here = refl
+from-same b group name section number (r ∷ rs) here =
+    ap (λ (p : Option Placed). option_to_list p ++ placed_from (there b) group name section (suc number) rs) (placed-same b (record { group = group; name_offset = name; number = number }) section r here.0)
+    ∙ ap (λ (ps : List Placed). option_to_list (placed b.given (record { group = group; name_offset = name; number = number }) section r) ++ ps) (from-same b group name section (suc number) rs here.1)
+
+section-same : (b : Both) (x : Group bpf_core_relo) → IsReachedGroup b x → section_at (there b) x.name_offset ≡ section_at b.given x.name_offset
+section-same b x here = ap (option_and_then (section_named b.given.file)) here.section
+
+group-same : (b : Both) (group : ℕ) (x : Group bpf_core_relo) → IsReachedGroup b x → placed_group (there b) group x ≡ placed_group b.given group x
+group-same b group x here =
+    ap (λ (s : Option ℕ). placed_from (there b) group x.name_offset s 0 x.records) (section-same b x here)
+    ∙ from-same b group x.name_offset (section_at b.given x.name_offset) 0 x.records here.records
+
+groups-same : (b : Both) (group : ℕ) (xs : Groups) → AllReachedGroups b xs → all_from (there b) group xs ≡ all_from b.given group xs
+groups-same b group [] here = refl
+groups-same b group (x ∷ xs) here =
+    ap (λ (ps : List Placed). ps ++ all_from (there b) (suc group) xs) (group-same b group x here.0)
+    ∙ ap (λ (ps : List Placed). placed_group b.given group x ++ ps) (groups-same b (suc group) xs here.1)
+
+-- ---- faults
+
+group-fault : (one other : TypesGiven) (name : ℕ) (c : BtfRelocationCause) → other.file ≡ one.file → text_at other.local.strings name ≡ text_at one.local.strings name → FaultOfGroup one name c → FaultOfGroup other name c
+group-fault one other name (cause.BtfError e) file text h = (h.0, text ∙ h.1)
+group-fault one other name cause.SectionNotFound file text h = (h.0, text ∙ h.1, ap (λ f. section_named f h.0) file ∙ h.2)
+group-fault one other name _ file text h = absurd h
+
+records-fault : (b : Both) (section : Option ℕ) (rs : List bpf_core_relo) (c : BtfRelocationCause) → AllReached b rs → RecordsFault b.given section rs c → RecordsFault (there b) section rs c
+records-fault b section [] c here none = elim none [ ]
+records-fault b section (r ∷ rs) c here (inl lacks) = inl lacks
+records-fault b section (r ∷ rs) c here (inr (inl lacks)) = inr (inl (lacks.0, outcome-same b r here.0 ∙ lacks.1, lacks.2))
+records-fault b section (r ∷ rs) c here (inr (inr rest)) = inr (inr (records-fault b section rs c here.1 rest))
+
+records-fault-back : (b : Both) (section : Option ℕ) (rs : List bpf_core_relo) (c : BtfRelocationCause) → AllReached b rs → RecordsFault (there b) section rs c → RecordsFault b.given section rs c
+records-fault-back b section [] c here none = elim none [ ]
+records-fault-back b section (r ∷ rs) c here (inl lacks) = inl lacks
+records-fault-back b section (r ∷ rs) c here (inr (inl lacks)) = inr (inl (lacks.0, sym (outcome-same b r here.0) ∙ lacks.1, lacks.2))
+records-fault-back b section (r ∷ rs) c here (inr (inr rest)) = inr (inr (records-fault-back b section rs c here.1 rest))
+
+groups-fault : (b : Both) (xs : Groups) (c : BtfRelocationCause) → AllReachedGroups b xs → GroupsFault b.given xs c → GroupsFault (there b) xs c
+groups-fault b [] c here none = elim none [ ]
+groups-fault b (x ∷ xs) c here (inl fault) = inl (group-fault b.given (there b) x.name_offset c refl here.0.section fault)
+groups-fault b (x ∷ xs) c here (inr (inl fault)) =
+    inr (inl (subst (λ (s : Option ℕ). RecordsFault (there b) s x.records c) (sym (section-same b x here.0)) (records-fault b (section_at b.given x.name_offset) x.records c here.0.records fault)))
+groups-fault b (x ∷ xs) c here (inr (inr rest)) = inr (inr (groups-fault b xs c here.1 rest))
+
+groups-fault-back : (b : Both) (xs : Groups) (c : BtfRelocationCause) → AllReachedGroups b xs → GroupsFault (there b) xs c → GroupsFault b.given xs c
+groups-fault-back b [] c here none = elim none [ ]
+groups-fault-back b (x ∷ xs) c here (inl fault) = inl (group-fault (there b) b.given x.name_offset c refl (sym here.0.section) fault)
+groups-fault-back b (x ∷ xs) c here (inr (inl fault)) =
+    inr (inl (subst (λ (s : Option ℕ). RecordsFault b.given s x.records c) (section-same b x here.0) (records-fault-back b (section_at (there b) x.name_offset) x.records c here.0.records fault)))
+groups-fault-back b (x ∷ xs) c here (inr (inr rest)) = inr (inr (groups-fault-back b xs c here.1 rest))
+
+-- ---- together
+
+records-reached : (b : Both) (rs : List bpf_core_relo) → All (λ r. b.reached r.type_id ≡ true) rs
+    → All (λ r. text_at b.other.strings r.access_str_off ≡ text_at b.given.local.strings r.access_str_off) rs → AllReached b rs
+records-reached b [] types accesses = tt
+records-reached b (r ∷ rs) types accesses = (
+  record { type = All-head (λ (r : bpf_core_relo). b.reached r.type_id ≡ true) r rs types; access = All-head (λ (r : bpf_core_relo). text_at b.other.strings r.access_str_off ≡ text_at b.given.local.strings r.access_str_off) r rs accesses },
+  records-reached b rs (All-tail (λ (r : bpf_core_relo). b.reached r.type_id ≡ true) r rs types) (All-tail (λ (r : bpf_core_relo). text_at b.other.strings r.access_str_off ≡ text_at b.given.local.strings r.access_str_off) r rs accesses),
+)
+
+abbrev HasReachedTypes : Both → Group bpf_core_relo → Type 0
+HasReachedTypes b x = All (λ r. b.reached r.type_id ≡ true) x.records
+
+abbrev HasSameAccesses : Both → Group bpf_core_relo → Type 0
+HasSameAccesses b x = All (λ r. text_at b.other.strings r.access_str_off ≡ text_at b.given.local.strings r.access_str_off) x.records
+
+abbrev HasSameSection : Both → Group bpf_core_relo → Type 0
+HasSameSection b x = text_at b.other.strings x.name_offset ≡ text_at b.given.local.strings x.name_offset
+
+groups-reached : (b : Both) (xs : Groups) → All (HasReachedTypes b) xs → All (HasSameAccesses b) xs → All (HasSameSection b) xs → AllReachedGroups b xs
+groups-reached b [] types accesses sections = tt
+groups-reached b (x ∷ xs) types accesses sections = (
+  record { records = records-reached b x.records (All-head (HasReachedTypes b) x xs types) (All-head (HasSameAccesses b) x xs accesses); section = All-head (HasSameSection b) x xs sections },
+  groups-reached b xs (All-tail (HasReachedTypes b) x xs types) (All-tail (HasSameAccesses b) x xs accesses) (All-tail (HasSameSection b) x xs sections),
+)
+
+abbrev both : OutcomesRest → (reached : ℕ → Bool) (g : TypesGiven) (other : Table) → AreAlike reached g.local other → Both
+both outcomes reached g other alike = record { outcomes = outcomes; reached = reached; given = g; other = other; alike = alike }
+
+reach : (outcomes : OutcomesRest) (reached : ℕ → Bool) (g : TypesGiven) (other : Table) (groups : Groups) → (a : AgreeOnReach reached g.local other groups) → AllReachedGroups (both outcomes reached g other a.alike) groups
+reach outcomes reached g other groups a = groups-reached (both outcomes reached g other a.alike) groups a.types a.accesses a.sections
+
+all-same : (outcomes : OutcomesRest) (reached : ℕ → Bool) (g : TypesGiven) (other : Table) (groups : Groups) → AgreeOnReach reached g.local other groups → all_placed (with_types_of g other) groups ≡ all_placed g groups
+all-same outcomes reached g other groups a = groups-same (both outcomes reached g other a.alike) 0 groups (reach outcomes reached g other groups a)
+
+-- functions that are relocated, by what is placed
+abbrev Changed-by : TypesGiven → List ((ℕ × ℕ) × FunctionContent) → List Placed → Type 0
+Changed-by g new ps = AreChanged (λ f. after_types (inside_of ps) f) g.functions new
+
+relocated-same : (outcomes : OutcomesRest) (reached : ℕ → Bool) (g : TypesGiven) (other : Table) (groups : Groups) → AgreeOnReach reached g.local other groups → (new : List ((ℕ × ℕ) × FunctionContent))
+    → (AreRelocated g groups new → AreRelocated (with_types_of g other) groups new) × (AreRelocated (with_types_of g other) groups new → AreRelocated g groups new)
+relocated-same outcomes reached g other groups a new =
+    let same = all-same outcomes reached g other groups a in
+    ((λ h. subst (Changed-by g new) (sym same) h), (λ h. subst (Changed-by g new) same h))
+
+-- a fault of what is placed
+abbrev Fault-by : TypesGiven → BtfRelocationCause → List Placed → Type 0
+Fault-by g c ps = WritesFault (inside_of ps) g.functions c
+
+refused-same : (outcomes : OutcomesRest) (reached : ℕ → Bool) (g : TypesGiven) (other : Table) (groups : Groups) → AgreeOnReach reached g.local other groups → (c : BtfRelocationCause)
+    → (HasTypesFault g groups c → HasTypesFault (with_types_of g other) groups c) × (HasTypesFault (with_types_of g other) groups c → HasTypesFault g groups c)
+refused-same outcomes reached g other groups a c = (there-is, back) where
+  b : Both
+  b = both outcomes reached g other a.alike
+
+  here : AllReachedGroups b groups
+  here = reach outcomes reached g other groups a
+
+  same : all_placed (with_types_of g other) groups ≡ all_placed g groups
+  same = all-same outcomes reached g other groups a
+
+  there-is : HasTypesFault g groups c → HasTypesFault (with_types_of g other) groups c
+  there-is (inl fault) = inl (groups-fault b groups c here fault)
+  there-is (inr fault) = inr (subst (Fault-by g c) (sym same) fault)
+
+  back : HasTypesFault (with_types_of g other) groups c → HasTypesFault g groups c
+  back (inl fault) = inl (groups-fault-back b groups c here fault)
+  back (inr fault) = inr (subst (Fault-by g c) same fault)
+
+pub relocations_rest : OutcomesRest → RelocationsRest
+relocations_rest outcomes = record {
+  placed = all-same outcomes;
+  relocated = relocated-same outcomes;
+  refused = refused-same outcomes;
+}

@@ -1,0 +1,5 @@
+use Rattle.core_relocation.proofs.Alike.{relocations_rest}
+use Rattle.core_relocation.proofs.laws.relocations_rest.Goals as goal
+
+pub returns : goal.returns
+returns c = relocations_rest c.outcomes_rest.ensures

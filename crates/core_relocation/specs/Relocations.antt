@@ -1,0 +1,116 @@
+-- The type relocations of an object, each at the function that it stands in and with what it gives
+-- to its instruction ("BTF.ext section", "BTF CO-RE relocations").
+use Rattle.std.specs.Prelude.{◌==◌, ◌&&◌, ℕ, suc, find, List, [], ◌∷◌, ◌++◌, Option, None, Some, option_and_then, slice_get, Result, Err}
+use Rattle.std.specs.Option.{option_map, option_to_list}
+use Rattle.std.specs.Result.{result_ok}
+use Rattle.core_spec.specs.declared.error.AccessError.TheVariants.{BtfError as TypeError}
+use Rattle.btf_ext.specs.Groups.{Group}
+use Rattle.btf_ext.specs.declared.record.bpf_core_relo.{bpf_core_relo}
+use Rattle.btf_records.specs.declared.error.BtfError.TheVariants.{InvalidRelocationKind}
+use Rattle.btf_tables.specs.Tables.{Table}
+use Rattle.ebpf_items.specs.RelocationKind.{relocation_kinds}
+use Rattle.ebpf_items.specs.declared.relocation_kind.RelocationKind.{RelocationKind}
+use Rattle.object_file.specs.Reading.{read_sections}
+use Rattle.object_file.specs.Named.{last_section}
+use Rattle.object_parts.specs.Content.{FunctionContent, key_of}
+use Rattle.object_parts.specs.Geometry.{is_inside}
+use Rattle.string_table.specs.Texts.{text_at}
+use Rattle.core_resolve.specs.RelocationOutcomes.{relocation_outcome}
+use Rattle.core_resolve.specs.declared.error.TypeRelocationError.{TypeRelocationError}
+use Rattle.core_resolve.specs.declared.error.TypeRelocationError.TheVariants.{Local}
+use Rattle.core_resolve.specs.declared.relocation.RelocationOutcome.{RelocationOutcome}
+use Rattle.core_patch.specs.Patches.{patch_of}
+use Rattle.core_relocation.specs.declared.placed.Placed.{Placed}
+use Rattle.core_relocation.specs.declared.placed.Position.{Position}
+
+abbrev pub Groups : Type 0
+Groups = List (Group bpf_core_relo)
+
+-- what type relocations rest on: the object's file and its functions by key, its own types, and the
+-- tables of a kernel
+pub record TypesGiven : Type 0 where
+  pub file : List ℕ
+  pub functions : List ((ℕ × ℕ) × FunctionContent)
+  pub local : Table
+  pub targets : List Table
+
+abbrev pub types_given : List ℕ → List ((ℕ × ℕ) × FunctionContent) → Table → List Table → TypesGiven
+types_given file functions local targets = record {
+  file = file;
+  functions = functions;
+  local = local;
+  targets = targets;
+}
+
+-- the index of the section of a name; of several of a name the last counts
+abbrev pub section_named : List ℕ → List ℕ → Option ℕ
+section_named file name = option_map (λ s. s.index) (last_section (read_sections file) name)
+
+-- the section whose name stands at an offset of the strings
+abbrev pub section_at : TypesGiven → ℕ → Option ℕ
+section_at g offset = option_and_then (section_named g.file) (text_at g.local.strings offset)
+
+-- the first function, by key, of those of a section whose bytes hold an offset
+abbrev pub function_holding : List ((ℕ × ℕ) × FunctionContent) → ℕ → ℕ → Option FunctionContent
+function_holding functions section offset =
+    option_map (λ e. e.1)
+    (find (λ e. (e.1.section_index == section) && is_inside e.1 offset) functions)
+
+-- what a relocation of a kind comes to in the kernel's types; a number that stands for no kind is
+-- refused
+abbrev pub outcome_of_kind : TypesGiven
+    → bpf_core_relo
+    → Option RelocationKind
+    → Result RelocationOutcome TypeRelocationError
+outcome_of_kind g r None = Err (Local (TypeError (InvalidRelocationKind r.kind)))
+outcome_of_kind g r (Some kind) =
+    relocation_outcome g.local
+    (record { kind = kind; type_id = r.type_id; access_str_off = r.access_str_off }) g.targets
+
+abbrev pub record_outcome : TypesGiven
+    → bpf_core_relo
+    → Result RelocationOutcome TypeRelocationError
+record_outcome g r = outcome_of_kind g r (slice_get relocation_kinds r.kind)
+
+-- a relocation in a function, with what its outcome gives to its instruction
+abbrev pub placed_as : TypesGiven
+    → Position
+    → bpf_core_relo
+    → FunctionContent
+    → RelocationOutcome
+    → Placed
+placed_as g position r f o = record {
+  key = key_of f;
+  offset = r.insn_off;
+  position = position;
+  patch = patch_of g.local g.targets o;
+  table = o.table;
+}
+
+abbrev pub placed_in : TypesGiven → Position → bpf_core_relo → FunctionContent → Option Placed
+placed_in g position r f = option_map (placed_as g position r f) (result_ok (record_outcome g r))
+
+-- in the function that holds its offset; one without section, function or outcome has no place
+abbrev pub placed : TypesGiven → Position → Option ℕ → bpf_core_relo → Option Placed
+placed g position section r =
+    option_and_then (λ s.
+    option_and_then (placed_in g position r) (function_holding g.functions s r.insn_off)) section
+
+-- those of a group, from a number on
+abbrev pub placed_from : TypesGiven → ℕ → ℕ → Option ℕ → ℕ → List bpf_core_relo → List Placed
+placed_from g group name section number [] = []
+placed_from g group name section number (r ∷ rs) =
+    option_to_list
+    (placed g (record { group = group; name_offset = name; number = number }) section r)
+    ++ placed_from g group name section (suc number) rs
+
+-- those of the groups, from one on: group by group and record by record
+abbrev pub placed_group : TypesGiven → ℕ → Group bpf_core_relo → List Placed
+placed_group g group x = placed_from g group x.name_offset (section_at g x.name_offset) 0 x.records
+
+abbrev pub all_from : TypesGiven → ℕ → Groups → List Placed
+all_from g group [] = []
+all_from g group (x ∷ xs) = placed_group g group x ++ all_from g (suc group) xs
+
+abbrev pub all_placed : TypesGiven → Groups → List Placed
+all_placed g groups = all_from g 0 groups

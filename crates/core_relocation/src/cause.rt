@@ -1,0 +1,175 @@
+//! Causes, with what is to be known of them.
+
+ghost use Rattle.std.specs.Prelude.{◌≢◌, IfOk};
+ghost use Rattle.core_relocation.specs.Faults.{OfAccess, OfMatch, OfWrite};
+ghost use Rattle.relocation_errors.specs.declared.type_relocations.BtfRelocationCause.TheVariants.{OutOfMemory};
+
+use crate::conflicting::matches_of;
+use crate::placed::PlacedFault;
+use crate::texts::{kind_name, name_or_empty, text_at, type_name};
+use core_spec::AccessError;
+use btf_records::BtfError;
+use btf_tables::Btf;
+use object_parts::SLOT_SIZE;
+use relocation_errors::BtfRelocationCause;
+use std::alloc::{AllocError, Global};
+use core_resolve::{TypeRelocation, TypeRelocationError, conflicts};
+use core_patch::WriteFault;
+
+/// A relocation to tell of: where it stands, what it asks for, and among which types.
+#[derive(Drop)]
+pub(crate) struct Told<'r, 'l, 't> {
+    pub(crate) alloc: Global,
+    pub(crate) local: &'r Btf<'l>,
+    pub(crate) targets: &'r [Btf<'t>],
+    /// Its place in its group.
+    pub(crate) number: usize,
+    /// The instruction's offset in the section, in bytes.
+    pub(crate) offset: u64,
+    pub(crate) asked: TypeRelocation,
+}
+
+/// An access that has no place, or no value, in a type of a table. The path began with a type.
+fn of_access(
+    told: &Told<'_, '_, '_>,
+    table: &Btf<'_>,
+    root: u32,
+    error: AccessError,
+) -> Result<BtfRelocationCause, AllocError>
+    ensures { IfOk result (λ c. c ≢ OutOfMemory → OfAccess error c) }
+{
+    let alloc = told.alloc;
+    let access_str_off = told.asked.access_str_off;
+    let cause = match error {
+        AccessError::InvalidAccessString => BtfRelocationCause::InvalidAccessString {
+            access_str: text_at(alloc, told.local, access_str_off)?,
+        },
+        AccessError::InvalidAccessIndex { place, len } => BtfRelocationCause::InvalidAccessIndex {
+            access_path: name_or_empty(alloc, table, place.type_id)?,
+            spec: text_at(alloc, told.local, access_str_off)?,
+            index: place.index as usize,
+            len,
+            error: String::from_str(alloc, "it has only")?,
+        },
+        AccessError::InvalidRelocationKindForType { type_id } => {
+            BtfRelocationCause::InvalidRelocationKindForType {
+                relocation_number: told.number,
+                relocation_kind: format!(in alloc; "{:?}", told.asked.kind)?,
+                type_kind: kind_name(alloc, table, type_id)?,
+                error: String::from_str(alloc, "it doesn't go with a type of kind")?,
+            }
+        }
+        AccessError::MaximumNestingLevelReached => BtfRelocationCause::MaximumNestingLevelReached {
+            type_name: type_name(alloc, table, root)?,
+        },
+        AccessError::BtfError(error) => BtfRelocationCause::BtfError(error),
+    };
+    Ok(cause)
+}
+
+/// The names of the kernel's types that conflict with the first.
+fn conflict_names(told: &Told<'_, '_, '_>) -> Result<Vec<String>, AllocError> {
+    let mut names = Vec::new(told.alloc);
+    let matches = matches_of(told.alloc, told.local, told.targets, told.asked)?;
+    for found in conflicts(told.alloc, matches.as_slice())?.as_slice() {
+        if let Some(target) = told.targets.get(found.table) {
+            names.push(name_or_empty(told.alloc, target, found.type_id)?)?;
+        }
+    }
+    Ok(names)
+}
+
+/// A relocation that comes to nothing in the kernel's types.
+fn of_match(
+    told: &Told<'_, '_, '_>,
+    error: TypeRelocationError,
+) -> Result<BtfRelocationCause, AllocError>
+    ensures { IfOk result (λ c. c ≢ OutOfMemory → OfMatch error c) }
+{
+    match error {
+        TypeRelocationError::Local(error) => {
+            of_access(told, told.local, told.asked.type_id, error)
+        }
+        TypeRelocationError::Kernel { place, error } => match told.targets.get(place.table) {
+            Some(target) => of_access(told, target, place.type_id, error),
+            None => of_access(told, told.local, told.asked.type_id, error),
+        },
+        TypeRelocationError::UnreadableName { place: _, offset } => {
+            Ok(BtfRelocationCause::BtfError(BtfError::InvalidStringOffset {
+                offset: offset as usize,
+            }))
+        }
+        TypeRelocationError::ConflictingCandidates => {
+            Ok(BtfRelocationCause::ConflictingCandidates {
+                type_name: name_or_empty(told.alloc, told.local, told.asked.type_id)?,
+                candidates: conflict_names(told)?,
+            })
+        }
+        TypeRelocationError::MissingTargetDefinition => {
+            Ok(BtfRelocationCause::MissingTargetDefinition {
+                kind: told.asked.kind,
+                type_id: told.asked.type_id,
+                ins_index: (told.offset / SLOT_SIZE) as usize,
+            })
+        }
+        TypeRelocationError::OutOfMemory => Ok(BtfRelocationCause::OutOfMemory),
+    }
+}
+
+/// The cause of a relocation that comes to nothing in the kernel's types.
+pub(crate) fn cause_of_match(
+    told: &Told<'_, '_, '_>,
+    error: TypeRelocationError,
+) -> BtfRelocationCause
+    ensures { result ≢ OutOfMemory → OfMatch error result }
+{
+    match of_match(told, error) {
+        Ok(cause) => cause,
+        Err(error) => BtfRelocationCause::from(error),
+    }
+}
+
+/// Why an instruction is invalid.
+fn reason_of(fault: WriteFault) -> &'static str {
+    match fault {
+        WriteFault::SourceRegister => "its source is a register",
+        WriteFault::LargeOffset => "the offset doesn't fit 16 bits",
+        WriteFault::OtherWidth => "the field has another size, which it can't get",
+        WriteFault::OtherClass => "instructions of its class hold no such value",
+        WriteFault::NoNextSlot | WriteFault::NoNextPoison => "it has no second slot",
+    }
+}
+
+/// A value that doesn't fit its instruction.
+fn of_write(alloc: Global, placed: PlacedFault) -> Result<BtfRelocationCause, AllocError>
+    ensures { IfOk result (λ c. c ≢ OutOfMemory → OfWrite placed.fault c) }
+{
+    let next = placed.index.saturating_add(1);
+    match placed.fault {
+        WriteFault::NoNextSlot => Ok(BtfRelocationCause::InvalidInstructionIndex {
+            index: next,
+            num_instructions: placed.num_instructions,
+            relocation_number: placed.position.number,
+        }),
+        WriteFault::NoNextPoison => Ok(BtfRelocationCause::InvalidInstructionIndex {
+            index: next.saturating_mul(SLOT_SIZE as usize),
+            num_instructions: placed.num_instructions,
+            relocation_number: placed.position.number,
+        }),
+        fault => Ok(BtfRelocationCause::InvalidInstruction {
+            relocation_number: placed.position.number,
+            index: placed.index,
+            error: String::from_str(alloc, reason_of(fault))?,
+        }),
+    }
+}
+
+/// The cause of a value that doesn't fit its instruction.
+pub(crate) fn cause_of_write(alloc: Global, placed: PlacedFault) -> BtfRelocationCause
+    ensures { result ≢ OutOfMemory → OfWrite placed.fault result }
+{
+    match of_write(alloc, placed) {
+        Ok(cause) => cause,
+        Err(error) => BtfRelocationCause::from(error),
+    }
+}

@@ -1,0 +1,27 @@
+//! Laws of type relocations. The functions here compute nothing: their contracts are the theorems.
+
+ghost use Rattle.core_relocation.specs.Laws.{RelocationsRest, TypesAreWritten};
+
+use crate::placed::{Placed, PlacedFault};
+use slot_relocation::{lengths_remain, one_writes, unwritten_stay};
+use core_resolve::outcomes_rest;
+
+/// After all relocations, a slot that one of them alone writes is what that one puts there; a slot
+/// that none writes stays as it was; a function keeps its number of slots.
+#[tactic(auto, using(crate::proofs::Written::types_are_written))]
+pub fn types_are_written()
+    ensures { TypesAreWritten }
+{
+    one_writes::<Placed, PlacedFault>();
+    unwritten_stay::<Placed, PlacedFault>();
+    lengths_remain::<Placed, PlacedFault>();
+}
+
+/// What type relocations come to, write and are refused for rests, of the object's own types, on
+/// the records that are reached from their types, on the texts there, on their access strings and
+/// on the names of their groups' sections.
+pub fn relocations_rest()
+    ensures { RelocationsRest }
+{
+    outcomes_rest();
+}

@@ -1,0 +1,293 @@
+//! Type relocations of an object.
+
+ghost use Rattle.std.specs.Prelude.{◌≡◌, ◌≢◌, ◌≤◌, ◌^◌, ◌⊎◌, length, map, None, IfErr, IfOk, IfSome, OnErr, OnOk};
+ghost use Rattle.std.specs.Map.{values_of};
+ghost use Rattle.std.specs.Option.{option_copied};
+ghost use Rattle.object_parts.specs.Content.{AreKeyed};
+ghost use Rattle.object_parts.specs.Installed.{AreChanged};
+ghost use Rattle.slot_relocation.specs.Writes.{AreFaultless};
+ghost use Rattle.core_relocation.specs.Faults.{CanBeRelocated, GroupsFault, HasTypesFault, WritesFault};
+ghost use Rattle.core_relocation.specs.Relocations.{all_placed, types_given};
+ghost use Rattle.core_relocation.specs.Walks.{IsCauseFor, IsFront, StandsNone};
+ghost use Rattle.core_relocation.specs.Writes.{AreRelocated, after_types, inside_of, type_rule};
+ghost use Rattle.relocation_errors.specs.declared.type_relocations.BtfRelocationCause.TheVariants.{OutOfMemory};
+
+use crate::cause::cause_of_write;
+use crate::groups::{RelocationGroup, asked_by, groups_of};
+use crate::pass::TypePass;
+use crate::place::{asked_text, place_in_section};
+use crate::placed::{Placed, PlacedFault};
+use crate::placement::Lookup;
+use crate::texts::section_name;
+use btf_ext::BtfExt;
+use btf_tables::Btf;
+use object_file::ObjectFile;
+use object_file::section_indexes;
+use object_parts::{Function, Functions, changes_are_installed};
+use relocation_errors::{BtfRelocationError, RelocationPlace};
+use slot_relocation::{FaultAt, Stop, relocated_functions};
+use std::alloc::{AllocError, Global};
+use core_resolve::{Candidates, TypeMatcher};
+
+/// Relocations in their functions, up to the first that can't be placed, and why that can't.
+#[derive(Drop)]
+struct Placement {
+    all: Vec<Placed>,
+    stopped: Option<BtfRelocationError>,
+}
+
+/// Places the relocations of groups, with a matcher for these tables.
+fn placement_by(
+    alloc: Global,
+    file: &ObjectFile<'_>,
+    functions: &Functions<'_>,
+    local: &Btf<'_>,
+    targets: &[Btf<'_>],
+    matcher: &mut TypeMatcher<'_, '_, '_>,
+    groups: &[RelocationGroup],
+) -> Result<Placement, AllocError>
+    requires few { length targets.now ≤ 2 ^ 32 }
+    requires matcher { matcher.old ≡ record { local = local.now; targets = targets.now } }
+    ensures front { IfOk result (λ p.
+        IsFront p.all.items
+        (all_placed (types_given file.now functions.now local.now targets.now) groups.now)) }
+    ensures whole { IfOk result (λ p.
+        p.stopped ≡ None
+        → (p.all.items
+        ≡ all_placed (types_given file.now functions.now local.now targets.now) groups.now)
+        × StandsNone
+        (GroupsFault (types_given file.now functions.now local.now targets.now) groups.now)) }
+    ensures stopped { IfOk result (λ p.
+        IfSome p.stopped (λ e.
+        e.error ≢ OutOfMemory
+        → GroupsFault (types_given file.now functions.now local.now targets.now) groups.now
+        e.error)) }
+{
+    let sections = section_indexes(alloc, file)?;
+    let lookup = Lookup {
+        alloc,
+        file,
+        sections: &sections,
+        functions,
+        local,
+        targets,
+    };
+    let mut all = Vec::new(alloc);
+    match lookup.place_groups(matcher, groups, &mut all) {
+        Ok(()) => Ok(Placement { all, stopped: None }),
+        Err(error) => Ok(Placement {
+            all,
+            stopped: Some(error),
+        }),
+    }
+}
+
+/// Places the relocations of groups, which are looked up among these candidates, where some are
+/// given, else among those that a walk over each table finds.
+fn placement_of<'c, 'l>(
+    alloc: Global,
+    file: &ObjectFile<'_>,
+    functions: &Functions<'_>,
+    local: &Btf<'_>,
+    targets: &[Btf<'_>],
+    candidates: Option<&'c Candidates<'c, 'l>>,
+    groups: &[RelocationGroup],
+) -> Result<Placement, AllocError>
+    requires few { length targets.now ≤ 2 ^ 32 }
+    requires candidates { IfSome (option_copied candidates) (λ c. c ≡ targets.now) }
+    ensures front { IfOk result (λ p.
+        IsFront p.all.items
+        (all_placed (types_given file.now functions.now local.now targets.now) groups.now)) }
+    ensures whole { IfOk result (λ p.
+        p.stopped ≡ None
+        → (p.all.items
+        ≡ all_placed (types_given file.now functions.now local.now targets.now) groups.now)
+        × StandsNone
+        (GroupsFault (types_given file.now functions.now local.now targets.now) groups.now)) }
+    ensures stopped { IfOk result (λ p.
+        IfSome p.stopped (λ e.
+        e.error ≢ OutOfMemory
+        → GroupsFault (types_given file.now functions.now local.now targets.now) groups.now
+        e.error)) }
+{
+    if let Some(candidates) = candidates {
+        let mut matcher = TypeMatcher::among(local, candidates, targets);
+        return placement_by(alloc, file, functions, local, targets, &mut matcher, groups);
+    }
+    let asked = asked_by(alloc, groups)?;
+    let mut matcher = TypeMatcher::collect(local, asked.as_slice(), targets)?;
+    placement_by(alloc, file, functions, local, targets, &mut matcher, groups)
+}
+
+/// Where a relocation stands at which a value doesn't fit.
+fn place_of_fault(
+    alloc: Global,
+    local: &Btf<'_>,
+    functions: &Functions<'_>,
+    groups: &[RelocationGroup],
+    at: &FaultAt<'_, PlacedFault>,
+) -> Result<RelocationPlace, AllocError> {
+    let position = at.fault.position;
+    let Some(group) = groups.get(position.group) else {
+        return Ok(RelocationPlace::Group);
+    };
+    let Some(record) = group.record(position.number) else {
+        return Ok(RelocationPlace::Group);
+    };
+    let asked = asked_text(alloc, local, record)?;
+    place_in_section(alloc, functions, at.section_index, record, asked)
+}
+
+/// The error for what stopped the writing.
+fn error_for(
+    alloc: Global,
+    local: &Btf<'_>,
+    functions: &Functions<'_>,
+    groups: &[RelocationGroup],
+    stop: Stop<'_, PlacedFault>,
+) -> BtfRelocationError
+    ensures { result.error ≢ OutOfMemory → IsCauseFor stop.entry result.error }
+{
+    match stop {
+        Stop::Fault(at) => {
+            let section = section_name(alloc, local, at.fault.position.name_offset);
+            let place = place_of_fault(alloc, local, functions, groups, &at);
+            BtfRelocationError::new(section, place, cause_of_write(alloc, at.fault))
+        }
+        Stop::OutOfMemory => BtfRelocationError::from(AllocError),
+    }
+}
+
+/// Functions with what relocations give written into their slots, in order of key.
+fn written<'f>(
+    alloc: Global,
+    local: &Btf<'_>,
+    groups: &[RelocationGroup],
+    all: Vec<Placed>,
+    functions: &Functions<'f>,
+) -> Result<Vec<Function<'f>>, BtfRelocationError>
+    ensures value { IfOk result (λ list.
+        list.items ≡ map (after_types (inside_of all.items)) (values_of functions.now)) }
+    ensures keyed { OnOk result (AreKeyed functions.now) }
+    ensures sound { OnOk result (AreFaultless type_rule (inside_of all.items) functions.now) }
+    ensures fault { IfErr result (λ e.
+        e.error ≢ OutOfMemory → WritesFault (inside_of all.items) functions.now e.error) }
+{
+    let pass = TypePass::new(alloc, all)?;
+    match relocated_functions(alloc, &pass, functions) {
+        Ok(list) => {
+            let list = pass.all_with_matches(alloc, list)?;
+            Ok(list)
+        }
+        Err(stop) => Err(error_for(alloc, local, functions, groups, stop)),
+    }
+}
+
+/// Writes what relocations give into the slots of functions, which stay as they are where that
+/// doesn't fit an instruction.
+fn write_all<'f>(
+    alloc: Global,
+    local: &Btf<'_>,
+    groups: &[RelocationGroup],
+    all: Vec<Placed>,
+    functions: &mut Functions<'f>,
+) -> Result<(), BtfRelocationError>
+    ensures relocated { OnOk result
+        (AreChanged (after_types (inside_of all.items)) functions.old functions.new) }
+    ensures sound { OnOk result (AreFaultless type_rule (inside_of all.items) functions.old) }
+    ensures fault { IfErr result (λ e.
+        e.error ≢ OutOfMemory → WritesFault (inside_of all.items) functions.old e.error) }
+    ensures unchanged { OnErr result (functions.new ≡ functions.old) }
+{
+    changes_are_installed();
+    let list = written(alloc, local, groups, all, functions)?;
+    functions.install(list);
+    Ok(())
+}
+
+/// Why nothing is written where a relocation can't be placed: because of one before it, whose value
+/// doesn't fit its instruction, or else because of this one.
+fn first_error(
+    alloc: Global,
+    local: &Btf<'_>,
+    groups: &[RelocationGroup],
+    all: Vec<Placed>,
+    stopped: BtfRelocationError,
+    functions: &Functions<'_>,
+) -> BtfRelocationError
+    ensures { result.error ≢ OutOfMemory
+        → (result.error ≡ stopped.error)
+        ⊎ WritesFault (inside_of all.items) functions.now result.error }
+{
+    let pass = match TypePass::new(alloc, all) {
+        Ok(pass) => pass,
+        Err(error) => return BtfRelocationError::from(error),
+    };
+    match relocated_functions(alloc, &pass, functions) {
+        Ok(_) => stopped,
+        Err(stop) => error_for(alloc, local, functions, groups, stop),
+    }
+}
+
+/// Writes what type relocations come to in a kernel's tables into the instructions of an object's
+/// functions. The groups, in order, name sections by the strings of `local`, the object's types; a
+/// relocation is made in the first function of its section, by key, whose bytes hold its offset, at
+/// the slot in which that lies, and by the slots after those before it. What it comes to is said by
+/// [`core_resolve::relocation_outcome`].
+///
+/// Arithmetic gets the value's low word as its immediate; a load or a store gets it as its offset,
+/// and the width of the kernel's field where that differs and both are pointers or unsigned
+/// integers; a load of 64 bits gets the low word in its own slot and the high word in the next one.
+/// Where the kernel has nothing to give, the instruction becomes a call of a helper that isn't
+/// there, a load of 64 bits two of these. The functions know in which tables their relocations have
+/// their first matches; there are no more than 2^32 tables. Candidates that were collected in these
+/// tables before spare a walk over each, and decide no answer.
+///
+/// # Errors
+///
+/// With the name of the group's section: `BtfError` and `SectionNotFound` for a group whose
+/// section's name can't be read or isn't there; `FunctionNotFound` for a relocation that no
+/// function holds; those of [`core_resolve::relocation_outcome`]; `InvalidInstruction` for arithmetic
+/// with a register, an offset past 32,767, a load or a store of another width that it can't get,
+/// and an instruction of another class; `InvalidInstructionIndex` for a load of 64 bits without a
+/// second slot; and `OutOfMemory`. Of several faults the first by group and relocation is answered.
+/// The functions then stay as they are.
+pub fn relocate_types<'c, 'l, 'f>(
+    alloc: Global,
+    file: &ObjectFile<'_>,
+    extension: &BtfExt<'_>,
+    local: &Btf<'_>,
+    targets: &[Btf<'_>],
+    candidates: Option<&'c Candidates<'c, 'l>>,
+    functions: &mut Functions<'f>,
+) -> Result<(), BtfRelocationError>
+    requires few { length targets.now ≤ 2 ^ 32 }
+    requires candidates { IfSome (option_copied candidates) (λ c. c ≡ targets.now) }
+    ensures relocated { OnOk result
+        (AreRelocated (types_given file.now functions.old local.now targets.now)
+        extension.now.relocations functions.new) }
+    ensures sound { OnOk result
+        (CanBeRelocated (types_given file.now functions.old local.now targets.now)
+        extension.now.relocations) }
+    ensures fault { IfErr result (λ e.
+        e.error ≢ OutOfMemory
+        → HasTypesFault (types_given file.now functions.old local.now targets.now)
+        extension.now.relocations e.error) }
+    ensures unchanged { OnErr result (functions.new ≡ functions.old) }
+{
+    let groups = groups_of(alloc, extension)?;
+    let placement = placement_of(
+        alloc,
+        file,
+        functions,
+        local,
+        targets,
+        candidates,
+        groups.as_slice(),
+    )?;
+    let Placement { all, stopped } = placement;
+    match stopped {
+        None => write_all(alloc, local, groups.as_slice(), all, functions),
+        Some(stopped) => Err(first_error(alloc, local, groups.as_slice(), all, stopped, functions)),
+    }
+}

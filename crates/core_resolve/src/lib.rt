@@ -1,0 +1,21 @@
+//! What type relocations come to in a kernel's types (`bpf_core_calc_relo_insn`,
+//! tools/lib/bpf/relo_core.c).
+#![tactic(auto)]
+
+mod error;
+mod finders;
+mod known;
+mod laws;
+mod matcher;
+mod matches;
+mod outcome;
+mod paths;
+mod relocation;
+
+pub use error::TypeRelocationError;
+pub use laws::{lists_of_one_table, outcomes_rest};
+pub use matcher::{TypeMatcher, collected};
+pub use matches::{Match, kernel_matches};
+pub use outcome::{Outcome, conflicts, outcome_of};
+pub use relocation::{RelocationOutcome, TypeRelocation, relocation_outcome};
+pub use core_candidates::{Candidates, KernelType};

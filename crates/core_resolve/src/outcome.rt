@@ -1,0 +1,114 @@
+//! What matches come to.
+
+ghost use Rattle.std.specs.Prelude.{◌≡◌, filter, not, IfOk};
+ghost use Rattle.std.specs.List.{list_all};
+ghost use Rattle.core_resolve.specs.Outcomes.{agree, conflicts, no_match, of_first, outcome_of};
+
+use crate::error::TypeRelocationError;
+use crate::matches::Match;
+use core_spec::RelocationValue;
+use ebpf_items::RelocationKind;
+use std::alloc::{AllocError, Global};
+
+/// What a type relocation comes to.
+#[derive(Clone, Copy, Debug)]
+pub enum Outcome {
+    /// This value.
+    Value(RelocationValue),
+    /// The instruction can't be run.
+    Poison,
+}
+
+/// Without a match.
+fn no_match(kind: RelocationKind) -> Result<Outcome, TypeRelocationError>
+    ensures { result ≡ no_match kind }
+{
+    match kind {
+        RelocationKind::FieldExists
+        | RelocationKind::TypeExists
+        | RelocationKind::EnumVariantExists => Ok(Outcome::Value(RelocationValue {
+            value: 0,
+            field: None,
+        })),
+        RelocationKind::TypeIdTarget | RelocationKind::TypeSize => {
+            Err(TypeRelocationError::MissingTargetDefinition)
+        }
+        _ => Ok(Outcome::Poison),
+    }
+}
+
+/// Whether two matches have one bit offset, and one value where both have one.
+fn agree(first: Match, other: Match) -> bool
+    ensures { result ≡ agree first other }
+{
+    if first.bit_offset != other.bit_offset {
+        return false;
+    }
+    match (first.value, other.value) {
+        (Some(one), Some(another)) => one.value == another.value,
+        _ => true,
+    }
+}
+
+/// Whether others agree with the first.
+fn all_agree(first: Match, others: &[Match]) -> bool
+    ensures { result ≡ list_all (agree first) others.now }
+{
+    others.iter().all(|other| agree(first, *other))
+}
+
+/// What the first of several matches comes to.
+fn of_first(first: Match) -> Outcome
+    ensures { result ≡ of_first first }
+{
+    match first.value {
+        Some(value) => Outcome::Value(value),
+        None => Outcome::Poison,
+    }
+}
+
+/// What a type relocation comes to that has these matches, in the order of tables and ids: the
+/// first's value, or poison where that can't be computed. Without a match what is asked for isn't
+/// there, which is 0 for the kinds that ask whether it is, and poison for others.
+///
+/// `ConflictingCandidates` where another match has another bit offset, or another value where both
+/// can be computed; `MissingTargetDefinition` where the id or the size of a type is asked for that
+/// isn't there.
+pub fn outcome_of(kind: RelocationKind, matches: &[Match]) -> Result<Outcome, TypeRelocationError>
+    ensures { result ≡ outcome_of kind matches.now }
+{
+    let [first, others @ ..] = matches else {
+        return no_match(kind);
+    };
+    if all_agree(*first, others) {
+        Ok(of_first(*first))
+    } else {
+        Err(TypeRelocationError::ConflictingCandidates)
+    }
+}
+
+/// The matches that don't agree with one.
+#[tactic(auto, using(crate::proofs::DifferingMatches::conflict_on, crate::proofs::DifferingMatches::conflict_past, crate::proofs::DifferingMatches::conflict_end))]
+fn differing(alloc: Global, first: Match, others: &[Match]) -> Result<Vec<Match>, AllocError>
+    ensures { IfOk result (λ found.
+        found.items ≡ filter (λ other. not (agree first other)) others.now) }
+{
+    let mut found = Vec::new(alloc);
+    for other in others {
+        if !agree(first, *other) {
+            found.push(*other)?;
+        }
+    }
+    Ok(found)
+}
+
+/// The matches that don't agree with the first, in order: those for which `outcome_of` answers
+/// `ConflictingCandidates`.
+pub fn conflicts(alloc: Global, matches: &[Match]) -> Result<Vec<Match>, AllocError>
+    ensures { IfOk result (λ found. found.items ≡ conflicts matches.now) }
+{
+    match matches {
+        [first, others @ ..] => differing(alloc, *first, others),
+        [] => Ok(Vec::new(alloc)),
+    }
+}

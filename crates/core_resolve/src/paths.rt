@@ -1,0 +1,133 @@
+//! Paths in a kernel's types, from which the matches of several kinds are made.
+
+ghost use Rattle.std.specs.Prelude.{◌≡◌, ◌≢◌, [], map, true, IfOk, IfErr, OnOk, Ok, Err};
+ghost use Rattle.core_resolve.specs.FoundPaths.{AskForOne, IsAdded, is_part, match_from, path_at, paths_of};
+ghost use Rattle.core_resolve.specs.declared.error.TypeRelocationError.TheVariants.{OutOfMemory};
+
+use crate::error::TypeRelocationError;
+use crate::finders::TableFinders;
+use crate::matches::Match;
+use crate::relocation::TypeRelocation;
+use core_spec::{AccessPath, Subject, path_value, subject_of};
+use btf_tables::Btf;
+use ebpf_items::RelocationKind;
+use std::alloc::{AllocError, Global};
+use core_candidates::KernelType;
+
+/// The way to what is asked for in a type of a kernel's.
+#[derive(Debug, Drop)]
+pub(crate) struct FoundPath {
+    /// Which of the kernel's tables the type stands in, counted from 0.
+    pub(crate) table: usize,
+    pub(crate) path: AccessPath,
+}
+
+/// The paths that were found for a relocation.
+#[derive(Debug, Drop)]
+pub(crate) struct KnownPaths {
+    pub(crate) relocation: TypeRelocation,
+    pub(crate) paths: Vec<FoundPath>,
+}
+
+/// Whether a subject is a field or a variant.
+pub(crate) fn is_part(subject: Subject) -> bool
+    ensures { result ≡ is_part subject }
+{
+    match subject {
+        Subject::Type => false,
+        Subject::Field | Subject::Variant => true,
+    }
+}
+
+/// Whether two relocations ask for the same part of a type, or for the same type.
+pub(crate) fn ask_for_one(one: TypeRelocation, other: TypeRelocation) -> bool
+    ensures { result ≡ true → AskForOne one other }
+{
+    if subject_of(one.kind) != subject_of(other.kind) {
+        return false;
+    }
+    if one.type_id != other.type_id {
+        return false;
+    }
+    one.access_str_off == other.access_str_off
+}
+
+/// Adds the path in a candidate, if this has what is asked for.
+fn add_path<'t>(
+    subject: Subject,
+    local: &Btf<'t>,
+    path: &AccessPath,
+    finders: &mut TableFinders<'t>,
+    place: KernelType,
+    paths: &mut Vec<FoundPath>,
+) -> Result<(), TypeRelocationError>
+    ensures added { OnOk result
+        (IsAdded (path_at subject local.now path.now finders.old place) paths.old.items
+        paths.new.items) }
+    ensures refused { IfErr result (λ e.
+        e ≢ OutOfMemory → path_at subject local.now path.now finders.old place ≡ Err e) }
+    ensures same { finders.new ≡ finders.old }
+{
+    match finders.path_at(subject, local, path, place)? {
+        Some(found) => {
+            paths.push(found)?;
+            Ok(())
+        }
+        None => Ok(()),
+    }
+}
+
+/// The paths in candidates, in order.
+#[tactic(auto, using(crate::proofs::FoundPaths::no_path_left, crate::proofs::FoundPaths::next_path))]
+pub(crate) fn paths_of<'t>(
+    subject: Subject,
+    local: &Btf<'t>,
+    path: &AccessPath,
+    finders: &mut TableFinders<'t>,
+    candidates: &[KernelType],
+) -> Result<Vec<FoundPath>, TypeRelocationError>
+    ensures value { IfOk result (λ found.
+        paths_of subject local.now path.now finders.old [] candidates.now ≡ Ok found.items) }
+    ensures refused { IfErr result (λ e.
+        e ≢ OutOfMemory
+        → paths_of subject local.now path.now finders.old [] candidates.now ≡ Err e) }
+    ensures same { finders.new ≡ finders.old }
+{
+    let mut paths = Vec::new(local.allocator());
+    for candidate in candidates {
+        add_path(subject, local, path, finders, *candidate, &mut paths)?;
+    }
+    Ok(paths)
+}
+
+/// The match that a path is for a kind about parts of types.
+fn match_from(kind: RelocationKind, targets: &[Btf<'_>], found: &FoundPath) -> Match
+    ensures { result ≡ match_from kind targets.now found.now }
+{
+    let value = match targets.get(found.table) {
+        Some(target) => path_value(target, kind, &found.path).ok(),
+        None => None,
+    };
+    Match {
+        table: found.table,
+        type_id: found.path.type_id,
+        bit_offset: found.path.bit_offset,
+        value,
+    }
+}
+
+/// The matches that paths are for a kind about parts of types.
+pub(crate) fn matches_from(
+    alloc: Global,
+    kind: RelocationKind,
+    targets: &[Btf<'_>],
+    paths: &[FoundPath],
+) -> Result<Vec<Match>, AllocError>
+    ensures { IfOk result (λ matches. matches.items ≡ map (match_from kind targets.now) paths.now) }
+{
+    let mut matches = Vec::new(alloc);
+    for found in paths {
+        matches.push(match_from(kind, targets, found))?;
+    }
+    Ok(matches)
+}

@@ -1,0 +1,41 @@
+-- Where a field is read from: a bit field in an aligned unit (`bpf_core_calc_field_relo`,
+-- tools/lib/bpf/relo_core.c).
+use Rattle.std.specs.Prelude.{ℕ, zero, suc, ◌+◌, ◌*◌, ◌/◌, ◌%◌, ◌==◌, Bool, Option, None, Some, if◌then◌else◌, nat_lt, nat_le}
+use Rattle.std.specs.Option.{option_map}
+use Rattle.core_spec.specs.declared.extent.Extent.{Extent}
+use Rattle.core_spec.specs.declared.extent.Field.{Field}
+
+-- a field of that many bits from a bit on lies in the aligned unit of that many bytes in which it
+-- begins
+abbrev pub fits_unit : ℕ → ℕ → ℕ → Bool
+fits_unit at bits unit = nat_le (at % (8 * unit) + bits) (8 * unit)
+
+-- the first of a unit and its doubles that the field fits; one of 8 bytes or more isn't doubled
+unfoldable pub unit_from : ℕ → ℕ → ℕ → ℕ → Option ℕ
+unit_from zero at bits unit = None
+unit_from (suc n) at bits unit =
+    if fits_unit at bits unit then Some unit
+    else if nat_lt unit 8 then unit_from n at bits (2 * unit)
+    else None
+
+-- no size has more than four units: that of one byte has 1, 2, 4 and 8 bytes
+abbrev pub unit_of : ℕ → ℕ → ℕ → Option ℕ
+unit_of size at bits = if size == 0 then None else unit_from 4 at bits size
+
+abbrev pub bit_field_extent : ℕ → ℕ → ℕ → Extent
+bit_field_extent unit at bits =
+    record { byte_offset = at / (8 * unit) * unit; byte_size = unit; start = at % (8 * unit); bits = bits }
+
+abbrev pub whole_extent : ℕ → ℕ → Extent
+whole_extent size at = record {
+  byte_offset = at / 8;
+  byte_size = size;
+  start = at % 8;
+  bits = 8 * size;
+}
+
+abbrev pub extent_of : Field → ℕ → Option Extent
+extent_of field at =
+    if field.bit_size == 0 then Some (whole_extent field.size at)
+    else option_map (λ unit. bit_field_extent unit at field.bit_size)
+    (unit_of field.size at field.bit_size)

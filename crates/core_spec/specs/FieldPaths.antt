@@ -1,0 +1,132 @@
+-- Paths to fields (`bpf_core_parse_spec`, tools/lib/bpf/relo_core.c): the first number counts
+-- elements of the type itself, each other one is the index of a member or an element.
+use Rattle.std.specs.Prelude.{ℕ, ◌+◌, ◌*◌, ◌^◌, ◌==◌, ◌&&◌, ◌||◌, Bool, false, List, [], ◌∷◌, ◌++◌, length, slice_get, Option, None, Some, Result, Ok, Err, if◌then◌else◌, nat_lt}
+use Rattle.std.specs.Option.{option_map_or, option_to_list, unwrap_or}
+use Rattle.core_spec.specs.Lookups.{and_then, with_found, with_text, with_type}
+use Rattle.core_spec.specs.declared.error.AccessError.{AccessError}
+use Rattle.core_spec.specs.declared.error.AccessError.TheVariants as errors
+use Rattle.core_spec.specs.declared.fields.Advance.{Advance}
+use Rattle.core_spec.specs.declared.fields.Reached.{Reached}
+use Rattle.core_spec.specs.declared.path.AccessPath.{AccessPath}
+use Rattle.core_spec.specs.declared.path.Place.{Place}
+use Rattle.core_spec.specs.declared.path.Step.{Step}
+use Rattle.core_spec.specs.declared.path.Step.TheVariants.{Element, Member, Variant}
+use Rattle.btf_encoding.specs.Records.{bits_of, count_of}
+use Rattle.btf_records.specs.Items.{bit_offset_of}
+use Rattle.btf_records.specs.Fields.{members_of}
+use Rattle.btf_records.specs.declared.error.BtfError.TheVariants.{InvalidTypeInfo}
+use Rattle.btf_records.specs.declared.item.BtfArray.{BtfArray}
+use Rattle.btf_records.specs.declared.item.BtfMember.{BtfMember}
+use Rattle.btf_records.specs.declared.types.BtfType.{BtfType}
+use Rattle.btf_records.specs.declared.types.BtfType.TheVariants as types
+use Rattle.btf_tables.specs.ResolvedTypes.{resolved_type}
+use Rattle.btf_tables.specs.Tables.{Table, type_by_id}
+use Rattle.btf_tables.specs.TypeSizes.{type_size_in_32_bits}
+
+-- some more bits after others, where 32 bits hold the sum
+abbrev pub bits_after : Option ℕ → ℕ → Option ℕ
+bits_after None more = None
+bits_after (Some bits) more = if nat_lt (bits + more) (2 ^ 32) then Some (bits + more) else None
+
+-- a number of elements of a size in bytes
+abbrev pub elements_after : Option ℕ → ℕ → ℕ → Option ℕ
+elements_after bits count size = bits_after bits (8 * (count * size))
+
+abbrev pub step_place : Step → Place
+step_place (Element place) = place
+step_place (Member place) = place
+step_place (Variant place) = place
+
+-- a struct whose last member has this index
+abbrev pub ends_with : BtfType → ℕ → Bool
+ends_with (types.Struct t) index = length t.members == index + 1
+ends_with _ index = false
+
+-- an array without elements that is the last member of a struct has as many as there is room for;
+-- `last` is the step before
+abbrev pub is_flexible : Table → ℕ → Place → Bool
+is_flexible table len place =
+    (len == 0)
+    && option_map_or (λ t. ends_with t place.index) (type_by_id table place.type_id) false
+
+abbrev pub is_in_array : Table → ℕ → Step → ℕ → Bool
+is_in_array table len last index = nat_lt index len || is_flexible table len (step_place last)
+
+-- the first number
+abbrev pub begun : Table → ℕ → ℕ → Result Reached AccessError
+begun table root index =
+    with_found (type_size_in_32_bits table root) (λ size. Ok (record {
+      type_id = root;
+      last = Element (record { type_id = root; index = index });
+      bits = elements_after (Some 0) index size;
+    }))
+
+-- a member makes a step unless its name's offset is 0
+abbrev pub member_step : Table → Place → BtfMember → Result (Option Step) AccessError
+member_step table place m =
+    if m.name_offset == 0
+    then Ok None
+    else with_text table m.name_offset (λ _. Ok (Some (Member place)))
+
+abbrev pub at_member : Table → Reached → BtfType → Place → BtfMember → Result Advance AccessError
+at_member table from t place m = and_then (member_step table place m) (λ step. Ok (record {
+  reached = record {
+    type_id = m.btf_type;
+    last = unwrap_or step from.last;
+    bits = bits_after from.bits (bit_offset_of (bits_of t).flag m);
+  };
+  step = step;
+}))
+
+-- on to a member
+abbrev pub to_member : Table → Reached → BtfType → Place → Result Advance AccessError
+to_member table from t place =
+    option_map_or (at_member table from t place) (slice_get (members_of t) place.index)
+    (Err (errors.InvalidAccessIndex place (count_of t)))
+
+abbrev pub at_element : Table → Reached → ℕ → ℕ → Result Advance AccessError
+at_element table from element index = with_found (type_size_in_32_bits table element) (λ size. Ok (record {
+  reached = record {
+    type_id = element;
+    last = Element (record { type_id = element; index = index });
+    bits = elements_after from.bits index size;
+  };
+  step = Some (Element (record { type_id = element; index = index }));
+}))
+
+-- on to an element
+abbrev pub to_element : Table → Reached → BtfArray → Place → Result Advance AccessError
+to_element table from array place =
+    with_found (resolved_type table array.element_type) (λ element.
+    if is_in_array table array.len from.last place.index then at_element table from element
+    place.index
+    else Err (errors.InvalidAccessIndex place array.len))
+
+-- on by a number from a record without modifiers
+abbrev pub to_part : Table → Reached → Place → BtfType → Result Advance AccessError
+to_part table from place (types.Struct t) = to_member table from (types.Struct t) place
+to_part table from place (types.Union t) = to_member table from (types.Union t) place
+to_part table from place (types.Array t) = to_element table from t.array place
+to_part table from place _ = Err (errors.InvalidRelocationKindForType place.type_id)
+
+abbrev pub advanced : Table → Reached → ℕ → Result Advance AccessError
+advanced table from index =
+    with_found (resolved_type table from.type_id) (λ id.
+    with_type table id (to_part table from (record { type_id = id; index = index })))
+
+-- the path at its end: the sum of bits has 32
+abbrev pub ended : ℕ → List Step → Option ℕ → Result AccessPath AccessError
+ended asked steps None = Err (errors.BtfError InvalidTypeInfo)
+ended asked steps (Some bits) = Ok (record { type_id = asked; steps = steps; bit_offset = bits })
+
+-- the path that goes on by these numbers
+unfoldable pub path_from : Table → ℕ → List Step → Reached → List ℕ → Result AccessPath AccessError
+path_from table asked steps reached [] = ended asked steps reached.bits
+path_from table asked steps reached (n ∷ ns) =
+    and_then (advanced table reached n) (λ next.
+    path_from table asked (steps ++ option_to_list next.step) next.reached ns)
+
+abbrev pub field_path : Table → ℕ → ℕ → List ℕ → Result AccessPath AccessError
+field_path table asked root [] = Err errors.InvalidAccessString
+field_path table asked root (n ∷ ns) =
+    and_then (begun table root n) (λ reached. path_from table asked (reached.last ∷ []) reached ns)

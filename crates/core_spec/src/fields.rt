@@ -1,0 +1,260 @@
+//! Paths to fields.
+
+ghost use Rattle.std.specs.Prelude.{◌≡◌, ◌≢◌, ◌*◌, ◌++◌, ◌∷◌, [], IfOk, IfErr, Ok, Err};
+ghost use Rattle.std.specs.Option.{option_to_list};
+ghost use Rattle.core_spec.specs.FieldPaths.{advanced, begun, bits_after, ended, ends_with, field_path, is_in_array, member_step, path_from, to_element, to_member};
+ghost use Rattle.core_spec.specs.declared.error.AccessError.TheVariants.{BtfError as TypeError};
+ghost use Rattle.btf_records.specs.declared.error.BtfError.TheVariants.{OutOfMemory};
+
+use crate::error::AccessError;
+use crate::path::{AccessPath, Place, Step, Steps};
+use btf_encoding::TypeRef;
+use btf_records::{BtfArray, BtfError, BtfKind, BtfMember};
+use btf_tables::Btf;
+
+/// How far a path has come.
+#[derive(Clone, Copy, Debug)]
+pub(crate) struct Reached {
+    /// The id of the type of what it has come to.
+    pub(crate) type_id: u32,
+    pub(crate) last: Step,
+    /// The bits so far, where 32 bits hold them.
+    pub(crate) bits: Option<u32>,
+}
+
+/// How far a path has come with another number, and the step that this makes.
+#[derive(Clone, Copy, Debug)]
+pub(crate) struct Advance {
+    pub(crate) reached: Reached,
+    pub(crate) step: Option<Step>,
+}
+
+/// Some more bits after others, where 32 bits hold the sum.
+pub fn bits_after(bits: Option<u32>, more: u64) -> Option<u32>
+    ensures { result ≡ bits_after bits more }
+{
+    let sum = u64::checked_add(u64::from(bits?), more)?;
+    match u32::try_from(sum) {
+        Ok(sum) => Some(sum),
+        Err(_) => None,
+    }
+}
+
+/// The bits of a number of elements of a size in bytes after others, where 32 bits hold the sum.
+pub fn elements_after(bits: Option<u32>, count: u64, size: u32) -> Option<u32>
+    ensures { result ≡ bits_after bits (8 * (count * size)) }
+{
+    let bytes = u64::checked_mul(count, u64::from(size))?;
+    bits_after(bits, u64::checked_mul(8, bytes)?)
+}
+
+/// Whether a record is a struct whose last member has this index.
+fn ends_with(t: &TypeRef<'_>, index: u64) -> bool
+    ensures { result ≡ ends_with t.now index }
+{
+    match t.kind() {
+        BtfKind::Struct => {
+            let count = t.count() as u64;
+            count > 0 && count - 1 == index
+        }
+        _ => false,
+    }
+}
+
+/// Whether an array has an element of this index, or, without elements, is the last member of a
+/// struct, which is as long as what it stands in has room for. `last` is the step before.
+pub fn is_in_array(table: &Btf<'_>, len: u32, last: Step, index: u64) -> bool
+    ensures { result ≡ is_in_array table.now len last index }
+{
+    if index < u64::from(len) {
+        return true;
+    }
+    let (Step::Element(place) | Step::Member(place) | Step::Variant(place)) = last;
+    match table.type_by_id(place.type_id) {
+        Ok(t) => len == 0 && ends_with(&t, place.index),
+        Err(_error) => false,
+    }
+}
+
+/// The first number counts elements of the type without modifiers that a path begins with.
+fn begun(table: &Btf<'_>, root: u32, index: u64) -> Result<Reached, AccessError>
+    ensures { result ≡ begun table.now root index }
+{
+    let size = table.type_size_u32(root)?;
+    Ok(Reached {
+        type_id: root,
+        last: Step::Element(Place {
+            type_id: root,
+            index,
+        }),
+        bits: elements_after(Some(0), index, size),
+    })
+}
+
+/// The step to a member of the struct or union of an id; a member without a name makes none.
+fn member_step(
+    table: &Btf<'_>,
+    place: Place,
+    member: BtfMember,
+) -> Result<Option<Step>, AccessError>
+    ensures { result ≡ member_step table.now place member }
+{
+    if member.name_offset == 0 {
+        return Ok(None);
+    }
+    let _name = table.string_at(member.name_offset)?;
+    Ok(Some(Step::Member(place)))
+}
+
+/// On to a member of a struct or union.
+fn to_member(
+    table: &Btf<'_>,
+    from: Reached,
+    t: &TypeRef<'_>,
+    place: Place,
+) -> Result<Advance, AccessError>
+    ensures { result ≡ to_member table.now from t.now place }
+{
+    let Some(member) = t.member(place.index as usize) else {
+        return Err(AccessError::InvalidAccessIndex {
+            place,
+            len: t.count(),
+        });
+    };
+    let step = member_step(table, place, member)?;
+    Ok(Advance {
+        reached: Reached {
+            type_id: member.btf_type,
+            last: step.unwrap_or(from.last),
+            bits: bits_after(from.bits, u64::from(member.bit_offset(t.flag()))),
+        },
+        step,
+    })
+}
+
+/// On to an element of an array.
+fn to_element(
+    table: &Btf<'_>,
+    from: Reached,
+    array: BtfArray,
+    place: Place,
+) -> Result<Advance, AccessError>
+    ensures { result ≡ to_element table.now from array place }
+{
+    let element = table.resolve_type(array.element_type)?;
+    if !is_in_array(table, array.len, from.last, place.index) {
+        return Err(AccessError::InvalidAccessIndex {
+            place,
+            len: array.len as usize,
+        });
+    }
+    let size = table.type_size_u32(element)?;
+    let step = Step::Element(Place {
+        type_id: element,
+        index: place.index,
+    });
+    Ok(Advance {
+        reached: Reached {
+            type_id: element,
+            last: step,
+            bits: elements_after(from.bits, place.index, size),
+        },
+        step: Some(step),
+    })
+}
+
+/// How far a path comes with the next number.
+fn advanced(table: &Btf<'_>, from: Reached, index: u64) -> Result<Advance, AccessError>
+    ensures { result ≡ advanced table.now from index }
+{
+    let type_id = table.resolve_type(from.type_id)?;
+    let t = table.type_by_id(type_id)?;
+    let place = Place { type_id, index };
+    if let Some(array) = t.array() {
+        return to_element(table, from, array, place);
+    }
+    match t.kind() {
+        BtfKind::Struct | BtfKind::Union => to_member(table, from, &t, place),
+        _ => Err(AccessError::InvalidRelocationKindForType { type_id }),
+    }
+}
+
+/// Goes on by a number, and adds the step that this makes.
+fn go_on(
+    table: &Btf<'_>,
+    from: Reached,
+    index: u64,
+    steps: &mut Steps,
+) -> Result<Advance, AccessError>
+    ensures value { IfOk result (λ next. advanced table.now from index ≡ Ok next) }
+    ensures steps { IfOk result (λ next. steps.new ≡ steps.old ++ option_to_list next.step) }
+    ensures refused { IfErr result (λ e.
+        e ≢ TypeError OutOfMemory → advanced table.now from index ≡ Err e) }
+{
+    let next = advanced(table, from, index)?;
+    if let Some(step) = next.step {
+        steps.push(step)?;
+    }
+    Ok(next)
+}
+
+/// The path at its end.
+fn ended(type_id: u32, steps: Steps, bits: Option<u32>) -> Result<AccessPath, AccessError>
+    ensures { result ≡ ended type_id steps bits }
+{
+    match bits {
+        Some(bit_offset) => Ok(AccessPath {
+            type_id,
+            steps,
+            bit_offset,
+        }),
+        None => Err(AccessError::BtfError(BtfError::InvalidTypeInfo)),
+    }
+}
+
+/// The path that goes on from its first step by these numbers.
+#[tactic(auto, using(crate::proofs::FieldPaths::path_done, crate::proofs::FieldPaths::path_more))]
+fn path_from(
+    table: &Btf<'_>,
+    type_id: u32,
+    first: Reached,
+    numbers: &[u64],
+) -> Result<AccessPath, AccessError>
+    ensures value { IfOk result (λ path.
+        path_from table.now type_id (first.last ∷ []) first numbers.now ≡ Ok path) }
+    ensures refused { IfErr result (λ e.
+        e ≢ TypeError OutOfMemory
+        → path_from table.now type_id (first.last ∷ []) first numbers.now ≡ Err e) }
+{
+    let mut reached = first;
+    let mut steps = Steps::new(table.allocator());
+    steps.push(reached.last)?;
+    for number in numbers {
+        let next = go_on(table, reached, *number, &mut steps)?;
+        reached = next.reached;
+    }
+    ended(type_id, steps, reached.bits)
+}
+
+/// The path to a field along the numbers of an access string, from a type of which the other id is
+/// the one without modifiers.
+///
+/// `InvalidAccessIndex` and `InvalidRelocationKindForType` where it leads nowhere,
+/// `BtfError::InvalidTypeInfo` where the field lies 2^32 bits or more after the type's beginning,
+/// and what the look-ups of sizes, names and types on the way answer.
+pub(crate) fn field_path(
+    table: &Btf<'_>,
+    type_id: u32,
+    root: u32,
+    numbers: &[u64],
+) -> Result<AccessPath, AccessError>
+    ensures value { IfOk result (λ path. field_path table.now type_id root numbers.now ≡ Ok path) }
+    ensures refused { IfErr result (λ e.
+        e ≢ TypeError OutOfMemory → field_path table.now type_id root numbers.now ≡ Err e) }
+{
+    let [first, others @ ..] = numbers else {
+        return Err(AccessError::InvalidAccessString);
+    };
+    let reached = begun(table, root, *first)?;
+    path_from(table, type_id, reached, others)
+}

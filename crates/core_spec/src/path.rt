@@ -1,0 +1,85 @@
+//! Paths through types.
+
+ghost use Rattle.std.specs.Prelude.{◌≡◌, ◌-◌, ◌++◌, ◌∷◌, [], length, slice_get, OnOk, OnErr};
+
+use std::alloc::{AllocError, AllocFailed, Global};
+use std::marker::Model;
+
+/// A number that counts something in a type.
+#[derive(Clone, Copy, Debug)]
+pub struct Place {
+    /// The type's id, after modifiers.
+    pub type_id: u32,
+    pub index: u64,
+}
+
+/// A step of a path.
+#[derive(Clone, Copy, Debug)]
+pub enum Step {
+    /// A number of elements of a type on.
+    Element(Place),
+    /// To a member with a name of a struct or union.
+    Member(Place),
+    /// To a variant of an enum, or of a union that stands for one.
+    Variant(Place),
+}
+
+/// The steps of a path.
+#[derive(Debug, Drop)]
+pub struct Steps {
+    steps: Vec<Step>,
+}
+
+impl Model for Steps {
+    ghost use Rattle.std.specs.Prelude.{List};
+    ghost use Rattle.core_spec.specs.declared.path.Step.{Step};
+
+    ghost Value = { List Step };
+
+    ghost view = { λ s. s.steps.items };
+}
+
+impl Steps {
+    pub fn new(alloc: Global) -> Steps
+        ensures { result ≡ [] }
+    {
+        Steps {
+            steps: Vec::new(alloc),
+        }
+    }
+
+    pub fn push(&mut self, step: Step) -> Result<(), AllocError>
+        ensures ok { OnOk result (self.new ≡ self.old ++ step ∷ []) }
+        ensures err { OnErr result (self.new ≡ self.old) }
+    {
+        match self.steps.push(step) {
+            Ok(()) => Ok(()),
+            Err(_) => Err(AllocError),
+        }
+    }
+
+    pub fn as_slice(&self) -> &[Step]
+        ensures { result.now ≡ self.now }
+    {
+        self.steps.as_slice()
+    }
+
+    /// The step at which the path ends.
+    pub fn last(&self) -> Option<Step>
+        ensures { result ≡ slice_get self.now (length self.now - 1) }
+    {
+        self.steps.as_slice().last().copied()
+    }
+}
+
+/// The way to a part of a type, or to the whole type.
+#[derive(Debug, Drop)]
+pub struct AccessPath {
+    /// The id of the type with which it begins.
+    pub type_id: u32,
+    /// Its steps: of a path to a field the elements and the members with names, of one to a variant
+    /// that variant, of one to the whole type none.
+    pub steps: Steps,
+    /// The bits that its field lies after the type's beginning; 0 where it leads to no field.
+    pub bit_offset: u32,
+}

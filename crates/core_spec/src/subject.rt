@@ -1,0 +1,36 @@
+//! What kinds of type relocations are about.
+
+ghost use Rattle.std.specs.Prelude.{◌≡◌};
+ghost use Rattle.core_spec.specs.Subjects.{subject_of};
+
+use ebpf_items::RelocationKind;
+
+/// What a type relocation is about.
+#[derive(Clone, Copy, Debug, PartialEq, Eq)]
+pub enum Subject {
+    /// A part of a type.
+    Field,
+    /// The type as a whole.
+    Type,
+    /// A variant of an enum.
+    Variant,
+}
+
+/// What a kind of type relocations is about.
+pub fn subject_of(kind: RelocationKind) -> Subject
+    ensures { result ≡ subject_of kind }
+{
+    match kind {
+        RelocationKind::FieldByteOffset
+        | RelocationKind::FieldByteSize
+        | RelocationKind::FieldExists
+        | RelocationKind::FieldSigned
+        | RelocationKind::FieldLShift64
+        | RelocationKind::FieldRShift64 => Subject::Field,
+        RelocationKind::TypeIdLocal
+        | RelocationKind::TypeIdTarget
+        | RelocationKind::TypeExists
+        | RelocationKind::TypeSize => Subject::Type,
+        RelocationKind::EnumVariantExists | RelocationKind::EnumVariantValue => Subject::Variant,
+    }
+}

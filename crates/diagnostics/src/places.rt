@@ -1,0 +1,84 @@
+//! Where a fault stands whose error doesn't say it.
+
+ghost use Rattle.std.specs.Prelude.{IfSome, IfOk};
+ghost use Rattle.diagnostics.specs.Places.{IsPlace};
+
+use btf_records::BtfError;
+use ebpf_items::ParseError;
+use object_file::{ObjectFile, unnamed_symbol};
+use object_parse::{function_without_code, name_at};
+use std::alloc::{AllocError, Global};
+use std::fmt;
+
+/// Where a fault stands whose error doesn't say it.
+#[derive(Debug, Drop)]
+pub enum Place {
+    /// In a function of the section of an index.
+    Function {
+        index: usize,
+        section: String,
+        name: String,
+    },
+    /// In the symbol of an index.
+    Symbol {
+        index: usize,
+    },
+}
+
+impl fmt::Display for Place {
+    fn fmt<W: fmt::Write>(&self, f: &mut fmt::Formatter<W>) -> fmt::Result {
+        match self {
+            Place::Function {
+                index,
+                section,
+                name,
+            } => write!(f, "function {name:?} of section {index} {section:?}"),
+            Place::Symbol { index } => write!(f, "symbol {index}"),
+        }
+    }
+}
+
+/// Where a fault of an opened file stands, if it is code that a function lacks.
+fn place_in(alloc: Global, file: &ObjectFile<'_>) -> Result<Option<Place>, AllocError>
+    ensures { IfOk result (λ place. IfSome place (IsPlace file.now ParseError.InvalidProgramCode)) }
+{
+    let Some((index, name)) = function_without_code(file) else {
+        return Ok(None);
+    };
+    Ok(Some(Place::Function {
+        index,
+        section: String::from_str(alloc, name_at(file, index))?,
+        name: String::from_str(alloc, name)?,
+    }))
+}
+
+/// The first function of an object file that has no code.
+fn place_of_function(alloc: Global, object: &[u8]) -> Option<Place>
+    ensures { IfSome result (IsPlace object.now ParseError.InvalidProgramCode) }
+{
+    let file = ObjectFile::parse(alloc, object).ok()?;
+    match place_in(alloc, &file) {
+        Ok(place) => place,
+        Err(_) => None,
+    }
+}
+
+/// The first symbol of an object file whose name can't be read.
+fn place_of_symbol(alloc: Global, object: &[u8]) -> Option<Place>
+    ensures { IfSome result (IsPlace object.now (ParseError.BtfError BtfError.InvalidSymbolName)) }
+{
+    let index = unnamed_symbol(alloc, object)?;
+    Some(Place::Symbol { index })
+}
+
+/// Where a fault of an object file stands, for the errors that don't say it: a function without
+/// code, a symbol whose name can't be read. None for other errors, and where memory runs out.
+pub fn place_of_error(alloc: Global, object: &[u8], error: &ParseError) -> Option<Place>
+    ensures { IfSome result (IsPlace object.now error.now) }
+{
+    match error {
+        ParseError::InvalidProgramCode => place_of_function(alloc, object),
+        ParseError::BtfError(BtfError::InvalidSymbolName) => place_of_symbol(alloc, object),
+        _ => None,
+    }
+}

@@ -1,2 +1,0 @@
-pub mod Externs
-pub mod Laws

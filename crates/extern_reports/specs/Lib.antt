@@ -1,2 +1,0 @@
-pub mod Presences
-pub mod Symbols

@@ -1,7 +1,0 @@
-use Rattle.std.proofs.Common.{◌≡◌, map, take}
-use Rattle.std.specs.Prelude.{filter_map, slice_get}
-use Rattle.function_records.specs.Kept.{moved_function}
-use Rattle.function_records.proofs.section_records.functions_of.Given as goal
-
-abbrev pub invariant-loop-index : goal.invariant-loop-index
-invariant-loop-index l = l.kept.items ≡ map (moved_function l.relative l.start) (filter_map (slice_get l.records) (take l.index-index l.indexes))

@@ -1,0 +1,7 @@
+use Rattle.std.proofs.Common.{◌≡◌, ◌++◌, map}
+use Rattle.object_externs.specs.Names.{by_bytes}
+use Rattle.kernel_reports.specs.declared.presences.Presence.TheVariants.{Unknown}
+use Rattle.kernel_reports.proofs.presences.all_unknown.Given as goal
+
+abbrev pub invariant-loop-extern : goal.invariant-loop-extern
+invariant-loop-extern l = l.told.items ++ map (λ e. Unknown) (by_bytes l._extern-iterator) ≡ map (λ e. Unknown) l.externs.by_name

@@ -1,0 +1,37 @@
+-- What a type relocation comes to in a kernel's types, by itself.
+use Rattle.std.specs.Prelude.{List, [], map, Option, None, Some, Result, Ok, Err}
+use Rattle.btf_ext.specs.declared.record.bpf_core_relo.{bpf_core_relo}
+use Rattle.btf_tables.specs.Tables.{Table}
+use Rattle.core_resolve.specs.declared.error.TypeRelocationError.{TypeRelocationError}
+use Rattle.core_resolve.specs.declared.relocation.RelocationOutcome.{RelocationOutcome}
+use Rattle.core_patch.specs.Instructions.{patched}
+use Rattle.core_patch.specs.Patches.{patch_of}
+use Rattle.core_relocation.specs.Relocations.{TypesGiven, record_outcome, types_given}
+use Rattle.kernel_reports.specs.declared.answers.RelocationAnswer.{RelocationAnswer}
+use Rattle.kernel_reports.specs.declared.answers.RelocationAnswer.TheVariants.{Fault, Given, Unplaced}
+use Rattle.kernel_reports.specs.declared.relocations.Place.{Place}
+use Rattle.kernel_reports.specs.declared.relocations.RelocationAt.{RelocationAt}
+
+-- an outcome gives a patch, which the instruction as the object has it gets or not
+abbrev pub answer_of : TypesGiven
+    → Place
+    → Result RelocationOutcome TypeRelocationError
+    → RelocationAnswer
+answer_of g place (Err e) = Fault e
+answer_of g place (Ok o) =
+    Given (patch_of g.local g.targets o)
+    (patched place.slot place.next (patch_of g.local g.targets o))
+
+-- one without an instruction comes to nothing
+abbrev pub answer_at : TypesGiven → bpf_core_relo → Option Place → RelocationAnswer
+answer_at g r None = Unplaced
+answer_at g r (Some place) = answer_of g place (record_outcome g r)
+
+-- by the object's own types and a kernel's tables
+abbrev pub answer_to : Table → List Table → RelocationAt → RelocationAnswer
+answer_to local kernel at = answer_at (types_given [] [] local kernel) at.asked at.place
+
+-- of the relocations of an object; one without types has none
+abbrev pub answers_to : Option Table → List Table → List RelocationAt → List RelocationAnswer
+answers_to None kernel rs = []
+answers_to (Some local) kernel rs = map (answer_to local kernel) rs

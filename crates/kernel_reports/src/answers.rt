@@ -1,0 +1,172 @@
+//! What type relocations come to in a kernel's types.
+
+ghost use Rattle.std.specs.Prelude.{◌≡◌, [], Ok, map, option_copied, IfOk, IfSome};
+ghost use Rattle.core_relocation.specs.Relocations.{types_given};
+ghost use Rattle.kernel_reports.specs.Answers.{answer_of, answer_to, answers_to};
+
+use crate::relocations::{Place, RelocationAt};
+use core_spec::AccessError;
+use btf_ext::bpf_core_relo;
+use btf_tables::Btf;
+use ebpf_items::RelocationKind;
+use slot_relocation::Outcome;
+use std::alloc::{AllocError, Global};
+use core_resolve::{
+    Candidates, RelocationOutcome, TypeMatcher, TypeRelocation, TypeRelocationError, collected,
+};
+use core_patch::{Patch, WriteFault, patch_of, patched};
+
+/// What a type relocation comes to in a kernel's types.
+#[derive(Debug, Drop)]
+pub enum RelocationAnswer {
+    /// No function of its section holds its instruction.
+    Unplaced,
+    /// It comes to nothing.
+    Fault(TypeRelocationError),
+    /// It gives a value or poison to its instruction, which gets it, or can't.
+    Given {
+        patch: Patch,
+        written: Outcome<WriteFault>,
+    },
+}
+
+/// What a relocation asks for, of which the kind was told.
+fn asked_for(kind: RelocationKind, asked: bpf_core_relo) -> TypeRelocation
+    ensures { result
+        ≡ record { kind = kind; type_id = asked.type_id; access_str_off = asked.access_str_off } }
+{
+    TypeRelocation {
+        kind,
+        type_id: asked.type_id,
+        access_str_off: asked.access_str_off,
+    }
+}
+
+/// What a relocation asks for; a number that stands for no kind asks for nothing.
+fn type_relocation(at: &RelocationAt) -> Option<TypeRelocation> {
+    let kind = RelocationKind::try_from(at.asked.kind).ok()?;
+    Some(asked_for(kind, at.asked))
+}
+
+/// What all relocations ask for, for which a kernel's tables are gone over once.
+fn asked_by(
+    alloc: Global,
+    relocations: &[RelocationAt],
+) -> Result<Vec<TypeRelocation>, AllocError> {
+    let mut asked = Vec::new(alloc);
+    for at in relocations {
+        if let Some(relocation) = type_relocation(at) {
+            asked.push(relocation)?;
+        }
+    }
+    Ok(asked)
+}
+
+/// What an outcome does to the instruction at a place.
+fn given(
+    local: &Btf<'_>,
+    targets: &[Btf<'_>],
+    place: Place,
+    outcome: RelocationOutcome,
+) -> RelocationAnswer
+    ensures { result ≡ answer_of (types_given [] [] local.now targets.now) place (Ok outcome) }
+{
+    let patch = patch_of(local, targets, outcome);
+    RelocationAnswer::Given {
+        patch,
+        written: patched(place.slot, place.next, patch),
+    }
+}
+
+/// What a relocation comes to.
+fn answer_of(
+    matcher: &mut TypeMatcher<'_, '_, '_>,
+    local: &Btf<'_>,
+    targets: &[Btf<'_>],
+    at: RelocationAt,
+) -> Result<RelocationAnswer, AllocError>
+    requires { matcher.old ≡ record { local = local.now; targets = targets.now } }
+    ensures value { IfOk result (λ answer. answer ≡ answer_to local.now targets.now at) }
+    ensures same { matcher.new ≡ matcher.old }
+{
+    let Some(place) = at.place else {
+        return Ok(RelocationAnswer::Unplaced);
+    };
+    let kind = match RelocationKind::try_from(at.asked.kind) {
+        Ok(kind) => kind,
+        Err(error) => {
+            return Ok(RelocationAnswer::Fault(TypeRelocationError::Local(AccessError::BtfError(
+                error,
+            ))));
+        }
+    };
+    match matcher.relocation_outcome(asked_for(kind, at.asked)) {
+        Ok(outcome) => Ok(given(local, targets, place, outcome)),
+        Err(TypeRelocationError::OutOfMemory) => Err(AllocError),
+        Err(error) => Ok(RelocationAnswer::Fault(error)),
+    }
+}
+
+/// What some relocations come to, with a matcher for these tables.
+fn all_answers(
+    alloc: Global,
+    matcher: &mut TypeMatcher<'_, '_, '_>,
+    local: &Btf<'_>,
+    targets: &[Btf<'_>],
+    relocations: &[RelocationAt],
+) -> Result<Vec<RelocationAnswer>, AllocError>
+    requires { matcher.old ≡ record { local = local.now; targets = targets.now } }
+    ensures { IfOk result (λ answers.
+        answers.items ≡ map (answer_to local.now targets.now) relocations.now) }
+{
+    let mut answers = Vec::new(alloc);
+    for at in relocations {
+        let answer = answer_of(matcher, local, targets, *at)?;
+        answers.push(answer)?;
+    }
+    Ok(answers)
+}
+
+/// The candidates for the types that some relocations of an object are about, for which each table
+/// is gone over once; none where there are no such types.
+pub fn candidates_of<'t, 'l>(
+    alloc: Global,
+    local: Option<&'l Btf<'_>>,
+    targets: &'t [Btf<'t>],
+    relocations: &[RelocationAt],
+) -> Result<Option<Candidates<'t, 'l>>, AllocError>
+    ensures { IfOk result (λ found. IfSome found (λ c. c ≡ targets.now)) }
+{
+    let Some(local) = local else {
+        return Ok(None);
+    };
+    let asked = asked_by(alloc, relocations)?;
+    collected(local, asked.as_slice(), targets)
+}
+
+/// What each of some relocations of an object comes to in a kernel's types, by itself: by the slots
+/// of the object, as if no other relocation were made. They are looked up among candidates that
+/// were collected in these tables before, where some are given, else each table is gone over once
+/// for all of them; candidates decide no answer.
+pub fn relocation_answers<'c, 'l>(
+    alloc: Global,
+    local: Option<&Btf<'_>>,
+    targets: &[Btf<'_>],
+    candidates: Option<&'c Candidates<'c, 'l>>,
+    relocations: &[RelocationAt],
+) -> Result<Vec<RelocationAnswer>, AllocError>
+    requires { IfSome (option_copied candidates) (λ c. c ≡ targets.now) }
+    ensures { IfOk result (λ answers.
+        answers.items ≡ answers_to (option_copied local.entry) targets.now relocations.now) }
+{
+    let Some(local) = local else {
+        return Ok(Vec::new(alloc));
+    };
+    if let Some(candidates) = candidates {
+        let mut matcher = TypeMatcher::among(local, candidates, targets);
+        return all_answers(alloc, &mut matcher, local, targets, relocations);
+    }
+    let asked = asked_by(alloc, relocations)?;
+    let mut matcher = TypeMatcher::collect(local, asked.as_slice(), targets)?;
+    all_answers(alloc, &mut matcher, local, targets, relocations)
+}

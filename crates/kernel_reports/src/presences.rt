@@ -1,0 +1,148 @@
+//! Whether a kernel has the externs of an object.
+
+ghost use Rattle.std.specs.Prelude.{◌≡◌, ◌≢◌, Some, map, option_copied, slice_get, IfOk, IfSome};
+ghost use Rattle.extern_resolution.specs.declared.error.KsymsError.TheVariants.{OutOfMemory};
+ghost use Rattle.kernel_reports.specs.Presences.{SaysOfExterns, all_weak, as_weak, presence_of};
+ghost use Rattle.kernel_reports.specs.declared.presences.Presence.TheVariants.{Unknown};
+
+use btf_tables::Btf;
+use extern_resolution::{KernelExterns, KsymsError, resolve_externs_among};
+use object_externs::{ExternDesc, Externs};
+use std::alloc::{AllocError, Global};
+use string_map::TextMapBuilder;
+use watched::Watched;
+
+/// Whether a kernel has an extern.
+#[derive(Clone, Copy, Debug, PartialEq, Eq)]
+pub enum Presence {
+    Found,
+    Missing,
+    /// Nothing says so: it is looked for among symbols, and none are given, or what the kernel has
+    /// can't be compared or read.
+    Unknown,
+}
+
+/// The extern as it was declared, but weak: it may be missing.
+fn as_weak<'a>(desc: &ExternDesc<'a>) -> Result<ExternDesc<'a>, AllocError>
+    ensures { IfOk result (λ weak. weak ≡ as_weak desc.now) }
+{
+    let mut weak = desc.clone()?;
+    weak.is_weak = true;
+    weak.is_resolved = false;
+    weak.kernel_btf_id = None;
+    weak.ksym_addr = None;
+    Ok(weak)
+}
+
+/// The externs as they were declared, all weak, so that each is told.
+fn all_weak<'a>(alloc: Global, externs: &Externs<'a>) -> Result<Externs<'a>, AllocError>
+    ensures { IfOk result (λ weak. weak ≡ all_weak externs.now) }
+{
+    let mut by_name = TextMapBuilder::new(alloc);
+    for (name, desc) in externs.iter() {
+        let weak = as_weak(desc)?;
+        by_name.insert(*name, weak)?;
+    }
+    let by_name = by_name.build(alloc)?;
+    Ok(externs.replaced(by_name))
+}
+
+/// What is said of a resolved extern.
+fn presence_of(desc: &ExternDesc<'_>, has_symbols: bool) -> Presence
+    ensures { result ≡ presence_of has_symbols desc.now }
+{
+    if desc.type_id.is_none() && !has_symbols {
+        return Presence::Unknown;
+    }
+    if desc.is_resolved {
+        Presence::Found
+    } else {
+        Presence::Missing
+    }
+}
+
+/// What is said of resolved externs, by name.
+fn all_told(
+    alloc: Global,
+    externs: &Externs<'_>,
+    has_symbols: bool,
+) -> Result<Vec<Presence>, AllocError>
+    ensures { IfOk result (λ told.
+        told.items ≡ map (λ e. presence_of has_symbols e.1) externs.now.by_name) }
+{
+    let mut told = Vec::new(alloc);
+    for (_, desc) in externs.iter() {
+        told.push(presence_of(desc, has_symbols))?;
+    }
+    Ok(told)
+}
+
+/// That nothing is known of externs.
+fn all_unknown(alloc: Global, externs: &Externs<'_>) -> Result<Vec<Presence>, AllocError>
+    ensures { IfOk result (λ told. told.items ≡ map (λ e. Unknown) externs.now.by_name) }
+{
+    let mut told = Vec::new(alloc);
+    for _extern in externs.iter() {
+        told.push(Presence::Unknown)?;
+    }
+    Ok(told)
+}
+
+/// An error that isn't want of memory.
+fn fault_of(error: KsymsError) -> Result<KsymsError, AllocError>
+    ensures { IfOk result (λ fault. (fault ≡ error) × (error ≢ OutOfMemory)) }
+{
+    match error {
+        KsymsError::OutOfMemory => Err(AllocError),
+        error => Ok(error),
+    }
+}
+
+/// Whether a kernel has each of an object's externs, by name: those with a type by its types,
+/// the others by a text of its symbols, where these are given. An object without types of its own
+/// has none to look for, and nothing is said of any. What was gathered of the first of the kernel's
+/// tables before decides no answer, and spares a walk over it.
+pub fn presences_of(
+    alloc: Global,
+    externs: &Externs<'_>,
+    table: Option<&Btf<'_>>,
+    kernel_types: &[Btf<'_>],
+    gathered: Option<&KernelExterns<'_, '_>>,
+    symbols: &[u8],
+    has_symbols: bool,
+) -> Result<Vec<Presence>, AllocError>
+    requires { IfSome (option_copied gathered) (λ k. slice_get kernel_types.now 0 ≡ Some k) }
+    ensures { IfOk result (λ said.
+        SaysOfExterns (option_copied table.entry) (slice_get kernel_types.now 0) symbols.now
+        has_symbols externs.now said.items) }
+{
+    let Some(table) = table else {
+        let said = all_unknown(alloc, externs)?;
+        return Ok(said);
+    };
+    let mut weak = all_weak(alloc, externs)?;
+    let mut symbols = Watched::new(symbols);
+    let answer = resolve_externs_among(
+        alloc,
+        &mut weak,
+        Some(table),
+        kernel_types,
+        &mut symbols,
+        gathered,
+    );
+    // a reader of bytes doesn't fail
+    if symbols.failed() {
+        return Err(AllocError);
+    }
+    match answer {
+        Ok(()) => {
+            let said = all_told(alloc, &weak, has_symbols)?;
+            Ok(said)
+        }
+        Err(error) => {
+            let _fault = fault_of(error)?;
+            let said = all_unknown(alloc, externs)?;
+            Ok(said)
+        }
+    }
+}

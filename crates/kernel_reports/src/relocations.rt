@@ -1,0 +1,220 @@
+//! The type relocations of an object, each at the instruction at which it stands.
+
+ghost use Rattle.std.specs.Prelude.{◌≡◌, ◌++◌, [], IfOk, OnOk};
+ghost use Rattle.std.specs.Option.{option_and_then, option_copied};
+ghost use Rattle.core_relocation.specs.Relocations.{function_holding, section_at, types_given};
+ghost use Rattle.kernel_reports.specs.Relocations.{place_at, place_in, relocation_at, relocations_in, relocations_of};
+
+use btf_ext::{BtfExt, SecInfo, bpf_core_relo};
+use btf_tables::Btf;
+use ebpf_items::bpf_insn;
+use object_file::ObjectFile;
+use object_file::section_indexes;
+use object_parts::{Function, Functions, SLOT_SIZE};
+use std::alloc::{AllocError, Global};
+use std::marker::Model;
+use string_map::TextMap;
+
+/// The instruction at which a type relocation stands.
+#[derive(Clone, Copy, Debug)]
+pub struct Place {
+    /// The key of the function that holds it: its section's index and its address.
+    pub key: (usize, u64),
+    /// Its slot, counted from the function's beginning.
+    pub index: usize,
+    pub slot: bpf_insn,
+    /// The slot after it.
+    pub next: Option<bpf_insn>,
+}
+
+/// A type relocation of an object.
+#[derive(Clone, Copy, Debug)]
+pub struct RelocationAt {
+    /// Where the name of its group's section stands among the strings of the object's types.
+    pub name_offset: u32,
+    /// What it asks for.
+    pub asked: bpf_core_relo,
+    /// Its instruction, where a function of the section holds it.
+    pub place: Option<Place>,
+}
+
+/// The records of a group.
+fn records_of(alloc: Global, group: &SecInfo<'_>) -> Result<Vec<bpf_core_relo>, AllocError>
+    ensures { IfOk result (λ records. records.items ≡ group.now.records) }
+{
+    let mut records = Vec::new(alloc);
+    for number in 0..group.num_info() {
+        if let Some(asked) = group.get(number as usize) {
+            records.push(asked)?;
+        }
+    }
+    Ok(records)
+}
+
+/// What type relocations are looked up in.
+#[derive(Drop)]
+struct Found<'r, 'o, 'f, 't> {
+    file: &'r ObjectFile<'o>,
+    /// The indexes of the file's sections, by name.
+    sections: &'r TextMap<'o, u64>,
+    functions: &'r Functions<'f>,
+    local: &'r Btf<'t>,
+}
+
+impl<'r, 'o, 'f, 't> Model for Found<'r, 'o, 'f, 't> {
+    ghost use Rattle.std.specs.Prelude.{◌≡◌, []};
+    ghost use Rattle.object_file.specs.Reading.{read_sections};
+    ghost use Rattle.object_file.specs.Named.{AreIndexes};
+    ghost use Rattle.core_relocation.specs.Relocations.{TypesGiven};
+
+    ghost Value = { TypesGiven };
+
+    ghost view = { λ l.
+        record {
+          file = l.file.now;
+          functions = l.functions.now;
+          local = l.local.now;
+          targets = [];
+        } };
+
+    ghost invariant = { λ l. AreIndexes (read_sections l.file.now) l.sections.now };
+}
+
+/// The first function, by key, of those of a section whose bytes hold an offset.
+fn function_holding<'g, 'f>(
+    functions: &'g Functions<'f>,
+    section_index: usize,
+    offset: u64,
+) -> Option<&'g Function<'f>>
+    ensures { option_copied result ≡ function_holding functions.entry.now section_index offset }
+{
+    for (_, function) in functions.iter() {
+        if function.section_index == section_index && function.is_inside(offset) {
+            return Some(function);
+        }
+    }
+    None
+}
+
+/// The instruction of a function at which a relocation inside it stands.
+fn place_in(function: &Function<'_>, asked: bpf_core_relo) -> Option<Place>
+    ensures { result ≡ place_in asked function.now }
+{
+    let distance = u64::from(asked.insn_off).saturating_sub(function.section_offset as u64);
+    let index = (distance / SLOT_SIZE) as usize;
+    let slot = function.instructions.get(index)?;
+    Some(Place {
+        key: function.key(),
+        index,
+        slot,
+        next: function.instructions.get(index + 1),
+    })
+}
+
+impl<'r, 'o, 'f, 't> Found<'r, 'o, 'f, 't> {
+    /// The index of the section whose name stands at an offset of the strings.
+    fn section(&self, name_offset: u32) -> Option<usize>
+        ensures { result ≡ section_at self.now name_offset }
+    {
+        let Ok(name) = self.local.string_at(name_offset) else {
+            return None;
+        };
+        match self.sections.get(name) {
+            Some(index) => Some(*index as usize),
+            None => None,
+        }
+    }
+
+    /// The instruction at which a relocation of the section of an index stands.
+    fn place_inside(&self, section: usize, asked: bpf_core_relo) -> Option<Place>
+        ensures { result
+            ≡ option_and_then (place_in asked)
+            (function_holding self.now.functions section asked.insn_off) }
+    {
+        match function_holding(self.functions, section, u64::from(asked.insn_off)) {
+            Some(function) => place_in(function, asked),
+            None => None,
+        }
+    }
+
+    /// The instruction at which a relocation of a section stands.
+    fn place(&self, section: Option<usize>, asked: bpf_core_relo) -> Option<Place>
+        ensures { result ≡ place_at self.now section asked }
+    {
+        match section {
+            Some(section) => self.place_inside(section, asked),
+            None => None,
+        }
+    }
+
+    /// A relocation of a section, whose name stands at an offset of the strings.
+    fn relocation_at(
+        &self,
+        name_offset: u32,
+        section: Option<usize>,
+        asked: bpf_core_relo,
+    ) -> RelocationAt
+        ensures { result ≡ relocation_at self.now name_offset section asked }
+    {
+        RelocationAt {
+            name_offset,
+            asked,
+            place: self.place(section, asked),
+        }
+    }
+
+    /// Adds the relocations of a group.
+    fn add_group(
+        &self,
+        alloc: Global,
+        group: &SecInfo<'_>,
+        list: &mut Vec<RelocationAt>,
+    ) -> Result<(), AllocError>
+        ensures { OnOk result
+            (list.new.items ≡ list.old.items ++ relocations_in self.now group.now) }
+    {
+        let records = records_of(alloc, group)?;
+        let name_offset = group.name_offset();
+        let section = self.section(name_offset);
+        for asked in &records {
+            list.push(self.relocation_at(name_offset, section, *asked))?;
+        }
+        Ok(())
+    }
+
+    /// The relocations of all groups.
+    fn all(&self, alloc: Global, extension: &BtfExt<'_>) -> Result<Vec<RelocationAt>, AllocError>
+        ensures { IfOk result (λ list.
+            list.items ≡ relocations_of self.now extension.now.relocations) }
+    {
+        let mut list = Vec::new(alloc);
+        for group in extension.relocations() {
+            self.add_group(alloc, &group, &mut list)?;
+        }
+        Ok(list)
+    }
+}
+
+/// The type relocations of an object, group by group, by its file, its functions, its own types and
+/// what stands beside these.
+pub fn relocations_of(
+    alloc: Global,
+    file: &ObjectFile<'_>,
+    functions: &Functions<'_>,
+    local: &Btf<'_>,
+    extension: &BtfExt<'_>,
+) -> Result<Vec<RelocationAt>, AllocError>
+    ensures { IfOk result (λ list.
+        list.items
+        ≡ relocations_of (types_given file.now functions.now local.now [])
+        extension.now.relocations) }
+{
+    let sections = section_indexes(alloc, file)?;
+    let found = Found {
+        file,
+        sections: &sections,
+        functions,
+        local,
+    };
+    found.all(alloc, extension)
+}

@@ -1,0 +1,144 @@
+-- What is noted of a file.
+use Rattle.std.specs.Prelude.{◌≡◌, ◌≢◌, ◌⊎◌, ℕ, ◌==◌, if◌then◌else◌, List, [], ◌∷◌, ◌++◌, flat_map, length, codes, is_none, unwrap_or, Option}
+use Rattle.std.specs.BTreeMap.{is_at}
+use Rattle.std.specs.Cmp.Lexicographic.{slice_cmp}
+use Rattle.std.specs.Int.{w16}
+use Rattle.std.specs.Map.{lookup}
+use Rattle.std.specs.Option.{option_map_or}
+use Rattle.std.specs.Ordering.{nat_cmp}
+use Rattle.elf64.specs.declared.order.ByteOrder.{ByteOrder}
+use Rattle.elf64.specs.declared.order.ByteOrder.TheVariants.{Little, Big}
+use Rattle.elf64.specs.Headers.{order_of}
+use Rattle.elf64.specs.Numbers.{number_at}
+use Rattle.elf64.specs.Relocations.{relocations_of}
+use Rattle.elf64.specs.Sections.{Section}
+use Rattle.ebpf_items.specs.Maps.{MapView}
+use Rattle.ebpf_items.specs.declared.error.ParseError.{ParseError}
+use Rattle.ebpf_items.specs.declared.error.ParseError.TheVariants.{OutOfMemory}
+use Rattle.object_file.specs.Faults.{HasFileFault, IsFileFaultless}
+use Rattle.object_file.specs.Kinds.{kind_of}
+use Rattle.object_file.specs.Reading.{contents_named, read_sections}
+use Rattle.program_kinds.specs.declared.section_kind.EbpfSectionKind.{EbpfSectionKind}
+use Rattle.program_kinds.specs.declared.section_kind.EbpfSectionKind.TheVariants as kind
+use Rattle.settings.specs.Content.{SettingsContent}
+use Rattle.lints.specs.Maps.{HasMaps, LacksMaps}
+use Rattle.lints.specs.declared.note.Note.{Note}
+use Rattle.lints.specs.declared.note.Note.TheVariants as note
+
+-- a note, with names as their bytes
+pub data NoteContent : Type 0 where
+  OtherMachine : ℕ → NoteContent
+  MostByteFirst : NoteContent
+  NoLicense : NoteContent
+  FirstValues : List ℕ → NoteContent
+  Pointers : List ℕ → NoteContent
+  SharedNumber : ℕ → List ℕ → List ℕ → NoteContent
+
+abbrev pub note_content : Note → NoteContent
+note_content (note.OtherMachine machine) = OtherMachine machine
+note_content note.MostByteFirst = MostByteFirst
+note_content note.NoLicense = NoLicense
+note_content (note.FirstValues section) = FirstValues section.now
+note_content (note.Pointers section) = Pointers section.now
+note_content (note.SharedNumber number first second) = SharedNumber number first.now second.now
+
+-- e_machine, which is 247 in files of eBPF
+abbrev pub machine_of : List ℕ → ByteOrder → ℕ
+machine_of file order = number_at w16 order file 18
+
+abbrev pub machine_notes : List ℕ → ByteOrder → List NoteContent
+machine_notes file order =
+    if machine_of file order == 247 then [] else OtherMachine (machine_of file order) ∷ []
+
+abbrev pub order_notes : ByteOrder → List NoteContent
+order_notes Little = []
+order_notes Big = MostByteFirst ∷ []
+
+-- those on the header of an ELF64 file
+abbrev pub header_notes : List ℕ → List NoteContent
+header_notes file =
+    option_map_or (λ order. machine_notes file order ++ order_notes order) (order_of file) []
+
+abbrev pub license_notes : List ℕ → List NoteContent
+license_notes file = if is_none (contents_named file (codes "license")) then NoLicense ∷ [] else []
+
+-- that on a section of a kind and a name in which relocations stand
+abbrev pub relocated_notes : EbpfSectionKind → List ℕ → List NoteContent
+relocated_notes kind.Maps name = FirstValues name ∷ []
+relocated_notes kind.BtfMaps name = FirstValues name ∷ []
+relocated_notes kind.Data name = Pointers name ∷ []
+relocated_notes kind.Rodata name = Pointers name ∷ []
+relocated_notes kind.Bss name = Pointers name ∷ []
+relocated_notes _ name = []
+
+abbrev pub section_notes : List ℕ → Section → List NoteContent
+section_notes file section =
+    if length (relocations_of file section.index) == 0
+    then []
+    else relocated_notes (kind_of section) (unwrap_or section.name [])
+
+-- those on what an object file holds
+abbrev pub object_notes : List ℕ → List NoteContent
+object_notes file = license_notes file ++ flat_map (section_notes file) (read_sections file)
+
+-- a fault of a file
+pub record IsFaulty (file : List ℕ) : Type 0 where
+  pub error : ParseError
+  pub other : error ≢ OutOfMemory
+  pub fault : HasFileFault file error
+
+-- the notes on a file: also on what it holds, where it is an object file without fault
+abbrev pub AreFileNotes : List ℕ → List NoteContent → Type 0
+AreFileNotes file notes =
+    (IsFileFaultless file × (notes ≡ header_notes file ++ object_notes file))
+    ⊎ (IsFaulty file × (notes ≡ header_notes file))
+
+-- ---- on the numbers of maps
+
+-- the number that is set for a map of a name, with that name
+abbrev pub set_numbers : SettingsContent → List ℕ → List (ℕ × List ℕ)
+set_numbers settings name =
+    option_map_or (λ number. (number, name) ∷ [])
+    (lookup (is_at (slice_cmp nat_cmp name)) settings.maps) []
+
+-- the numbers that are set for maps, in the order of these
+abbrev pub numbers_of : SettingsContent → List (List ℕ × MapView) → List (ℕ × List ℕ)
+numbers_of settings maps = flat_map (λ e. set_numbers settings e.0) maps
+
+-- the name of the first map that has a number
+abbrev pub first_with : List (ℕ × List ℕ) → ℕ → Option (List ℕ)
+first_with numbers number = lookup (is_at (nat_cmp number)) numbers
+
+-- the notes on maps with numbers, after others: on each whose number an earlier one has, with the
+-- first of that number
+abbrev pub shared_notes : List (ℕ × List ℕ) → List (ℕ × List ℕ) → List NoteContent
+shared_notes before [] = []
+shared_notes before (e ∷ more) =
+    option_map_or (λ first. SharedNumber e.0 first e.1 ∷ []) (first_with before e.0) []
+    ++ shared_notes (before ++ e ∷ []) more
+
+abbrev pub number_notes : SettingsContent → List (List ℕ × MapView) → List NoteContent
+number_notes settings maps = shared_notes [] (numbers_of settings maps)
+
+-- ---- all of them
+
+-- the notes on the numbers of a file's maps, where these can be read
+abbrev pub AreNumberNotes : List ℕ → SettingsContent → List NoteContent → Type 0
+AreNumberNotes file settings notes =
+    ((maps : List (List ℕ × MapView))
+    × HasMaps file maps × (notes ≡ number_notes settings maps))
+    ⊎ (LacksMaps file × (notes ≡ []))
+
+-- after some notes those on the numbers of a file's maps
+pub record AddsNumberNotes (file : List ℕ) (settings : SettingsContent)
+    (before after : List NoteContent) : Type 0 where
+  pub on_numbers : List NoteContent
+  pub are_on_numbers : AreNumberNotes file settings on_numbers
+  pub notes_are : after ≡ before ++ on_numbers
+
+-- the notes on a file, and after them those on the numbers of its maps
+abbrev pub AreNotes : List ℕ → SettingsContent → List NoteContent → Type 0
+AreNotes file settings notes =
+    (IsFileFaultless file
+    × AddsNumberNotes file settings (header_notes file ++ object_notes file) notes)
+    ⊎ (IsFaulty file × (notes ≡ header_notes file))

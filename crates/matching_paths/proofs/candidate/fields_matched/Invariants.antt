@@ -1,6 +1,0 @@
-use Rattle.std.proofs.Common.{◌≡◌, drop}
-use Rattle.matching_paths.specs.Matches.{fields_matched, matched_from}
-use Rattle.matching_paths.proofs.candidate.fields_matched.Given as goal
-
-abbrev pub invariant-loop-step : goal.invariant-loop-step
-invariant-loop-step l = (l.members ≡ l.fn.members) × (matched_from l.local l.fn.members l.type_id l.steps l.progress (drop l.step-index l.path) ≡ fields_matched l.local l.path l.fn.members l.type_id)

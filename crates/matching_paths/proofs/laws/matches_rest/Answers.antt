@@ -1,5 +1,0 @@
-use Rattle.matching_paths.proofs.MatchesAlike.{matches_rest}
-use Rattle.matching_paths.proofs.laws.matches_rest.Goals as goal
-
-pub returns : goal.returns
-returns c = matches_rest c.lookups_rest.ensures c.comparisons_rest.ensures c.searches_rest.ensures

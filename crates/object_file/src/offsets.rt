@@ -1,0 +1,43 @@
+//! Symbols by name.
+
+ghost use Rattle.std.specs.Prelude.{◌≡◌, IfOk, OnOk};
+ghost use Rattle.elf64.specs.Symbols.{symbols_of};
+ghost use Rattle.object_file.specs.Named.{AreOffsets, has_offset};
+
+use elf64::SymbolKind;
+use crate::file::ObjectFile;
+use crate::names::ReadSymbol;
+use std::alloc::{AllocError, Global};
+use string_map::{TextMap, TextMapBuilder};
+
+/// Whether a symbol's offset is known by its name.
+fn has_offset(symbol: &ReadSymbol<'_>) -> bool
+    ensures { result ≡ has_offset symbol.now }
+{
+    symbol.view().is_global() || symbol.view().kind() == SymbolKind::Data
+}
+
+/// The offsets of some symbols by name.
+fn offsets<'a>(alloc: Global, symbols: &[ReadSymbol<'a>]) -> Result<TextMap<'a, u64>, AllocError>
+    ensures { IfOk result (λ offsets. AreOffsets symbols.now offsets) }
+{
+    let mut entered = TextMapBuilder::new(alloc);
+    for symbol in symbols {
+        if has_offset(symbol) {
+            entered.insert(symbol.name(), symbol.view().address())?;
+        }
+    }
+    let offsets = entered.build(alloc)?;
+    Ok(offsets)
+}
+
+/// Where the symbols that aren't local and those of variables begin (`st_value`), by name; of
+/// several of a name the one of the greatest index.
+pub fn symbol_offsets<'a>(
+    alloc: Global,
+    file: &ObjectFile<'a>,
+) -> Result<TextMap<'a, u64>, AllocError>
+    ensures { IfOk result (λ offsets. AreOffsets (symbols_of file.now) offsets) }
+{
+    offsets(alloc, file.symbols())
+}

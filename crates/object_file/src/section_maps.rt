@@ -1,0 +1,55 @@
+//! Sections by name.
+
+ghost use Rattle.std.specs.Prelude.{◌≡◌, IfOk};
+ghost use Rattle.object_file.specs.Reading.{read_sections};
+ghost use Rattle.object_file.specs.Named.{AreIndexes, AreSizes};
+
+use crate::file::ObjectFile;
+use crate::names::ReadSection;
+use std::alloc::{AllocError, Global};
+use string_map::{TextMap, TextMapBuilder};
+
+/// The sizes of some sections by name.
+fn sizes<'a>(alloc: Global, sections: &[ReadSection<'a>]) -> Result<TextMap<'a, u64>, AllocError>
+    ensures { IfOk result (λ sizes. AreSizes sections.now sizes) }
+{
+    let mut entered = TextMapBuilder::new(alloc);
+    for section in sections {
+        entered.insert(section.name(), section.size())?;
+    }
+    let sizes = entered.build(alloc)?;
+    Ok(sizes)
+}
+
+/// The indexes of some sections by name.
+fn indexes<'a>(alloc: Global, sections: &[ReadSection<'a>]) -> Result<TextMap<'a, u64>, AllocError>
+    ensures { IfOk result (λ indexes. AreIndexes sections.now indexes) }
+{
+    let mut entered = TextMapBuilder::new(alloc);
+    for section in sections {
+        entered.insert(section.name(), section.index() as u64)?;
+    }
+    let indexes = entered.build(alloc)?;
+    Ok(indexes)
+}
+
+/// The sizes in bytes (`sh_size`) of the sections that are read, by name; of several of a name that
+/// of the last.
+pub fn section_sizes<'a>(
+    alloc: Global,
+    file: &ObjectFile<'a>,
+) -> Result<TextMap<'a, u64>, AllocError>
+    ensures { IfOk result (λ sizes. AreSizes (read_sections file.now) sizes) }
+{
+    sizes(alloc, file.sections())
+}
+
+/// The indexes of the sections that are read, by name; of several of a name that of the last.
+pub fn section_indexes<'a>(
+    alloc: Global,
+    file: &ObjectFile<'a>,
+) -> Result<TextMap<'a, u64>, AllocError>
+    ensures { IfOk result (λ indexes. AreIndexes (read_sections file.now) indexes) }
+{
+    indexes(alloc, file.sections())
+}

@@ -1,8 +1,0 @@
-use Rattle.std.proofs.Common.{take}
-use Rattle.std.specs.Option.{option_map}
-use Rattle.object_names.specs.Named.{last_section}
-use Rattle.object_names.proofs.Numbers.{HasNumbers}
-use Rattle.object_names.proofs.sections.indexes.Given as goal
-
-abbrev pub invariant-loop-section : goal.invariant-loop-section
-invariant-loop-section l = HasNumbers (λ q. option_map (λ s. s.index) (last_section (take l.section-index l.sections) q)) l.entered

@@ -1,4 +1,0 @@
-pub mod Names
-pub mod Records
-pub mod Sound
-pub mod Types

@@ -1,0 +1,20 @@
+//! What holds of the records of a plan.
+
+ghost use Rattle.plan_contents.specs.Laws.{NamesAreCarried, RecordsName};
+
+use function_types::functions_stay;
+
+/// Records of linked programs name functions where those of all functions do.
+#[tactic(auto, using(crate::proofs::Records::records_name))]
+pub fn records_name()
+    ensures { RecordsName }
+{}
+
+/// Where a kernel takes functions, what names one in an object's types does in the bytes of its
+/// plan.
+#[tactic(auto, using(crate::proofs::Types::names_are_carried))]
+pub fn names_are_carried()
+    ensures { NamesAreCarried }
+{
+    functions_stay();
+}

@@ -1,0 +1,77 @@
+//! From an object's bytes to its plan's text.
+
+ghost use Rattle.std.specs.Prelude.{◌≡◌, ◌≢◌, ◌≤◌, ◌^◌, true, false, length, IfErr, OnOk, Err};
+ghost use Rattle.std.specs.Io.KnownBytes.{Appends};
+ghost use Rattle.load_plan.specs.Watched.{watched_inner, has_failed, AppendsPart};
+ghost use Rattle.plan_run.specs.Run.{inputs_of, HoldsOfText, IsRunRefusal};
+ghost use Rattle.plan_run.specs.declared.error.RunError.TheVariants.{Output};
+
+use crate::error::RunError;
+use load_plan::{Btf, Order, Watched, prepare};
+use run_settings::RunSettings;
+use std::alloc::Global;
+use std::io::{BufRead, Write};
+
+/// Writes the text of an object's plan, or nothing where the object is refused. `kernel_types` are
+/// the kernel's types, in no more than 2^32 tables, `symbols` its symbols as `/proc/kallsyms` lists
+/// them; `settings` has numbers of maps and values of variables, and says which features of types
+/// the kernel grants, and whether it has the newer helpers that read memory; `order` says whether
+/// type relocations are looked up in the object's types before these are rewritten or after that.
+///
+/// # Errors
+///
+/// [`RunError::Refused`] where the object gets no plan, and [`RunError::Output`] where the writer
+/// fails or takes nothing; a beginning of the text went out then.
+pub fn run<R: BufRead, W: Write>(
+    alloc: Global,
+    object: &[u8],
+    kernel_types: &[Btf<'_>],
+    symbols: &mut Watched<R>,
+    settings: &RunSettings,
+    order: Order,
+    out: &mut Watched<W>,
+) -> Result<(), RunError>
+    requires { length kernel_types.now ≤ 2 ^ 32 }
+
+    // Exactly the text of the plan went out, of an object in which no fault stands.
+    ensures well { OnOk result (has_failed out.new ≡ false) }
+    ensures written { OnOk result
+        (HoldsOfText settings.now
+        (inputs_of object.now kernel_types.now (R.remaining (watched_inner symbols.old))
+        (has_failed symbols.new) settings.now order) (λ text.
+        Appends (W.contents (watched_inner out.old)) (W.contents (watched_inner out.new)) text)) }
+
+    // A refusal names a fault that stands, and writes nothing.
+    ensures refused { IfErr result
+        (IsRunRefusal settings.now
+        (inputs_of object.now kernel_types.now (R.remaining (watched_inner symbols.old))
+        (has_failed symbols.new) settings.now order)) }
+    ensures unwritten { IfErr result (λ e. e ≢ Output → out.new ≡ out.old) }
+
+    // Of an object that isn't refused, a beginning of the text went out, and the writer failed.
+    ensures part { result ≡ Err Output
+        → HoldsOfText settings.now
+        (inputs_of object.now kernel_types.now (R.remaining (watched_inner symbols.old))
+        (has_failed symbols.new) settings.now order) (λ text.
+        AppendsPart (W.contents (watched_inner out.old)) (W.contents (watched_inner out.new))
+        text) }
+    ensures failed { result ≡ Err Output → has_failed out.new ≡ true }
+    ensures at_once { has_failed out.old ≡ true → out.new ≡ out.old }
+{
+    let features = settings.features;
+    let has_newer_helpers = settings.probe;
+    let plan = prepare(
+        alloc,
+        object,
+        kernel_types,
+        symbols,
+        &settings.settings,
+        order,
+        move |feature| features.grants(feature),
+        move || has_newer_helpers,
+    )?;
+    match plan.write(out) {
+        Ok(()) => Ok(()),
+        Err(_) => Err(RunError::Output),
+    }
+}

@@ -1,0 +1,97 @@
+-- What holds of a function after the relocations by externs inside it.
+use Rattle.std.specs.Prelude.{◌≡◌, ◌⊎◌, ◌<◌, ℕ, ◌%◌, ◌^◌, List, length, slice_get, Some, Option, option_and_then, pos}
+use Rattle.std.specs.Option.{option_map}
+use Rattle.ebpf_items.specs.Instruction.{src_reg_of}
+use Rattle.ebpf_items.specs.declared.instruction.bpf_insn.{bpf_insn}
+use Rattle.elf64.specs.Relocations.{Relocation}
+use Rattle.object_externs.specs.Externs.{ExternContent}
+use Rattle.object_file.specs.Symbols.{symbol_at}
+use Rattle.object_parts.specs.Content.{FunctionContent, function_at}
+use Rattle.slot_relocation.specs.declared.outcome.Write.{Write}
+use Rattle.slot_relocation.specs.BySymbol.{symbol_index}
+use Rattle.slot_relocation.specs.WriteLaws.{IsWritten, Makes, WritesAlone}
+use Rattle.slot_relocation.specs.Writes.{AreRelocated, index_of_slot, relocations_inside}
+use Rattle.slot_relocation.specs.declared.extern_rule.Resolution.{Resolution}
+use Rattle.slot_relocation.specs.declared.extern_rule.Resolution.TheVariants.{Id, Address, Missing, Unresolved}
+use Rattle.slot_relocation.specs.Externs.{extern_of, extern_rule, missing_number, resolution, signed_word}
+
+abbrev pub ByName : Type 0
+ByName = List (List ℕ × ExternContent)
+
+-- a relocation inside a function writes this, by the slots after those before it
+abbrev pub Writes : List ℕ → ByName → FunctionContent → ℕ × Relocation → Write → Type 0
+Writes file externs f r w = Makes (extern_rule file externs) f (relocations_inside file f) r w
+
+-- some relocation writes the slot at a place: its own, or the next one
+abbrev pub WritesAt : List ℕ → ByName → FunctionContent → ℕ → Type 0
+WritesAt file externs f place =
+    IsWritten (extern_rule file externs) f (relocations_inside file f) place
+
+-- one alone does, and puts this into it
+abbrev pub PutsAt : List ℕ → ByName → FunctionContent → ℕ → bpf_insn → Type 0
+PutsAt file externs f place s =
+    WritesAlone (extern_rule file externs) f (relocations_inside file f) place s
+
+-- what is known of the extern that a relocation names
+abbrev pub resolution_of : List ℕ → ByName → Relocation → Option Resolution
+resolution_of file externs r =
+    option_map resolution (option_and_then (extern_of externs) (symbol_at file (symbol_index r)))
+
+-- a call carries the id of the kernel's function, or where the kernel hasn't got it the number of
+-- its symbol
+abbrev pub CallCarries : bpf_insn → ℕ → Resolution → Type 0
+CallCarries s index (Id id) = (src_reg_of s ≡ 2) × (s.off ≡ pos 0) × (s.imm ≡ signed_word id)
+CallCarries s index Missing =
+    (s.registers ≡ 0) × (s.off ≡ pos 0) × (s.imm ≡ pos (missing_number index))
+CallCarries s index _ = ⊥
+
+-- a load carries the id of the kernel's variable, or the low word of its address, or 0 where the
+-- kernel hasn't got it
+abbrev pub LoadCarries : bpf_insn → Resolution → Type 0
+LoadCarries s (Id id) = (src_reg_of s ≡ 3) × (s.imm ≡ signed_word id)
+LoadCarries s (Address address) = (src_reg_of s ≡ 0) × (s.imm ≡ signed_word (address % 2 ^ 32))
+LoadCarries s Missing = (src_reg_of s ≡ 0) × (s.imm ≡ pos 0)
+LoadCarries s Unresolved = ⊥
+
+-- a slot carries what is known of the extern that a relocation names
+pub record CarriesExtern (file : List ℕ) (externs : ByName) (r : Relocation) (s : bpf_insn)
+    : Type 0 where
+  pub resolution : Resolution
+  pub named : resolution_of file externs r ≡ Some resolution
+  pub carried : ((s.code ≡ 0x85) × CallCarries s (symbol_index r) resolution)
+      ⊎ ((s.code ≡ 0x18) × LoadCarries s resolution)
+
+-- what holds of a function's slots after all relocations: one at which a relocation stands and
+-- writes carries its extern, whatever the others write; one that one alone writes is what that one
+-- puts there; and one that none writes is as it was
+pub record HasExterns (file : List ℕ) (externs : ByName) (old new : FunctionContent) : Type 0 where
+  pub carry : (r : ℕ × Relocation) (w : Write)
+      → Writes file externs old r w
+      → (s : bpf_insn)
+      × (slice_get new.instructions (index_of_slot old r.0) ≡ Some s)
+      × CarriesExtern file externs r.1 s
+  pub alone : (place : ℕ) (s : bpf_insn)
+      → PutsAt file externs old place s
+      → place < length old.instructions
+      → slice_get new.instructions place ≡ Some s
+  pub others : (place : ℕ)
+      → (WritesAt file externs old place → ⊥)
+      → slice_get new.instructions place ≡ slice_get old.instructions place
+  pub as_many : length new.instructions ≡ length old.instructions
+
+-- of the function of each key
+abbrev pub HaveExterns : List ℕ
+    → ByName
+    → List ((ℕ × ℕ) × FunctionContent)
+    → List ((ℕ × ℕ) × FunctionContent)
+    → Type 0
+HaveExterns file externs old new =
+    (key : ℕ × ℕ) (f : FunctionContent)
+    → function_at old key ≡ Some f
+    → (h : FunctionContent) × (function_at new key ≡ Some h) × HasExterns file externs f h
+
+-- it holds of relocated functions
+pub record ExternsAreWritten : Type 0 where
+  pub each : (file : List ℕ) (externs : ByName) (old new : List ((ℕ × ℕ) × FunctionContent))
+      → AreRelocated (extern_rule file externs) file old new
+      → HaveExterns file externs old new

@@ -1,0 +1,91 @@
+//! Where long texts stand in a list.
+
+ghost use Rattle.std.specs.Prelude.{◌≡◌, true, false, IfOk, IfSome, OnOk, IsTrue, slice_get};
+ghost use Rattle.std.specs.BTreeMap.{is_at};
+ghost use Rattle.std.specs.Cmp.Lexicographic.{slice_cmp};
+ghost use Rattle.std.specs.List.{position};
+ghost use Rattle.std.specs.List.Sorted.{IsStrictlySortedBy};
+ghost use Rattle.std.specs.Ordering.{nat_cmp};
+ghost use Rattle.string_table.specs.NameHashes.{name_hash};
+ghost use Rattle.string_map.specs.LongTexts.{HavePlaces, HaveText, IsNoted, place_by};
+ghost use Rattle.string_map.specs.Orders.{texts_of};
+
+use crate::search::place_of;
+use std::alloc::{AllocError, Global};
+use std::collections::BTreeMap;
+use string_table::name_hash;
+
+/// A text of so many bytes or more is found by its hash.
+const LONG: usize = 256;
+
+/// Notes the place of a text by its hash, if it is long.
+fn note(places: &mut BTreeMap<u64, usize>, text: &str, place: usize) -> Result<(), AllocError>
+    ensures { OnOk result (IsNoted places.old.entries places.new.entries text.now) }
+{
+    if text.len() >= LONG {
+        places.insert(name_hash(text), place)?;
+    }
+    Ok(())
+}
+
+/// The places of the long texts of a list by their hashes, of those of one hash the last.
+pub(crate) fn places_of<T>(
+    alloc: Global,
+    entries: &[(&str, T)],
+) -> Result<BTreeMap<u64, usize>, AllocError>
+    ensures { IfOk result (λ places. HavePlaces places.entries entries.now) }
+{
+    let mut places = BTreeMap::new(alloc);
+    for place in 0..entries.len() {
+        note(&mut places, entries[place].0, place)?;
+    }
+    Ok(places)
+}
+
+/// The same places.
+pub(crate) fn places_clone(
+    places: &BTreeMap<u64, usize>,
+) -> Result<BTreeMap<u64, usize>, AllocError>
+    ensures { IfOk result (λ same. same.entries ≡ places.now.entries) }
+{
+    let same = places.clone()?;
+    Ok(same)
+}
+
+/// The place that is kept for a hash.
+fn place_by(places: &BTreeMap<u64, usize>, hash: u64) -> Option<usize>
+    ensures { result ≡ place_by places.now.entries hash }
+{
+    places.get(&hash).copied()
+}
+
+/// Whether the entry at a place has this text.
+fn has_text<T>(entries: &[(&str, T)], place: usize, text: &str) -> bool
+    ensures { IsTrue result → HaveText entries.now place text.now }
+{
+    match entries.get(place) {
+        Some(entry) => entry.0 == text,
+        None => false,
+    }
+}
+
+/// The place of a text among entries whose texts strictly rise, in the order of their bytes;
+/// `None` where no entry has the text. A long one is compared with that of its hash alone, unless
+/// another has the same hash.
+pub(crate) fn text_place<T>(
+    entries: &[(&str, T)],
+    places: &BTreeMap<u64, usize>,
+    text: &str,
+) -> Option<usize>
+    requires rising { IsStrictlySortedBy (slice_cmp nat_cmp) (texts_of entries.now) }
+    requires places { HavePlaces places.now.entries entries.now }
+    ensures { result ≡ position (λ e. is_at (slice_cmp nat_cmp text.now) e.0.now) entries.now }
+{
+    if text.len() >= LONG {
+        let place = place_by(places, name_hash(text))?;
+        if has_text(entries, place, text) {
+            return Some(place);
+        }
+    }
+    place_of(entries, text.as_bytes())
+}

@@ -1,0 +1,117 @@
+//! Values by text.
+
+ghost use Rattle.std.specs.Prelude.{◌≡◌, ◌↔◌, [], length, option_copied, IfOk, IsTrue};
+ghost use Rattle.std.specs.BTreeMap.{is_at};
+ghost use Rattle.std.specs.Cmp.Lexicographic.{slice_cmp};
+ghost use Rattle.std.specs.List.{AllZip};
+ghost use Rattle.std.specs.List.Sorted.{IsStrictlySortedBy};
+ghost use Rattle.std.specs.Map.{lookup};
+ghost use Rattle.std.specs.Ordering.{nat_cmp};
+ghost use Rattle.string_map.specs.Orders.{HasLast, by_bytes, texts_of, value_of};
+
+use crate::iter::Iter;
+use crate::long_texts::{places_clone, places_of, text_place};
+use crate::order::in_text_order;
+use std::alloc::{AllocError, Global};
+use std::collections::{BTreeMap, VecDeque};
+use std::marker::Model;
+
+/// Values by text, in the order of the bytes of their texts.
+#[derive(Debug, Drop)]
+pub struct TextMap<'a, T> {
+    entries: Vec<(&'a str, T)>,
+    /// The places of long texts by their hashes.
+    places: BTreeMap<u64, usize>,
+}
+
+impl<'a, T> Model for TextMap<'a, T> {
+    ghost use Rattle.std.specs.Prelude.{ℕ, List};
+    ghost use Rattle.std.specs.Borrow.{Bor};
+    ghost use Rattle.std.specs.Cmp.Lexicographic.{slice_cmp};
+    ghost use Rattle.std.specs.List.Sorted.{IsStrictlySortedBy};
+    ghost use Rattle.std.specs.Ordering.{nat_cmp};
+    ghost use Rattle.string_map.specs.LongTexts.{HavePlaces};
+    ghost use Rattle.string_map.specs.Orders.{texts_of};
+
+    ghost Value = { List (Bor (List ℕ) × T) };
+
+    ghost view = { λ m. m.entries.items };
+
+    ghost invariant = { λ m. IsStrictlySortedBy (slice_cmp nat_cmp) (texts_of m.entries.items)
+        × HavePlaces m.places.entries m.entries.items };
+}
+
+impl<'a, T> TextMap<'a, T> {
+    /// No values.
+    pub fn new(alloc: Global) -> TextMap<'a, T>
+        ensures { result ≡ [] }
+    {
+        TextMap {
+            entries: Vec::new(alloc),
+            places: BTreeMap::new(alloc),
+        }
+    }
+
+    /// The values of entries; of those of one text the last.
+    pub(crate) fn from_entries(
+        alloc: Global,
+        entries: VecDeque<(&'a str, T)>,
+    ) -> Result<TextMap<'a, T>, AllocError>
+    where
+        T: Drop,
+        ensures rising { IfOk result (λ map.
+            IsStrictlySortedBy (slice_cmp nat_cmp) (texts_of map)) }
+        ensures last { IfOk result (λ map. HasLast entries.entry.items map) }
+    {
+        let ordered = in_text_order(alloc, entries)?;
+        let places = places_of(alloc, &ordered)?;
+        Ok(TextMap {
+            entries: ordered,
+            places,
+        })
+    }
+
+    /// How many values there are.
+    pub fn len(&self) -> usize
+        ensures { result ≡ length self.now }
+    {
+        self.entries.len()
+    }
+
+    /// Whether there is no value.
+    pub fn is_empty(&self) -> bool
+        ensures { IsTrue result ↔ (self.now ≡ []) }
+    {
+        self.entries.is_empty()
+    }
+
+    /// The value of a text; `None` where it has none.
+    pub fn get(&self, text: &str) -> Option<&T>
+        ensures value { option_copied result
+            ≡ lookup (is_at (λ key. slice_cmp nat_cmp text.now key.now)) self.now }
+        ensures by_text { option_copied result ≡ value_of text.now (by_bytes self.now) }
+    {
+        let place = text_place(&self.entries, &self.places, text)?;
+        Some(&self.entries[place].1)
+    }
+
+    /// The same values.
+    pub fn try_clone(&self) -> Result<TextMap<'a, T>, AllocError>
+    where
+        T: Clone,
+        ensures { IfOk result (λ map. AllZip (λ p q. (q.0 ≡ p.0) × T.is_clone p.1 q.1) self.now map) }
+    {
+        Ok(TextMap {
+            entries: self.entries.clone()?,
+            places: places_clone(&self.places)?,
+        })
+    }
+
+    /// The values with their texts, which strictly rise by bytes.
+    pub fn iter(&self) -> Iter<'_, 'a, T>
+        ensures value { result ≡ self.now }
+        ensures rising { IsStrictlySortedBy (slice_cmp nat_cmp) (texts_of self.now) }
+    {
+        Iter::new(&self.entries)
+    }
+}

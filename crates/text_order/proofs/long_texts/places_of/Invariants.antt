@@ -1,5 +1,0 @@
-use Rattle.text_order.proofs.LongTexts.{AreNoted}
-use Rattle.text_order.proofs.long_texts.places_of.Given as goal
-
-abbrev pub invariant-loop-place : goal.invariant-loop-place
-invariant-loop-place g l = AreNoted l.entries l.places.entries l.place

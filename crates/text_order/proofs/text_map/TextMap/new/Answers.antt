@@ -1,6 +1,0 @@
-use Rattle.text_order.proofs.LongTexts.{none_placed}
-use Rattle.text_order.proofs.Searches.{none_rise}
-use Rattle.text_order.proofs.text_map.TextMap.new.Goals as goal
-
-pub invariant_of-result : goal.invariant_of-result
-invariant_of-result g c = (none_rise c.new.result.items c.new.ensures.items, none_placed _ c.new.result.items c.new.ensures.items)

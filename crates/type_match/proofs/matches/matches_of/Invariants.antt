@@ -1,6 +1,0 @@
-use Rattle.std.proofs.Common.{◌≡◌, [], drop}
-use Rattle.type_match.specs.Matches.{matches_of}
-use Rattle.type_match.proofs.matches.matches_of.Given as goal
-
-abbrev pub invariant-loop-candidate : goal.invariant-loop-candidate
-invariant-loop-candidate l = matches_of l.kind l.local l.path l.targets l.matches.items (drop l.candidate-index l.candidates) ≡ matches_of l.kind l.local l.path l.targets [] l.candidates

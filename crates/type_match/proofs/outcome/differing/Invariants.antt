@@ -1,6 +1,0 @@
-use Rattle.std.proofs.Common.{◌≡◌, ◌++◌, drop, filter}
-use Rattle.type_match.proofs.DifferingMatches.{differs}
-use Rattle.type_match.proofs.outcome.differing.Given as goal
-
-abbrev pub invariant-loop-other : goal.invariant-loop-other
-invariant-loop-other l = l.found.items ++ filter (differs l.first) (drop l.other-index l.others) ≡ filter (differs l.first) l.others

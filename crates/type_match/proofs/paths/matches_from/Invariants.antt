@@ -1,6 +1,0 @@
-use Rattle.std.proofs.Common.{◌≡◌, map, take}
-use Rattle.type_match.specs.FoundPaths.{match_from}
-use Rattle.type_match.proofs.paths.matches_from.Given as goal
-
-abbrev pub invariant-loop-found : goal.invariant-loop-found
-invariant-loop-found l = l.matches.items ≡ map (match_from l.kind l.targets) (take l.found-index l.paths)

@@ -1,5 +1,0 @@
-use Rattle.type_relocation.proofs.Alike.{relocations_rest}
-use Rattle.type_relocation.proofs.laws.relocations_rest.Goals as goal
-
-pub returns : goal.returns
-returns c = relocations_rest c.outcomes_rest.ensures
