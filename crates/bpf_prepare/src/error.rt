@@ -5,9 +5,9 @@ ghost use Rattle.bpf_prepare.specs.declared.error.ProgramError.TheVariants.{Inpu
 ghost use Rattle.bpf_prepare.specs.Program.{status_of};
 
 use command_line::WordError;
+use diagnostics::Refusal;
 use load_plan::PrepareError;
 use program_io::{InputError, Unwritten};
-use diagnostics::Refusal;
 use std::alloc::{AllocError, AllocFailed};
 use thiserror::Error;
 

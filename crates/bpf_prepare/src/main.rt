@@ -5,12 +5,12 @@ mod error;
 mod settings_text;
 
 use command_line::{Arguments, LineError, arguments};
+use diagnostics::{KernelFiles, Refusal, prepare_text};
 use error::ProgramError;
-use load_plan::{Order, PrepareError, Watched};
 use lints::notes;
+use load_plan::{Order, PrepareError, Watched};
 use plan_run::{RunError, run};
 use program_io::{Kept, Unwritten, kernel_tables, open, print_text, read, read_all, words_of};
-use diagnostics::{KernelFiles, Refusal, prepare_text};
 use run_settings::{RunSettings, SettingsError};
 use settings_text::fault_text;
 use std::alloc::Global;

@@ -10,8 +10,8 @@ ghost use Rattle.btf_ksyms.specs.Steps.{AreMarks, ksyms_of};
 ghost use Rattle.btf_storage.specs.Growth.{AreFew, AreTooMany};
 
 use btf_encoding::TypeRef;
-use btf_storage::{Strings, TypeRecords};
 use btf_records::{BtfError, BtfKind, DataSecEntry};
+use btf_storage::{Strings, TypeRecords};
 use std::alloc::{AllocError, Global};
 
 /// The id of the section `.ksyms`, and of the variable that stands in it for each function, where

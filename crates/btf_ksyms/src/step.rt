@@ -10,11 +10,11 @@ ghost use Rattle.btf_ksyms.specs.Steps.{IsStep, ksyms_of};
 
 use crate::section::{KsymsSection, int4_id, marks, placed_entries};
 use btf_encoding::TypeRef;
-use btf_storage::{MOST, TypeRecords};
 use btf_records::{
     BtfError, BtfKind, BtfType, DataSec, DataSecEntry, FuncLinkage, Int, IntEncoding, Items, Var,
     VarLinkage,
 };
+use btf_storage::{MOST, TypeRecords};
 use std::alloc::{AllocError, Global};
 
 /// What a table's records become, and the text after its strings.

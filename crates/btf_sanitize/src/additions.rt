@@ -7,8 +7,8 @@ ghost use Rattle.btf_sanitize.specs.Faults.{IsTooMuch};
 ghost use Rattle.string_table.specs.Texts.{text_at};
 
 use crate::names::replaced;
-use btf_storage::MOST;
 use btf_records::{BtfError, BtfType, Int, IntEncoding, Var, VarLinkage};
+use btf_storage::MOST;
 use byte_index::ByteIndex;
 use std::alloc::Global;
 use std::marker::Model;

@@ -8,8 +8,8 @@ ghost use Rattle.string_table.specs.Texts.{text_at};
 use crate::names::is_memory_function;
 use arrayvec::ArrayVec;
 use btf_encoding::TypeRef;
-use btf_storage::{Strings, TypeRecords};
 use btf_records::{BtfFeature, BtfKind};
+use btf_storage::{Strings, TypeRecords};
 
 /// The questions that were asked, each with its answer.
 pub type Answers = ArrayVec<(BtfFeature, bool), 8>;

@@ -10,8 +10,8 @@ ghost use Rattle.btf_storage.specs.Faultless.{IsFaultless};
 
 use crate::answers::{Answers, is_granted};
 use btf_encoding::TypeRef;
-use btf_storage::{Strings, TypeRecords};
 use btf_records::{BtfError, BtfFeature};
+use btf_storage::{Strings, TypeRecords};
 use string_map::TextMap;
 
 /// What is granted, the table's strings and types, and what an object says of its sections and

@@ -8,8 +8,8 @@ ghost use Rattle.btf_sanitize.specs.SectionNames.{section_names};
 
 use crate::known::Known;
 use btf_encoding::TypeRef;
-use btf_storage::MOST;
 use btf_records::BtfKind;
+use btf_storage::MOST;
 use byte_index::ByteIndex;
 
 /// How many bytes the text has that a record's name becomes, with its NUL; 0 where the record

@@ -18,8 +18,8 @@ use crate::own_texts::own_texts_fit;
 use crate::rows::rewritten;
 use crate::staying::stays;
 use btf_encoding::TypeRef;
-use btf_storage::TypeRecords;
 use btf_records::{BtfError, BtfFeature, BtfKind, BtfType};
+use btf_storage::TypeRecords;
 use byte_index::{ByteIndex, SHORT};
 use std::alloc::{AllocError, Global};
 

@@ -7,10 +7,9 @@ ghost use Rattle.string_table.specs.LongTexts.{AreLongTextsOf};
 ghost use Rattle.string_table.specs.Texts.{text_at};
 
 use crate::byte_list::ByteList;
-use string_table::are_texts;
 use std::alloc::{AllocError, Global};
 use std::marker::Model;
-use string_table::LongTexts;
+use string_table::{LongTexts, are_texts};
 
 /// The strings of a table: its texts by offset, each ended by a NUL. The bytes are borrowed from
 /// the section until some are added, and a text is found without a look at more than 256 bytes.

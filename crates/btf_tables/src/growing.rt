@@ -8,8 +8,8 @@ ghost use Rattle.string_table.specs.Texts.{text_at};
 ghost use Rattle.btf_records.specs.declared.error.BtfError.TheVariants.{InvalidTypeInfo, OutOfMemory};
 
 use crate::table::Btf;
-use btf_storage::{MOST, Strings, TypeRecords};
 use btf_records::{BtfError, BtfType, Endianness};
+use btf_storage::{MOST, Strings, TypeRecords};
 use std::alloc::{AllocError, Global};
 
 /// The documentation's magic number.

@@ -8,8 +8,8 @@ ghost use Rattle.btf_records.specs.Words.{word_at};
 ghost use Rattle.btf_records.specs.declared.error.BtfError.TheVariants.{OutOfMemory};
 
 use crate::table::Btf;
-use btf_storage::{Strings, TypeRecords};
 use btf_records::{BtfError, Endianness, half_word, push_half_word, push_word, word};
+use btf_storage::{Strings, TypeRecords};
 use std::alloc::{AllocError, Global};
 
 /// The bytes of the header.

@@ -7,8 +7,8 @@ ghost use Rattle.btf_tables.specs.Tables.{type_by_id};
 ghost use Rattle.string_table.specs.Texts.{text_at};
 
 use btf_encoding::TypeRef;
-use btf_storage::{Strings, TypeRecords, Types};
 use btf_records::{BtfError, BtfKind, BtfType};
+use btf_storage::{Strings, TypeRecords, Types};
 use std::alloc::Global;
 use std::marker::Model;
 

@@ -2,16 +2,16 @@
 //! name, beside what the plain definitions say.
 
 use crate::tally::Tally;
-use core_spec::{AccessError, Subject, subject_of};
 use btf::{Btf, BtfError, BtfFeature, BtfKind, Endianness, TextMap, TypeRef, fixup_and_sanitize};
-use ebpf_items::RelocationKind;
 use core_members::{Found, MemberFinder, find_member};
-use plain_matching::{Answer, Fault, plain_member, plain_outcome};
-use test_table_samples::{Dice, Texts, random_types, section};
-use std::alloc::{AllocError, Global};
 use core_resolve::{
     RelocationOutcome, TypeMatcher, TypeRelocation, TypeRelocationError, relocation_outcome,
 };
+use core_spec::{AccessError, Subject, subject_of};
+use ebpf_items::RelocationKind;
+use plain_matching::{Answer, Fault, plain_member, plain_outcome};
+use std::alloc::{AllocError, Global};
+use test_table_samples::{Dice, Texts, random_types, section};
 
 /// How many relocations each object has, and how many searches for members.
 const ASKED: u32 = 32;

@@ -10,11 +10,11 @@ ghost use Rattle.btf_records.specs.declared.error.BtfError.TheVariants.{OutOfMem
 use crate::step::{Progress, step_matched};
 use crate::variant::variant_matched;
 use crate::variant_finder::VariantFinder;
-use core_spec::{AccessError, AccessPath, Step, Steps};
 use btf_compatibility::types_are_compatible;
 use btf_records::BtfError;
 use btf_tables::Btf;
 use core_members::MemberFinder;
+use core_spec::{AccessError, AccessPath, Step, Steps};
 
 /// The path at its end.
 fn path_found(

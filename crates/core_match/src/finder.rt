@@ -7,9 +7,9 @@ ghost use Rattle.btf_records.specs.declared.error.BtfError.TheVariants.{OutOfMem
 
 use crate::candidate::{enum_matched, fields_matched, type_matched};
 use crate::variant_finder::VariantFinder;
-use core_spec::{AccessError, AccessPath, Subject};
 use btf_tables::Btf;
 use core_members::MemberFinder;
+use core_spec::{AccessError, AccessPath, Subject};
 use std::marker::Model;
 
 /// Searches for paths in the types of one table, of which it keeps what later ones can use.

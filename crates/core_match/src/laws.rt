@@ -2,9 +2,9 @@
 
 ghost use Rattle.core_match.specs.Laws.{MatchesRest};
 
-use core_spec::lookups_rest;
 use btf_compatibility::comparisons_rest;
 use core_members::searches_rest;
+use core_spec::lookups_rest;
 
 /// The path in a target's type rests, of the local table, on the records that the local path
 /// reaches, and on their texts.

@@ -5,11 +5,11 @@ ghost use Rattle.core_match.specs.Steps.{element_in, element_matched, gone_to, h
 ghost use Rattle.core_spec.specs.declared.error.AccessError.TheVariants.{BtfError as TypeError};
 ghost use Rattle.btf_records.specs.declared.error.BtfError.TheVariants.{OutOfMemory};
 
-use core_spec::{AccessError, Place, Step, elements_after, is_in_array};
 use btf_encoding::TypeRef;
 use btf_records::BtfMember;
 use btf_tables::Btf;
 use core_members::{Found, MemberFinder};
+use core_spec::{AccessError, Place, Step, elements_after, is_in_array};
 
 /// A step isn't begun with this number of parts: libbpf's `BPF_CORE_SPEC_MAX_LEN`.
 const MAX_PARTS: usize = 64;

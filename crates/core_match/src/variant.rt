@@ -6,9 +6,9 @@ ghost use Rattle.btf_records.specs.declared.error.BtfError.TheVariants.{OutOfMem
 ghost use Rattle.core_match.specs.VariantMatches.{first_variant, is_so_named, local_variant, variant_matched};
 
 use crate::variant_finder::VariantFinder;
-use core_spec::{AccessError, Place, variant_count, variant_name};
 use btf_encoding::TypeRef;
 use btf_tables::{Btf, essential_name};
+use core_spec::{AccessError, Place, variant_count, variant_name};
 
 /// Whether the name at an offset is this one, flavours aside.
 pub(crate) fn is_so_named(target: &Btf<'_>, offset: u32, name: &str) -> Result<bool, AccessError>

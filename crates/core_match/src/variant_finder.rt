@@ -10,9 +10,9 @@ ghost use Rattle.core_match.specs.VariantMatches.{first_variant};
 
 use crate::variant::first_variant;
 use crate::variant_index::VariantIndex;
-use core_spec::AccessError;
 use btf_encoding::TypeRef;
 use btf_tables::Btf;
+use core_spec::AccessError;
 use std::alloc::AllocError;
 use std::collections::BTreeMap;
 use std::marker::Model;

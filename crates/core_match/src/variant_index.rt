@@ -6,10 +6,10 @@ ghost use Rattle.core_match.specs.VariantIndexes.{EntersFirst, IsIndex, end_valu
 ghost use Rattle.core_match.specs.VariantMatches.{first_variant};
 
 use crate::variant::is_so_named;
-use core_spec::{AccessError, variant_name};
 use btf_encoding::TypeRef;
 use btf_records::BtfError;
 use btf_tables::{Btf, essential_name};
+use core_spec::{AccessError, variant_name};
 use std::alloc::AllocError;
 use std::collections::BTreeMap;
 use string_table::name_hash;

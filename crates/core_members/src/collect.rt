@@ -8,14 +8,14 @@ ghost use Rattle.core_members.specs.Collecting.{AllFail, WalksOn};
 ghost use Rattle.core_members.specs.Indexes.{IsIndex};
 ghost use Rattle.core_members.specs.Namesakes.{AreFresh};
 
+use crate::look::look_inside;
 use crate::member_index::{MemberIndex, WalkEnd, failed_end};
 use crate::named_members::{NamedMember, NamedMembers};
+use crate::stack::Frame;
 use crate::turn::{Memory, Turn, entered, follow, leave, member_at, member_here};
 use crate::visits::Visits;
-use core_spec::AccessError;
 use btf_tables::Btf;
-use crate::look::look_inside;
-use crate::stack::Frame;
+use core_spec::AccessError;
 use std::alloc::AllocError;
 use string_table::name_hash;
 

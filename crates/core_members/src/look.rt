@@ -6,11 +6,11 @@ ghost use Rattle.std.specs.Option.{IsSomeAnd};
 ghost use Rattle.string_table.specs.Texts.{text_at};
 ghost use Rattle.core_members.specs.Looks.{IsOther, LeadsInside, is_composite, look_at, look_at_type, look_inside, searched};
 
-use core_spec::AccessError;
 use btf_compatibility::fields_are_compatible;
 use btf_encoding::TypeRef;
 use btf_records::{BtfKind, BtfMember};
 use btf_tables::Btf;
+use core_spec::AccessError;
 
 /// What a look at a member of a struct or union gives.
 #[derive(Clone, Copy, Debug)]

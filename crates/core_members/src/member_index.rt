@@ -7,8 +7,8 @@ ghost use Rattle.core_members.specs.Indexes.{end_value, value_over};
 
 use crate::named_members::NamedMembers;
 use crate::search::Found;
-use core_spec::AccessError;
 use btf_records::BtfError;
+use core_spec::AccessError;
 use std::alloc::AllocError;
 
 /// How a walk over all members ends.

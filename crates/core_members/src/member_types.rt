@@ -5,10 +5,10 @@ ghost use Rattle.btf_tables.specs.Tables.{type_by_id};
 ghost use Rattle.core_members.specs.EmptyTypes.{is_noted};
 ghost use Rattle.core_members.specs.MemberTypes.{AddsType, AreListed, AreIncompatible, HasAllTypes, IsListed, ListsMore, ReachesMore, left_in, types_of_name};
 
+use crate::look::{Look, look_inside};
 use btf_compatibility::fields_are_compatible;
 use btf_records::BtfMember;
 use btf_tables::Btf;
-use crate::look::{Look, look_inside};
 use std::alloc::{AllocError, Global};
 use std::collections::{BTreeMap, BTreeSet};
 use string_table::name_hash;

@@ -11,11 +11,11 @@ ghost use Rattle.core_members.specs.Stacks.{IsSound, IsSoundTurn, IsTurn, found_
 ghost use Rattle.string_table.specs.NameHashes.{name_hash};
 
 use crate::search::Found;
+use crate::stack::Frame;
 use crate::turn::{Memory, Turn, entered, next_turn};
-use core_spec::AccessError;
 use btf_encoding::TypeRef;
 use btf_tables::Btf;
-use crate::stack::Frame;
+use core_spec::AccessError;
 use std::alloc::AllocError;
 use std::collections::BTreeMap;
 use std::marker::Model;

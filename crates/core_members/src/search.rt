@@ -7,8 +7,8 @@ ghost use Rattle.core_spec.specs.declared.error.AccessError.TheVariants.{BtfErro
 ghost use Rattle.btf_records.specs.declared.error.BtfError.TheVariants.{OutOfMemory};
 
 use crate::turn::{Memory, Turn, entered, next_turn};
-use core_spec::{AccessError, Place};
 use btf_tables::Btf;
+use core_spec::{AccessError, Place};
 
 /// A member that was found.
 #[derive(Clone, Copy, Debug)]

@@ -10,13 +10,13 @@ ghost use Rattle.core_spec.specs.declared.error.AccessError.TheVariants.{BtfErro
 ghost use Rattle.btf_records.specs.Fields.{members_of};
 ghost use Rattle.btf_records.specs.declared.error.BtfError.TheVariants.{OutOfMemory};
 
+use crate::look::{Look, look_at};
 use crate::search::Found;
-use core_spec::{AccessError, Place, bits_after};
+use crate::stack::{Frame, Stack};
 use btf_encoding::TypeRef;
 use btf_records::BtfMember;
 use btf_tables::Btf;
-use crate::look::{Look, look_at};
-use crate::stack::{Frame, Stack};
+use core_spec::{AccessError, Place, bits_after};
 use std::alloc::{AllocError, Global};
 use std::collections::BTreeSet;
 

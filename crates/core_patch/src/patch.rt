@@ -4,11 +4,11 @@ ghost use Rattle.std.specs.Prelude.{◌≡◌, None, Some, slice_get, option_and
 ghost use Rattle.std.specs.Option.{option_copied};
 ghost use Rattle.core_patch.specs.Patches.{are_alike, is_unsigned, may_stand_for, patch_for, patch_of, field_size, type_of, width_of};
 
-use core_spec::WholeField;
 use btf_encoding::TypeRef;
 use btf_records::BtfKind;
 use btf_tables::Btf;
 use core_resolve::{Outcome, RelocationOutcome};
+use core_spec::WholeField;
 
 /// What becomes of the width of a load or a store.
 #[derive(Clone, Copy, Debug)]

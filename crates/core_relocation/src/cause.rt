@@ -7,14 +7,14 @@ ghost use Rattle.relocation_errors.specs.declared.type_relocations.BtfRelocation
 use crate::conflicting::matches_of;
 use crate::placed::PlacedFault;
 use crate::texts::{kind_name, name_or_empty, text_at, type_name};
-use core_spec::AccessError;
 use btf_records::BtfError;
 use btf_tables::Btf;
+use core_patch::WriteFault;
+use core_resolve::{TypeRelocation, TypeRelocationError, conflicts};
+use core_spec::AccessError;
 use object_parts::SLOT_SIZE;
 use relocation_errors::BtfRelocationCause;
 use std::alloc::{AllocError, Global};
-use core_resolve::{TypeRelocation, TypeRelocationError, conflicts};
-use core_patch::WriteFault;
 
 /// A relocation to tell of: where it stands, what it asks for, and among which types.
 #[derive(Drop)]

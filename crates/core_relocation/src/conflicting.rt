@@ -1,9 +1,9 @@
 //! The matches of a relocation, for messages.
 
-use core_spec::local_path;
 use btf_tables::Btf;
-use std::alloc::{AllocError, Global};
 use core_resolve::{Match, TypeRelocation, TypeRelocationError, kernel_matches};
+use core_spec::local_path;
+use std::alloc::{AllocError, Global};
 
 /// The matches of a relocation in the kernel's types.
 fn found_matches(

@@ -3,10 +3,10 @@
 ghost use Rattle.std.specs.Prelude.{◌≡◌, IfOk};
 
 use btf_ext::{BtfExt, SecInfo, bpf_core_relo};
+use core_resolve::TypeRelocation;
 use ebpf_items::RelocationKind;
 use std::alloc::{AllocError, Global};
 use std::marker::Model;
-use core_resolve::TypeRelocation;
 
 /// The type relocations of a section, in order.
 #[derive(Debug, Drop)]

@@ -3,8 +3,8 @@
 ghost use Rattle.core_relocation.specs.Laws.{RelocationsRest, TypesAreWritten};
 
 use crate::placed::{Placed, PlacedFault};
-use slot_relocation::{lengths_remain, one_writes, unwritten_stay};
 use core_resolve::outcomes_rest;
+use slot_relocation::{lengths_remain, one_writes, unwritten_stay};
 
 /// After all relocations, a slot that one of them alone writes is what that one puts there; a slot
 /// that none writes stays as it was; a function keeps its number of slots.

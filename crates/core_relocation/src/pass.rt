@@ -5,12 +5,12 @@ ghost use Rattle.core_relocation.specs.Writes.{at_position, inside_of, placed_at
 
 use crate::by_function::{ByFunction, by_function};
 use crate::placed::{Placed, PlacedFault, Position};
+use core_patch::{WriteFault, patched};
 use ebpf_items::Slots;
 use object_parts::{Function, MatchedTables, SLOT_SIZE};
 use slot_relocation::{FaultAt, Outcome, Pass, Refusal, Rule, relocate_list};
 use std::alloc::{AllocError, Global};
 use std::marker::Model;
-use core_patch::{WriteFault, patched};
 
 /// Type relocations at their places.
 #[derive(Drop)]

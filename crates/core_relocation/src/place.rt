@@ -4,12 +4,12 @@ use crate::conflicting::matches_of;
 use crate::placement::function_holding;
 use btf_ext::bpf_core_relo;
 use btf_tables::Btf;
+use core_resolve::{Match, TypeRelocation};
+use core_spec::relocation_text;
 use ebpf_items::RelocationKind;
 use object_parts::{Functions, SLOT_SIZE};
-use core_spec::relocation_text;
 use relocation_errors::RelocationPlace;
 use std::alloc::{AllocError, Global};
-use core_resolve::{Match, TypeRelocation};
 
 /// What a record asks for, in words; of a number that stands for no kind it has the number.
 pub(crate) fn asked_text(

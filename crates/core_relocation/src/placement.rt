@@ -18,6 +18,8 @@ use crate::texts::section_name;
 use btf_ext::bpf_core_relo;
 use btf_records::BtfError;
 use btf_tables::Btf;
+use core_patch::patch_of;
+use core_resolve::{RelocationOutcome, TypeMatcher, TypeRelocation};
 use ebpf_items::RelocationKind;
 use object_file::ObjectFile;
 use object_parts::{Function, Functions};
@@ -25,8 +27,6 @@ use relocation_errors::{BtfRelocationCause, BtfRelocationError, RelocationPlace}
 use std::alloc::{AllocError, Global};
 use std::marker::Model;
 use string_map::TextMap;
-use core_resolve::{RelocationOutcome, TypeMatcher, TypeRelocation};
-use core_patch::patch_of;
 
 /// What type relocations are looked up in.
 #[derive(Drop)]

@@ -21,13 +21,12 @@ use crate::placement::Lookup;
 use crate::texts::section_name;
 use btf_ext::BtfExt;
 use btf_tables::Btf;
-use object_file::ObjectFile;
-use object_file::section_indexes;
+use core_resolve::{Candidates, TypeMatcher};
+use object_file::{ObjectFile, section_indexes};
 use object_parts::{Function, Functions, changes_are_installed};
 use relocation_errors::{BtfRelocationError, RelocationPlace};
 use slot_relocation::{FaultAt, Stop, relocated_functions};
 use std::alloc::{AllocError, Global};
-use core_resolve::{Candidates, TypeMatcher};
 
 /// Relocations in their functions, up to the first that can't be placed, and why that can't.
 #[derive(Drop)]

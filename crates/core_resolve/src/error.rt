@@ -6,11 +6,11 @@ ghost use Rattle.btf_records.specs.declared.error.BtfError.TheVariants.{OutOfMem
 ghost use Rattle.core_resolve.specs.Matches.{of_candidates};
 ghost use Rattle.core_resolve.specs.declared.error.TypeRelocationError.TheVariants.{Kernel, Local, OutOfMemory};
 
-use core_spec::AccessError;
 use btf_records::BtfError;
+use core_candidates::{CandidateError, KernelType};
+use core_spec::AccessError;
 use std::alloc::{AllocError, AllocFailed};
 use thiserror::Error;
-use core_candidates::{CandidateError, KernelType};
 
 /// Why a type relocation comes to nothing.
 #[derive(Debug, Drop, Error)]

@@ -9,13 +9,13 @@ ghost use Rattle.core_resolve.specs.declared.error.TypeRelocationError.TheVarian
 
 use crate::error::{TypeRelocationError, at_kernel_type};
 use crate::paths::FoundPath;
-use core_spec::{AccessError, AccessPath, Subject};
 use btf_tables::Btf;
+use core_candidates::KernelType;
 use core_match::PathFinder;
+use core_spec::{AccessError, AccessPath, Subject};
 use std::alloc::Global;
 use std::collections::BTreeMap;
 use std::marker::Model;
-use core_candidates::KernelType;
 
 /// Searches for paths in a kernel's tables; what was kept of one serves the next search in it.
 #[derive(Debug)]

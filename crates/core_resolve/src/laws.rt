@@ -2,8 +2,8 @@
 
 ghost use Rattle.core_resolve.specs.Laws.{ListsOfOneTable, OutcomesRest};
 
-use core_spec::{lookups_rest, paths_rest, values_rest};
 use core_match::matches_rest;
+use core_spec::{lookups_rest, paths_rest, values_rest};
 
 /// A list of one table is searched as that table is, and a type relocation comes to what that table
 /// gives alone.

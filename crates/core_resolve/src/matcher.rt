@@ -17,15 +17,15 @@ use crate::known::{AccessKey, KnownOutcome, access_key, is_same};
 use crate::matches::{Match, matches_of, searched_tables};
 use crate::paths::{FoundPath, KnownPaths, ask_for_one, is_part, matches_from, paths_of};
 use crate::relocation::{RelocationOutcome, TypeRelocation, local_value, settled};
-use core_spec::{AccessError, AccessPath, local_path, subject_of};
 use btf_tables::Btf;
+use core_candidates::{
+    CandidateError, Candidates, KernelType, WantedType, WantedTypes, candidates,
+};
+use core_spec::{AccessError, AccessPath, local_path, subject_of};
 use ebpf_items::RelocationKind;
 use std::alloc::{AllocError, Global};
 use std::collections::BTreeMap;
 use std::marker::Model;
-use core_candidates::{
-    CandidateError, Candidates, KernelType, WantedType, WantedTypes, candidates,
-};
 
 /// An object's own types, and a kernel's, with the candidates of relocations.
 #[derive(Debug)]

@@ -9,11 +9,11 @@ ghost use Rattle.btf_records.specs.declared.error.BtfError.TheVariants.{OutOfMem
 
 use crate::error::{TypeRelocationError, at_kernel_type};
 use crate::matcher::TypeMatcher;
-use core_spec::{AccessError, AccessPath, RelocationValue, path_value, subject_of};
 use btf_tables::Btf;
-use ebpf_items::RelocationKind;
-use core_match::matching_path;
 use core_candidates::KernelType;
+use core_match::matching_path;
+use core_spec::{AccessError, AccessPath, RelocationValue, path_value, subject_of};
+use ebpf_items::RelocationKind;
 
 /// A type of a kernel's that has what a type relocation asks for.
 #[derive(Clone, Copy, Debug)]

@@ -8,11 +8,11 @@ use crate::error::TypeRelocationError;
 use crate::finders::TableFinders;
 use crate::matches::Match;
 use crate::relocation::TypeRelocation;
-use core_spec::{AccessPath, Subject, path_value, subject_of};
 use btf_tables::Btf;
+use core_candidates::KernelType;
+use core_spec::{AccessPath, Subject, path_value, subject_of};
 use ebpf_items::RelocationKind;
 use std::alloc::{AllocError, Global};
-use core_candidates::KernelType;
 
 /// The way to what is asked for in a type of a kernel's.
 #[derive(Debug, Drop)]

@@ -8,8 +8,8 @@ use crate::error::TypeRelocationError;
 use crate::matcher::TypeMatcher;
 use crate::matches::Match;
 use crate::outcome::{Outcome, outcome_of};
-use core_spec::{AccessError, AccessPath, RelocationValue, WholeField, path_value};
 use btf_tables::Btf;
+use core_spec::{AccessError, AccessPath, RelocationValue, WholeField, path_value};
 use ebpf_items::RelocationKind;
 
 /// What a type relocation asks for (`struct bpf_core_relo`, include/uapi/linux/bpf.h).

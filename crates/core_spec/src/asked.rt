@@ -4,9 +4,9 @@ ghost use Rattle.std.specs.Prelude.{◌≡◌, ◌↔◌, IsTrue};
 ghost use Rattle.core_spec.specs.declared.error.AccessError.TheVariants.{BtfError as TypeError};
 ghost use Rattle.btf_records.specs.declared.error.BtfError.TheVariants.{OutOfMemory};
 
-use crate::path_text::{push_path, push_type};
 use crate::error::AccessError;
 use crate::local::local_path;
+use crate::path_text::{push_path, push_type};
 use btf_records::BtfError;
 use btf_tables::Btf;
 use ebpf_items::RelocationKind;

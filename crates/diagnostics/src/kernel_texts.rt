@@ -7,9 +7,9 @@ use btf_encoding::TypeRef;
 use btf_records::BtfKind;
 use btf_tables::Btf;
 use extern_resolution::KsymsError;
-use quoting::FirstNames;
 use object_externs::{Externs, read_externs};
 use object_file::ObjectFile;
+use quoting::FirstNames;
 use relocation_errors::{BtfRelocationCause, BtfRelocationError};
 use std::alloc::{AllocError, Global};
 

@@ -3,9 +3,9 @@
 use crate::names::share_bytes;
 use crate::tables::table_of;
 use btf_tables::Btf;
-use quoting::{FirstNames, ShortName};
 use object_file::ObjectFile;
 use object_maps::{Maps, read_maps};
+use quoting::{FirstNames, ShortName};
 use settings::Settings;
 use std::alloc::{AllocError, Global};
 

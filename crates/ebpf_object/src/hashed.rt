@@ -15,8 +15,8 @@ ghost use Rattle.slot_relocation.specs.Writes.{AreRelocated, CanBeRelocated, Has
 
 use crate::object::Object;
 use ebpf_items::{Map, ParseError};
-use settings::GlobalValues;
 use relocation_errors::EbpfRelocationError;
+use settings::GlobalValues;
 use slot_relocation::NumberedMap;
 use std::alloc::{AllocError, Global};
 use std::collections::{BTreeSet, HashMap, HashSet};

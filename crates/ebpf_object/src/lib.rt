@@ -12,6 +12,7 @@ mod text_sections;
 mod type_relocations;
 mod types;
 
+pub use core_relocation::Candidates;
 pub use ebpf_items::{
     BtfMap, BtfMapDef, CgroupSkbAttachType, CgroupSockAddrAttachType, CgroupSockAttachType,
     CgroupSockoptAttachType, EbpfSectionKind, InvalidSection, InvalidTypeBinding, LegacyMap, Map,
@@ -21,7 +22,6 @@ pub use ebpf_items::{
     parse_map_info,
 };
 pub use extern_resolution::{KernelExterns, KsymsError};
-pub use settings::{GlobalValue, GlobalValues};
 pub use object::Object;
 pub use object_externs::{ExternDesc, Externs};
 pub use object_file::{ObjectFile, ReadSection, ReadSymbol, unnamed_symbol};
@@ -31,6 +31,6 @@ pub use object_parts::{Function, Functions, Program, Programs, ProgramsBuilder};
 pub use relocation_errors::{
     BtfRelocationCause, BtfRelocationError, EbpfRelocationError, RelocationError, RelocationPlace,
 };
+pub use settings::{GlobalValue, GlobalValues};
 pub use slot_relocation::NumberedMap;
 pub use string_map::{TextMap, TextMapBuilder};
-pub use core_relocation::Candidates;

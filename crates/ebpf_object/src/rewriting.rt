@@ -7,8 +7,7 @@ ghost use Rattle.ebpf_object.specs.Rewriting.{AreAnswered, IsRefused, IsRefusedT
 use btf_records::{BtfError, BtfFeature};
 use btf_rewrite::{Answers, KsymsIds, fixup_and_sanitize};
 use btf_tables::Btf;
-use object_file::ObjectFile;
-use object_file::{section_sizes, symbol_offsets};
+use object_file::{ObjectFile, section_sizes, symbol_offsets};
 use std::alloc::Global;
 
 /// Rewrites a table by the sizes of a file's sections and the offsets of its symbols.

@@ -11,9 +11,8 @@ ghost use Rattle.slot_relocation.specs.Maps.{given, map_rule};
 ghost use Rattle.slot_relocation.specs.Writes.{AreRelocated, CanBeRelocated, HasErrorIn};
 
 use crate::object::Object;
-use slot_relocation::relocate_externs;
 use relocation_errors::EbpfRelocationError;
-use slot_relocation::{NumberedMap, relocate_maps};
+use slot_relocation::{NumberedMap, relocate_externs, relocate_maps};
 use std::collections::BTreeSet;
 
 impl<'a> Object<'a> {

@@ -9,8 +9,8 @@ ghost use Rattle.relocation_errors.specs.declared.type_relocations.BtfRelocation
 
 use crate::object::Object;
 use btf_tables::Btf;
-use relocation_errors::BtfRelocationError;
 use core_relocation::{Candidates, relocate_types};
+use relocation_errors::BtfRelocationError;
 
 impl<'a> Object<'a> {
     /// Writes what the object's type relocations come to in a kernel's tables into the slots at

@@ -7,9 +7,9 @@ ghost use Rattle.global_data.specs.Writes.{Fit};
 
 use crate::writes::{MapWrite, writes_of};
 use ebpf_items::ParseError;
-use settings::GlobalValues;
 use object_file::ObjectFile;
 use object_maps::Maps;
+use settings::GlobalValues;
 use std::alloc::Global;
 
 /// Writes bytes into maps, one after the other.

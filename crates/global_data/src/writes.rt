@@ -12,9 +12,9 @@ ghost use Rattle.global_data.specs.Writes.{writes_of};
 
 use crate::section_maps::SectionMaps;
 use ebpf_items::ParseError;
-use settings::{GlobalValue, GlobalValues};
 use object_file::{ObjectFile, ReadSymbol, SymbolNames};
 use object_maps::Maps;
+use settings::{GlobalValue, GlobalValues};
 use std::alloc::Global;
 use std::marker::Model;
 

@@ -6,8 +6,8 @@ ghost use Rattle.inspect_object.specs.Lines.{load_line};
 ghost use Rattle.program_kinds.specs.Attributes.{attributes_of};
 
 use ebpf_object::{Function, Object, Program, ProgramSection, Slots};
-use quoting::{Hex, Id, Text};
 use program_kinds::load_attributes;
+use quoting::{Hex, Id, Text};
 use std::io;
 use std::io::Write;
 

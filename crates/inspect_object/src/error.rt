@@ -5,9 +5,9 @@ ghost use Rattle.inspect_object.specs.declared.error.InspectError.TheVariants.{R
 ghost use Rattle.inspect_object.specs.Program.{status_of};
 ghost use Rattle.inspect_object.specs.declared.error.ProgramError.TheVariants.{Input, OutOfMemory, Unwritten};
 
+use diagnostics::Refusal;
 use ebpf_object::ParseError;
 use program_io::{InputError, Unwritten};
-use diagnostics::Refusal;
 use std::alloc::{AllocError, AllocFailed};
 use thiserror::Error;
 

@@ -6,14 +6,13 @@ use crate::error::ProgramError;
 use crate::refused;
 use btf::Btf;
 use command_line::InspectArguments;
+use diagnostics::{KernelFiles, prepare_text};
 use ebpf_object::Object;
-use kernel_reports::assumed_symbols;
 use kernel_reports::{
-    KernelReport, PlanAnswer, Reported, every_map_numbered, relocations_in, report_on,
+    KernelReport, PlanAnswer, RelocationAt, Reported, assumed_symbols, every_map_numbered,
+    relocations_in, report_on,
 };
 use program_io::{kernel_table, print_text, read};
-use diagnostics::{KernelFiles, prepare_text};
-use kernel_reports::RelocationAt;
 use report_texts::{Column, Rows, lines_text, rows_of, summary_text};
 use std::alloc::{AllocError, Global};
 use std::io::IsTerminal;

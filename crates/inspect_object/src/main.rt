@@ -13,12 +13,12 @@ mod notes;
 mod type_relocations;
 
 use command_line::{InspectArguments, LineError, inspect_arguments};
+use diagnostics::{Refusal, parse_text};
 use ebpf_object::ParseError;
 use error::{InspectError, ProgramError};
 use inspecting::inspect;
 use kernels::print_reports;
 use program_io::{Kept, Unwritten, print_text, read, words_of};
-use diagnostics::{Refusal, parse_text};
 use std::alloc::Global;
 use std::io;
 use std::io::{BufWriter, Write};

@@ -5,16 +5,16 @@ ghost use Rattle.core_relocation.specs.Relocations.{types_given};
 ghost use Rattle.kernel_reports.specs.Answers.{answer_of, answer_to, answers_to};
 
 use crate::relocations::{Place, RelocationAt};
-use core_spec::AccessError;
 use btf_ext::bpf_core_relo;
 use btf_tables::Btf;
-use ebpf_items::RelocationKind;
-use slot_relocation::Outcome;
-use std::alloc::{AllocError, Global};
+use core_patch::{Patch, WriteFault, patch_of, patched};
 use core_resolve::{
     Candidates, RelocationOutcome, TypeMatcher, TypeRelocation, TypeRelocationError, collected,
 };
-use core_patch::{Patch, WriteFault, patch_of, patched};
+use core_spec::AccessError;
+use ebpf_items::RelocationKind;
+use slot_relocation::Outcome;
+use std::alloc::{AllocError, Global};
 
 /// What a type relocation comes to in a kernel's types.
 #[derive(Debug, Drop)]

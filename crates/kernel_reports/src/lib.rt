@@ -12,6 +12,8 @@ mod report;
 mod symbols;
 
 pub use answers::{RelocationAnswer, candidates_of, relocation_answers};
+pub use core_patch::{Patch, WriteFault};
+pub use core_resolve::{Candidates, TypeRelocationError};
 pub use map_numbers::every_map_numbered;
 pub use object_relocations::relocations_in;
 pub use planned::{PlanAnswer, plan_answer};
@@ -20,5 +22,3 @@ pub use relocations::{Place, RelocationAt, relocations_of};
 pub use report::{KernelReport, Reported, report_on};
 pub use slot_relocation::Outcome;
 pub use symbols::assumed_symbols;
-pub use core_resolve::{Candidates, TypeRelocationError};
-pub use core_patch::{Patch, WriteFault};

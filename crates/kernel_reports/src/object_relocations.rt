@@ -3,8 +3,8 @@
 ghost use Rattle.std.specs.Prelude.{◌≡◌, IfOk};
 ghost use Rattle.kernel_reports.specs.Reports.{relocations_in};
 
-use ebpf_object::Object;
 use crate::relocations::{RelocationAt, relocations_of};
+use ebpf_object::Object;
 use std::alloc::{AllocError, Global};
 
 /// The type relocations of an object, group by group; none where it has no types, or nothing stands

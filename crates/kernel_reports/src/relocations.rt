@@ -8,8 +8,7 @@ ghost use Rattle.kernel_reports.specs.Relocations.{place_at, place_in, relocatio
 use btf_ext::{BtfExt, SecInfo, bpf_core_relo};
 use btf_tables::Btf;
 use ebpf_items::bpf_insn;
-use object_file::ObjectFile;
-use object_file::section_indexes;
+use object_file::{ObjectFile, section_indexes};
 use object_parts::{Function, Functions, SLOT_SIZE};
 use std::alloc::{AllocError, Global};
 use std::marker::Model;

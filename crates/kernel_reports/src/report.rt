@@ -4,12 +4,12 @@ ghost use Rattle.std.specs.Prelude.{◌≡◌, ◌≤◌, ◌^◌, length, slice
 ghost use Rattle.std.specs.Option.{option_copied};
 ghost use Rattle.kernel_reports.specs.Reports.{IsReport};
 
-use crate::planned::{PlanAnswer, plan_answer};
-use ebpf_object::Object;
-use crate::presences::{Presence, presences_of};
-use load_plan::{Btf, Candidates, Gathered, KernelExterns, Settings};
 use crate::answers::{RelocationAnswer, candidates_of, relocation_answers};
+use crate::planned::{PlanAnswer, plan_answer};
+use crate::presences::{Presence, presences_of};
 use crate::relocations::RelocationAt;
+use ebpf_object::Object;
+use load_plan::{Btf, Candidates, Gathered, KernelExterns, Settings};
 use std::alloc::{AllocError, Global};
 
 /// An object of which it is reported.

@@ -6,9 +6,9 @@ ghost use Rattle.relocation_errors.specs.declared.error.RelocationError.TheVaria
 ghost use Rattle.linker.specs.Unlinked.{function_in, key_at, ref_of, target_at};
 ghost use Rattle.linker.specs.Faults.{IsTargetFault, IsUnknownAt, is_sound};
 
-use ebpf_items::bpf_insn;
 use crate::reference::target_of;
 use crate::target::Target;
+use ebpf_items::bpf_insn;
 use object_file::ObjectFile;
 use object_parts::{Function, Functions};
 use relocation_errors::RelocationError;

@@ -14,10 +14,10 @@ pub use ebpf_object::{
 };
 pub use gathered::Gathered;
 pub use order::Order;
+pub use plan_errors::PrepareError;
 pub use plan_text::{
     Answers, MapWords, Plan, PlanMap, PlanProgram, PlanReadError, texts_are_read_back,
 };
 pub use planning::{prepare, prepare_among};
-pub use plan_errors::PrepareError;
 pub use relocation_errors::{EbpfRelocationError, RelocationError};
 pub use settings::Settings;

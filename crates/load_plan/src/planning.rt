@@ -14,18 +14,16 @@ use crate::making::make;
 use crate::order::Order;
 use btf_records::BtfFeature;
 use btf_tables::Btf;
+use core_relocation::types_are_written;
 use ebpf_object::{Object, Watched};
-use slot_relocation::externs_are_written;
 use function_layout::{reached_are_appended, renamed_visits_same, slots_are_copied};
-use plan_contents::{names_are_carried, plan_of, records_name};
-use plan_contents::plan_maps;
-use plan_text::Plan;
+use plan_contents::{names_are_carried, plan_maps, plan_of, records_name};
 use plan_errors::PrepareError;
+use plan_text::Plan;
 use settings::Settings;
-use slot_relocation::numbers_are_written;
+use slot_relocation::{externs_are_written, numbers_are_written};
 use std::alloc::Global;
 use std::io::BufRead;
-use core_relocation::types_are_written;
 
 /// The object that a file holds.
 fn parse<'a>(alloc: Global, file: &'a [u8]) -> Result<Object<'a>, PrepareError>

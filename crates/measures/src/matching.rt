@@ -4,12 +4,12 @@
 
 use crate::times::{micros, print_times};
 use btf::{Btf, BtfError, BtfKind, Endianness};
+use core_resolve::{TypeMatcher, TypeRelocation};
 use ebpf_items::RelocationKind;
 use exercise_words::{ExerciseError, read_next};
 use std::alloc::AllocError;
 use std::env::Args;
 use std::time::Instant;
-use core_resolve::{TypeMatcher, TypeRelocation};
 
 /// How many times each is measured.
 const ROUNDS: u32 = 11;

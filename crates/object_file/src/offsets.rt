@@ -4,9 +4,9 @@ ghost use Rattle.std.specs.Prelude.{◌≡◌, IfOk, OnOk};
 ghost use Rattle.elf64.specs.Symbols.{symbols_of};
 ghost use Rattle.object_file.specs.Named.{AreOffsets, has_offset};
 
-use elf64::SymbolKind;
 use crate::file::ObjectFile;
 use crate::names::ReadSymbol;
+use elf64::SymbolKind;
 use std::alloc::{AllocError, Global};
 use string_map::{TextMap, TextMapBuilder};
 

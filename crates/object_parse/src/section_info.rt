@@ -4,8 +4,8 @@ ghost use Rattle.std.specs.Prelude.{◌≡◌, IfOk};
 ghost use Rattle.std.specs.Option.{option_copied};
 ghost use Rattle.object_parse.specs.SectionInfos.{info_of};
 
-use btf_ext::BtfExt;
 use crate::section_records::SectionRecords;
+use btf_ext::BtfExt;
 use object_file::ReadSection;
 use std::alloc::{AllocError, Global};
 use std::collections::BTreeMap;

@@ -1,8 +1,8 @@
 //! What type relocations come to, in values that can be compared.
 
-use core_spec::{AccessError, RelocationValue, WholeField};
 use btf_records::BtfError;
 use core_resolve::{Outcome, RelocationOutcome, TypeRelocationError};
+use core_spec::{AccessError, RelocationValue, WholeField};
 
 /// Why something is refused.
 #[derive(Clone, Copy, Debug, PartialEq, Eq)]

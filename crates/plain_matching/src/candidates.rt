@@ -7,9 +7,9 @@ ghost use Rattle.core_candidates.specs.declared.error.CandidateError.TheVariants
 use btf_encoding::TypeRef;
 use btf_records::{BtfError, BtfKind};
 use btf_tables::{Btf, essential_name};
+use core_candidates::{CandidateError, KernelType};
 use std::alloc::{AllocError, Global};
 use std::marker::Model;
-use core_candidates::{CandidateError, KernelType};
 
 /// The kind and the name that are wanted.
 #[derive(Drop)]

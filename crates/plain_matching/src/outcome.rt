@@ -9,16 +9,16 @@ ghost use Rattle.core_spec.specs.declared.error.AccessError.TheVariants.{BtfErro
 ghost use Rattle.btf_records.specs.declared.error.BtfError.TheVariants.{OutOfMemory as NoMemory};
 
 use crate::candidates::{PlainWanted, plain_candidates};
-use core_spec::{AccessError, AccessPath, RelocationValue, local_path, path_value, subject_of};
 use btf_records::BtfError;
 use btf_tables::Btf;
-use ebpf_items::RelocationKind;
-use core_match::matching_path;
-use std::alloc::AllocError;
 use core_candidates::KernelType;
+use core_match::matching_path;
 use core_resolve::{
     Match, Outcome, RelocationOutcome, TypeRelocation, TypeRelocationError, outcome_of,
 };
+use core_spec::{AccessError, AccessPath, RelocationValue, local_path, path_value, subject_of};
+use ebpf_items::RelocationKind;
+use std::alloc::AllocError;
 
 /// An error about the object's own types.
 fn local_error(error: AccessError) -> TypeRelocationError

@@ -8,12 +8,12 @@ ghost use Rattle.core_spec.specs.declared.error.AccessError.TheVariants.{BtfErro
 ghost use Rattle.btf_records.specs.Fields.{members_of};
 ghost use Rattle.btf_records.specs.declared.error.BtfError.TheVariants.{OutOfMemory};
 
-use core_spec::{AccessError, Place, bits_after};
 use btf_compatibility::fields_are_compatible;
 use btf_encoding::TypeRef;
 use btf_records::{BtfKind, BtfMember, BtfType};
 use btf_tables::Btf;
 use core_members::Found;
+use core_spec::{AccessError, Place, bits_after};
 use std::marker::Model;
 
 /// What is searched for in a table: a name, and a type of another table that is to be compatible.

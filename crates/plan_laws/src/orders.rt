@@ -2,8 +2,8 @@
 
 ghost use Rattle.plan_laws.specs.Orders.{OrdersAgree, OrdersPlanAlike, OrdersRefuseAlike};
 
-use function_layout::layout_is_unique;
 use core_relocation::relocations_rest;
+use function_layout::layout_is_unique;
 
 /// Where what an object's type relocations reach in its types can be read, and is the same in the
 /// types as they are rewritten, under answers, both orders of the passes on types come to the same

@@ -3,13 +3,13 @@
 ghost use Rattle.std.specs.Prelude.{◌≡◌};
 ghost use Rattle.program_kinds.specs.Attributes.{attributes_of, flag};
 
+use crate::bindings::{bpf_attach_type, bpf_prog_type};
 use crate::numbers::{
     BPF_CGROUP_DEVICE, BPF_CGROUP_SOCK_OPS, BPF_CGROUP_SYSCTL, BPF_F_SLEEPABLE,
     BPF_F_XDP_HAS_FRAGS, BPF_FLOW_DISSECTOR, BPF_LIRC_MODE2, BPF_LSM_CGROUP, BPF_LSM_MAC,
     BPF_SK_LOOKUP, BPF_SK_MSG_VERDICT, BPF_TRACE_FENTRY, BPF_TRACE_FEXIT, BPF_TRACE_ITER,
     BPF_TRACE_RAW_TP, BPF_TRACE_UPROBE_MULTI,
 };
-use crate::bindings::{bpf_attach_type, bpf_prog_type};
 use crate::program_section::ProgramSection;
 
 /// What `BPF_PROG_LOAD` takes of a program's kind.

@@ -2,11 +2,11 @@
 #![tactic(auto)]
 
 pub mod attach;
+mod attributes;
 pub mod bindings;
+mod numbers;
 pub mod program_section;
 pub mod section_kind;
-mod attributes;
-mod numbers;
 
 pub use attach::{
     CgroupSkbAttachType, CgroupSockAddrAttachType, CgroupSockAttachType, CgroupSockoptAttachType,

@@ -3,9 +3,8 @@
 use crate::rows::{ExternRow, RelocationRow, Rows};
 use crate::summary::Column;
 use crate::texts::{AnswerWords, extern_kind_word, presence_word};
-use kernel_reports::Presence;
+use kernel_reports::{Presence, RelocationAnswer};
 use quoting::{QuotedText, Text};
-use kernel_reports::RelocationAnswer;
 use std::alloc::{AllocError, Global};
 
 /// A name as a word, or a dash where there is none.

@@ -2,11 +2,11 @@
 
 use btf_records::BtfKind;
 use btf_tables::Btf;
+use core_spec::relocation_text;
 use ebpf_items::RelocationKind;
+use kernel_reports::RelocationAt;
 use object_externs::{ExternDesc, Externs};
 use object_parts::{Functions, SLOT_SIZE};
-use core_spec::relocation_text;
-use kernel_reports::RelocationAt;
 use std::alloc::{AllocError, Global};
 
 /// A type relocation, by name.

@@ -2,9 +2,8 @@
 
 use crate::rows::Rows;
 use crate::texts::{AnswerCell, presence_word};
-use kernel_reports::Presence;
+use kernel_reports::{Presence, RelocationAnswer};
 use quoting::{QuotedText, Text};
-use kernel_reports::RelocationAnswer;
 use std::alloc::{AllocError, Global};
 
 /// What is reported of the kernel of a file: a column of the table.

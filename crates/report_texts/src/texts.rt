@@ -2,8 +2,7 @@
 
 use crate::rows::ExternKind;
 use ebpf_items::bpf_insn;
-use kernel_reports::Presence;
-use kernel_reports::{Outcome, Patch, RelocationAnswer, TypeRelocationError, WriteFault};
+use kernel_reports::{Outcome, Patch, Presence, RelocationAnswer, TypeRelocationError, WriteFault};
 use std::fmt;
 
 /// How an instruction holds a value.

@@ -5,9 +5,8 @@ ghost use Rattle.std.specs.Option.{option_map};
 ghost use Rattle.toml.specs.View.{table_view, view};
 ghost use Rattle.run_settings.specs.Documents.{bytes_of, global_of, with_globals, with_part, with_parts};
 
-use settings::GlobalValue;
 use hex::FromHexError;
-use settings::Settings;
+use settings::{GlobalValue, Settings};
 use std::alloc::{AllocError, Global};
 use std::marker::Model;
 use toml::{Table, Value};

@@ -2,9 +2,9 @@
 
 ghost use Rattle.slot_relocation.specs.ExternLaws.{ExternsAreWritten};
 
-use elf64::RelocView;
 use crate::laws::{lengths_remain, one_writes, unwritten_stay, writes_are_kept};
 use crate::outcome::Fault;
+use elf64::RelocView;
 
 /// After all relocations, a slot at which one by an extern stands and writes carries what is known
 /// of that extern, whatever the others write; a slot that none writes stays as it was; a function

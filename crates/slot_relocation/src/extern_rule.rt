@@ -8,15 +8,15 @@ ghost use Rattle.slot_relocation.specs.Externs.{call_outcome, extern_of, extern_
 ghost use Rattle.slot_relocation.specs.declared.extern_rule.Resolution.TheVariants.{Missing};
 ghost use Rattle.slot_relocation.specs.Writes.{AreRelocated, CanBeRelocated, HasErrorIn};
 
+use crate::by_symbol::SymbolRule;
+use crate::errors::relocate_by_symbol;
+use crate::outcome::{Fault, Outcome, Write, with_number};
 use ebpf_items::bpf_insn;
 use elf64::SymbolView;
 use object_externs::{ExternDesc, Externs, is_extern_symbol};
 use object_file::ObjectFile;
 use object_parts::Functions;
 use relocation_errors::EbpfRelocationError;
-use crate::by_symbol::SymbolRule;
-use crate::errors::relocate_by_symbol;
-use crate::outcome::{Fault, Outcome, Write, with_number};
 use std::alloc::Global;
 
 /// The operation code of a call: `BPF_JMP | BPF_CALL`.

@@ -1,10 +1,10 @@
 //! Small objects in both byte orders, read and refused.
 
 use elf64::{ElfError, ElfFile, RelocView, SectionView, SymbolKind};
-use test_object_samples::{ONE_PROGRAM, ONE_PROGRAM_BIG, with_bytes};
 use std::alloc::{AllocError, Global};
 use std::process::Abort;
 use std::test::Fail;
+use test_object_samples::{ONE_PROGRAM, ONE_PROGRAM_BIG, with_bytes};
 
 /// Other bytes at some offsets of an object.
 type Changes = &'static [(usize, &'static [u8])];

@@ -8,9 +8,9 @@ use ebpf_items::{
     Section, Slots, bpf_insn, bpf_map_def, bpf_map_info, copy_instructions, parse_map_info,
 };
 use elf64::{ElfError, ElfFile};
-use test_object_samples::{ONE_PROGRAM, with_bytes};
 use std::alloc::{AllocError, Global};
 use std::process::Abort;
+use test_object_samples::{ONE_PROGRAM, with_bytes};
 
 const CALL: [u8; 8] = [0x85, 0x10, 0, 0, 0xff, 0xff, 0xff, 0xff];
 

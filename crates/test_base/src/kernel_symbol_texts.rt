@@ -1,9 +1,9 @@
 //! Texts of kernel symbols, and readers that give them in pieces.
 
 use kernel_symbols::{SymbolsError, read_addresses};
-use test_object_samples::SlowText;
 use std::alloc::Global;
 use std::io::BufRead;
+use test_object_samples::SlowText;
 use watched::Watched;
 
 // What is known of `init_task`.

@@ -9,9 +9,9 @@ use btf_records::{
     DataSecEntry, DeclTag, Endianness, Enum, Enum64, Float, Func, FuncLinkage, FuncProto, Fwd, Int,
     IntEncoding, Ptr, Restrict, Struct, TypeTag, Typedef, Union, Var, VarLinkage, Volatile,
 };
-use test_table_samples::{ORDERS, spelled};
 use std::alloc::{AllocError, Global};
 use std::process::Abort;
+use test_table_samples::{ORDERS, spelled};
 
 /// The words of a record of each kind, in order of kind, and of others that are written as they are
 /// read: bits that have no meaning are kept.

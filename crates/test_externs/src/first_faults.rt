@@ -3,9 +3,9 @@
 
 use crate::answers::{Answer, Declared, Refusal, UNKNOWN, check_with_kernel, check_without_kernel};
 use crate::tables::{FUNCTION, INTEGER, NOTHING, SIGNATURE, VARIABLE};
-use test_object_samples::SlowText;
 use std::alloc::Global;
 use std::process::Abort;
+use test_object_samples::SlowText;
 
 /// What an extern that must be there is: a function, a variable, a variable without a type, or one
 /// of a type that an integer declares or that nothing declares.

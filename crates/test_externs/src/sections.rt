@@ -2,14 +2,14 @@
 
 use btf_ext::{FuncSecInfo, LineSecInfo};
 use ebpf_items::Slots;
-use slot_relocation::relocate_externs;
 use object_externs::{ExternDesc, Externs};
 use object_file::ObjectFile;
 use object_parts::{Function, Functions, MatchedTables};
 use relocation_errors::{EbpfRelocationError, RelocationError};
-use test_object_samples::with_bytes;
+use slot_relocation::relocate_externs;
 use std::alloc::Global;
 use string_map::TextMapBuilder;
+use test_object_samples::with_bytes;
 
 /// An object with the sections `kprobe` (index 2) and `xdp` (3), and a relocation of each, of `xdp`
 /// at 120 and of `kprobe` at 136: eight bytes of offset, four of type, four of symbol. That of

@@ -2,9 +2,9 @@
 
 use crate::answers::{Answer, Declared, Known, MISSING, check_with_kernel, check_without_kernel};
 use crate::tables::{FUNCTION, INTEGER, SIGNATURE, VARIABLE};
-use test_object_samples::SlowText;
 use std::alloc::Global;
 use std::process::Abort;
+use test_object_samples::SlowText;
 
 const STRONG: bool = false;
 

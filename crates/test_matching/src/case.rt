@@ -3,14 +3,14 @@
 use crate::tables::{ACCESS, parse, section_of};
 use btf_records::Endianness;
 use btf_tables::Btf;
-use ebpf_items::RelocationKind;
-use plain_matching::Answer;
-use test_table_samples::ORDERS;
-use std::alloc::Global;
-use std::process::Abort;
 use core_resolve::{
     RelocationOutcome, TypeMatcher, TypeRelocation, TypeRelocationError, relocation_outcome,
 };
+use ebpf_items::RelocationKind;
+use plain_matching::Answer;
+use std::alloc::Global;
+use std::process::Abort;
+use test_table_samples::ORDERS;
 
 /// The kind of a type relocation, its type id and its access string, and what it comes to.
 pub(crate) type Case = (RelocationKind, u32, &'static str, Answer);

@@ -8,13 +8,13 @@ use crate::tables::{
 use btf_records::BtfFeature;
 use btf_rewrite::fixup_and_sanitize;
 use btf_tables::Btf;
+use core_resolve::{TypeRelocation, relocation_outcome};
 use ebpf_items::RelocationKind;
 use plain_matching::{Answer, Fault};
-use test_table_samples::ORDERS;
 use std::alloc::{AllocError, Global};
 use std::process::Abort;
 use string_map::TextMap;
-use core_resolve::{TypeRelocation, relocation_outcome};
+use test_table_samples::ORDERS;
 
 const EXISTS: RelocationKind = RelocationKind::EnumVariantExists;
 

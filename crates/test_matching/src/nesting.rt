@@ -5,9 +5,9 @@ use crate::tables::{A, B, INT, S, STRUCT_1, STRUCT_2, append};
 use crate::worked::OBJECT;
 use ebpf_items::RelocationKind;
 use plain_matching::{Answer, Fault};
-use test_table_samples::ORDERS;
 use std::alloc::Global;
 use std::process::Abort;
+use test_table_samples::ORDERS;
 
 const OFFSET: RelocationKind = RelocationKind::FieldByteOffset;
 

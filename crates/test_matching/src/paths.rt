@@ -2,17 +2,17 @@
 
 use crate::tables::{ACCESS, parse, section_of};
 use crate::worked::{AT_64, OBJECT};
-use core_spec::{AccessPath, Step, Subject, local_path, path_value, subject_of};
 use btf_records::Endianness;
 use btf_tables::Btf;
-use ebpf_items::RelocationKind;
 use core_match::matching_path;
 use core_members::find_member;
+use core_resolve::{kernel_matches, outcome_of};
+use core_spec::{AccessPath, Step, Subject, local_path, path_value, subject_of};
+use ebpf_items::RelocationKind;
 use plain_matching::{Answer, Fault};
-use test_table_samples::ORDERS;
 use std::alloc::Global;
 use std::process::Abort;
-use core_resolve::{kernel_matches, outcome_of};
+use test_table_samples::ORDERS;
 
 const OFFSET: RelocationKind = RelocationKind::FieldByteOffset;
 

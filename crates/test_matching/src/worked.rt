@@ -4,9 +4,9 @@ use crate::case::{Case, check, check_case, check_one, outcome};
 use crate::tables::{A, ARRAY, B, BITS_1, INT, S, SIGNED_ENUM_1, STRUCT_1, STRUCT_2};
 use ebpf_items::RelocationKind;
 use plain_matching::{Answer, Fault};
-use test_table_samples::ORDERS;
 use std::alloc::Global;
 use std::process::Abort;
+use test_table_samples::ORDERS;
 
 const OFFSET: RelocationKind = RelocationKind::FieldByteOffset;
 

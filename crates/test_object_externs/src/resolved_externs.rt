@@ -9,10 +9,10 @@ use btf_tables::Btf;
 use ebpf_object::Object;
 use extern_resolution::KsymsError;
 use object::{BINDINGS, ENTRIES, OBJECT, PARAMETER, TYPES_NAME, WEAK};
-use test_object_samples::{SlowText, with_bytes};
 use std::alloc::{AllocError, Global};
 use std::io::BufRead;
 use std::process::Abort;
+use test_object_samples::{SlowText, with_bytes};
 use watched::Watched;
 
 /// A function with a body.

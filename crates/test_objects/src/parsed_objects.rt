@@ -8,8 +8,8 @@ use btf_records::{BtfError, Endianness};
 use ebpf_items::{ParseError, ProgramSection, Slots};
 use ebpf_object::Object;
 use elf64::ElfError;
-use test_object_samples::{ONE_PROGRAM, ONE_PROGRAM_BIG, with_bytes};
 use std::alloc::Global;
+use test_object_samples::{ONE_PROGRAM, ONE_PROGRAM_BIG, with_bytes};
 
 /// Other bytes at some offsets of the object of one program: `license` is named at 142 and has four
 /// bytes at 64, its size at 280; the symbol has its name at 112, section at 118, value at 120 and

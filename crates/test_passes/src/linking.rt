@@ -9,10 +9,10 @@ use object_file::ObjectFile;
 use object_parse::read_code;
 use object_parts::{Code, Functions};
 use relocation_errors::{EbpfRelocationError, RelocationError};
-use test_object_samples::with_bytes;
 use std::alloc::Global;
 use std::collections::BTreeSet;
 use std::process::Abort;
+use test_object_samples::with_bytes;
 
 const EXIT: [u8; 8] = [0x95, 0, 0, 0, 0, 0, 0, 0];
 

@@ -1,7 +1,6 @@
 //! Settings that are made.
 
-use settings::GlobalValue;
-use settings::Settings;
+use settings::{GlobalValue, Settings};
 use std::process::Abort;
 use std::test::Fail;
 

@@ -2,12 +2,12 @@
 
 use ebpf_items::ParseError;
 use global_data::patch_map_data;
-use settings::GlobalValues;
 use object_file::ObjectFile;
 use object_maps::{Maps, read_maps};
-use test_object_samples::{VARIABLES, with_bytes};
+use settings::GlobalValues;
 use std::alloc::Global;
 use std::process::Abort;
+use test_object_samples::{VARIABLES, with_bytes};
 
 /// Bytes of a file at an offset.
 type Change = (usize, &'static [u8]);

@@ -2,8 +2,8 @@
 
 use crate::plans_of_objects::planned;
 use load_plan::{Order, ParseError, Plan, PrepareError, Settings, Watched};
-use test_object_samples::{ONE_PROGRAM, with_bytes};
 use std::alloc::Global;
+use test_object_samples::{ONE_PROGRAM, with_bytes};
 
 /// The plan of an object under no settings, for a kernel that lacks nothing.
 fn plan_of(alloc: Global, object: &[u8]) -> Result<Plan<'_>, PrepareError> {

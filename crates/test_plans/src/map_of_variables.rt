@@ -4,10 +4,10 @@ use object_file::ObjectFile;
 use object_maps::{Maps, read_maps};
 use plan_contents::{numbered_maps, plan_maps, unnumbered_map};
 use plan_text::{MapWords, PlanMap};
-use test_object_samples::VARIABLES;
 use settings::Settings;
 use std::alloc::Global;
 use std::process::Abort;
+use test_object_samples::VARIABLES;
 
 /// Whether relocations get the one map `.data` under a number.
 fn is_numbered(alloc: Global, maps: &Maps<'_>, settings: &Settings, number: i32) -> bool {

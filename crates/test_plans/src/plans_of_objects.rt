@@ -4,10 +4,10 @@ mod objects;
 
 use load_plan::{BtfFeature, Order, ParseError, Plan, PrepareError, Settings, Watched, prepare};
 use objects::{FLOATS, RECORDS};
-use test_object_samples::{ONE_PROGRAM, ONE_PROGRAM_PLAN, with_bytes};
 use std::alloc::{AllocError, Global};
 use std::io;
 use std::process::Abort;
+use test_object_samples::{ONE_PROGRAM, ONE_PROGRAM_PLAN, with_bytes};
 
 /// The plan of an object without symbols and kernel types, for a kernel that has the newer helpers
 /// and lacks these features.

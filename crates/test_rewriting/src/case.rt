@@ -4,9 +4,9 @@ use btf::{
     Answers, Btf, BtfError, BtfFeature, Endianness, KsymsIds, TextMap, TextMapBuilder,
     fixup_and_sanitize,
 };
-use test_table_samples::{ORDERS, section};
 use std::alloc::Global;
 use std::process::Abort;
+use test_table_samples::{ORDERS, section};
 
 pub(crate) const ALL: [BtfFeature; 8] = [
     BtfFeature::Func,

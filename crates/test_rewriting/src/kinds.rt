@@ -7,9 +7,9 @@ use crate::sections::{
     UNION, UNION_1, UNION_2, VAR, VOLATILE,
 };
 use btf::{Btf, BtfFeature, Endianness};
-use test_table_samples::{ORDERS, section};
 use std::alloc::Global;
 use std::process::Abort;
+use test_table_samples::{ORDERS, section};
 
 static PLAIN: [Case; 4] = [
     Case {

@@ -3,9 +3,9 @@
 use crate::case::{ALL, SIZES, is_written, parse, sanitize};
 use crate::sections::{DATASEC, DATASEC_1, DATASEC_2, ENUM, EXTERN, GLOBAL, INT, VAR};
 use btf::{Btf, BtfError, BtfFeature, Endianness, KsymsIds, fixup_ksyms_datasec};
-use test_table_samples::{ORDERS, section};
 use std::alloc::Global;
 use std::process::Abort;
+use test_table_samples::{ORDERS, section};
 
 /// Why a table is refused.
 #[derive(Clone, Copy, PartialEq)]

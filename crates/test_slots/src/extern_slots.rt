@@ -3,9 +3,9 @@
 use crate::functions::{
     Both, EXIT, FAR, Refused, Relocated, Relocation, ZERO, functions, relocated, with_relocations,
 };
-use slot_relocation::relocate_externs;
 use object_externs::{ExternDesc, Externs};
 use object_file::ObjectFile;
+use slot_relocation::relocate_externs;
 use std::alloc::Global;
 use std::process::Abort;
 use string_map::{TextMap, TextMapBuilder};

@@ -4,8 +4,8 @@ use btf_ext::{FuncSecInfo, LineSecInfo};
 use ebpf_items::Slots;
 use object_parts::{Function, Functions, MatchedTables};
 use relocation_errors::{EbpfRelocationError, RelocationError};
-use test_object_samples::with_bytes;
 use std::alloc::Global;
+use test_object_samples::with_bytes;
 
 /// The offset and the symbol of a relocation.
 pub(crate) type Relocation = (u64, u8);

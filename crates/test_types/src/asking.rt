@@ -3,9 +3,9 @@
 use crate::answer::{Answer, Question};
 use crate::sections::parse;
 use btf::{Btf, Endianness};
-use test_table_samples::{ORDERS, section};
 use std::alloc::Global;
 use std::process::Abort;
+use test_table_samples::{ORDERS, section};
 
 /// Questions with the wanted answers.
 pub(crate) type Asked = &'static [(Question, Answer)];

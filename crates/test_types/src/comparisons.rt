@@ -7,9 +7,9 @@ use crate::sections::{
     parse,
 };
 use btf::{Btf, Endianness, types_are_compatible};
-use test_table_samples::section;
 use std::alloc::Global;
 use std::process::Abort;
+use test_table_samples::section;
 
 static CASES: [Case<'static>; 6] = [
     // an INT, one after four bits, a TYPEDEF and a CONST of the first, a CONST of the TYPEDEF, a

@@ -6,9 +6,9 @@ use btf::{
     BtfError, BtfExt, Endianness, FuncSecInfo, LineSecInfo, SecInfo, bpf_func_info, bpf_line_info,
 };
 use btf_records::push_half_word;
-use test_table_samples::{ORDERS, push_words};
 use std::alloc::{AllocError, Global};
 use std::process::Abort;
+use test_table_samples::{ORDERS, push_words};
 
 /// A table of no types, with strings: the empty one, `.text` at 1, `xdp` at 7, `.text` at 11, and
 /// at 17 a byte that is no text.

@@ -4,9 +4,9 @@ use crate::answer::{Answer, Question, id};
 use crate::asking::{Asked, Case, ask, ask_case};
 use crate::sections::{ARRAY, CONST, FWD, INT, INT_SECTION, PTR, STRUCT_1, VAR, append, parse};
 use btf::{Btf, BtfKind, BtfType, Endianness, Enum64Fallback, Int, IntEncoding, Items, Ptr, Union};
-use test_table_samples::{ORDERS, section};
 use std::alloc::Global;
 use std::process::Abort;
+use test_table_samples::{ORDERS, section};
 
 /// A record, and CONSTs up to an id, each of the type before.
 struct Chain {

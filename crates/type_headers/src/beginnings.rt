@@ -5,8 +5,8 @@ ghost use Rattle.string_table.specs.FirstBytes.{is_marked};
 ghost use Rattle.string_table.specs.Texts.{text_at};
 ghost use Rattle.type_headers.specs.Beginnings.{MarksName, MarksTwoBytes, MayBegin, beginning, beginning_of, long_beginning, next_number};
 
-use string_table::MarkedBytes;
 use std::marker::Model;
+use string_table::MarkedBytes;
 
 /// A number that all texts have which begin with these two bytes, a NUL after the last byte of a
 /// text being one of them. 31 is odd, so that where the second bytes are alike the numbers differ

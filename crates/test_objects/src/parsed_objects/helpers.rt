@@ -4,8 +4,8 @@ use super::parsed;
 use super::two_functions::TWO_FUNCTIONS;
 use ebpf_items::Slots;
 use ebpf_object::Object;
-use test_object_samples::{ONE_PROGRAM, with_bytes};
 use std::alloc::Global;
+use test_object_samples::{ONE_PROGRAM, with_bytes};
 
 /// Where the two slots of the object of one program stand.
 const CODE: usize = 72;

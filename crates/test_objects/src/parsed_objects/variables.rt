@@ -3,8 +3,8 @@
 use super::parsed;
 use btf_records::BtfError;
 use ebpf_object::Object;
-use test_object_samples::{ONE_PROGRAM, VARIABLES, with_bytes};
 use std::alloc::Global;
+use test_object_samples::{ONE_PROGRAM, VARIABLES, with_bytes};
 
 /// Where the name of the section of variables stands.
 const NAME: usize = 159;
