@@ -18,7 +18,6 @@ mod relocation;
 mod texts;
 
 pub use core_patch::{Patch, Width, WriteFault};
-pub use core_resolve::Candidates;
 pub use laws::{relocations_rest, types_are_written};
 pub use placed::{Placed, PlacedFault, Position};
 pub use relocation::relocate_types;

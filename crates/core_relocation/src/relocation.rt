@@ -2,7 +2,6 @@
 
 ghost use Rattle.std.specs.Prelude.{◌≡◌, ◌≢◌, ◌≤◌, ◌^◌, ◌⊎◌, length, map, None, IfErr, IfOk, IfSome, OnErr, OnOk};
 ghost use Rattle.std.specs.Map.{values_of};
-ghost use Rattle.std.specs.Option.{option_copied};
 ghost use Rattle.object_parts.specs.Content.{AreKeyed};
 ghost use Rattle.object_parts.specs.Installed.{AreChanged};
 ghost use Rattle.slot_relocation.specs.Writes.{AreFaultless};
@@ -21,7 +20,7 @@ use crate::placement::Lookup;
 use crate::texts::section_name;
 use btf_ext::BtfExt;
 use btf_tables::Btf;
-use core_resolve::{Candidates, TypeMatcher};
+use core_resolve::TypeMatcher;
 use object_file::{ObjectFile, section_indexes};
 use object_parts::{Function, Functions, changes_are_installed};
 use relocation_errors::{BtfRelocationError, RelocationPlace};
@@ -35,18 +34,16 @@ struct Placement {
     stopped: Option<BtfRelocationError>,
 }
 
-/// Places the relocations of groups, with a matcher for these tables.
-fn placement_by(
+/// Places the relocations of groups. Each table is gone over once for all of them.
+fn placement_of(
     alloc: Global,
     file: &ObjectFile<'_>,
     functions: &Functions<'_>,
     local: &Btf<'_>,
     targets: &[Btf<'_>],
-    matcher: &mut TypeMatcher<'_, '_, '_>,
     groups: &[RelocationGroup],
 ) -> Result<Placement, AllocError>
-    requires few { length targets.now ≤ 2 ^ 32 }
-    requires matcher { matcher.old ≡ record { local = local.now; targets = targets.now } }
+    requires { length targets.now ≤ 2 ^ 32 }
     ensures front { IfOk result (λ p.
         IsFront p.all.items
         (all_placed (types_given file.now functions.now local.now targets.now) groups.now)) }
@@ -62,6 +59,8 @@ fn placement_by(
         → GroupsFault (types_given file.now functions.now local.now targets.now) groups.now
         e.error)) }
 {
+    let asked = asked_by(alloc, groups)?;
+    let mut matcher = TypeMatcher::collect(local, asked.as_slice(), targets)?;
     let sections = section_indexes(alloc, file)?;
     let lookup = Lookup {
         alloc,
@@ -72,50 +71,13 @@ fn placement_by(
         targets,
     };
     let mut all = Vec::new(alloc);
-    match lookup.place_groups(matcher, groups, &mut all) {
+    match lookup.place_groups(&mut matcher, groups, &mut all) {
         Ok(()) => Ok(Placement { all, stopped: None }),
         Err(error) => Ok(Placement {
             all,
             stopped: Some(error),
         }),
     }
-}
-
-/// Places the relocations of groups, which are looked up among these candidates, where some are
-/// given, else among those that a walk over each table finds.
-fn placement_of<'c, 'l>(
-    alloc: Global,
-    file: &ObjectFile<'_>,
-    functions: &Functions<'_>,
-    local: &Btf<'_>,
-    targets: &[Btf<'_>],
-    candidates: Option<&'c Candidates<'c, 'l>>,
-    groups: &[RelocationGroup],
-) -> Result<Placement, AllocError>
-    requires few { length targets.now ≤ 2 ^ 32 }
-    requires candidates { IfSome (option_copied candidates) (λ c. c ≡ targets.now) }
-    ensures front { IfOk result (λ p.
-        IsFront p.all.items
-        (all_placed (types_given file.now functions.now local.now targets.now) groups.now)) }
-    ensures whole { IfOk result (λ p.
-        p.stopped ≡ None
-        → (p.all.items
-        ≡ all_placed (types_given file.now functions.now local.now targets.now) groups.now)
-        × StandsNone
-        (GroupsFault (types_given file.now functions.now local.now targets.now) groups.now)) }
-    ensures stopped { IfOk result (λ p.
-        IfSome p.stopped (λ e.
-        e.error ≢ OutOfMemory
-        → GroupsFault (types_given file.now functions.now local.now targets.now) groups.now
-        e.error)) }
-{
-    if let Some(candidates) = candidates {
-        let mut matcher = TypeMatcher::among(local, candidates, targets);
-        return placement_by(alloc, file, functions, local, targets, &mut matcher, groups);
-    }
-    let asked = asked_by(alloc, groups)?;
-    let mut matcher = TypeMatcher::collect(local, asked.as_slice(), targets)?;
-    placement_by(alloc, file, functions, local, targets, &mut matcher, groups)
 }
 
 /// Where a relocation stands at which a value doesn't fit.
@@ -239,8 +201,7 @@ fn first_error(
 /// integers; a load of 64 bits gets the low word in its own slot and the high word in the next one.
 /// Where the kernel has nothing to give, the instruction becomes a call of a helper that isn't
 /// there, a load of 64 bits two of these. The functions know in which tables their relocations have
-/// their first matches; there are no more than 2^32 tables. Candidates that were collected in these
-/// tables before spare a walk over each, and decide no answer.
+/// their first matches; there are no more than 2^32 tables.
 ///
 /// # Errors
 ///
@@ -251,17 +212,15 @@ fn first_error(
 /// and an instruction of another class; `InvalidInstructionIndex` for a load of 64 bits without a
 /// second slot; and `OutOfMemory`. Of several faults the first by group and relocation is answered.
 /// The functions then stay as they are.
-pub fn relocate_types<'c, 'l, 'f>(
+pub fn relocate_types<'f>(
     alloc: Global,
     file: &ObjectFile<'_>,
     extension: &BtfExt<'_>,
     local: &Btf<'_>,
     targets: &[Btf<'_>],
-    candidates: Option<&'c Candidates<'c, 'l>>,
     functions: &mut Functions<'f>,
 ) -> Result<(), BtfRelocationError>
-    requires few { length targets.now ≤ 2 ^ 32 }
-    requires candidates { IfSome (option_copied candidates) (λ c. c ≡ targets.now) }
+    requires { length targets.now ≤ 2 ^ 32 }
     ensures relocated { OnOk result
         (AreRelocated (types_given file.now functions.old local.now targets.now)
         extension.now.relocations functions.new) }
@@ -275,15 +234,7 @@ pub fn relocate_types<'c, 'l, 'f>(
     ensures unchanged { OnErr result (functions.new ≡ functions.old) }
 {
     let groups = groups_of(alloc, extension)?;
-    let placement = placement_of(
-        alloc,
-        file,
-        functions,
-        local,
-        targets,
-        candidates,
-        groups.as_slice(),
-    )?;
+    let placement = placement_of(alloc, file, functions, local, targets, groups.as_slice())?;
     let Placement { all, stopped } = placement;
     match stopped {
         None => write_all(alloc, local, groups.as_slice(), all, functions),

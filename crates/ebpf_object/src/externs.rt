@@ -1,7 +1,7 @@
 //! The externs of an object, resolved.
 
 ghost use Rattle.std.specs.Prelude.{◌≡◌, ◌≢◌, None, Some, false, slice_get, IfErr, IfSome, IsOk, OnErr, OnOk};
-ghost use Rattle.std.specs.Option.{IsSomeAnd, option_copied};
+ghost use Rattle.std.specs.Option.{IsSomeAnd};
 ghost use Rattle.extern_resolution.specs.Outcomes.{is_any_sought};
 ghost use Rattle.extern_resolution.specs.Resolution.{AreResolved, CannotResolve};
 ghost use Rattle.extern_resolution.specs.declared.error.KsymsError.TheVariants.{OutOfMemory};
@@ -9,7 +9,7 @@ ghost use Rattle.watched.specs.Watched.{has_failed, watched_inner};
 
 use crate::object::Object;
 use btf_tables::Btf;
-use extern_resolution::{KernelExterns, KsymsError, resolve_externs_among};
+use extern_resolution::{KsymsError, resolve_externs};
 use std::io::BufRead;
 use watched::Watched;
 
@@ -40,41 +40,12 @@ impl Object<'_> {
         ensures unread { is_any_sought self.old.externs.by_name ≡ false
             → symbols.new ≡ symbols.old }
     {
-        self.resolve_externs_among(kernel_types, symbols, None)
-    }
-
-    /// The same, with what was gathered of the first table before, if that is given: it decides no
-    /// answer, and spares a walk over the table.
-    pub fn resolve_externs_among<R: BufRead>(
-        &mut self,
-        kernel_types: &[Btf<'_>],
-        symbols: &mut Watched<R>,
-        gathered: Option<&KernelExterns<'_, '_>>,
-    ) -> Result<(), KsymsError>
-        requires { IfSome (option_copied gathered) (λ k. slice_get kernel_types.now 0 ≡ Some k) }
-        ensures externs { OnOk result
-            (IfSome self.old.types (λ t.
-            AreResolved t (slice_get kernel_types.now 0) (R.remaining (watched_inner symbols.old))
-            (has_failed symbols.new) self.old.externs self.new.externs)) }
-        ensures others { self.new ≡ record self.old { externs = self.new.externs } }
-        ensures refused { IfErr result (λ f.
-            f ≢ OutOfMemory
-            → IsSomeAnd self.old.types (λ t.
-            CannotResolve t (slice_get kernel_types.now 0) (R.remaining (watched_inner symbols.old))
-            (has_failed symbols.new) self.old.externs f)) }
-        ensures no_table { self.old.types ≡ None
-            → (IsOk result) × (self.new ≡ self.old) × (symbols.new ≡ symbols.old) }
-        ensures err { OnErr result (self.new ≡ self.old) }
-        ensures unread { is_any_sought self.old.externs.by_name ≡ false
-            → symbols.new ≡ symbols.old }
-    {
-        resolve_externs_among(
+        resolve_externs(
             self.alloc,
             &mut self.externs,
             self.btf.as_ref(),
             kernel_types,
             symbols,
-            gathered,
         )
     }
 }

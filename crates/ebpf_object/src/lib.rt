@@ -12,7 +12,6 @@ mod text_sections;
 mod type_relocations;
 mod types;
 
-pub use core_relocation::Candidates;
 pub use ebpf_items::{
     BtfMap, BtfMapDef, CgroupSkbAttachType, CgroupSockAddrAttachType, CgroupSockAttachType,
     CgroupSockoptAttachType, EbpfSectionKind, InvalidSection, InvalidTypeBinding, LegacyMap, Map,
@@ -21,7 +20,7 @@ pub use ebpf_items::{
     bpf_insn, bpf_map_def, bpf_map_info, bpf_map_type, bpf_prog_type, copy_instructions,
     parse_map_info,
 };
-pub use extern_resolution::{KernelExterns, KsymsError};
+pub use extern_resolution::KsymsError;
 pub use object::Object;
 pub use object_externs::{ExternDesc, Externs};
 pub use object_file::{ObjectFile, ReadSection, ReadSymbol, unnamed_symbol};

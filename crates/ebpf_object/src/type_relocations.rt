@@ -1,7 +1,6 @@
 //! The type relocations of an object.
 
-ghost use Rattle.std.specs.Prelude.{◌≡◌, ◌≢◌, ◌≤◌, ◌^◌, length, IfErr, IfSome, OnErr, OnOk};
-ghost use Rattle.std.specs.Option.{option_copied};
+ghost use Rattle.std.specs.Prelude.{◌≡◌, ◌≢◌, ◌≤◌, ◌^◌, length, IfErr, OnErr, OnOk};
 ghost use Rattle.ebpf_object.specs.TypeRelocations.{type_groups, types_of};
 ghost use Rattle.core_relocation.specs.Faults.{CanBeRelocated, HasTypesFault};
 ghost use Rattle.core_relocation.specs.Writes.{AreRelocated};
@@ -9,7 +8,7 @@ ghost use Rattle.relocation_errors.specs.declared.type_relocations.BtfRelocation
 
 use crate::object::Object;
 use btf_tables::Btf;
-use core_relocation::{Candidates, relocate_types};
+use core_relocation::relocate_types;
 use relocation_errors::BtfRelocationError;
 
 impl<'a> Object<'a> {
@@ -20,36 +19,9 @@ impl<'a> Object<'a> {
     /// # Errors
     ///
     /// Those of [`relocate_types`], with the section's name; the object is as before then.
+    #[tactic(auto, using(crate::proofs::Linked::functions_stay_changed, crate::proofs::NoTypeRelocations::none_written, crate::proofs::NoTypeRelocations::none_refused))]
     pub fn relocate_btf(&mut self, kernel_types: &[Btf<'_>]) -> Result<(), BtfRelocationError>
         requires { length kernel_types.now ≤ 2 ^ 32 }
-        ensures relocated { OnOk result
-            (AreRelocated (types_of self.old kernel_types.now) (type_groups self.old)
-            self.new.functions) }
-        ensures sound { OnOk result
-            (CanBeRelocated (types_of self.old kernel_types.now) (type_groups self.old)) }
-        ensures others { self.new ≡ record self.old { functions = self.new.functions } }
-        ensures fault { IfErr result (λ e.
-            e.error ≢ OutOfMemory
-            → HasTypesFault (types_of self.old kernel_types.now) (type_groups self.old) e.error) }
-        ensures unchanged { OnErr result (self.new ≡ self.old) }
-    {
-        self.relocate_btf_among(kernel_types, None)
-    }
-
-    /// The same, with candidates that were collected in these tables before, if there are some:
-    /// they decide no answer, and spare a walk over each table.
-    ///
-    /// # Errors
-    ///
-    /// Those of [`Object::relocate_btf`]; the object is as before then.
-    #[tactic(auto, using(crate::proofs::Linked::functions_stay_changed, crate::proofs::NoTypeRelocations::none_written, crate::proofs::NoTypeRelocations::none_refused))]
-    pub fn relocate_btf_among<'c, 'l>(
-        &mut self,
-        kernel_types: &[Btf<'_>],
-        candidates: Option<&'c Candidates<'c, 'l>>,
-    ) -> Result<(), BtfRelocationError>
-        requires few { length kernel_types.now ≤ 2 ^ 32 }
-        requires candidates { IfSome (option_copied candidates) (λ c. c ≡ kernel_types.now) }
         ensures relocated { OnOk result
             (AreRelocated (types_of self.old kernel_types.now) (type_groups self.old)
             self.new.functions) }
@@ -76,7 +48,6 @@ impl<'a> Object<'a> {
             extension,
             local,
             kernel_types,
-            candidates,
             &mut self.functions,
         )
     }

@@ -8,9 +8,7 @@ use crate::relocations::{Place, RelocationAt};
 use btf_ext::bpf_core_relo;
 use btf_tables::Btf;
 use core_patch::{Patch, WriteFault, patch_of, patched};
-use core_resolve::{
-    Candidates, RelocationOutcome, TypeMatcher, TypeRelocation, TypeRelocationError, collected,
-};
+use core_resolve::{RelocationOutcome, TypeMatcher, TypeRelocation, TypeRelocationError};
 use core_spec::AccessError;
 use ebpf_items::RelocationKind;
 use slot_relocation::Outcome;
@@ -127,45 +125,21 @@ fn all_answers(
     Ok(answers)
 }
 
-/// The candidates for the types that some relocations of an object are about, for which each table
-/// is gone over once; none where there are no such types.
-pub fn candidates_of<'t, 'l>(
-    alloc: Global,
-    local: Option<&'l Btf<'_>>,
-    targets: &'t [Btf<'t>],
-    relocations: &[RelocationAt],
-) -> Result<Option<Candidates<'t, 'l>>, AllocError>
-    ensures { IfOk result (λ found. IfSome found (λ c. c ≡ targets.now)) }
-{
-    let Some(local) = local else {
-        return Ok(None);
-    };
-    let asked = asked_by(alloc, relocations)?;
-    collected(local, asked.as_slice(), targets)
-}
-
 /// What each of some relocations of an object comes to in a kernel's types, by itself: by the slots
-/// of the object, as if no other relocation were made. They are looked up among candidates that
-/// were collected in these tables before, where some are given, else each table is gone over once
-/// for all of them; candidates decide no answer.
-pub fn relocation_answers<'c, 'l>(
+/// of the object, as if no other relocation were made. Each table is
+/// gone over once for all of them.
+pub fn relocation_answers(
     alloc: Global,
     local: Option<&Btf<'_>>,
     targets: &[Btf<'_>],
-    candidates: Option<&'c Candidates<'c, 'l>>,
     relocations: &[RelocationAt],
 ) -> Result<Vec<RelocationAnswer>, AllocError>
-    requires { IfSome (option_copied candidates) (λ c. c ≡ targets.now) }
     ensures { IfOk result (λ answers.
         answers.items ≡ answers_to (option_copied local.entry) targets.now relocations.now) }
 {
     let Some(local) = local else {
         return Ok(Vec::new(alloc));
     };
-    if let Some(candidates) = candidates {
-        let mut matcher = TypeMatcher::among(local, candidates, targets);
-        return all_answers(alloc, &mut matcher, local, targets, relocations);
-    }
     let asked = asked_by(alloc, relocations)?;
     let mut matcher = TypeMatcher::collect(local, asked.as_slice(), targets)?;
     all_answers(alloc, &mut matcher, local, targets, relocations)

@@ -11,9 +11,9 @@ mod relocations;
 mod report;
 mod symbols;
 
-pub use answers::{RelocationAnswer, candidates_of, relocation_answers};
+pub use answers::{RelocationAnswer, relocation_answers};
 pub use core_patch::{Patch, WriteFault};
-pub use core_resolve::{Candidates, TypeRelocationError};
+pub use core_resolve::TypeRelocationError;
 pub use map_numbers::every_map_numbered;
 pub use object_relocations::relocations_in;
 pub use planned::{PlanAnswer, plan_answer};

@@ -1,11 +1,10 @@
 //! Whether an object gets a plan for a kernel.
 
 ghost use Rattle.std.specs.Prelude.{◌≡◌, ◌≢◌, ◌≤◌, ◌^◌, length, IfOk};
-ghost use Rattle.load_plan.specs.Gathered.{AreGathered};
 ghost use Rattle.plan_errors.specs.declared.error.PrepareError.TheVariants.{OutOfMemory};
 ghost use Rattle.kernel_reports.specs.Plans.{IsPlanAnswer};
 
-use load_plan::{Btf, Gathered, Order, PrepareError, Settings, Watched, prepare_among};
+use load_plan::{Btf, Order, PrepareError, Settings, Watched, prepare};
 use std::alloc::{AllocError, Global};
 
 /// Whether an object gets a plan.
@@ -32,20 +31,17 @@ pub fn plan_answer(
     alloc: Global,
     object: &[u8],
     kernel_types: &[Btf<'_>],
-    gathered: Gathered<'_, '_, '_, '_>,
     symbols: &[u8],
     settings: &Settings,
 ) -> Result<PlanAnswer, AllocError>
-    requires tables { length kernel_types.now ≤ 2 ^ 32 }
-    requires gathered { AreGathered kernel_types.now gathered }
+    requires { length kernel_types.now ≤ 2 ^ 32 }
     ensures { IfOk result (IsPlanAnswer object.now kernel_types.now symbols.now settings.now) }
 {
     let mut symbols = Watched::new(symbols);
-    let prepared = prepare_among(
+    let prepared = prepare(
         alloc,
         object,
         kernel_types,
-        gathered,
         &mut symbols,
         settings,
         Order::RelocateFirst,

@@ -6,7 +6,7 @@ ghost use Rattle.kernel_reports.specs.Presences.{SaysOfExterns, all_weak, as_wea
 ghost use Rattle.kernel_reports.specs.declared.presences.Presence.TheVariants.{Unknown};
 
 use btf_tables::Btf;
-use extern_resolution::{KernelExterns, KsymsError, resolve_externs_among};
+use extern_resolution::{KsymsError, resolve_externs};
 use object_externs::{ExternDesc, Externs};
 use std::alloc::{AllocError, Global};
 use string_map::TextMapBuilder;
@@ -100,18 +100,15 @@ fn fault_of(error: KsymsError) -> Result<KsymsError, AllocError>
 
 /// Whether a kernel has each of an object's externs, by name: those with a type by its types,
 /// the others by a text of its symbols, where these are given. An object without types of its own
-/// has none to look for, and nothing is said of any. What was gathered of the first of the kernel's
-/// tables before decides no answer, and spares a walk over it.
+/// has none to look for, and nothing is said of any.
 pub fn presences_of(
     alloc: Global,
     externs: &Externs<'_>,
     table: Option<&Btf<'_>>,
     kernel_types: &[Btf<'_>],
-    gathered: Option<&KernelExterns<'_, '_>>,
     symbols: &[u8],
     has_symbols: bool,
 ) -> Result<Vec<Presence>, AllocError>
-    requires { IfSome (option_copied gathered) (λ k. slice_get kernel_types.now 0 ≡ Some k) }
     ensures { IfOk result (λ said.
         SaysOfExterns (option_copied table.entry) (slice_get kernel_types.now 0) symbols.now
         has_symbols externs.now said.items) }
@@ -122,14 +119,7 @@ pub fn presences_of(
     };
     let mut weak = all_weak(alloc, externs)?;
     let mut symbols = Watched::new(symbols);
-    let answer = resolve_externs_among(
-        alloc,
-        &mut weak,
-        Some(table),
-        kernel_types,
-        &mut symbols,
-        gathered,
-    );
+    let answer = resolve_externs(alloc, &mut weak, Some(table), kernel_types, &mut symbols);
     // a reader of bytes doesn't fail
     if symbols.failed() {
         return Err(AllocError);

@@ -1,15 +1,14 @@
 //! What becomes of an object on a kernel.
 
-ghost use Rattle.std.specs.Prelude.{◌≡◌, ◌≤◌, ◌^◌, length, slice_get, IfOk, IfSome, Some};
-ghost use Rattle.std.specs.Option.{option_copied};
+ghost use Rattle.std.specs.Prelude.{◌≡◌, ◌≤◌, ◌^◌, length, IfOk};
 ghost use Rattle.kernel_reports.specs.Reports.{IsReport};
 
-use crate::answers::{RelocationAnswer, candidates_of, relocation_answers};
+use crate::answers::{RelocationAnswer, relocation_answers};
 use crate::planned::{PlanAnswer, plan_answer};
 use crate::presences::{Presence, presences_of};
 use crate::relocations::RelocationAt;
 use ebpf_object::Object;
-use load_plan::{Btf, Candidates, Gathered, KernelExterns, Settings};
+use load_plan::{Btf, Settings};
 use std::alloc::{AllocError, Global};
 
 /// An object of which it is reported.
@@ -39,62 +38,8 @@ pub struct KernelReport {
     pub externs: Vec<Presence>,
 }
 
-/// What becomes of an object on a kernel, with the candidates for its type relocations and what the
-/// first table has of the names of its externs.
-fn report_among<'c, 'l, 'e, 'n>(
-    alloc: Global,
-    reported: &Reported<'_, '_>,
-    kernel_types: &[Btf<'_>],
-    candidates: Option<&'c Candidates<'c, 'l>>,
-    externs: Option<&'e KernelExterns<'e, 'n>>,
-) -> Result<KernelReport, AllocError>
-    requires tables { length kernel_types.now ≤ 2 ^ 32 }
-    requires candidates { IfSome (option_copied candidates) (λ c. c ≡ kernel_types.now) }
-    requires externs { IfSome (option_copied externs) (λ k. slice_get kernel_types.now 0 ≡ Some k) }
-    ensures { IfOk result
-        (IsReport reported.now.file.now reported.now.object.now reported.now.relocations.now
-        kernel_types.now reported.now.symbols.now reported.now.has_symbols
-        reported.now.settings.now) }
-{
-    let object = reported.object;
-    let gathered = Gathered {
-        candidates,
-        externs,
-    };
-    let plan = plan_answer(
-        alloc,
-        reported.file,
-        kernel_types,
-        gathered,
-        reported.symbols,
-        reported.settings,
-    )?;
-    let relocations = relocation_answers(
-        alloc,
-        object.btf(),
-        kernel_types,
-        candidates,
-        reported.relocations,
-    )?;
-    let externs = presences_of(
-        alloc,
-        object.externs(),
-        object.btf(),
-        kernel_types,
-        externs,
-        reported.symbols,
-        reported.has_symbols,
-    )?;
-    Ok(KernelReport {
-        plan,
-        relocations,
-        externs,
-    })
-}
-
 /// What becomes of an object on a kernel of these types, in no more than 2^32 tables: whether it
-/// gets a plan, and what each relocation and each extern comes to by itself. What these are looked
-/// up among is gathered once for the plan and for the answers.
+/// gets a plan, and what each relocation and each extern comes to by itself.
 pub fn report_on(
     alloc: Global,
     reported: &Reported<'_, '_>,
@@ -107,18 +52,25 @@ pub fn report_on(
         reported.now.settings.now) }
 {
     let object = reported.object;
-    let candidates = candidates_of(alloc, object.btf(), kernel_types, reported.relocations)?;
-    let externs = match (object.btf(), kernel_types.first()) {
-        (Some(table), Some(kernel)) => {
-            Some(KernelExterns::collect(alloc, object.externs(), table, kernel)?)
-        }
-        _ => None,
-    };
-    report_among(
+    let plan = plan_answer(
         alloc,
-        reported,
+        reported.file,
         kernel_types,
-        candidates.as_ref(),
-        externs.as_ref(),
-    )
+        reported.symbols,
+        reported.settings,
+    )?;
+    let relocations = relocation_answers(alloc, object.btf(), kernel_types, reported.relocations)?;
+    let externs = presences_of(
+        alloc,
+        object.externs(),
+        object.btf(),
+        kernel_types,
+        reported.symbols,
+        reported.has_symbols,
+    )?;
+    Ok(KernelReport {
+        plan,
+        relocations,
+        externs,
+    })
 }

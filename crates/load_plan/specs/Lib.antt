@@ -1,4 +1,3 @@
-pub mod Gathered
 pub mod Granted
 pub mod Inputs
 pub mod Made

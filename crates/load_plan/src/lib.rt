@@ -1,7 +1,6 @@
 //! From an eBPF object to its load plan, what a loader hands to one kernel.
 #![tactic(auto)]
 
-mod gathered;
 mod making;
 mod order;
 mod planning;
@@ -9,15 +8,14 @@ mod planning;
 pub use btf_records::{BtfError, BtfFeature, Endianness};
 pub use btf_tables::Btf;
 pub use ebpf_object::{
-    BtfRelocationCause, BtfRelocationError, Candidates, GlobalValue, GlobalValues, KernelExterns,
-    KsymsError, ParseError, PinningType, ProgramSection, RelocationPlace, Slots, Watched, bpf_insn,
+    BtfRelocationCause, BtfRelocationError, GlobalValue, GlobalValues, KsymsError, ParseError,
+    PinningType, ProgramSection, RelocationPlace, Slots, Watched, bpf_insn,
 };
-pub use gathered::Gathered;
 pub use order::Order;
 pub use plan_errors::PrepareError;
 pub use plan_text::{
     Answers, MapWords, Plan, PlanMap, PlanProgram, PlanReadError, texts_are_read_back,
 };
-pub use planning::{prepare, prepare_among};
+pub use planning::prepare;
 pub use relocation_errors::{EbpfRelocationError, RelocationError};
 pub use settings::Settings;

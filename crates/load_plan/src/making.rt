@@ -3,7 +3,6 @@
 ghost use Rattle.std.specs.Prelude.{◌≡◌, ◌≢◌, ◌≤◌, ◌^◌, ℕ, List, length, slice_get, IfErr, IfOk, OnOk};
 ghost use Rattle.ebpf_object.specs.TextSections as code;
 ghost use Rattle.ebpf_object.specs.Rewriting.{AreAnswered};
-ghost use Rattle.load_plan.specs.Gathered.{AreGathered};
 ghost use Rattle.load_plan.specs.Inputs.{inputs, symbols_given};
 ghost use Rattle.load_plan.specs.Made.{AreTypesMade, AreTypesRefused, IsMade, IsRefusedTypes};
 ghost use Rattle.load_plan.specs.Passes.{CannotLink, CannotPutValues, CannotResolve, CannotWriteExterns, CannotWriteNumbers, HasNamelessRecord, CannotRelocateTypes, HasKernelTypes, IsNumbered, KeepsNamed, LacksKernelTypes, LacksNumber, LinksPrograms, OfKsyms, OfParse, OfRelocation, OfTypeRelocation, PutsValues, RelocatesTypes, ResolvesExterns, RewritesTypes, WritesExterns, WritesNumbers};
@@ -11,7 +10,6 @@ ghost use Rattle.load_plan.specs.Planned.{IsRefusedObject};
 ghost use Rattle.plan_errors.specs.declared.error.PrepareError.TheVariants.{OutOfMemory};
 ghost use Rattle.watched.specs.Watched.{has_failed, watched_inner};
 
-use crate::gathered::Gathered;
 use crate::order::Order;
 use btf_records::BtfFeature;
 use btf_tables::Btf;
@@ -80,11 +78,9 @@ fn require_kernel_types(kernel_types: &[Btf<'_>], object: &Object<'_>) -> Result
 /// Resolves an object's externs by a kernel's types and symbols.
 fn resolve<R: BufRead>(
     kernel_types: &[Btf<'_>],
-    gathered: Gathered<'_, '_, '_, '_>,
     symbols: &mut Watched<R>,
     object: &mut Object<'_>,
 ) -> Result<(), PrepareError>
-    requires { AreGathered kernel_types.now gathered }
     ensures made { OnOk result
         (ResolvesExterns (slice_get kernel_types.now 0)
         (symbols_given (R.remaining (watched_inner symbols.old)) (has_failed symbols.new))
@@ -96,23 +92,18 @@ fn resolve<R: BufRead>(
         (symbols_given (R.remaining (watched_inner symbols.old)) (has_failed symbols.new))
         object.old) e) }
 {
-    object.resolve_externs_among(kernel_types, symbols, gathered.externs)?;
+    object.resolve_externs(kernel_types, symbols)?;
     Ok(())
 }
 
 /// Writes what an object's type relocations come to into its slots.
-fn relocate_types(
-    kernel_types: &[Btf<'_>],
-    gathered: Gathered<'_, '_, '_, '_>,
-    object: &mut Object<'_>,
-) -> Result<(), PrepareError>
-    requires few { length kernel_types.now ≤ 2 ^ 32 }
-    requires gathered { AreGathered kernel_types.now gathered }
+fn relocate_types(kernel_types: &[Btf<'_>], object: &mut Object<'_>) -> Result<(), PrepareError>
+    requires { length kernel_types.now ≤ 2 ^ 32 }
     ensures made { OnOk result (RelocatesTypes kernel_types.now object.old object.new) }
     ensures refused { IfErr result (λ e.
         e ≢ OutOfMemory → OfTypeRelocation (CannotRelocateTypes kernel_types.now object.old) e) }
 {
-    object.relocate_btf_among(kernel_types, gathered.candidates)?;
+    object.relocate_btf(kernel_types)?;
     Ok(())
 }
 
@@ -194,13 +185,11 @@ fn link(object: &mut Object<'_>, text_sections: &BTreeSet<usize>) -> Result<(), 
 /// answered about the kernel's features.
 fn make_types<F: FnMut(BtfFeature) -> bool>(
     kernel_types: &[Btf<'_>],
-    gathered: Gathered<'_, '_, '_, '_>,
     order: Order,
     object: &mut Object<'_>,
     predicate: F,
 ) -> Result<Answers, PrepareError>
     requires tables { length kernel_types.now ≤ 2 ^ 32 }
-    requires gathered { AreGathered kernel_types.now gathered }
     requires predicate { F.IsAlwaysCallable predicate }
     ensures made { IfOk result (λ answers.
         AreTypesMade F.FnMut predicate kernel_types.now order answers.items object.old object.new) }
@@ -209,13 +198,13 @@ fn make_types<F: FnMut(BtfFeature) -> bool>(
 {
     match order {
         Order::RelocateFirst => {
-            relocate_types(kernel_types, gathered, object)?;
+            relocate_types(kernel_types, object)?;
             let answers = rewrite_types(object, predicate)?;
             Ok(answers)
         }
         Order::RewriteFirst => {
             let answers = rewrite_types(object, predicate)?;
-            relocate_types(kernel_types, gathered, object)?;
+            relocate_types(kernel_types, object)?;
             Ok(answers)
         }
     }
@@ -226,7 +215,6 @@ fn make_types<F: FnMut(BtfFeature) -> bool>(
 pub(crate) fn make<R: BufRead, F: FnMut(BtfFeature) -> bool, P: FnOnce() -> bool>(
     alloc: Global,
     kernel_types: &[Btf<'_>],
-    gathered: Gathered<'_, '_, '_, '_>,
     symbols: &mut Watched<R>,
     settings: &Settings,
     order: Order,
@@ -235,7 +223,6 @@ pub(crate) fn make<R: BufRead, F: FnMut(BtfFeature) -> bool, P: FnOnce() -> bool
     probe: P,
 ) -> Result<Answers, PrepareError>
     requires tables { length kernel_types.now ≤ 2 ^ 32 }
-    requires gathered { AreGathered kernel_types.now gathered }
     requires predicate { F.IsAlwaysCallable predicate }
     requires probe { P.pre probe }
     ensures made { IfOk result (λ answers.
@@ -256,9 +243,9 @@ pub(crate) fn make<R: BufRead, F: FnMut(BtfFeature) -> bool, P: FnOnce() -> bool
     require_numbered(alloc, settings, object)?;
     put_values(settings, object)?;
     require_kernel_types(kernel_types, object)?;
-    resolve(kernel_types, gathered, symbols, object)?;
+    resolve(kernel_types, symbols, object)?;
     let text_sections = object.text_sections()?;
-    let answers = make_types(kernel_types, gathered, order, object, predicate)?;
+    let answers = make_types(kernel_types, order, object, predicate)?;
     write_numbers(alloc, settings, object, &text_sections)?;
     write_externs(object)?;
     link(object, &text_sections)?;

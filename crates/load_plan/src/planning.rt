@@ -2,14 +2,12 @@
 
 ghost use Rattle.std.specs.Prelude.{◌≢◌, ◌≤◌, ◌^◌, ℕ, List, length, IfErr, IfOk};
 ghost use Rattle.ebpf_object.specs.Faults.{HasFault};
-ghost use Rattle.load_plan.specs.Gathered.{AreGathered};
 ghost use Rattle.load_plan.specs.Inputs.{inputs, symbols_given};
 ghost use Rattle.load_plan.specs.Passes.{OfParse};
 ghost use Rattle.load_plan.specs.Planned.{IsPlanned, IsPlannedObject, IsRefusal, IsRefusedObject, IsWholeObject};
 ghost use Rattle.plan_errors.specs.declared.error.PrepareError.TheVariants.{OutOfMemory};
 ghost use Rattle.watched.specs.Watched.{has_failed, watched_inner};
 
-use crate::gathered::Gathered;
 use crate::making::make;
 use crate::order::Order;
 use btf_records::BtfFeature;
@@ -37,7 +35,6 @@ fn parse<'a>(alloc: Global, file: &'a [u8]) -> Result<Object<'a>, PrepareError>
 fn plan_object<'a, R: BufRead, F: FnMut(BtfFeature) -> bool, P: FnOnce() -> bool>(
     alloc: Global,
     kernel_types: &[Btf<'_>],
-    gathered: Gathered<'_, '_, '_, '_>,
     symbols: &mut Watched<R>,
     settings: &Settings,
     order: Order,
@@ -46,7 +43,6 @@ fn plan_object<'a, R: BufRead, F: FnMut(BtfFeature) -> bool, P: FnOnce() -> bool
     probe: P,
 ) -> Result<Plan<'a>, PrepareError>
     requires tables { length kernel_types.now ≤ 2 ^ 32 }
-    requires gathered { AreGathered kernel_types.now gathered }
     requires predicate { F.IsAlwaysCallable predicate }
     requires probe { P.pre probe }
     ensures planned { IfOk result (λ plan.
@@ -74,7 +70,6 @@ fn plan_object<'a, R: BufRead, F: FnMut(BtfFeature) -> bool, P: FnOnce() -> bool
     let answers = make(
         alloc,
         kernel_types,
-        gathered,
         symbols,
         settings,
         order,
@@ -136,57 +131,10 @@ pub fn prepare<'a, R: BufRead, F: FnMut(BtfFeature) -> bool, P: FnOnce() -> bool
         (symbols_given (R.remaining (watched_inner symbols.old)) (has_failed symbols.new))
         settings.now order) e) }
 {
-    prepare_among(
-        alloc,
-        object,
-        kernel_types,
-        Gathered::nothing(),
-        symbols,
-        settings,
-        order,
-        predicate,
-        probe,
-    )
-}
-
-/// [`prepare`], with what was found in the kernel's tables before: the plan and the refusal are the
-/// same, and a table isn't gone over again for what was found.
-///
-/// # Errors
-///
-/// Those of [`prepare`].
-pub fn prepare_among<'a, R: BufRead, F: FnMut(BtfFeature) -> bool, P: FnOnce() -> bool>(
-    alloc: Global,
-    object: &'a [u8],
-    kernel_types: &[Btf<'_>],
-    gathered: Gathered<'_, '_, '_, '_>,
-    symbols: &mut Watched<R>,
-    settings: &Settings,
-    order: Order,
-    predicate: F,
-    probe: P,
-) -> Result<Plan<'a>, PrepareError>
-    requires tables { length kernel_types.now ≤ 2 ^ 32 }
-    requires gathered { AreGathered kernel_types.now gathered }
-    requires predicate { F.IsAlwaysCallable predicate }
-    requires probe { P.pre probe }
-    ensures planned { IfOk result
-        (IsPlanned F.FnMut predicate (P.post probe)
-        (inputs object.entry.now kernel_types.now
-        (symbols_given (R.remaining (watched_inner symbols.old)) (has_failed symbols.new))
-        settings.now order)) }
-    ensures refused { IfErr result (λ e.
-        e ≢ OutOfMemory
-        → IsRefusal F.FnMut predicate
-        (inputs object.entry.now kernel_types.now
-        (symbols_given (R.remaining (watched_inner symbols.old)) (has_failed symbols.new))
-        settings.now order) e) }
-{
     let mut parsed = parse(alloc, object)?;
     plan_object(
         alloc,
         kernel_types,
-        gathered,
         symbols,
         settings,
         order,

@@ -1,5 +1,5 @@
 use Rattle.load_plan.proofs.Chain.{through_ok}
-use Rattle.load_plan.proofs.planning.prepare_among.Goals as goal
+use Rattle.load_plan.proofs.planning.prepare.Goals as goal
 
 pub returns-clause-planned : goal.returns-clause-planned
 returns-clause-planned g c =
