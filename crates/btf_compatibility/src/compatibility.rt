@@ -178,6 +178,28 @@ fn ends_are_compatible(
     Ok(true)
 }
 
+/// Whether types of equal kinds are compatible, past the modifiers that lead to them; types of
+/// other kinds aren't.
+fn compared<'t>(
+    local: &Btf<'t>,
+    local_id: u32,
+    target: &Btf<'t>,
+    target_id: u32,
+) -> Result<bool, BtfError>
+    ensures answer { IfOk result (λ yes.
+        types_compatible local.now local_id target.now target_id ≡ Ok yes) }
+    ensures refused { IfErr result (λ e.
+        e ≢ BtfError.OutOfMemory
+        → types_compatible local.now local_id target.now target_id ≡ Err e) }
+{
+    let local_kind = local.type_by_id(local_id)?.kind();
+    let target_kind = target.type_by_id(target_id)?.kind();
+    if local_kind != target_kind {
+        return Ok(false);
+    }
+    ends_are_compatible(local, target, local_id, local_id, target_id)
+}
+
 /// Whether a type is compatible with a type of another table, as libbpf asks of the types that a
 /// program was compiled against and those of a kernel (`bpf_core_types_are_compat`,
 /// tools/lib/bpf/relo_core.c).
@@ -208,10 +230,5 @@ pub fn types_are_compatible<'t>(
         types_compatible one local_id other target_id) }
     ensures held { AreHeld compared_ids }
 {
-    let local_kind = local.type_by_id(local_id)?.kind();
-    let target_kind = target.type_by_id(target_id)?.kind();
-    if local_kind != target_kind {
-        return Ok(false);
-    }
-    ends_are_compatible(local, target, local_id, local_id, target_id)
+    compared(local, local_id, target, target_id)
 }

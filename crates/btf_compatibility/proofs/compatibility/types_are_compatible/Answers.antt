@@ -10,8 +10,7 @@ use Rattle.btf_compatibility.proofs.compatibility.types_are_compatible.Goals as 
 pub returns-clause-exchanged : goal.returns-clause-exchanged
 returns-clause-exchanged c =
     let a = c.args in
-    let answer : IfOk c.ends_are_compatible.result (λ b. types_compatible a.local.now a.local_id a.target.now a.target_id ≡ Ok b) = grind (arith, common_steps) in
-    answer-exchanged a.local.now a.local_id a.target.now a.target_id _ answer
+    answer-exchanged a.local.now a.local_id a.target.now a.target_id _ c.compared.ensures.answer
 
 pub returns-clause-rests : goal.returns-clause-rests
 returns-clause-rests c = types_rest _ _ _ _
