@@ -44,7 +44,7 @@ func_words r = r.insn_off ∷ r.type_id ∷ []
 abbrev pub line_words : bpf_line_info → List ℕ
 line_words r = r.insn_off ∷ r.file_name_off ∷ r.line_off ∷ r.line_col ∷ []
 
--- records as bytes, the low byte of each word first
+-- records as little-endian words
 abbrev pub func_bytes : List bpf_func_info → List ℕ
 func_bytes records = words_bytes Little (flat_map func_words records)
 

@@ -116,7 +116,7 @@ impl Record for bpf_core_relo {
 }
 
 impl bpf_func_info {
-    /// Writes its words after what is there, the low byte of each first.
+    /// Writes its words after what is there, little-endian.
     pub(crate) fn write(self, out: &mut Vec<u8>) -> Result<(), AllocError>
         ensures { OnOk result
             (out.new.items ≡ out.old.items ++ words_bytes Little (func_words self)) }
@@ -127,7 +127,7 @@ impl bpf_func_info {
 }
 
 impl bpf_line_info {
-    /// Writes its words after what is there, the low byte of each first.
+    /// Writes its words after what is there, little-endian.
     pub(crate) fn write(self, out: &mut Vec<u8>) -> Result<(), AllocError>
         ensures { OnOk result
             (out.new.items ≡ out.old.items ++ words_bytes Little (line_words self)) }

@@ -131,7 +131,7 @@ impl<'a> FuncSecInfo<'a> {
         }
     }
 
-    /// The records as the kernel takes them: two words each, the low byte of each word first.
+    /// The records as the kernel takes them: two little-endian words each.
     pub fn func_info_bytes(&self, alloc: Global) -> Result<Vec<u8>, AllocError>
         ensures { IfOk result (λ bytes. bytes.items ≡ func_bytes self.now) }
     {
@@ -237,7 +237,7 @@ impl<'a> LineSecInfo<'a> {
         }
     }
 
-    /// The records as the kernel takes them: four words each, the low byte of each word first.
+    /// The records as the kernel takes them: four little-endian words each.
     pub fn line_info_bytes(&self, alloc: Global) -> Result<Vec<u8>, AllocError>
         ensures { IfOk result (λ bytes. bytes.items ≡ line_bytes self.now) }
     {

@@ -26,7 +26,7 @@ pub enum AccessError {
     /// A path has too many parts, or a struct or union is met inside itself.
     #[error("maximum nesting level reached")]
     MaximumNestingLevelReached,
-    /// The types can't be read so; `BtfError::OutOfMemory` is want of memory.
+    /// The types can't be read so, or memory ran out.
     #[error("{0}")]
     BtfError(BtfError),
 }

@@ -4,7 +4,7 @@ use Rattle.btf_records.specs.declared.error.BtfError.TheVariants as btf
 use Rattle.ebpf_items.specs.declared.error.ParseError.{ParseError}
 use Rattle.ebpf_items.specs.declared.error.ParseError.TheVariants as parse
 
--- want of memory stays what it is
+-- out of memory stays what it is
 abbrev pub parse_error_of : BtfError → ParseError
 parse_error_of btf.OutOfMemory = parse.OutOfMemory
 parse_error_of error = parse.BtfError error

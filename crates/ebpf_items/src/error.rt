@@ -201,7 +201,7 @@ impl From<ElfError> for ParseError {
     }
 }
 
-/// Want of memory stays want of memory.
+/// Out of memory stays out of memory.
 impl From<BtfError> for ParseError {
     ghost from_gives = { λ error e. e ≡ parse_error_of error };
 

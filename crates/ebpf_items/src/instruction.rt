@@ -30,7 +30,7 @@ pub struct bpf_insn {
 }
 
 impl bpf_insn {
-    /// The slot that eight bytes encode, numbers least byte first.
+    /// The slot that eight bytes encode, little-endian.
     pub fn from_bytes(bytes: [u8; 8]) -> bpf_insn
         ensures value { result ≡ slot_of bytes }
         ensures again { bytes_of result ≡ bytes }
@@ -52,7 +52,7 @@ impl bpf_insn {
         }
     }
 
-    /// The eight bytes that encode the slot, numbers least byte first.
+    /// The eight bytes that encode the slot, little-endian.
     pub fn to_bytes(self) -> [u8; 8]
         ensures value { result ≡ bytes_of self }
         ensures again { slot_of result ≡ self }

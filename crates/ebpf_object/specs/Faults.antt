@@ -39,7 +39,7 @@ HasObjectFault file e =
 pub record IsSound (file : List ℕ) : Type 0 where
   pub none : (e : ParseError) → HasObjectFault file e → ⊥
 
--- a fault of a file, or of what one without such a fault holds; want of memory is none
+-- a fault of a file, or of what one without such a fault holds; out of memory is none
 abbrev pub HasFault : List ℕ → ParseError → Type 0
 HasFault file e = HasFileFault file e ⊎ (IsFileFaultless file × HasObjectFault file e)
 

@@ -60,7 +60,7 @@ fn write_object<W: Write>(object: &Object<'_>, notes: &[Note<'_>], out: &mut W) 
     write_notes(notes, out)
 }
 
-/// The notes on a file; want of memory alone is refused.
+/// The notes on a file; out of memory alone is refused.
 fn notes_of<'a>(alloc: Global, bytes: &'a [u8]) -> Result<Vec<Note<'a>>, ParseError>
     ensures { IfErr result (λ e. e ≢ OutOfMemory → HasFault bytes.now e) }
 {

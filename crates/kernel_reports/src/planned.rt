@@ -11,11 +11,11 @@ use std::alloc::{AllocError, Global};
 #[derive(Debug, Drop)]
 pub enum PlanAnswer {
     Planned,
-    /// It is refused, and not for want of memory.
+    /// It is refused, and not for lack of memory.
     Refused(PrepareError),
 }
 
-/// An error that isn't want of memory.
+/// An error that isn't out of memory.
 fn fault_of(error: PrepareError) -> Result<PrepareError, AllocError>
     ensures { IfOk result (λ fault. (fault ≡ error) × (error ≢ OutOfMemory)) }
 {

@@ -88,7 +88,7 @@ fn all_unknown(alloc: Global, externs: &Externs<'_>) -> Result<Vec<Presence>, Al
     Ok(told)
 }
 
-/// An error that isn't want of memory.
+/// An error that isn't out of memory.
 fn fault_of(error: KsymsError) -> Result<KsymsError, AllocError>
     ensures { IfOk result (λ fault. (fault ≡ error) × (error ≢ OutOfMemory)) }
 {

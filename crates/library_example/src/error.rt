@@ -32,7 +32,7 @@ pub enum ExampleError {
 }
 
 impl ExampleError {
-    /// The status that a program ends with: 2 where it was called otherwise, 3 for want of memory,
+    /// The status that a program ends with: 2 where it was called otherwise, 3 for lack of memory,
     /// else 1.
     pub fn status(&self) -> u8 {
         match self {

@@ -47,7 +47,7 @@ fn program_slots<'f>(
 
 /// A function with the slots and records of a linked program, and the kernel tables that its
 /// relocations matched, in place of its own. More records than 32 bits count can't be held: this is
-/// want of memory.
+/// out of memory.
 fn with_copies<'f>(
     function: &Function<'f>,
     is_alone: bool,
@@ -172,7 +172,7 @@ impl<'s, 'o, 'f> Source<'s, 'o, 'f> {
 /// `UnknownSymbol` for a reference to a symbol that can't stand for a function, `UnknownFunction`
 /// for a reference to an address at which none begins, `FunctionInfoMismatch` for a function whose
 /// records don't fit those of the program, `InvalidRelocationOffset` for a program of 2^31 slots or
-/// more, and `OutOfMemory`; more records than 32 bits count are want of memory too. The functions
+/// more, and `OutOfMemory`; more records than 32 bits count are `OutOfMemory` too. The functions
 /// then stay as they are.
 pub fn relocate_calls<'f>(
     alloc: Global,

@@ -98,7 +98,7 @@ fn moved(line: bpf_line_info, start: u32, first: u32) -> Option<bpf_line_info>
     Some(bpf_line_info { insn_off, ..line })
 }
 
-/// Appends records of lines, moved to a slot. Where a record can't be held, this is want of memory.
+/// Appends records of lines, moved to a slot. Fails where memory runs out.
 pub(crate) fn push_moved_lines(
     out: &mut Vec<bpf_line_info>,
     records: &LineSecInfo<'_>,

@@ -9,7 +9,7 @@ pub enum Note<'a> {
     OtherMachine {
         machine: u16,
     },
-    /// The file's numbers are most byte first.
+    /// The file's numbers are big-endian.
     MostByteFirst,
     /// No section is called `license`.
     NoLicense,

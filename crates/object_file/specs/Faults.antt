@@ -28,7 +28,7 @@ HasHeldFault file (error.BtfError btf.InvalidSymbolName) =
     list_any is_unnamed (symbols_of file) ≡ true
 HasHeldFault file _ = ⊥
 
--- a fault of a file; want of memory is none
+-- a fault of a file; out of memory is none
 abbrev pub HasFileFault : List ℕ → ParseError → Type 0
 HasFileFault file (error.ElfError e) = elf.HasFault file e
 HasFileFault file e = elf.IsFaultless file × HasHeldFault file e

@@ -1,4 +1,4 @@
--- How the errors of passes become a PrepareError: want of memory stays what it is.
+-- How the errors of passes become a PrepareError: out of memory stays what it is.
 use Rattle.btf_records.specs.declared.error.BtfError.{BtfError}
 use Rattle.btf_records.specs.declared.error.BtfError.TheVariants as btf
 use Rattle.ebpf_items.specs.declared.error.ParseError.{ParseError}

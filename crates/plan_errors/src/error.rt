@@ -54,7 +54,7 @@ pub enum PrepareError {
     OutOfMemory,
 }
 
-/// Want of memory stays want of memory.
+/// Out of memory stays out of memory.
 impl From<ParseError> for PrepareError {
     ghost from_gives = { λ error e. e ≡ of_parse error };
 
@@ -66,7 +66,7 @@ impl From<ParseError> for PrepareError {
     }
 }
 
-/// Want of memory stays want of memory.
+/// Out of memory stays out of memory.
 impl From<KsymsError> for PrepareError {
     ghost from_gives = { λ error e. e ≡ of_ksyms error };
 
@@ -78,7 +78,7 @@ impl From<KsymsError> for PrepareError {
     }
 }
 
-/// Want of memory stays want of memory.
+/// Out of memory stays out of memory.
 impl From<BtfError> for PrepareError {
     ghost from_gives = { λ error e. e ≡ of_types error };
 
@@ -90,7 +90,7 @@ impl From<BtfError> for PrepareError {
     }
 }
 
-/// Want of memory stays want of memory.
+/// Out of memory stays out of memory.
 impl From<BtfRelocationError> for PrepareError {
     ghost from_gives = { λ error e. e ≡ of_type_relocation error };
 
@@ -102,7 +102,7 @@ impl From<BtfRelocationError> for PrepareError {
     }
 }
 
-/// Want of memory stays want of memory.
+/// Out of memory stays out of memory.
 impl From<EbpfRelocationError> for PrepareError {
     ghost from_gives = { λ error e. e ≡ of_relocation error };
 

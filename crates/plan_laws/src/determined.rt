@@ -13,7 +13,7 @@ pub fn plans_are_determined()
     layout_is_unique();
 }
 
-/// Of the same inputs and answers there isn't both a plan and a refusal, want of memory apart,
+/// Of the same inputs and answers there isn't both a plan and a refusal, out of memory apart,
 /// where the text of the kernel's symbols is known or no extern is looked for in it.
 pub fn plans_exclude_refusals()
     ensures { PlansExcludeRefusals }

@@ -24,7 +24,7 @@ pub fn orders_plan_alike()
     relocations_rest();
 }
 
-/// Under these premises there isn't a plan in one order and a refusal in the other, want of memory
+/// Under these premises there isn't a plan in one order and a refusal in the other, out of memory
 /// apart: what `prepare` answers in the two orders for a kernel that is known beforehand are both
 /// plans or both refusals.
 pub fn orders_refuse_alike()

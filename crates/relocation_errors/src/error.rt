@@ -92,7 +92,7 @@ pub struct EbpfRelocationError {
 }
 
 impl EbpfRelocationError {
-    /// A fault at a function. It is want of memory where the name can't be kept.
+    /// A fault at a function. It is out of memory where the name can't be kept.
     pub fn new(alloc: Global, function: &str, error: RelocationError) -> EbpfRelocationError
         ensures error { result.error ≢ OutOfMemory → result.error ≡ error }
         ensures function { result.error ≢ OutOfMemory

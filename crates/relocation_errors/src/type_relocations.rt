@@ -119,7 +119,7 @@ pub struct BtfRelocationError {
 }
 
 impl BtfRelocationError {
-    /// A fault at a place of a group. It is want of memory where name or place couldn't be kept.
+    /// A fault at a place of a group. It is out of memory where name or place couldn't be kept.
     pub fn new(
         section: Result<String, AllocError>,
         place: Result<RelocationPlace, AllocError>,
