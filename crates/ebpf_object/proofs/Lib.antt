@@ -1,5 +1,2 @@
-pub mod Faultless
-pub mod Linked
-pub mod NoPrograms
 pub mod NoTypeRelocations
-pub mod RefusedTables
+pub mod Served

@@ -5,7 +5,7 @@ use Rattle.std.specs.Option.{option_map, option_map_or}
 use Rattle.std.specs.Prelude.{not}
 use Rattle.btf_ext.specs.Extensions.{Extension}
 use Rattle.btf_tables.specs.Tables.{Table}
-use Rattle.ebpf_object.specs.ParsedObject.{ObjectContent}
+use Rattle.object_whole.specs.ParsedObject.{ObjectContent}
 use Rattle.ebpf_object.specs.TypeRelocations.{groups_beside, type_groups, types_of}
 use Rattle.object_parts.specs.Content.{FunctionContent, function_at}
 use Rattle.core_relocation.specs.Faults.{CanBeRelocated, HasTypesFault, WritesFault}

@@ -1,8 +1,1 @@
-pub mod Faults
-pub mod Hashed
-pub mod Helpers
-pub mod ParsedObject
-pub mod Rewriting
-pub mod TextSections
 pub mod TypeRelocations
-pub mod Types

@@ -3,7 +3,7 @@ use Rattle.std.specs.Prelude.{List, [], Option, Some, unwrap_or}
 use Rattle.btf_ext.specs.Extensions.{Extension}
 use Rattle.btf_tables.specs.Tables.{Table, new_table}
 use Rattle.core_relocation.specs.Relocations.{Groups, TypesGiven, types_given}
-use Rattle.ebpf_object.specs.ParsedObject.{ObjectContent}
+use Rattle.object_whole.specs.ParsedObject.{ObjectContent}
 
 -- the groups that stand beside an object's types; without types there are none
 abbrev pub groups_beside : Option Table → Option Extension → Groups

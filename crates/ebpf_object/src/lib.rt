@@ -1,35 +1,19 @@
-//! Parsed eBPF objects.
+//! Parsed eBPF objects: the items of the crates that they are made of, and type relocations of a
+//! whole object.
 #![tactic(auto)]
 
-mod copies;
-mod externs;
-mod globals;
-mod hashed;
-mod object;
-mod rewriting;
-mod slots;
-mod text_sections;
 mod type_relocations;
-mod types;
 
-pub use ebpf_items::{
-    BtfMap, BtfMapDef, CgroupSkbAttachType, CgroupSockAddrAttachType, CgroupSockAttachType,
-    CgroupSockoptAttachType, EbpfSectionKind, InvalidSection, InvalidTypeBinding, LegacyMap, Map,
-    ParseError, PinningError, PinningType, ProgramSection, RelocationKind, Section,
-    SkReuseportAttachType, SkSkbKind, SlotIter, Slots, Watched, XdpAttachType, bpf_attach_type,
-    bpf_insn, bpf_map_def, bpf_map_info, bpf_map_type, bpf_prog_type, copy_instructions,
-    parse_map_info,
+pub use object_whole::{
+    BtfMap, BtfMapDef, BtfRelocationCause, BtfRelocationError, CgroupSkbAttachType,
+    CgroupSockAddrAttachType, CgroupSockAttachType, CgroupSockoptAttachType, EbpfRelocationError,
+    EbpfSectionKind, ExternDesc, Externs, Function, Functions, GlobalValue, GlobalValues,
+    InvalidSection, InvalidTypeBinding, KsymsError, LegacyMap, Map, Maps, NumberedMap, Object,
+    ObjectFile, ParseError, PinningError, PinningType, Program, ProgramSection, Programs,
+    ProgramsBuilder, ReadSection, ReadSymbol, RelocationError, RelocationKind, RelocationPlace,
+    Section, SkReuseportAttachType, SkSkbKind, SlotIter, Slots, TextMap, TextMapBuilder, Watched,
+    XdpAttachType, bpf_attach_type, bpf_insn, bpf_map_def, bpf_map_info, bpf_map_type,
+    bpf_prog_type, copy_instructions, function_without_code, name_at, parse_map_info,
+    unnamed_symbol,
 };
-pub use extern_resolution::KsymsError;
-pub use object::Object;
-pub use object_externs::{ExternDesc, Externs};
-pub use object_file::{ObjectFile, ReadSection, ReadSymbol, unnamed_symbol};
-pub use object_maps::Maps;
-pub use object_parse::{function_without_code, name_at};
-pub use object_parts::{Function, Functions, Program, Programs, ProgramsBuilder};
-pub use relocation_errors::{
-    BtfRelocationCause, BtfRelocationError, EbpfRelocationError, RelocationError, RelocationPlace,
-};
-pub use settings::{GlobalValue, GlobalValues};
-pub use slot_relocation::NumberedMap;
-pub use string_map::{TextMap, TextMapBuilder};
+pub use type_relocations::RelocateBtf;

@@ -1,27 +1,71 @@
 //! The type relocations of an object.
 
 ghost use Rattle.std.specs.Prelude.{◌≡◌, ◌≢◌, ◌≤◌, ◌^◌, length, IfErr, OnErr, OnOk};
-ghost use Rattle.ebpf_object.specs.TypeRelocations.{type_groups, types_of};
 ghost use Rattle.core_relocation.specs.Faults.{CanBeRelocated, HasTypesFault};
 ghost use Rattle.core_relocation.specs.Writes.{AreRelocated};
+ghost use Rattle.ebpf_object.specs.TypeRelocations.{type_groups, types_of};
 ghost use Rattle.relocation_errors.specs.declared.type_relocations.BtfRelocationCause.TheVariants.{OutOfMemory};
 
-use crate::object::Object;
 use btf_tables::Btf;
 use core_relocation::relocate_types;
+use object_parts::Functions;
+use object_whole::Object;
 use relocation_errors::BtfRelocationError;
 
-impl<'a> Object<'a> {
-    /// Writes what the object's type relocations come to in a kernel's tables into the slots at
-    /// which they stand: [`relocate_types`]. They are looked up in the object's types as these
-    /// stand, which it doesn't change. There are no more than 2^32 tables.
+/// Type relocations of a whole object.
+pub trait RelocateBtf {
+    /// Writes what type relocations come to in a kernel's tables, of which there are no more than
+    /// 2^32, into the slots at which they stand: [`relocate_types`].
     ///
     /// # Errors
     ///
     /// Those of [`relocate_types`], with the section's name; the object is as before then.
-    #[tactic(auto, using(crate::proofs::Linked::functions_stay_changed, crate::proofs::NoTypeRelocations::none_written, crate::proofs::NoTypeRelocations::none_refused))]
-    pub fn relocate_btf(&mut self, kernel_types: &[Btf<'_>]) -> Result<(), BtfRelocationError>
-        requires { length kernel_types.now ≤ 2 ^ 32 }
+    fn relocate_btf(&mut self, kernel_types: &[Btf<'_>]) -> Result<(), BtfRelocationError>
+        requires { length kernel_types.now ≤ 2 ^ 32 };
+}
+
+/// Relocates the functions of an object, which were taken from it.
+#[tactic(auto, using(crate::proofs::NoTypeRelocations::none_written, crate::proofs::NoTypeRelocations::none_refused))]
+fn relocate_functions<'a>(
+    object: &Object<'a>,
+    kernel_types: &[Btf<'_>],
+    functions: &mut Functions<'a>,
+) -> Result<(), BtfRelocationError>
+    requires { length kernel_types.now ≤ 2 ^ 32 }
+    ensures relocated { OnOk result
+        (AreRelocated
+        (types_of (record object.now { functions = functions.old }) kernel_types.now)
+        (type_groups object.now) functions.new) }
+    ensures sound { OnOk result
+        (CanBeRelocated
+        (types_of (record object.now { functions = functions.old }) kernel_types.now)
+        (type_groups object.now)) }
+    ensures fault { IfErr result (λ e.
+        e.error ≢ OutOfMemory
+        → HasTypesFault
+        (types_of (record object.now { functions = functions.old }) kernel_types.now)
+        (type_groups object.now) e.error) }
+    ensures unchanged { OnErr result (functions.new ≡ functions.old) }
+{
+    let Some(local) = object.btf() else {
+        return Ok(());
+    };
+    let Some(extension) = object.btf_ext() else {
+        return Ok(());
+    };
+    relocate_types(
+        local.allocator(),
+        object.file(),
+        extension,
+        local,
+        kernel_types,
+        functions,
+    )
+}
+
+impl<'a> RelocateBtf for Object<'a> {
+    #[tactic(auto, using(crate::proofs::Served::serve))]
+    fn relocate_btf(&mut self, kernel_types: &[Btf<'_>]) -> Result<(), BtfRelocationError>
         ensures relocated { OnOk result
             (AreRelocated (types_of self.old kernel_types.now) (type_groups self.old)
             self.new.functions) }
@@ -36,19 +80,9 @@ impl<'a> Object<'a> {
         if !self.has_btf_relocations() {
             return Ok(());
         }
-        let Some(local) = &self.btf else {
-            return Ok(());
-        };
-        let Some(extension) = &self.btf_ext else {
-            return Ok(());
-        };
-        relocate_types(
-            self.alloc,
-            &self.file,
-            extension,
-            local,
-            kernel_types,
-            &mut self.functions,
-        )
+        let mut code = self.take_code();
+        let relocated = relocate_functions(self, kernel_types, &mut code.functions);
+        self.put_code(code);
+        relocated
     }
 }

@@ -3,7 +3,7 @@
 use btf::Btf;
 use ebpf_object::{
     BtfRelocationCause, BtfRelocationError, Function, GlobalValues, KsymsError, Maps, NumberedMap,
-    Object, ParseError, Watched,
+    Object, ParseError, RelocateBtf, Watched,
 };
 use exercise_words::ExerciseError;
 use relocation_errors::{EbpfRelocationError, RelocationError};

@@ -1,7 +1,7 @@
 -- What an inspection says of the object's bytes.
 use Rattle.std.specs.Prelude.{◌≢◌, ℕ, List}
 use Rattle.ebpf_items.specs.declared.error.ParseError.TheVariants.{OutOfMemory}
-use Rattle.ebpf_object.specs.Faults.{HasFault, IsFaultless}
+use Rattle.object_whole.specs.Faults.{HasFault, IsFaultless}
 use Rattle.inspect_object.specs.declared.error.InspectError.{InspectError}
 use Rattle.inspect_object.specs.declared.error.InspectError.TheVariants.{Refused, Output}
 

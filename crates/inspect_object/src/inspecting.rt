@@ -2,7 +2,7 @@
 
 ghost use Rattle.std.specs.Prelude.{◌≡◌, ◌≢◌, IfErr, OnOk};
 ghost use Rattle.ebpf_items.specs.declared.error.ParseError.TheVariants.{OutOfMemory};
-ghost use Rattle.ebpf_object.specs.Faults.{HasFault, IsFaultless};
+ghost use Rattle.object_whole.specs.Faults.{HasFault, IsFaultless};
 ghost use Rattle.inspect_object.specs.Inspection.{IsInspectRefusal};
 ghost use Rattle.inspect_object.specs.declared.error.InspectError.TheVariants.{Output};
 

@@ -1,6 +1,6 @@
 -- What is reported of an object and a kernel.
 use Rattle.std.specs.Prelude.{◌≡◌, ℕ, List, [], Bool, slice_get}
-use Rattle.ebpf_object.specs.ParsedObject.{ObjectContent}
+use Rattle.object_whole.specs.ParsedObject.{ObjectContent}
 use Rattle.ebpf_object.specs.TypeRelocations.{type_groups, types_of}
 use Rattle.load_plan.specs.Inputs.{SettingsContent, Table}
 use Rattle.kernel_reports.specs.Answers.{answers_to}

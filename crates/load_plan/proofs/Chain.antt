@@ -4,7 +4,7 @@ use Rattle.std.specs.Option.{MatchOption}
 use Rattle.std.specs.Prelude.{IfOk, IfSome, Result, Ok, Err}
 use Rattle.btf_sanitize.specs.Answers.{Answers}
 use Rattle.btf_tables.specs.Tables.{Table}
-use Rattle.ebpf_object.specs.Rewriting.{AreAnswered}
+use Rattle.object_whole.specs.Rewriting.{AreAnswered}
 use Rattle.extern_resolution.specs.Resolution.{AreResolved}
 use Rattle.object_externs.specs.Externs.{ExternsContent}
 use Rattle.load_plan.specs.Inputs.{Inputs, Predicate, State, Symbols, Under}

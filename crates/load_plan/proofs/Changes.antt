@@ -3,8 +3,8 @@ use Rattle.std.proofs.Common.{◌≡◌, List, Bool, true, false, Option, Some, 
 use Rattle.std.specs.Prelude.{is_some, unwrap_or}
 use Rattle.btf_sanitize.specs.Answers.{Answers}
 use Rattle.btf_tables.specs.Tables.{Table}
-use Rattle.ebpf_object.specs.Helpers.{IsSanitized, IsSanitizedIf, for_kernel}
-use Rattle.ebpf_object.specs.Rewriting.{IsRewritten}
+use Rattle.object_whole.specs.Helpers.{IsSanitized, IsSanitizedIf, for_kernel}
+use Rattle.object_whole.specs.Rewriting.{IsRewritten}
 use Rattle.ebpf_object.specs.TypeRelocations.{type_groups, types_of}
 use Rattle.function_layout.specs.Layout.{Key}
 use Rattle.function_types.specs.Named.{all_named}

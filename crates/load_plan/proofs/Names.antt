@@ -8,8 +8,8 @@ use Rattle.btf_records.specs.declared.types.BtfType.TheVariants as types
 use Rattle.btf_sanitize.specs.Answers.{Answers}
 use Rattle.btf_rewrite.specs.Sanitizing.{stepped}
 use Rattle.btf_tables.specs.Tables.{Table}
-use Rattle.ebpf_object.specs.Helpers.{for_kernel}
-use Rattle.ebpf_object.specs.Rewriting.{IsRewritten, IsRewrittenIf}
+use Rattle.object_whole.specs.Helpers.{for_kernel}
+use Rattle.object_whole.specs.Rewriting.{IsRewritten, IsRewrittenIf}
 use Rattle.function_layout.specs.Layout.{Key}
 use Rattle.function_types.specs.Named.{all_named, is_named_function, names_function, names_function_in}
 use Rattle.function_types.specs.Rewritten.{is_denied}

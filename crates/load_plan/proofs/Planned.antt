@@ -6,9 +6,9 @@ use Rattle.btf_records.specs.declared.feature.BtfFeature.{BtfFeature}
 use Rattle.btf_sanitize.specs.Answers.{Answers, AreDistinct, features, times}
 use Rattle.btf_tables.specs.Tables.{Table}
 use Rattle.elf64.specs.Relocations.{Relocation}
-use Rattle.ebpf_object.specs.TextSections.{text_sections}
-use Rattle.ebpf_object.specs.Helpers.{for_kernel}
-use Rattle.ebpf_object.specs.Rewriting.{IsRewritten, IsRewrittenIf}
+use Rattle.object_whole.specs.TextSections.{text_sections}
+use Rattle.object_whole.specs.Helpers.{for_kernel}
+use Rattle.object_whole.specs.Rewriting.{IsRewritten, IsRewrittenIf}
 use Rattle.ebpf_object.specs.TypeRelocations.{type_groups, types_of}
 use Rattle.slot_relocation.specs.ExternLaws.{ExternsAreWritten}
 use Rattle.extern_resolution.specs.Resolution.{AreResolved}

@@ -12,7 +12,7 @@ use Rattle.btf_ext.specs.declared.record.bpf_func_info.{bpf_func_info}
 use Rattle.btf_ext.specs.declared.record.bpf_line_info.{bpf_line_info}
 use Rattle.ebpf_items.specs.Instruction.{with_older_helper}
 use Rattle.ebpf_items.specs.declared.instruction.bpf_insn.{bpf_insn}
-use Rattle.ebpf_object.specs.Helpers.{for_kernel}
+use Rattle.object_whole.specs.Helpers.{for_kernel}
 use Rattle.function_layout.specs.Copies.{SlotsAreCopied}
 use Rattle.function_layout.specs.Layout.{IsLayout, Key, has, linked, same}
 use Rattle.function_layout.specs.Machines.{VisitsSame}

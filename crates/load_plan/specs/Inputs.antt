@@ -4,8 +4,8 @@ use Rattle.std.specs.Fn.{Mut}
 pub use Rattle.btf_records.specs.declared.feature.BtfFeature.{BtfFeature}
 pub use Rattle.btf_sanitize.specs.Answers.{Answers}
 pub use Rattle.btf_tables.specs.Tables.{Table}
-use Rattle.ebpf_object.specs.ParsedObject.{ObjectContent}
-pub use Rattle.ebpf_object.specs.Rewriting.{AreAnswered}
+use Rattle.object_whole.specs.ParsedObject.{ObjectContent}
+pub use Rattle.object_whole.specs.Rewriting.{AreAnswered}
 pub use Rattle.settings.specs.Content.{SettingsContent}
 use Rattle.load_plan.specs.declared.order.Order.{Order}
 

@@ -7,9 +7,9 @@ use Rattle.btf_records.specs.declared.error.BtfError.{BtfError}
 use Rattle.btf_sanitize.specs.Answers.{Answers}
 use Rattle.btf_tables.specs.Tables.{Table}
 use Rattle.ebpf_items.specs.declared.error.ParseError.{ParseError}
-use Rattle.ebpf_object.specs.TextSections.{text_sections}
-use Rattle.ebpf_object.specs.Helpers.{for_kernel}
-use Rattle.ebpf_object.specs.Rewriting.{CannotRewrite, IsRewritten}
+use Rattle.object_whole.specs.TextSections.{text_sections}
+use Rattle.object_whole.specs.Helpers.{for_kernel}
+use Rattle.object_whole.specs.Rewriting.{CannotRewrite, IsRewritten}
 use Rattle.ebpf_object.specs.TypeRelocations.{type_groups, types_of}
 use Rattle.slot_relocation.specs.Externs.{extern_rule}
 use Rattle.extern_resolution.specs.Resolution.{AreResolved}

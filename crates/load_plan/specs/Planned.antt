@@ -1,8 +1,8 @@
 -- The plan of an object's file, and what is refused.
 use Rattle.std.specs.Prelude.{◌≡◌, ◌⊎◌, ℕ, List, map, Bool}
-use Rattle.ebpf_object.specs.Faults.{HasFault, IsFaultless}
-use Rattle.ebpf_object.specs.ParsedObject.{IsParsed}
-use Rattle.ebpf_object.specs.Rewriting.{AreAnswered}
+use Rattle.object_whole.specs.Faults.{HasFault, IsFaultless}
+use Rattle.object_whole.specs.ParsedObject.{IsParsed}
+use Rattle.object_whole.specs.Rewriting.{AreAnswered}
 use Rattle.plan_contents.specs.Plans.{HoldsTypeBytes, plan_of}
 use Rattle.plan_contents.specs.PlanMaps.{plan_map}
 use Rattle.plan_text.specs.Content.{PlanContent}

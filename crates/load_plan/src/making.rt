@@ -1,8 +1,8 @@
 //! The passes over a parsed object.
 
 ghost use Rattle.std.specs.Prelude.{◌≡◌, ◌≢◌, ◌≤◌, ◌^◌, ℕ, List, length, slice_get, IfErr, IfOk, OnOk};
-ghost use Rattle.ebpf_object.specs.TextSections as code;
-ghost use Rattle.ebpf_object.specs.Rewriting.{AreAnswered};
+ghost use Rattle.object_whole.specs.TextSections as code;
+ghost use Rattle.object_whole.specs.Rewriting.{AreAnswered};
 ghost use Rattle.load_plan.specs.Inputs.{inputs, symbols_given};
 ghost use Rattle.load_plan.specs.Made.{AreTypesMade, AreTypesRefused, IsMade, IsRefusedTypes};
 ghost use Rattle.load_plan.specs.Passes.{CannotLink, CannotPutValues, CannotResolve, CannotWriteExterns, CannotWriteNumbers, HasNamelessRecord, CannotRelocateTypes, HasKernelTypes, IsNumbered, KeepsNamed, LacksKernelTypes, LacksNumber, LinksPrograms, OfKsyms, OfParse, OfRelocation, OfTypeRelocation, PutsValues, RelocatesTypes, ResolvesExterns, RewritesTypes, WritesExterns, WritesNumbers};
@@ -13,7 +13,7 @@ ghost use Rattle.watched.specs.Watched.{has_failed, watched_inner};
 use crate::order::Order;
 use btf_records::BtfFeature;
 use btf_tables::Btf;
-use ebpf_object::{Maps, Object, Watched};
+use ebpf_object::{Maps, Object, RelocateBtf, Watched};
 use function_types::nameless_record;
 use plan_contents::{numbered_maps, unnumbered_map};
 use plan_errors::PrepareError;

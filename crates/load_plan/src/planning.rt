@@ -1,7 +1,7 @@
 //! From an object's bytes to its plan.
 
 ghost use Rattle.std.specs.Prelude.{◌≢◌, ◌≤◌, ◌^◌, ℕ, List, length, IfErr, IfOk};
-ghost use Rattle.ebpf_object.specs.Faults.{HasFault};
+ghost use Rattle.object_whole.specs.Faults.{HasFault};
 ghost use Rattle.load_plan.specs.Inputs.{inputs, symbols_given};
 ghost use Rattle.load_plan.specs.Passes.{OfParse};
 ghost use Rattle.load_plan.specs.Planned.{IsPlanned, IsPlannedObject, IsRefusal, IsRefusedObject, IsWholeObject};

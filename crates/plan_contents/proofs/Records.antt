@@ -16,7 +16,7 @@ use Rattle.linker.specs.Linked.{AreLinked, IsLinkedIn}
 use Rattle.linker.specs.Records.{functions_in, functions_of, moved_function}
 use Rattle.linker.specs.Unlinked.{Unlinked, table_of}
 use Rattle.object_parts.specs.Content.{FunctionContent, ProgramContent, function_at, key_cmp, with_older_helpers}
-use Rattle.ebpf_object.specs.Helpers.{for_kernel}
+use Rattle.object_whole.specs.Helpers.{for_kernel}
 use Rattle.program_kinds.specs.declared.program_section.ProgramSection.{ProgramSection}
 use Rattle.plan_contents.specs.Laws.{HaveRecordsOf, RecordsName}
 use Rattle.plan_contents.specs.Plans.{AllName, AllNamed, Names, plan_program_of, program_of}

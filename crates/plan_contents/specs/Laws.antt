@@ -2,7 +2,7 @@
 use Rattle.std.specs.Prelude.{◌≡◌, ℕ, List, map, Bool, true, false, Option, Some}
 use Rattle.btf_sanitize.specs.Answers.{Answers}
 use Rattle.btf_tables.specs.Tables.{Table}
-use Rattle.ebpf_object.specs.Helpers.{for_kernel}
+use Rattle.object_whole.specs.Helpers.{for_kernel}
 use Rattle.function_layout.specs.Layout.{Key}
 use Rattle.function_types.specs.Named.{all_named, names_function, names_function_in}
 use Rattle.function_types.specs.Rewritten.{IsRewrittenUnder, is_denied}

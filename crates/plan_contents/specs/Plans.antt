@@ -5,7 +5,7 @@ use Rattle.btf_ext.specs.declared.record.bpf_line_info.{bpf_line_info}
 use Rattle.btf_sanitize.specs.Answers.{Answers}
 use Rattle.btf_tables.specs.Sections.{HoldsTable, without_fallbacks}
 use Rattle.btf_tables.specs.Tables.{Table, table_bytes}
-use Rattle.ebpf_object.specs.ParsedObject.{ObjectContent}
+use Rattle.object_whole.specs.ParsedObject.{ObjectContent}
 use Rattle.function_types.specs.Rewritten.{NamesSame, is_denied}
 use Rattle.object_file.specs.License.{license_of}
 use Rattle.object_file.specs.Version.{version_of}

@@ -3,7 +3,7 @@ use Rattle.std.proofs.Common.{◌≡◌, inl, inr, ℕ, Bool, true, List, [], �
 use Rattle.btf_records.specs.declared.feature.BtfFeature.{BtfFeature}
 use Rattle.btf_sanitize.specs.Answers.{Answers}
 use Rattle.ebpf_items.specs.declared.instruction.bpf_insn.{bpf_insn}
-use Rattle.ebpf_object.specs.Faults.{HasFault}
+use Rattle.object_whole.specs.Faults.{HasFault}
 use Rattle.function_layout.specs.Layout.{Key}
 use Rattle.function_layout.specs.Theorems.{LayoutIsUnique}
 use Rattle.load_plan.specs.Inputs.{Inputs, IsSaid, State, Under}

@@ -9,7 +9,7 @@ use Rattle.btf_sanitize.specs.Answers.{Answers}
 use Rattle.btf_tables.specs.GrownTables.{TextsStay}
 use Rattle.btf_tables.specs.Holdings.{held_names}
 use Rattle.btf_tables.specs.Tables.{Table, type_by_id}
-use Rattle.ebpf_object.specs.Rewriting.{IsRewritten, IsRewrittenIf}
+use Rattle.object_whole.specs.Rewriting.{IsRewritten, IsRewrittenIf}
 use Rattle.ebpf_object.specs.TypeRelocations.{groups_beside, type_groups, types_of}
 use Rattle.extern_resolution.specs.Resolution.{AreResolved}
 use Rattle.load_plan.specs.Inputs.{Inputs, State, Symbols, Under}

@@ -13,8 +13,8 @@ use Rattle.btf_ext.specs.Extensions.{Extension}
 use Rattle.btf_records.specs.declared.words.Endianness.{Endianness}
 use Rattle.btf_tables.specs.Tables.{Table}
 use Rattle.ebpf_items.specs.Maps.{MapView}
-use Rattle.ebpf_object.specs.ParsedObject.{IsParsed}
-use Rattle.ebpf_object.specs.Types.{HoldsRecordsIn}
+use Rattle.object_whole.specs.ParsedObject.{IsParsed}
+use Rattle.object_whole.specs.Types.{HoldsRecordsIn}
 use Rattle.object_externs.specs.Types.{HoldsTypesIn, completed, no_externs}
 use Rattle.elf64.specs.Sections.{Section}
 use Rattle.elf64.specs.Symbols.{Symbol, symbols_of}

@@ -14,8 +14,8 @@ use Rattle.btf_rewrite.specs.Sanitizing.{StepFault, facts_in, sanitized, stepped
 use Rattle.btf_tables.specs.Tables.{Table}
 use Rattle.ebpf_items.specs.Maps.{MapView}
 use Rattle.ebpf_items.specs.declared.error.ParseError.{ParseError}
-use Rattle.ebpf_object.specs.Helpers.{for_kernel}
-use Rattle.ebpf_object.specs.Rewriting.{AreAsked, AreNumbersOf, CannotRewrite, IsRefusedUnder, IsRewritten, IsRewrittenIf, IsRewrittenTable, TableFault}
+use Rattle.object_whole.specs.Helpers.{for_kernel}
+use Rattle.object_whole.specs.Rewriting.{AreAsked, AreNumbersOf, CannotRewrite, IsRefusedUnder, IsRewritten, IsRewrittenIf, IsRewrittenTable, TableFault}
 use Rattle.extern_resolution.specs.Resolution.{AreResolved}
 use Rattle.extern_resolution.specs.Resolution as resolution
 use Rattle.extern_resolution.specs.declared.error.KsymsError.{KsymsError}

@@ -5,7 +5,7 @@ use Rattle.btf_records.specs.declared.types.BtfType.{BtfType}
 use Rattle.btf_sanitize.specs.Answers.{Answers}
 use Rattle.btf_tables.specs.Holdings.{held_ids, held_names}
 use Rattle.btf_tables.specs.Tables.{Table, type_by_id}
-use Rattle.ebpf_object.specs.Rewriting.{IsRewritten}
+use Rattle.object_whole.specs.Rewriting.{IsRewritten}
 use Rattle.ebpf_object.specs.TypeRelocations.{type_groups}
 use Rattle.load_plan.specs.Inputs.{Inputs, State, Under}
 use Rattle.load_plan.specs.Known.{GoByFeature, IsPlanFor, IsRefusalFor}

@@ -6,7 +6,7 @@ mod object;
 use crate::sections::{INT, PROTO, VAR, section};
 use btf_records::{BtfError, Endianness};
 use btf_tables::Btf;
-use ebpf_object::Object;
+use object_whole::Object;
 use extern_resolution::KsymsError;
 use object::{BINDINGS, ENTRIES, OBJECT, PARAMETER, TYPES_NAME, WEAK};
 use std::alloc::{AllocError, Global};

@@ -6,7 +6,7 @@ mod variables;
 
 use btf_records::{BtfError, Endianness};
 use ebpf_items::{ParseError, ProgramSection, Slots};
-use ebpf_object::Object;
+use object_whole::Object;
 use elf64::ElfError;
 use std::alloc::Global;
 use test_object_samples::{ONE_PROGRAM, ONE_PROGRAM_BIG, with_bytes};

@@ -3,7 +3,7 @@
 use super::parsed;
 use super::two_functions::TWO_FUNCTIONS;
 use ebpf_items::Slots;
-use ebpf_object::Object;
+use object_whole::Object;
 use std::alloc::Global;
 use test_object_samples::{ONE_PROGRAM, with_bytes};
 

@@ -2,7 +2,7 @@
 
 use super::parsed;
 use btf_records::BtfError;
-use ebpf_object::Object;
+use object_whole::Object;
 use std::alloc::Global;
 use test_object_samples::{ONE_PROGRAM, VARIABLES, with_bytes};
 

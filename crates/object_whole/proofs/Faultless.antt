@@ -1,0 +1,117 @@
+-- What was read without a fault has none.
+use Rattle.std.proofs.Common.{◌≡◌, ℕ, List, [], Option, Some, None, refl, sym, ap, inl, inr, subst, arith}
+use Rattle.std.specs.Option.{IsSomeAnd, option_map}
+use Rattle.std.specs.Prelude.{◌≢◌, Contains, IfErr, IfSome, OnOk, Result, Ok, Err, codes}
+use Rattle.btf_ext.specs.Extensions.{Extension}
+use Rattle.btf_records.specs.declared.error.BtfError.{BtfError}
+use Rattle.btf_records.specs.declared.error.BtfError.TheVariants as btf
+use Rattle.ebpf_items.specs.Error.{parse_error_of}
+use Rattle.btf_records.specs.declared.words.Endianness.{Endianness}
+use Rattle.btf_storage.specs.Faultless.{IsFaultless as AreFaultless}
+use Rattle.btf_tables.specs.Tables.{Table, TableFault}
+use Rattle.ebpf_items.specs.declared.error.ParseError.{ParseError}
+use Rattle.ebpf_items.specs.declared.error.ParseError.TheVariants as error
+use Rattle.elf64.specs.Symbols.{symbols_of}
+use Rattle.object_externs.specs.Faults.{ExternsFault}
+use Rattle.object_file.specs.ByteOrders.{file_endianness}
+use Rattle.object_file.specs.Faults.{IsFileFaultless}
+use Rattle.object_file.specs.Reading.{contents_named}
+use Rattle.object_maps.specs.Faults.{MapFault, Says}
+use Rattle.object_maps.specs.Maps.{HasMapsFault, maps_faults}
+use Rattle.object_parse.specs.Faults.{HasSoundFunctions}
+use Rattle.btf_ext.specs.Faults.{ExtensionFault}
+use Rattle.object_whole.specs.Faults.{HasFault, HasMapFault, HasObjectFault, HasTableFault, IsFaultless, IsSound, TableFaultOf}
+use Rattle.object_whole.specs.Types.{HoldsRecords, HoldsRecordsIn, RecordsFault}
+use Rattle.object_externs.specs.Types.{HoldsTypes, HoldsTypesIn, SaysOfTypes, TypesFault, completed}
+
+-- a section holds one table alone
+unique : (order : Endianness) (bytes : Option (List ℕ)) (a b : Option Table) → HoldsTypesIn order bytes a → HoldsTypesIn order bytes b → b ≡ a
+unique order None None None h k = refl
+unique order None (Some a) b h k = absurd h
+unique order None None (Some b) h k = absurd k
+unique order (Some bytes) None b h k = absurd h
+unique order (Some bytes) (Some a) None h k = absurd k
+unique order (Some bytes) (Some a) (Some b) h k = ap (λ t. Some t) (h.alone b k.holds)
+
+no-types-fault-in : (order : Endianness) (bytes : Option (List ℕ)) (table : Option Table) → HoldsTypesIn order bytes table → (e : BtfError) → IsSomeAnd bytes (λ b. TableFault order b e) → ⊥
+no-types-fault-in order None table h e fault = fault
+no-types-fault-in order (Some bytes) None h e fault = h
+no-types-fault-in order (Some bytes) (Some table) h e fault = h.faultless e fault
+
+no-records-fault-in : (order : Endianness) (table : Table) (bytes : Option (List ℕ)) (extension : Option Extension) → HoldsRecordsIn order (Some table) bytes extension → (e : BtfError) → IsSomeAnd bytes (λ b. ExtensionFault order table.strings b e) → ⊥
+no-records-fault-in order table None extension h e fault = fault
+no-records-fault-in order table (Some bytes) None h e fault = h
+no-records-fault-in order table (Some bytes) (Some extension) h e fault = h.faultless e fault
+
+says-none : (Fault : BtfError → Type 0) → ((e : BtfError) → Fault e → ⊥) → (e : ParseError) → SaysOfTypes Fault e → ⊥
+says-none Fault none (error.BtfError e) says = none e says
+says-none Fault none _ says = says
+
+-- of the table that was read
+table-sound : (file : List ℕ) (table : Table) (extension : Option Extension) → HoldsRecords file (Some table) extension → AreFaultless (ExternsFault (symbols_of file) table) → (e : BtfError) → TableFaultOf file table e → ⊥
+table-sound file table extension records externs e (inl fault) = no-records-fault-in _ table _ extension records e fault
+table-sound file table extension records externs e (inr fault) = externs.none e fault
+
+no-table-fault : (file : List ℕ) (table : Option Table) (extension : Option Extension) → HoldsTypes file table → HoldsRecords file table extension → IfSome table (λ t. AreFaultless (ExternsFault (symbols_of file) t)) → (e : ParseError) (other : Table) → HasTableFault file other e → Some other ≡ table → ⊥
+no-table-fault file None extension holds records externs e other fault same = absurd (cc)
+no-table-fault file (Some table) extension holds records externs e other fault same =
+    let is : other ≡ table = cc in
+    says-none (TableFaultOf file table) (table-sound file table extension records externs) e (subst (λ t. SaysOfTypes (TableFaultOf file t) e) is fault.1)
+
+nothing-said : (o : Option MapFault) → IsSomeAnd o (Contains []) → ⊥
+nothing-said None said = said
+nothing-said (Some f) said = absurd (omega (arith, said.1))
+
+no-map-fault : (file : List ℕ) (table : Option Table) → maps_faults file (option_map completed table) ≡ [] → (e : ParseError) (other : Option Table) → HasMapFault file other e → other ≡ table → ⊥
+no-map-fault file table none e other fault same =
+    nothing-said _ (subst (λ faults. Says faults e) none (subst (λ t. HasMapsFault file (option_map completed t) e) same fault.1))
+
+pub sound : (file : List ℕ) (table : Option Table) (extension : Option Extension) → HoldsTypes file table → HoldsRecords file table extension → HasSoundFunctions file → maps_faults file (option_map completed table) ≡ [] → IfSome table (λ t. AreFaultless (ExternsFault (symbols_of file) t)) → (e : ParseError) → HasObjectFault file e → ⊥
+sound file table extension holds records functions maps externs e (inl fault) = says-none (TypesFault file) (no-types-fault-in _ _ table holds) e fault
+sound file table extension holds records functions maps externs e (inr (inl fault)) =
+    no-table-fault file table extension holds records externs e fault.0 fault.1 (unique _ _ table (Some fault.0) holds fault.1.0)
+sound file table extension holds records functions maps externs e (inr (inr (inl fault))) =
+    no-map-fault file table maps e fault.0 fault.1 (unique _ _ table fault.0 holds fault.1.0)
+sound file table extension holds records functions maps externs e (inr (inr (inr fault))) = functions.none e fault
+
+-- an error of type information, as one of an object
+pub says-from : (Fault : BtfError → Type 0) (e : BtfError) → (e ≢ btf.OutOfMemory → Fault e) → parse_error_of e ≢ error.OutOfMemory → SaysOfTypes Fault (parse_error_of e)
+says-from Fault btf.OutOfMemory fault other = absurd (other refl)
+says-from Fault e fault other = fault (λ same. cc)
+
+says-weaker : (P Q : BtfError → Type 0) → ((e : BtfError) → P e → Q e) → (e : ParseError) → SaysOfTypes P e → SaysOfTypes Q e
+says-weaker P Q weaker (error.BtfError e) says = weaker e says
+says-weaker P Q weaker e says = absurd says
+
+-- faults of what stands beside the types, of maps and of externs are some of the object
+pub records-fault : (file : List ℕ) (table : Option Table) → HoldsTypes file table → (e : ParseError) → IsSomeAnd table (λ t. SaysOfTypes (RecordsFault file t) e) → HasObjectFault file e
+records-fault file None holds e said = absurd said
+records-fault file (Some table) holds e said = inr (inl (table, (holds, says-weaker (RecordsFault file table) (TableFaultOf file table) (λ e fault. inl fault) e said)))
+
+pub externs-fault : (file : List ℕ) (table : Option Table) → HoldsTypes file table → (e : ParseError) → IsSomeAnd table (λ t. SaysOfTypes (ExternsFault (symbols_of file) t) e) → HasObjectFault file e
+externs-fault file None holds e said = absurd said
+externs-fault file (Some table) holds e said = inr (inl (table, (holds, says-weaker (ExternsFault (symbols_of file) table) (TableFaultOf file table) (λ e fault. inr fault) e said)))
+
+pub map-fault : (file : List ℕ) (table : Option Table) → HoldsTypes file table → (e : ParseError) → HasMapsFault file (option_map completed table) e → HasObjectFault file e
+map-fault file table holds e said = inr (inr (inl (table, (holds, said))))
+
+pub if-err : {T E : Type 0} {P Q : E → Type 0} (r : Result T E) → ((e : E) → P e → Q e) → IfErr r P → IfErr r Q
+if-err (Ok x) f p = p
+if-err (Err e) f p = f e p
+
+-- what is wrong with an extension's bytes is wrong with the file
+pub records-fault-at : (file : List ℕ) (table : Table) (bytes : List ℕ) (order : Endianness) → contents_named file (codes ".BTF.ext") ≡ Some bytes → order ≡ file_endianness file → (e : BtfError) → ExtensionFault order table.strings bytes e → RecordsFault file table e
+records-fault-at file table bytes order is same e fault =
+    subst (λ o. IsSomeAnd o (λ b. ExtensionFault (file_endianness file) table.strings b e)) (sym is)
+    (subst (λ order. ExtensionFault order table.strings bytes e) same fault)
+
+none-of-either : (file : List ℕ) → IsFileFaultless file → IsSound file → (e : ParseError) → HasFault file e → ⊥
+none-of-either file whole sound e (inl fault) = whole.none e fault
+none-of-either file whole sound e (inr fault) = sound.none e fault.1
+
+pub faultless : (file : List ℕ) → IsFileFaultless file → IsSound file → IsFaultless file
+faultless file whole sound = record { none = none-of-either file whole sound }
+
+pub if-ok : {T E : Type 0} {P Q : Type 0} (r : Result T E) → (P → Q) → OnOk r P → OnOk r Q
+if-ok (Ok x) f p = f p
+if-ok (Err e) f p = p

@@ -1,0 +1,4 @@
+pub mod Faultless
+pub mod Linked
+pub mod NoPrograms
+pub mod RefusedTables

@@ -1,0 +1,48 @@
+-- What is wrong with a file: a fault of the file itself, of its types, or of what is made of both.
+use Rattle.std.specs.Option.{option_map}
+use Rattle.std.specs.Prelude.{ℕ, ◌⊎◌, List, Option, Some}
+use Rattle.btf_records.specs.declared.error.BtfError.{BtfError}
+use Rattle.btf_tables.specs.Tables.{Table}
+use Rattle.ebpf_items.specs.declared.error.ParseError.{ParseError}
+use Rattle.elf64.specs.Symbols.{symbols_of}
+use Rattle.object_externs.specs.Faults.{ExternsFault}
+use Rattle.object_externs.specs.Types.{HoldsTypes, SaysOfTypes, TypesFault, completed}
+use Rattle.object_file.specs.Faults.{HasFileFault, IsFileFaultless}
+use Rattle.object_maps.specs.Maps.{HasMapsFault}
+use Rattle.object_parse.specs.Faults.{HasFunctionFault}
+use Rattle.object_whole.specs.Types.{RecordsFault}
+
+-- a fault of the table in the file's section of types
+abbrev pub HasTypesFault : List ℕ → ParseError → Type 0
+HasTypesFault file e = SaysOfTypes (TypesFault file) e
+
+-- a fault of what a file with this table has besides
+abbrev pub TableFaultOf : List ℕ → Table → BtfError → Type 0
+TableFaultOf file table e = RecordsFault file table e ⊎ ExternsFault (symbols_of file) table e
+
+abbrev pub HasTableFault : List ℕ → Table → ParseError → Type 0
+HasTableFault file table e = HoldsTypes file (Some table) × SaysOfTypes (TableFaultOf file table) e
+
+-- a fault of the maps of a file whose types are these, completed for its externs
+abbrev pub HasMapFault : List ℕ → Option Table → ParseError → Type 0
+HasMapFault file table e = HoldsTypes file table × HasMapsFault file (option_map completed table) e
+
+-- a fault of what a file holds besides its headers, names, license and version
+abbrev pub HasObjectFault : List ℕ → ParseError → Type 0
+HasObjectFault file e =
+    HasTypesFault file e
+    ⊎ ((table : Table) × HasTableFault file table e)
+    ⊎ ((table : Option Table) × HasMapFault file table e)
+    ⊎ HasFunctionFault file e
+
+-- no such fault stands
+pub record IsSound (file : List ℕ) : Type 0 where
+  pub none : (e : ParseError) → HasObjectFault file e → ⊥
+
+-- a fault of a file, or of what one without such a fault holds; out of memory is none
+abbrev pub HasFault : List ℕ → ParseError → Type 0
+HasFault file e = HasFileFault file e ⊎ (IsFileFaultless file × HasObjectFault file e)
+
+-- no fault stands
+pub record IsFaultless (file : List ℕ) : Type 0 where
+  pub none : (e : ParseError) → HasFault file e → ⊥

@@ -1,0 +1,68 @@
+//! The types of an object.
+
+ghost use Rattle.std.specs.Prelude.{◌≢◌, Some, IfErr, IfOk};
+ghost use Rattle.std.specs.Option.{IsSomeAnd};
+ghost use Rattle.ebpf_items.specs.declared.error.ParseError.TheVariants.{OutOfMemory};
+ghost use Rattle.object_whole.specs.Faults.{HasObjectFault};
+ghost use Rattle.object_whole.specs.Types.{HoldsRecords, RecordsFault};
+ghost use Rattle.object_externs.specs.Types.{HoldsTypes, SaysOfTypes};
+
+use btf_ext::BtfExt;
+use btf_tables::Btf;
+use ebpf_items::ParseError;
+use object_externs::read_table;
+use object_file::ObjectFile;
+use std::alloc::Global;
+
+/// The types of an object, and what stands beside them.
+#[derive(Debug, Drop)]
+pub(crate) struct Types<'a> {
+    pub(crate) table: Option<Btf<'a>>,
+    pub(crate) extension: Option<BtfExt<'a>>,
+}
+
+/// What the section `.BTF.ext` says beside a table, if there is one.
+fn extension_of<'a>(
+    alloc: Global,
+    file: &ObjectFile<'a>,
+    table: &Btf<'a>,
+) -> Result<Option<BtfExt<'a>>, ParseError>
+    ensures holds { IfOk result (λ extension. HoldsRecords file.now (Some table.now) extension) }
+    ensures refused { IfErr result (λ e.
+        e ≢ OutOfMemory → SaysOfTypes (RecordsFault file.now table.now) e) }
+{
+    match file.contents_of(".BTF.ext") {
+        Some(bytes) => {
+            let extension = BtfExt::parse(alloc, bytes, file.endianness(), table)?;
+            Ok(Some(extension))
+        }
+        None => Ok(None),
+    }
+}
+
+/// What the section `.BTF.ext` says beside the types, if there are both.
+fn read_extension<'a>(
+    alloc: Global,
+    file: &ObjectFile<'a>,
+    table: &Option<Btf<'a>>,
+) -> Result<Option<BtfExt<'a>>, ParseError>
+    ensures holds { IfOk result (λ extension. HoldsRecords file.now table.now extension) }
+    ensures refused { IfErr result (λ e.
+        e ≢ OutOfMemory → IsSomeAnd table.now (λ t. SaysOfTypes (RecordsFault file.now t) e)) }
+{
+    match table {
+        Some(table) => extension_of(alloc, file, table),
+        None => Ok(None),
+    }
+}
+
+/// The types of a file.
+pub(crate) fn read_types<'a>(alloc: Global, file: &ObjectFile<'a>) -> Result<Types<'a>, ParseError>
+    ensures table { IfOk result (λ types. HoldsTypes file.now types.table) }
+    ensures extension { IfOk result (λ types. HoldsRecords file.now types.table types.extension) }
+    ensures refused { IfErr result (λ e. e ≢ OutOfMemory → HasObjectFault file.now e) }
+{
+    let table = read_table(alloc, file)?;
+    let extension = read_extension(alloc, file, &table)?;
+    Ok(Types { table, extension })
+}
