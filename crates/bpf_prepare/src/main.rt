@@ -13,7 +13,7 @@ use plan_run::{RunError, run};
 use program_io::{Kept, Unwritten, kernel_tables, open, print_text, read, read_all, words_of};
 use run_settings::{RunSettings, SettingsError};
 use settings_text::fault_text;
-use std::alloc::Global;
+use std::alloc::{AllocError, Global};
 use std::io;
 use std::io::{BufRead, BufWriter, IsTerminal, Write};
 use std::process::ExitCode;
@@ -43,7 +43,7 @@ fn file_settings(alloc: Global, name: &str, bytes: &[u8]) -> Result<RunSettings,
     };
     match RunSettings::from_toml(alloc, text) {
         Ok(settings) => Ok(settings),
-        Err(SettingsError::OutOfMemory) => Err(ProgramError::OutOfMemory),
+        Err(SettingsError::OutOfMemory) => Err(ProgramError::OutOfMemory(AllocError)),
         Err(SettingsError::Invalid) => Err(ProgramError::Settings {
             name: String::from_str(alloc, name)?,
             fault: fault_text(alloc, text)?,
@@ -89,7 +89,7 @@ fn print_plan<R: BufRead>(
     let line = given.line;
     let types = kernel_tables(rt.alloc(), &line.types, given.types, line.types_order)?;
     let Ok(writer) = BufWriter::new(rt.alloc(), Kept::new(io::writer(rt))) else {
-        return Err(ProgramError::OutOfMemory);
+        return Err(ProgramError::OutOfMemory(AllocError));
     };
     let mut out = Watched::new(writer);
     let written = run(
@@ -188,7 +188,7 @@ fn print_asked(rt: &HostRuntime) -> Result<(), ProgramError> {
     let words = words_of(rt)?;
     match arguments(rt.alloc(), &words) {
         Ok(line) => print_named(rt, &line),
-        Err(LineError::OutOfMemory) => Err(ProgramError::OutOfMemory),
+        Err(LineError::OutOfMemory) => Err(ProgramError::OutOfMemory(AllocError)),
         Err(LineError::Fault { text }) => Err(ProgramError::Line { text }),
         Err(LineError::Asked { text }) => match print_text(rt, &text) {
             Ok(()) => Ok(()),

@@ -14,11 +14,10 @@ use Rattle.btf_sanitize.specs.Additions.{Added, next_id, next_offset, small_int,
 use Rattle.btf_storage.specs.Ids.{record_of_id}
 use Rattle.btf_sanitize.specs.Facts.{Facts, name_at}
 use Rattle.btf_sanitize.specs.Kept.{AllGranted, Becomes, EachGranted, Keeps, needed_after}
-use Rattle.btf_sanitize.specs.Names.{param_texts, replaced}
+use Rattle.btf_sanitize.specs.Names.{has_byte, param_texts, replaced}
 use Rattle.btf_sanitize.specs.Needs.{stays_global}
 use Rattle.btf_sanitize.specs.Rewritten.{after, after_all, after_section, after_enum64, all_rewritten, granted_section, is_filled, placed, rewritten, rewritten_func, rewritten_section, section_struct, sized, with_new_name}
 use Rattle.btf_sanitize.specs.Sanitized.{all_added, at_first, sanitized_types}
-use Rattle.byte_index.specs.ByteIndex.{has_byte}
 use Rattle.btf_sanitize.proofs.Stays.{stays_alone}
 
 -- ---- what is left needs granted features alone

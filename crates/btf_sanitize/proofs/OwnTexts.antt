@@ -11,11 +11,10 @@ use Rattle.btf_records.specs.declared.variables.DataSec.{DataSec}
 use Rattle.btf_records.specs.declared.words.Endianness.{Endianness}
 use Rattle.btf_sanitize.specs.Additions.{Added, next_offset, with_filler, with_renamed, with_text}
 use Rattle.btf_sanitize.specs.Facts.{Facts, name_at}
-use Rattle.btf_sanitize.specs.Names.{replaced}
+use Rattle.btf_sanitize.specs.Names.{has_byte, replaced}
 use Rattle.btf_sanitize.specs.OwnTexts.{own_text, own_texts}
 use Rattle.btf_sanitize.specs.Rewritten.{after, after_all, after_granted, is_filled, with_new_name}
 use Rattle.btf_sanitize.specs.Sanitized.{SanitizingFault, at_first}
-use Rattle.byte_index.specs.ByteIndex.{has_byte}
 use Rattle.btf_sanitize.proofs.Elements.{next_left}
 use Rattle.btf_sanitize.proofs.Passes.{IsAtLeast, least_after, least_filler, refused_all}
 

@@ -20,10 +20,9 @@ use Rattle.btf_records.specs.declared.words.Endianness.{Endianness}
 use Rattle.btf_sanitize.specs.Additions.{Added, next_id, next_offset, small_int, static_var, with_filler, with_filler_int, with_filler_var, with_new_placeholder, with_placeholder, with_renamed, with_text, with_texts}
 use Rattle.btf_sanitize.specs.Facts.{Facts, name_at}
 use Rattle.btf_sanitize.specs.Faults.{IsTooMuch, KindFault}
-use Rattle.btf_sanitize.specs.Names.{filler_int_name, filler_name, param_texts, placeholder_name, replaced}
+use Rattle.btf_sanitize.specs.Names.{filler_int_name, filler_name, has_byte, param_texts, placeholder_name, replaced}
 use Rattle.btf_sanitize.specs.Rewritten.{after, after_all, after_enum64, after_granted, after_section, after_signature, all_rewritten, is_filled, rewritten, with_new_name}
 use Rattle.btf_sanitize.specs.Sanitized.{AnyFault, IsOverfull, NextFault, SanitizingFault, all_added, at_first, sanitized_strings, sanitized_types}
-use Rattle.byte_index.specs.ByteIndex.{has_byte}
 use Rattle.btf_sanitize.proofs.Elements.{next_left, none_left, past_length}
 use Rattle.btf_sanitize.proofs.Faultless.{none_of_any, none_of_either}
 use Rattle.btf_storage.specs.Faultless.{IsFaultless}

@@ -4,8 +4,7 @@ use Rattle.btf_records.specs.Info.{flagged, int_word_of}
 use Rattle.btf_records.specs.declared.encoding.VarLinkage.TheVariants.{Static}
 use Rattle.btf_records.specs.declared.types.BtfType.{BtfType}
 use Rattle.btf_records.specs.declared.types.BtfType.TheVariants.{Int, Var}
-use Rattle.btf_sanitize.specs.Names.{filler_int_name, filler_name, placeholder_name, replaced}
-use Rattle.byte_index.specs.ByteIndex.{has_byte}
+use Rattle.btf_sanitize.specs.Names.{filler_int_name, filler_name, has_byte, placeholder_name, replaced}
 
 -- after a number of bytes of strings and a number of types: texts, types, and the ids of two of
 -- these types where they are there

@@ -2,7 +2,12 @@
 use Rattle.std.specs.Prelude.{ℕ, ◌+◌, ◌==◌, ◌&&◌, ◌||◌, Bool, not, if◌then◌else◌, List, [], ◌∷◌, ◌++◌, codes, length, map, nat_eq}
 use Rattle.std.specs.Cmp.Lexicographic.{pointwise}
 use Rattle.std.specs.Fmt.{decimal}
+use Rattle.std.specs.List.{list_any}
 use Rattle.btf_records.specs.declared.item.BtfParam.{BtfParam}
+
+-- the byte stands in a name
+abbrev pub has_byte : ℕ → List ℕ → Bool
+has_byte from name = list_any (λ b. b == from) name
 
 -- a byte in the place of another
 abbrev pub replaced : ℕ → ℕ → List ℕ → List ℕ

@@ -4,7 +4,7 @@ use Rattle.btf_records.specs.declared.types.BtfType.{BtfType}
 use Rattle.btf_records.specs.declared.types.BtfType.TheVariants as types
 use Rattle.btf_sanitize.specs.Facts.{Facts, name_at}
 use Rattle.btf_sanitize.specs.SectionNames.{sought}
-use Rattle.byte_index.specs.ByteIndex.{has_byte}
+use Rattle.btf_sanitize.specs.Names.{has_byte}
 
 -- the bytes of a name that must be written anew, with its NUL; 0 where it needn't be
 abbrev pub own_text_of : Facts → List ℕ → ℕ

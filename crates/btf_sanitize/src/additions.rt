@@ -6,10 +6,9 @@ ghost use Rattle.btf_sanitize.specs.Additions.{next_id, next_offset, nothing_add
 ghost use Rattle.btf_sanitize.specs.Faults.{IsTooMuch};
 ghost use Rattle.string_table.specs.Texts.{text_at};
 
-use crate::names::replaced;
+use crate::names::{has_byte, replaced};
 use btf_records::{BtfError, BtfType, Int, IntEncoding, Var, VarLinkage};
 use btf_storage::MOST;
-use byte_index::ByteIndex;
 use std::alloc::Global;
 use std::marker::Model;
 
@@ -107,26 +106,25 @@ impl Additions {
         Ok(id as u32)
     }
 
-    /// Appends a name with a byte in the place of the one that is sought, and answers its offset;
-    /// the name's own where it doesn't have that byte.
+    /// Appends a name with one byte in the place of another, and answers its offset; the name's own
+    /// where it doesn't have that byte.
     pub(crate) fn rename(
         &mut self,
-        names: &ByteIndex<'_>,
         name: &str,
         name_offset: u32,
+        from: u8,
         to: u8,
     ) -> Result<u32, BtfError>
-        requires { text_at names.now.strings name_offset ≡ Some name.now }
         ensures offset { IfOk result (λ offset.
-            offset ≡ renamed_offset names.now.byte name.now name_offset self.old) }
-        ensures added { OnOk result (self.new ≡ with_renamed names.now.byte to name.now self.old) }
+            offset ≡ renamed_offset from name.now name_offset self.old) }
+        ensures added { OnOk result (self.new ≡ with_renamed from to name.now self.old) }
         ensures refused { IfErr result (λ e.
-            e ≢ OutOfMemory → IsTooMuch (with_renamed names.now.byte to name.now self.old) e) }
+            e ≢ OutOfMemory → IsTooMuch (with_renamed from to name.now self.old) e) }
     {
-        if !names.is_in(name, name_offset) {
+        if !has_byte(name.as_bytes(), from) {
             return Ok(name_offset);
         }
-        let text = replaced(self.alloc(), name.as_bytes(), names.byte(), to)?;
+        let text = replaced(self.alloc(), name.as_bytes(), from, to)?;
         self.add_text(text.as_slice())
     }
 

@@ -2,7 +2,7 @@
 
 ghost use Rattle.std.specs.Prelude.{◌≡◌, ◌==◌, IfOk, if◌then◌else◌};
 ghost use Rattle.std.specs.String.{string_bytes};
-ghost use Rattle.btf_sanitize.specs.Names.{is_memory_function, is_nameless, param_name, replaced};
+ghost use Rattle.btf_sanitize.specs.Names.{has_byte, is_memory_function, is_nameless, param_name, replaced};
 
 use btf_records::BtfParam;
 use std::alloc::{AllocError, Global};
@@ -13,6 +13,13 @@ pub fn is_memory_function(name: &str) -> bool
     ensures { result ≡ is_memory_function name.now }
 {
     name == "memset" || name == "memcpy" || name == "memmove" || name == "memcmp"
+}
+
+/// Whether a byte stands in a name.
+pub(crate) fn has_byte(name: &[u8], byte: u8) -> bool
+    ensures { result ≡ has_byte byte name.now }
+{
+    name.contains(&byte)
 }
 
 /// A byte, or the one that stands in its place.

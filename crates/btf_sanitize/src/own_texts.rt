@@ -4,28 +4,37 @@ ghost use Rattle.std.specs.Prelude.{◌≡◌, ◌+◌, ◌<◌, ◌^◌, false,
 ghost use Rattle.btf_storage.specs.Growth.{TooMany};
 ghost use Rattle.btf_sanitize.specs.Knowledge.{facts_of};
 ghost use Rattle.btf_sanitize.specs.OwnTexts.{own_text, own_texts};
-ghost use Rattle.btf_sanitize.specs.SectionNames.{section_names};
+ghost use Rattle.btf_sanitize.specs.SectionNames.{sought};
 
 use crate::known::Known;
+use crate::names::has_byte;
 use btf_encoding::TypeRef;
-use btf_records::BtfKind;
+use btf_records::{BtfFeature, BtfKind};
 use btf_storage::MOST;
-use byte_index::ByteIndex;
+
+/// The byte that isn't left in names of sections.
+fn sought(known: &Known<'_, '_, '_>) -> u8
+    ensures { result ≡ sought (facts_of known.now) }
+{
+    if known.grants(BtfFeature::DataSec) {
+        b'/'
+    } else {
+        b'.'
+    }
+}
 
 /// How many bytes the text has that a record's name becomes, with its NUL; 0 where the record
 /// isn't a section or its name stays.
-fn own_text_len(known: &Known<'_, '_, '_>, names: &ByteIndex<'_>, t: &TypeRef<'_>) -> usize
-    requires { names.now ≡ section_names (facts_of known.now) }
+fn own_text_len(known: &Known<'_, '_, '_>, t: &TypeRef<'_>) -> usize
     ensures { result ≡ own_text (facts_of known.now) t.now }
 {
     if t.kind() != BtfKind::DataSec {
         return 0;
     }
-    let name_offset = t.name_offset();
-    let Some(name) = known.text_at(name_offset) else {
+    let Some(name) = known.text_at(t.name_offset()) else {
         return 0;
     };
-    if !names.is_in(name, name_offset) {
+    if !has_byte(name.as_bytes(), sought(known)) {
         return 0;
     }
     name.len() + 1
@@ -34,9 +43,8 @@ fn own_text_len(known: &Known<'_, '_, '_>, names: &ByteIndex<'_>, t: &TypeRef<'_
 /// Whether 32 bits can count the bytes of the strings and of the texts that sections get for their
 /// names. Many sections may have one long name, of which each gets a copy, so this is asked before
 /// the first is written.
-pub(crate) fn own_texts_fit(known: &Known<'_, '_, '_>, names: &ByteIndex<'_>) -> bool
-    requires strings { length (facts_of known.now).strings < 2 ^ 32 }
-    requires names { names.now ≡ section_names (facts_of known.now) }
+pub(crate) fn own_texts_fit(known: &Known<'_, '_, '_>) -> bool
+    requires { length (facts_of known.now).strings < 2 ^ 32 }
     ensures fit { result ≡ true
         → length (facts_of known.now).strings
         + own_texts (facts_of known.now) (facts_of known.now).types < 2 ^ 32 }
@@ -47,7 +55,7 @@ pub(crate) fn own_texts_fit(known: &Known<'_, '_, '_>, names: &ByteIndex<'_>) ->
     let mut left = MOST - known.strings.len();
     let mut index = 0;
     while let Some(t) = known.types.get(index) {
-        let len = own_text_len(known, names, &t);
+        let len = own_text_len(known, &t);
         if len > left {
             return false;
         }

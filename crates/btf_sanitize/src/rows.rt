@@ -7,7 +7,6 @@ ghost use Rattle.btf_records.specs.declared.types.BtfType.TheVariants as types;
 ghost use Rattle.btf_sanitize.specs.Faults.{IsTooMuch, KindFault};
 ghost use Rattle.btf_sanitize.specs.Knowledge.{facts_of};
 ghost use Rattle.btf_sanitize.specs.Rewritten.{after, after_enum64, after_signature, is_alone, member_of_variant, rewritten, rewritten_enum64, rewritten_func, rewritten_signature, variant_of_param};
-ghost use Rattle.btf_sanitize.specs.SectionNames.{section_names};
 ghost use Rattle.btf_storage.specs.Faultless.{IsFaultless};
 
 use crate::additions::{Additions, small_int};
@@ -20,7 +19,6 @@ use btf_records::{
     BtfError, BtfFeature, BtfType, Const, Enum, Enum64, Enum64Fallback, Func, FuncLinkage,
     FuncProto, InfoBits, Items, Ptr, Struct, Typedef, Union,
 };
-use byte_index::ByteIndex;
 use std::alloc::{AllocError, Global};
 
 /// The number of global linkage.
@@ -170,11 +168,9 @@ fn rewritten_alone(known: &Known<'_, '_, '_>, additions: &Additions, t: BtfType)
 pub fn rewritten(
     alloc: Global,
     known: &Known<'_, '_, '_>,
-    names: &ByteIndex<'_>,
     additions: &mut Additions,
     t: BtfType,
 ) -> Result<BtfType, BtfError>
-    requires { names.now ≡ section_names (facts_of known.now) }
     ensures value { IfOk result (λ r. r ≡ rewritten (facts_of known.now) additions.old t) }
     ensures added { OnOk result (additions.new ≡ after (facts_of known.now) additions.old t) }
     ensures refused { IfErr result (λ e.
@@ -184,7 +180,7 @@ pub fn rewritten(
     ensures accepted { OnOk result (IsFaultless (KindFault (facts_of known.now) t)) }
 {
     match t {
-        BtfType::DataSec(t) => rewritten_section(alloc, known, names, additions, t),
+        BtfType::DataSec(t) => rewritten_section(alloc, known, additions, t),
         BtfType::Func(t) => rewritten_func(known, t),
         BtfType::FuncProto(t) => rewritten_signature(alloc, known, additions, t),
         BtfType::Enum64(t) => rewritten_enum64(alloc, known, additions, t),

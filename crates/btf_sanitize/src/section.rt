@@ -7,7 +7,6 @@ ghost use Rattle.btf_sanitize.specs.Additions.{with_renamed};
 ghost use Rattle.string_table.specs.Texts.{text_at};
 ghost use Rattle.btf_sanitize.specs.Knowledge.{facts_of};
 ghost use Rattle.btf_sanitize.specs.Rewritten.{after_granted, after_section, filler_entry, granted_section, member_of_entry, placed, rewritten_section, section_size, section_struct, sized};
-ghost use Rattle.btf_sanitize.specs.SectionNames.{section_names};
 ghost use Rattle.btf_storage.specs.Faultless.{IsFaultless};
 
 use crate::additions::Additions;
@@ -15,7 +14,6 @@ use crate::known::Known;
 use btf_records::{
     BtfError, BtfFeature, BtfMember, BtfType, DataSec, DataSecEntry, Items, Struct, VarLinkage,
 };
-use byte_index::ByteIndex;
 use std::alloc::{AllocError, Global};
 
 /// The member that stands for an entry: its type's name, its type, and its offset in bits.
@@ -139,13 +137,11 @@ pub(crate) fn section_size(
 fn struct_of_section(
     alloc: Global,
     known: &Known<'_, '_, '_>,
-    names: &ByteIndex<'_>,
     additions: &mut Additions,
     name: &str,
     t: &DataSec,
 ) -> Result<Struct, BtfError>
-    requires name { text_at (facts_of known.now).strings t.now.name_offset ≡ Some name.now }
-    requires names { names.now ≡ record { strings = (facts_of known.now).strings; byte = 46 } }
+    requires { text_at (facts_of known.now).strings t.now.name_offset ≡ Some name.now }
     ensures value { IfOk result (λ r. r ≡ section_struct (facts_of known.now) additions.old t.now) }
     ensures added { OnOk result (additions.new ≡ with_renamed 46 95 name.now additions.old) }
     ensures refused { IfErr result (λ e.
@@ -156,7 +152,7 @@ fn struct_of_section(
         (IsFaultless (λ e. Any (λ entry. MemberFault (facts_of known.now) entry e) t.now.entries)) }
 {
     let members = members_of_entries(alloc, known, t.entries.as_slice())?;
-    let name_offset = additions.rename(names, name, t.name_offset, b'_')?;
+    let name_offset = additions.rename(name, t.name_offset, b'.', b'_')?;
     Ok(Struct::new(name_offset, members, t.entries.len() as u32))
 }
 
@@ -203,13 +199,11 @@ fn filler_entries(alloc: Global, filler: u32) -> Result<Items<DataSecEntry>, All
 fn granted_section(
     alloc: Global,
     known: &Known<'_, '_, '_>,
-    names: &ByteIndex<'_>,
     additions: &mut Additions,
     name: &str,
     t: DataSec,
 ) -> Result<DataSec, BtfError>
-    requires name { text_at (facts_of known.now).strings t.name_offset ≡ Some name.now }
-    requires names { names.now ≡ record { strings = (facts_of known.now).strings; byte = 47 } }
+    requires { text_at (facts_of known.now).strings t.name_offset ≡ Some name.now }
     ensures value { IfOk result (λ r. r ≡ granted_section (facts_of known.now) additions.old t) }
     ensures added { OnOk result
         (additions.new ≡ after_granted (facts_of known.now) additions.old t) }
@@ -221,7 +215,7 @@ fn granted_section(
         (IsFaultless (λ e. (t.size ≡ 0) × UnsizedFault (facts_of known.now) t e)) }
 {
     let is_filled = t.size == 0 && t.entries.is_empty() && !known.grants(BtfFeature::DataSecZero);
-    let name_offset = additions.rename(names, name, t.name_offset, b'.')?;
+    let name_offset = additions.rename(name, t.name_offset, b'/', b'.')?;
     let section = sized(alloc, known, name, t)?;
     if !is_filled {
         return Ok(DataSec {
@@ -242,11 +236,9 @@ fn granted_section(
 pub(crate) fn rewritten_section(
     alloc: Global,
     known: &Known<'_, '_, '_>,
-    names: &ByteIndex<'_>,
     additions: &mut Additions,
     t: DataSec,
 ) -> Result<BtfType, BtfError>
-    requires { names.now ≡ section_names (facts_of known.now) }
     ensures value { IfOk result (λ r. r ≡ rewritten_section (facts_of known.now) additions.old t) }
     ensures added { OnOk result
         (additions.new ≡ after_section (facts_of known.now) additions.old t) }
@@ -258,9 +250,9 @@ pub(crate) fn rewritten_section(
 {
     let name = known.name_at(t.name_offset)?;
     if known.grants(BtfFeature::DataSec) {
-        let section = granted_section(alloc, known, names, additions, name, t)?;
+        let section = granted_section(alloc, known, additions, name, t)?;
         return Ok(BtfType::DataSec(section));
     }
-    let section = struct_of_section(alloc, known, names, additions, name, &t)?;
+    let section = struct_of_section(alloc, known, additions, name, &t)?;
     Ok(BtfType::Struct(section))
 }

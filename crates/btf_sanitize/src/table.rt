@@ -6,7 +6,6 @@ ghost use Rattle.btf_sanitize.specs.Faults.{KindFault};
 ghost use Rattle.btf_sanitize.specs.Kept.{Keeps};
 ghost use Rattle.btf_sanitize.specs.Knowledge.{facts_of};
 ghost use Rattle.btf_sanitize.specs.Rewritten.{after, after_all, all_rewritten, rewritten};
-ghost use Rattle.btf_sanitize.specs.SectionNames.{section_names, sought};
 ghost use Rattle.btf_sanitize.specs.Stays.{stays};
 ghost use Rattle.btf_sanitize.specs.Sanitized.{AnyFault, NextFault, SanitizingFault, sanitized_strings, sanitized_types};
 ghost use Rattle.btf_storage.specs.Faultless.{IsFaultless};
@@ -18,53 +17,9 @@ use crate::own_texts::own_texts_fit;
 use crate::rows::rewritten;
 use crate::staying::stays;
 use btf_encoding::TypeRef;
-use btf_records::{BtfError, BtfFeature, BtfKind, BtfType};
+use btf_records::{BtfError, BtfType};
 use btf_storage::TypeRecords;
-use byte_index::{ByteIndex, SHORT};
-use std::alloc::{AllocError, Global};
-
-/// Whether a section has a long name.
-fn has_long_name(known: &Known<'_, '_, '_>) -> bool {
-    for index in 0..known.types.len() {
-        let Some(t) = known.types.get(index) else {
-            return false;
-        };
-        if t.kind() != BtfKind::DataSec {
-            continue;
-        }
-        if let Some(name) = known.text_at(t.name_offset()) {
-            if name.len() > SHORT {
-                return true;
-            }
-        }
-    }
-    false
-}
-
-/// The byte that isn't left in names of sections.
-fn sought(known: &Known<'_, '_, '_>) -> u8
-    ensures { result ≡ sought (facts_of known.now) }
-{
-    if known.grants(BtfFeature::DataSec) {
-        b'/'
-    } else {
-        b'.'
-    }
-}
-
-/// Where that byte stands, if there are long names.
-fn section_names<'s>(
-    alloc: Global,
-    known: &'s Known<'_, '_, '_>,
-) -> Result<ByteIndex<'s>, AllocError>
-    ensures { IfOk result (λ names. names ≡ section_names (facts_of known.now)) }
-{
-    let strings = known.strings.as_slice();
-    if has_long_name(known) {
-        return ByteIndex::new(alloc, strings, sought(known));
-    }
-    Ok(ByteIndex::empty(alloc, strings, sought(known)))
-}
+use std::alloc::Global;
 
 /// Copies a record that stays, after what becomes of those before it.
 #[tactic(auto, using(crate::proofs::Stays::stays_alone))]
@@ -93,12 +48,10 @@ fn keep(
 fn rewrite_next(
     alloc: Global,
     known: &Known<'_, '_, '_>,
-    names: &ByteIndex<'_>,
     additions: &mut Additions,
     records: &mut TypeRecords<'_>,
     t: &TypeRef<'_>,
 ) -> Result<(), BtfError>
-    requires { names.now ≡ section_names (facts_of known.now) }
     ensures types { OnOk result
         (records.new.types
         ≡ records.old.types ++ rewritten (facts_of known.now) additions.old t.now ∷ []) }
@@ -113,7 +66,7 @@ fn rewrite_next(
         return keep(known, additions, records, t);
     }
     let t = t.to_type(alloc)?;
-    let t = rewritten(alloc, known, names, additions, t)?;
+    let t = rewritten(alloc, known, additions, t)?;
     records.push(t)
 }
 
@@ -122,12 +75,10 @@ fn rewrite_next(
 fn rewrite_all(
     alloc: Global,
     known: &Known<'_, '_, '_>,
-    names: &ByteIndex<'_>,
     additions: &mut Additions,
     records: &mut TypeRecords<'_>,
 ) -> Result<(), BtfError>
-    requires none { records.old.types ≡ [] }
-    requires names { names.now ≡ section_names (facts_of known.now) }
+    requires { records.old.types ≡ [] }
     ensures types { OnOk result
         (records.new.types
         ≡ all_rewritten (facts_of known.now) additions.old (facts_of known.now).types) }
@@ -143,7 +94,7 @@ fn rewrite_all(
 {
     let mut index = 0;
     while let Some(t) = known.types.get(index) {
-        rewrite_next(alloc, known, names, additions, records, &t)?;
+        rewrite_next(alloc, known, additions, records, &t)?;
         index += 1;
     }
     Ok(())
@@ -188,13 +139,12 @@ fn rewritten_table<'a>(
     ensures accepted { OnOk result
         (IsFaultless (SanitizingFault known.now.types.now.order (facts_of known.now))) }
 {
-    let names = section_names(alloc, known)?;
-    if !own_texts_fit(known, &names) {
+    if !own_texts_fit(known) {
         return Err(BtfError::InvalidTypeInfo);
     }
     let mut additions = Additions::new(alloc, known.strings.len(), known.types.len());
     let mut records = TypeRecords::new(alloc, known.types.order());
-    rewrite_all(alloc, known, &names, &mut additions, &mut records)?;
+    rewrite_all(alloc, known, &mut additions, &mut records)?;
     let (texts, types) = additions.into_parts();
     push_all(&mut records, types)?;
     Ok(SanitizedTable { records, texts })

@@ -5,7 +5,6 @@ pub mod Headers
 pub mod Held
 pub mod Named
 pub mod NamedAlike
-pub mod OtherTexts
 pub mod Rests
 pub mod Sections
 pub mod Texts

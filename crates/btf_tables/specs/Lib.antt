@@ -3,7 +3,6 @@ pub mod EssentialNames
 pub mod GrownTables
 pub mod Headers
 pub mod Holdings
-pub mod OtherTexts
 pub mod ResolvedTypes
 pub mod Sections
 pub mod Tables

@@ -5,7 +5,6 @@
 mod essential_names;
 mod growing;
 mod lookup;
-mod other_texts;
 mod section;
 mod table;
 

@@ -4,7 +4,6 @@ ghost use Rattle.std.specs.Prelude.{◌≡◌, ◌≢◌, ◌*◌, true, false, 
 ghost use Rattle.std.specs.Option.{IsSomeAnd, option_map};
 ghost use Rattle.btf_tables.specs.Agreement.{FoundAlike, IsReached, RestsOn, chain_ids, size_ids};
 ghost use Rattle.btf_tables.specs.Holdings.{AreHeld};
-ghost use Rattle.btf_tables.specs.OtherTexts.{AreOthers};
 ghost use Rattle.btf_tables.specs.ResolvedTypes.{IsEnd, resolved_type};
 ghost use Rattle.btf_tables.specs.TypeSizes.{IsSize, own_size, sized_by, type_size, type_size_in_32_bits};
 ghost use Rattle.btf_tables.specs.TypesByName.{IsFirstNamed, IsNotNamed, NameFault};
@@ -12,11 +11,9 @@ ghost use Rattle.btf_records.specs.Fields.{kind_of_type, name_offset_of};
 ghost use Rattle.string_table.specs.Texts.{text_at};
 ghost use Rattle.btf_records.specs.declared.error.BtfError.TheVariants.{InvalidStringOffset, OutOfMemory};
 
-use crate::other_texts::is_name;
 use crate::table::{Btf, MAX_DEPTH};
 use btf_encoding::TypeRef;
 use btf_records::{BtfError, BtfKind};
-use std::collections::BTreeSet;
 
 /// The size of a record that has one by itself.
 fn own_size(t: &TypeRef<'_>) -> Option<u32>
@@ -132,14 +129,7 @@ impl<'a> Btf<'a> {
     /// Whether this is the wanted record, by kind and name.
     ///
     /// `InvalidStringOffset` where it is of the kind and its name can't be read.
-    fn is_named(
-        &self,
-        t: &TypeRef<'_>,
-        name: &str,
-        kind: BtfKind,
-        others: &mut BTreeSet<u32>,
-    ) -> Result<bool, BtfError>
-        requires others { AreOthers self.now.strings name.now others.old.keys }
+    fn is_named(&self, t: &TypeRef<'_>, name: &str, kind: BtfKind) -> Result<bool, BtfError>
         ensures named { IfOk result (λ found.
             found ≡ true
             → (kind_of_type t.now ≡ kind)
@@ -150,19 +140,20 @@ impl<'a> Btf<'a> {
             → IsSomeAnd (text_at self.now.strings (name_offset_of t.now)) (λ text.
             text ≢ name.now)) }
         ensures refused { IfErr result (λ e.
-            e ≢ OutOfMemory
-            → (kind_of_type t.now ≡ kind)
+            (kind_of_type t.now ≡ kind)
             × (e ≡ InvalidStringOffset (name_offset_of t.now))
             × (text_at self.now.strings (name_offset_of t.now) ≡ None)) }
-        ensures others { AreOthers self.now.strings name.now others.new.keys }
     {
         if t.kind() != kind {
             return Ok(false);
         }
         let offset = t.name_offset();
-        is_name(&self.strings, name, others, offset)?.ok_or(BtfError::InvalidStringOffset {
-            offset: offset as usize,
-        })
+        match self.strings.text_at(offset) {
+            Some(text) => Ok(text == name),
+            None => Err(BtfError::InvalidStringOffset {
+                offset: offset as usize,
+            }),
+        }
     }
 
     /// The least id of the types of this kind and name.
@@ -185,17 +176,16 @@ impl<'a> Btf<'a> {
     }
 
     /// The least id of the types of this kind and name, where there is one.
-    #[tactic(auto, using(crate::proofs::Named::fault_here, crate::proofs::Named::known_here, crate::proofs::Named::rest_here, crate::proofs::Named::none_more, crate::proofs::Named::none_left, crate::proofs::OtherTexts::no_others))]
+    #[tactic(auto, using(crate::proofs::Named::fault_here, crate::proofs::Named::known_here, crate::proofs::Named::rest_here, crate::proofs::Named::none_more, crate::proofs::Named::none_left))]
     fn first_named(&self, name: &str, kind: BtfKind) -> Result<Option<u32>, BtfError>
         ensures found { IfOk result (λ found.
             MatchOption found ((id : ℕ) → IsNotNamed self.now name.now kind id) (λ id.
             IsFirstNamed self.now name.now kind id)) }
-        ensures refused { IfErr result (λ e. e ≢ OutOfMemory → NameFault self.now name.now kind e) }
+        ensures refused { IfErr result (NameFault self.now name.now kind) }
     {
-        let mut others = BTreeSet::new(self.allocator());
         let mut id: usize = 0;
         for t in self.types() {
-            if self.is_named(&t, name, kind, &mut others)? {
+            if self.is_named(&t, name, kind)? {
                 return Ok(Some(id as u32));
             }
             id += 1;

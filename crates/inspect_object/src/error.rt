@@ -3,12 +3,11 @@
 ghost use Rattle.std.specs.Prelude.{◌≡◌};
 ghost use Rattle.inspect_object.specs.declared.error.InspectError.TheVariants.{Refused};
 ghost use Rattle.inspect_object.specs.Program.{status_of};
-ghost use Rattle.inspect_object.specs.declared.error.ProgramError.TheVariants.{Input, OutOfMemory, Unwritten};
 
 use diagnostics::Refusal;
 use ebpf_object::ParseError;
 use program_io::{InputError, Unwritten};
-use std::alloc::{AllocError, AllocFailed};
+use std::alloc::AllocError;
 use thiserror::Error;
 
 /// Why [`inspect`](crate::inspecting::inspect) doesn't print an object whole.
@@ -41,48 +40,16 @@ pub enum ProgramError {
     NoTypes,
     /// A word or a file can't be had.
     #[error("{0}")]
-    Input(InputError),
+    Input(#[from] InputError),
     /// There is no memory for the reports, or for writing.
     #[error("out of memory")]
-    OutOfMemory,
+    OutOfMemory(#[from(alloc)] AllocError),
     /// The object is refused.
     #[error("refused: {0}")]
     Refused(Refusal<ParseError>),
     /// The text can't be written.
     #[error("the text {0}")]
-    Unwritten(Unwritten),
-}
-
-impl From<InputError> for ProgramError {
-    ghost from_gives = { λ error e. e ≡ Input error };
-
-    fn from(error: InputError) -> ProgramError {
-        ProgramError::Input(error)
-    }
-}
-
-impl From<Unwritten> for ProgramError {
-    ghost from_gives = { λ error e. e ≡ Unwritten error };
-
-    fn from(error: Unwritten) -> ProgramError {
-        ProgramError::Unwritten(error)
-    }
-}
-
-impl From<AllocError> for ProgramError {
-    ghost from_gives = { λ _ e. e ≡ OutOfMemory };
-
-    fn from(_error: AllocError) -> ProgramError {
-        ProgramError::OutOfMemory
-    }
-}
-
-impl<T: Drop> From<AllocFailed<T>> for ProgramError {
-    ghost from_gives = { λ _ e. e ≡ OutOfMemory };
-
-    fn from(_error: AllocFailed<T>) -> ProgramError {
-        ProgramError::OutOfMemory
-    }
+    Unwritten(#[from] Unwritten),
 }
 
 impl ProgramError {

@@ -19,7 +19,7 @@ use error::{InspectError, ProgramError};
 use inspecting::inspect;
 use kernels::print_reports;
 use program_io::{Kept, Unwritten, print_text, read, words_of};
-use std::alloc::Global;
+use std::alloc::{AllocError, Global};
 use std::io;
 use std::io::{BufWriter, Write};
 use std::process::ExitCode;
@@ -33,7 +33,7 @@ pub(crate) fn refused(alloc: Global, object: &[u8], error: ParseError) -> Progra
 /// Prints an object.
 fn print_bytes(rt: &HostRuntime, object: &[u8]) -> Result<(), ProgramError> {
     let Ok(mut out) = BufWriter::new(rt.alloc(), Kept::new(io::writer(rt))) else {
-        return Err(ProgramError::OutOfMemory);
+        return Err(ProgramError::OutOfMemory(AllocError));
     };
     match inspect(rt.alloc(), object, &mut out) {
         Ok(()) => match out.flush() {
@@ -63,7 +63,7 @@ fn print_asked(rt: &HostRuntime) -> Result<(), ProgramError> {
     let words = words_of(rt)?;
     match inspect_arguments(rt.alloc(), &words) {
         Ok(line) => print_named(rt, &line),
-        Err(LineError::OutOfMemory) => Err(ProgramError::OutOfMemory),
+        Err(LineError::OutOfMemory) => Err(ProgramError::OutOfMemory(AllocError)),
         Err(LineError::Fault { text }) => Err(ProgramError::Usage { text }),
         Err(LineError::Asked { text }) => Ok(print_text(rt, &text)?),
     }

@@ -4,7 +4,7 @@ use btf::BtfError;
 use ebpf_object::{EbpfRelocationError, ParseError};
 use elf64::ElfError;
 use load_plan::{PlanReadError, PrepareError};
-use std::alloc::{AllocError, AllocFailed};
+use std::alloc::AllocError;
 use std::io;
 use thiserror::Error;
 
@@ -28,7 +28,7 @@ pub enum ExampleError {
     #[error("the plan's text: {0}")]
     Text(#[from] PlanReadError),
     #[error("out of memory")]
-    OutOfMemory(#[from] AllocError),
+    OutOfMemory(#[from(alloc)] AllocError),
 }
 
 impl ExampleError {
@@ -40,11 +40,5 @@ impl ExampleError {
             ExampleError::OutOfMemory(_) => 3,
             _ => 1,
         }
-    }
-}
-
-impl<T: Drop> From<AllocFailed<T>> for ExampleError {
-    fn from(_error: AllocFailed<T>) -> ExampleError {
-        ExampleError::OutOfMemory(AllocError)
     }
 }

@@ -6,10 +6,6 @@ pub mod KnownMaps
 pub mod Left
 pub mod Places
 pub mod Sayings
-pub mod NumberedNames
-pub mod NumbersByOffset
-pub mod SectionIndexes
 pub mod Shown
-pub mod Unreadable
 pub mod Overwriting
 pub mod Ordered

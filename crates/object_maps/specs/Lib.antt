@@ -7,7 +7,4 @@ pub mod Found
 pub mod KnownMaps
 pub mod LegacyMaps
 pub mod Maps
-pub mod NumberedNames
-pub mod NumbersByOffset
-pub mod SectionIndexes
 pub mod Overwritten

@@ -8,9 +8,9 @@ ghost use Rattle.object_maps.specs.Faults.{Says};
 
 use crate::defined_maps::{DefinedMaps, FoundDefinitions};
 use crate::entries::Entries;
-use crate::section_index::SectionIndex;
+use crate::named_sections::{require_names, sections_named};
 use btf_encoding::TypeRef;
-use btf_records::{BtfError, DataSecEntry};
+use btf_records::DataSecEntry;
 use btf_tables::Btf;
 use ebpf_items::ParseError;
 use map_definitions::{MapDefinitions, map_variable};
@@ -90,13 +90,12 @@ pub(crate) struct KnownMaps<'a, 't> {
     pub(crate) maps: DefinedMaps<'t>,
 }
 
-/// A type table, its sections of variables by name, and what they define as maps, read once for
-/// each name that sections of the object have. These names are told apart by their lengths first:
+/// A type table, and what its sections of variables define as maps, read once for each name that
+/// sections of the object have. These names are told apart by their lengths first:
 /// those that are ends of one long text are costly to compare.
 #[derive(Debug)]
 pub(crate) struct DataSections<'a, 't, 'b> {
     table: &'t Btf<'b>,
-    index: SectionIndex<'t>,
     definitions: MapDefinitions<'t, 'b>,
     known: BTreeMap<(usize, &'a str), KnownMaps<'a, 't>>,
 }
@@ -106,7 +105,6 @@ impl<'a, 't, 'b> Drop for DataSections<'a, 't, 'b> {
     fn drop(self) {
         let DataSections {
             table: _,
-            index: _index,
             definitions: _definitions,
             known: _known,
         } = self;
@@ -118,32 +116,26 @@ impl<'a, 't, 'b> Model for DataSections<'a, 't, 'b> {
     ghost use Rattle.std.specs.Map.{values_of};
     ghost use Rattle.btf_tables.specs.Tables.{Table};
     ghost use Rattle.object_maps.specs.KnownMaps.{AreKnown};
-    ghost use Rattle.object_maps.specs.SectionIndexes.{IsIndexOf};
 
     ghost Value = { Table };
 
     ghost view = { λ d. d.table.now };
 
     ghost invariant = { λ d.
-        IsIndexOf d.index d.table.now
-        × (d.definitions ≡ d.table.now)
+        (d.definitions ≡ d.table.now)
         × AreKnown d.table.now (values_of d.known.entries) };
 }
 
 impl<'a, 't, 'b> DataSections<'a, 't, 'b> {
     #[tactic(auto, using(crate::proofs::KnownMaps::none_known))]
-    pub(crate) fn new(
-        alloc: Global,
-        table: &'t Btf<'b>,
-    ) -> Result<DataSections<'a, 't, 'b>, AllocError>
-        ensures { IfOk result (λ d. d ≡ table.now) }
+    pub(crate) fn new(alloc: Global, table: &'t Btf<'b>) -> DataSections<'a, 't, 'b>
+        ensures { result ≡ table.now }
     {
-        Ok(DataSections {
+        DataSections {
             table,
-            index: SectionIndex::of_table(alloc, table)?,
             definitions: MapDefinitions::new(alloc, table),
             known: BTreeMap::new(alloc),
-        })
+        }
     }
 
     /// Refuses a table in which the name of a section of variables can't be read.
@@ -151,12 +143,7 @@ impl<'a, 't, 'b> DataSections<'a, 't, 'b> {
         ensures accepted { OnOk result (name_faults self.now ≡ []) }
         ensures refused { IfErr result (Says (name_faults self.now)) }
     {
-        match self.index.unreadable {
-            None => Ok(()),
-            Some(offset) => Err(ParseError::BtfError(BtfError::InvalidStringOffset {
-                offset: offset as usize,
-            })),
-        }
+        require_names(self.table)
     }
 
     /// What the sections of a name define, read anew.
@@ -169,14 +156,13 @@ impl<'a, 't, 'b> DataSections<'a, 't, 'b> {
         ensures same { self.new ≡ self.old }
     {
         let mut found = FoundDefinitions::new(alloc);
-        if let Some(sections) = self.index.get(name) {
-            read_sections(
-                alloc,
-                &mut self.definitions,
-                sections.as_slice(),
-                &mut found,
-            )?;
-        }
+        let sections = sections_named(alloc, self.table, name)?;
+        read_sections(
+            alloc,
+            &mut self.definitions,
+            sections.as_slice(),
+            &mut found,
+        )?;
         Ok(found.into_defined(alloc)?)
     }
 

@@ -9,12 +9,9 @@ mod defined_maps;
 mod entries;
 mod found_maps;
 mod legacy_maps;
-mod lists;
 mod maps;
-mod offset_numbers;
+mod named_sections;
 mod reading;
-mod section_index;
-mod section_names;
 
 pub use maps::Maps;
 pub use reading::read_maps;

@@ -112,7 +112,7 @@ pub fn read_maps<'a>(
 {
     match table {
         Some(table) => {
-            let mut types = Some(DataSections::new(alloc, table)?);
+            let mut types = Some(DataSections::new(alloc, table));
             maps_in(alloc, file, &mut types)
         }
         None => maps_in(alloc, file, &mut None),

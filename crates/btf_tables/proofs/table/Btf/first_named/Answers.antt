@@ -16,5 +16,4 @@ loop-t-preserved c =
     record {
       left = sym (rest_here c.args.self.now c.loop-t.id c.in-Some.t c.next.new.self here);
       before = none_more c.args.self.now c.args.name.now c.args.kind c.loop-t.id c.in-Some.t c.next.new.self c.loop-t.invariant.before here (c.in_ok-is_named.ensures.other c.if-branch.false);
-      others = c.is_named.ensures.others;
     }
