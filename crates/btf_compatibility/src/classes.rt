@@ -8,7 +8,7 @@ use std::alloc::{AllocError, Global};
 use std::collections::BTreeMap;
 
 /// The ids of one table that are in classes.
-#[derive(Debug, Drop)]
+#[derive(Drop)]
 struct Side {
     /// The class of an id.
     classes: BTreeMap<u32, u32>,
@@ -76,7 +76,6 @@ impl Side {
 /// Ids of a local table and of another in classes: those that joined pairs link. These are disjoint
 /// sets, each named by a local id. Where two become one, the smaller takes the name of the larger,
 /// so that an id gets another class no more than log n times in n joins.
-#[derive(Debug)]
 pub(crate) struct Classes {
     left: Side,
     right: Side,

@@ -9,7 +9,7 @@ use std::alloc::{AllocError, Global};
 use std::collections::BTreeMap;
 
 /// A pair of types whose parts are being compared.
-#[derive(Clone, Copy, Debug)]
+#[derive(Clone, Copy)]
 pub(crate) struct OpenPair {
     pub(crate) left: u32,
     pub(crate) right: u32,
@@ -18,7 +18,7 @@ pub(crate) struct OpenPair {
 }
 
 /// How far the comparison of a pair has come.
-#[derive(Clone, Copy, Debug)]
+#[derive(Clone, Copy)]
 pub(crate) enum PairState {
     Open,
     /// All its parts are compatible.
@@ -26,7 +26,7 @@ pub(crate) enum PairState {
 }
 
 /// The pairs that have been met, and those that are open, each a part of the one before.
-#[derive(Debug, Drop)]
+#[derive(Drop)]
 pub(crate) struct Pairs {
     pub(crate) open: Vec<OpenPair>,
     pub(crate) states: BTreeMap<(u32, u32), PairState>,

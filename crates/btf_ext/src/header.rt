@@ -12,7 +12,7 @@ use btf_records::{BtfError, Endianness, word};
 const LEAST_LEN: usize = 8;
 
 /// A region and its bytes.
-#[derive(Clone, Copy, Debug)]
+#[derive(Clone, Copy)]
 pub(crate) struct Region<'a> {
     pub(crate) kind: RegionKind,
     pub(crate) place: Place,

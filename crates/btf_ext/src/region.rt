@@ -7,7 +7,7 @@ ghost use Rattle.btf_ext.specs.Regions.{field_of, least_size};
 use btf_records::BtfError;
 
 /// What a region's records say.
-#[derive(Clone, Copy, Debug, PartialEq, Eq)]
+#[derive(Clone, Copy, PartialEq, Eq)]
 pub(crate) enum RegionKind {
     Functions,
     Lines,
@@ -15,7 +15,7 @@ pub(crate) enum RegionKind {
 }
 
 /// Where a region lies, in bytes from the section's start.
-#[derive(Clone, Copy, Debug)]
+#[derive(Clone, Copy)]
 pub(crate) struct Place {
     pub(crate) offset: usize,
     pub(crate) len: usize,

@@ -58,7 +58,7 @@ fn placed_entry(
 }
 
 /// The entries of the section, each at its place, and whether one of them names a variable.
-#[derive(Debug, Drop)]
+#[derive(Drop)]
 pub(crate) struct PlacedEntries {
     pub(crate) entries: Vec<DataSecEntry>,
     pub(crate) has_variables: bool,

@@ -25,7 +25,7 @@ pub struct SteppedTable<'a> {
 }
 
 /// What the records of a table are rewritten by.
-#[derive(Debug, Drop)]
+#[derive(Drop)]
 pub(crate) struct KsymsStep {
     /// The section's entries, each at its place.
     entries: Items<DataSecEntry>,

@@ -17,7 +17,7 @@ use btf_tables::Btf;
 use string_map::TextMap;
 
 /// A table after a rewriting, and the answers that it rests on.
-#[derive(Debug, Drop)]
+#[derive(Drop)]
 struct Rewritten<'a> {
     answers: Answers,
     table: Btf<'a>,

@@ -13,7 +13,7 @@ use std::alloc::Global;
 use std::marker::Model;
 
 /// Texts and types that are appended after a table's own.
-#[derive(Debug, Drop)]
+#[derive(Drop)]
 pub struct Additions {
     string_len: usize,
     type_count: usize,

@@ -10,7 +10,7 @@ use btf_records::{BtfKind, BtfType, Endianness, Enum64Fallback, Union};
 use std::alloc::AllocError;
 
 /// A record by itself, or one that is copied from where it lies.
-#[derive(Debug, Drop)]
+#[derive(Drop)]
 pub(crate) enum NewRecord<'t> {
     Own(BtfType),
     Copied(&'t TypeRef<'t>),

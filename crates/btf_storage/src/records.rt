@@ -224,7 +224,7 @@ fn name_offset_in(order: Endianness, bytes: &[u8]) -> u32
 const LEAST_LEN: usize = 12;
 
 /// Where records begin, their kinds and the offsets of their names.
-#[derive(Debug, Drop)]
+#[derive(Drop)]
 struct RecordIndex {
     places: Vec<u32>,
     kinds: Vec<BtfKind>,

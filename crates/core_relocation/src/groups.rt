@@ -9,7 +9,7 @@ use std::alloc::{AllocError, Global};
 use std::marker::Model;
 
 /// The type relocations of a section, in order.
-#[derive(Debug, Drop)]
+#[derive(Drop)]
 pub(crate) struct RelocationGroup {
     /// Where the section's name stands among the strings.
     pub(crate) name_offset: u32,

@@ -18,7 +18,7 @@ pub(crate) struct Field {
 }
 
 /// The bytes that hold a field, and its bits in them.
-#[derive(Clone, Copy, Debug)]
+#[derive(Clone, Copy)]
 pub(crate) struct Extent {
     /// The first byte.
     pub(crate) byte_offset: u64,

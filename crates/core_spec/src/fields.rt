@@ -13,7 +13,7 @@ use btf_records::{BtfArray, BtfError, BtfKind, BtfMember};
 use btf_tables::Btf;
 
 /// How far a path has come.
-#[derive(Clone, Copy, Debug)]
+#[derive(Clone, Copy)]
 pub(crate) struct Reached {
     /// The id of the type of what it has come to.
     pub(crate) type_id: u32,
@@ -23,7 +23,7 @@ pub(crate) struct Reached {
 }
 
 /// How far a path has come with another number, and the step that this makes.
-#[derive(Clone, Copy, Debug)]
+#[derive(Clone, Copy)]
 pub(crate) struct Advance {
     pub(crate) reached: Reached,
     pub(crate) step: Option<Step>,

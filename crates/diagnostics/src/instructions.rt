@@ -10,7 +10,7 @@ use std::alloc::{AllocError, Global};
 use std::collections::BTreeSet;
 
 /// An instruction of a function, and the symbol that its relocation names.
-#[derive(Clone, Copy, Debug)]
+#[derive(Clone, Copy)]
 pub(crate) struct Instruction<'a> {
     pub(crate) function: &'a str,
     pub(crate) section_index: usize,

@@ -4,7 +4,7 @@ use btf_records::{BtfArray, BtfKind};
 use btf_tables::Btf;
 
 /// A member that doesn't say what its name asks for.
-#[derive(Clone, Copy, Debug)]
+#[derive(Clone, Copy)]
 pub(crate) struct FaultyMember<'t> {
     pub(crate) name: &'t str,
     /// What is wrong with it.

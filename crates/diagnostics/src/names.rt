@@ -5,14 +5,14 @@ use object_file::ReadSymbol;
 use std::fmt;
 
 /// A section: its index, and its name where that can be read.
-#[derive(Clone, Copy, Debug)]
+#[derive(Clone, Copy)]
 pub(crate) struct SectionName<'a> {
     index: usize,
     name: Option<&'a str>,
 }
 
 /// A symbol: its index, and its name where that can be read.
-#[derive(Clone, Copy, Debug)]
+#[derive(Clone, Copy)]
 pub(crate) struct SymbolName<'a> {
     index: usize,
     name: Option<&'a str>,

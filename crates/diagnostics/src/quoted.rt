@@ -3,7 +3,7 @@
 use std::fmt;
 
 /// Names in double quotes, with a comma between them.
-#[derive(Clone, Copy, Debug)]
+#[derive(Clone, Copy)]
 pub(crate) struct Quoted<'n> {
     pub(crate) names: &'n [&'n str],
 }

@@ -10,7 +10,7 @@ use btf_tables::Btf;
 use std::alloc::AllocError;
 
 /// Why a map's struct is refused, without the map's name.
-#[derive(Debug, Drop)]
+#[derive(Drop)]
 pub enum Refusal {
     /// A look-up in the type table fails, or memory ran out.
     Types(BtfError),
@@ -46,7 +46,7 @@ impl From<AllocError> for Refusal {
 }
 
 /// A type of keys or values.
-#[derive(Clone, Copy, Debug)]
+#[derive(Clone, Copy)]
 pub(crate) struct SizedType {
     pub type_id: u32,
     /// In bytes.

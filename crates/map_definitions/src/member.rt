@@ -10,7 +10,7 @@ use btf_tables::Btf;
 use ebpf_items::{BtfMapDef, MapWord};
 
 /// What a member of a map's struct is there for, by its name.
-#[derive(Clone, Copy, Debug)]
+#[derive(Clone, Copy)]
 pub(crate) enum Role {
     /// It sets a word to a number.
     Number(MapWord),
@@ -25,7 +25,7 @@ pub(crate) enum Role {
 }
 
 /// What a member of a map's struct says.
-#[derive(Clone, Copy, Debug)]
+#[derive(Clone, Copy)]
 pub(crate) enum Said {
     Number(MapWord, u32),
     Key(SizedType),

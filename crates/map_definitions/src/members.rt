@@ -10,7 +10,7 @@ use btf_tables::Btf;
 use std::marker::Model;
 
 /// The members of a struct in order.
-#[derive(Debug, Drop)]
+#[derive(Drop)]
 pub(crate) struct Members<'t> {
     t: TypeRef<'t>,
     next: usize,

@@ -16,7 +16,7 @@ use string_table::LongTexts;
 
 /// The string table that holds the names of the sections or of the symbols of a file, if there is
 /// one. A look-up takes as long for a long name as for a short one.
-#[derive(Debug, Drop)]
+#[derive(Drop)]
 pub(crate) struct Names<'a> {
     strings: Option<&'a [u8]>,
     texts: LongTexts,

@@ -84,7 +84,7 @@ fn read_sections<'t>(
 }
 
 /// What the sections of a name define as maps.
-#[derive(Debug, Drop)]
+#[derive(Drop)]
 pub(crate) struct KnownMaps<'a, 't> {
     pub(crate) section: &'a str,
     pub(crate) maps: DefinedMaps<'t>,
@@ -93,7 +93,6 @@ pub(crate) struct KnownMaps<'a, 't> {
 /// A type table, and what its sections of variables define as maps, read once for each name that
 /// sections of the object have. These names are told apart by their lengths first:
 /// those that are ends of one long text are costly to compare.
-#[derive(Debug)]
 pub(crate) struct DataSections<'a, 't, 'b> {
     table: &'t Btf<'b>,
     definitions: MapDefinitions<'t, 'b>,

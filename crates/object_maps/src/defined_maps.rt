@@ -13,7 +13,7 @@ use string_map::in_text_order;
 /// Definitions in the order in which they are found. Contracts see them sorted by name, the last of
 /// each name alone; they are sorted once, when all are found, since names with long common prefixes
 /// are costly to compare.
-#[derive(Debug, Drop)]
+#[derive(Drop)]
 pub(crate) struct FoundDefinitions<'t> {
     entries: VecDeque<(&'t str, BtfDefinition)>,
 }
@@ -67,7 +67,7 @@ impl<'t> FoundDefinitions<'t> {
 }
 
 /// What sections of a type table define, sorted by the names of maps.
-#[derive(Debug, Drop)]
+#[derive(Drop)]
 pub(crate) struct DefinedMaps<'t> {
     entries: Vec<(&'t str, BtfDefinition)>,
 }

@@ -9,7 +9,7 @@ use btf_records::DataSecEntry;
 use std::marker::Model;
 
 /// The entries of a section of variables in order.
-#[derive(Debug, Drop)]
+#[derive(Drop)]
 pub(crate) struct Entries<'s, 't> {
     section: &'s TypeRef<'t>,
     next: usize,

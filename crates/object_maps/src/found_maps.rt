@@ -17,7 +17,7 @@ use string_map::in_text_order;
 /// Maps in the order in which they are found. Contracts see them sorted by name, the last of each
 /// name alone; they are sorted once, when all are found, since names with long common prefixes are
 /// costly to compare.
-#[derive(Debug, Drop)]
+#[derive(Drop)]
 pub(crate) struct FoundMaps<'a> {
     entries: VecDeque<(&'a str, Map)>,
 }

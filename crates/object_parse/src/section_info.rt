@@ -12,7 +12,7 @@ use std::collections::BTreeMap;
 use std::marker::Model;
 
 /// The records of a section, and their sizes in bytes.
-#[derive(Debug, Drop)]
+#[derive(Drop)]
 pub(crate) struct SectionInfo<'e> {
     pub(crate) records: SectionRecords<'e>,
     pub(crate) func_info_rec_size: usize,
@@ -58,7 +58,7 @@ impl<'e> SectionInfo<'e> {
 }
 
 /// What an extension says of sections of a name.
-#[derive(Debug, Drop)]
+#[derive(Drop)]
 pub(crate) struct KnownInfo<'a, 'e> {
     pub(crate) name: &'a str,
     pub(crate) info: SectionInfo<'e>,
@@ -66,7 +66,6 @@ pub(crate) struct KnownInfo<'a, 'e> {
 
 /// What an extension says of sections, read once for each name. Names are told apart by their
 /// lengths first: those that are ends of one long text are costly to compare.
-#[derive(Debug)]
 pub(crate) struct SectionInfos<'a, 'e> {
     extension: Option<&'e BtfExt<'e>>,
     known: BTreeMap<(usize, &'a str), KnownInfo<'a, 'e>>,

@@ -15,7 +15,7 @@ use object_file::ObjectFile;
 use std::alloc::Global;
 
 /// The types of an object, and what stands beside them.
-#[derive(Debug, Drop)]
+#[derive(Drop)]
 pub(crate) struct Types<'a> {
     pub(crate) table: Option<Btf<'a>>,
     pub(crate) extension: Option<BtfExt<'a>>,

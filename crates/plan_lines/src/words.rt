@@ -136,7 +136,7 @@ fn cut(line: &[u8]) -> (&[u8], Option<&[u8]>)
 }
 
 /// The words that are left of a line.
-#[derive(Debug, Drop)]
+#[derive(Drop)]
 pub(crate) struct Words<'a> {
     rest: Option<&'a [u8]>,
 }

@@ -48,7 +48,7 @@ impl From<AllocError> for PlanReadError {
 }
 
 /// Which lines may come next.
-#[derive(Clone, Copy, Debug, PartialEq, Eq)]
+#[derive(Clone, Copy, PartialEq, Eq)]
 pub enum Phase {
     AtHeader,
     AtLicense,

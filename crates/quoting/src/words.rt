@@ -35,7 +35,7 @@ fn is_plain(bytes: &[u8]) -> bool
 }
 
 /// Two hexadecimal digits.
-#[derive(Debug, Drop)]
+#[derive(Drop)]
 struct HexByte(u8);
 
 impl fmt::Display for HexByte {
@@ -49,7 +49,7 @@ impl fmt::Display for HexByte {
 }
 
 /// A byte inside of double quotes.
-#[derive(Debug, Drop)]
+#[derive(Drop)]
 struct QuotedByte(u8);
 
 impl fmt::Display for QuotedByte {
@@ -64,7 +64,7 @@ impl fmt::Display for QuotedByte {
 }
 
 /// Bytes inside of double quotes.
-#[derive(Debug, Drop)]
+#[derive(Drop)]
 struct Quoted<'a>(&'a [u8]);
 
 impl<'a> fmt::Display for Quoted<'a> {

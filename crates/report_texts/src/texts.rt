@@ -6,7 +6,7 @@ use kernel_reports::{Outcome, Patch, Presence, RelocationAnswer, TypeRelocationE
 use std::fmt;
 
 /// How an instruction holds a value.
-#[derive(Clone, Copy, Debug)]
+#[derive(Clone, Copy)]
 pub(crate) enum Manner {
     /// As the immediate of arithmetic.
     Immediate,
@@ -30,7 +30,7 @@ fn manner_of(slot: bpf_insn) -> Manner {
 }
 
 /// What a relocation comes to, as far as words go.
-#[derive(Clone, Copy, Debug)]
+#[derive(Clone, Copy)]
 pub(crate) enum Said<'a> {
     Value { value: u64, manner: Manner },
     Poison,
@@ -68,7 +68,7 @@ fn unwritten_reason(fault: WriteFault) -> &'static str {
 }
 
 /// Why a relocation comes to nothing.
-#[derive(Clone, Copy, Debug)]
+#[derive(Clone, Copy)]
 pub(crate) struct FaultText<'a>(pub(crate) &'a TypeRelocationError);
 
 impl<'a> fmt::Display for FaultText<'a> {
@@ -93,7 +93,7 @@ impl<'a> fmt::Display for FaultText<'a> {
 }
 
 /// The end of a line on a relocation.
-#[derive(Clone, Copy, Debug)]
+#[derive(Clone, Copy)]
 pub(crate) struct AnswerWords<'a>(pub(crate) &'a RelocationAnswer);
 
 impl<'a> fmt::Display for AnswerWords<'a> {
@@ -119,7 +119,7 @@ impl<'a> fmt::Display for AnswerWords<'a> {
 }
 
 /// The cell of a table for a relocation.
-#[derive(Clone, Copy, Debug)]
+#[derive(Clone, Copy)]
 pub(crate) struct AnswerCell<'a>(pub(crate) &'a RelocationAnswer);
 
 impl<'a> fmt::Display for AnswerCell<'a> {

@@ -28,7 +28,7 @@ impl<'m> Model for NumberedMap<'m> {
 }
 
 /// Maps, and where among them stands the last one of each symbol and of each section.
-#[derive(Debug, Drop)]
+#[derive(Drop)]
 pub(crate) struct MapIndex<'m> {
     maps: &'m [NumberedMap<'m>],
     by_symbol: BTreeMap<usize, usize>,

@@ -12,7 +12,7 @@ use std::cmp::Ordering;
 use std::collections::VecDeque;
 
 /// A value and its text, in a run.
-#[derive(Debug, Drop)]
+#[derive(Drop)]
 pub(crate) struct Item<'a, T> {
     pub(crate) text: &'a str,
     /// How many bytes the text shares with the one before, 0 where there is none.
@@ -21,7 +21,7 @@ pub(crate) struct Item<'a, T> {
 }
 
 /// How two texts compare, and how many bytes they share at their beginnings.
-#[derive(Clone, Copy, Debug)]
+#[derive(Clone, Copy)]
 struct Comparison {
     ordering: Ordering,
     shared: usize,
