@@ -17,7 +17,7 @@ returns-in_err-rewrite_all-clause-refused c =
     let order = c.args.known.now.types.now.order in
     let start : c.new-additions.result ≡ at_first known = rw (c.len.ensures, c.len-2.ensures.value) at c.new-additions.ensures in
     let same : c.new-records.result.order ≡ order = ap (λ (r : RecordList). r.order) c.new-records.ensures ∙ c.order.ensures in
-    passed_on _ c.in_err-rewrite_all.field-0.0 (λ e. e ≢ OutOfMemory → SanitizingFault order known e) c.from_residual-in_err-rewrite_all.ensures.1
+    passed_on _ c.in_err-rewrite_all.field-0.0 (λ e. e ≢ OutOfMemory → SanitizingFault order known e) c.from_residual.ensures.1
     (λ other.
     let fault : AnyFault known order (at_first known) c.in_err-rewrite_all.field-0.0 = rw (start, same) at (c.in_err-rewrite_all.ensures.refused other) in
     refused_all order known c.in_err-rewrite_all.field-0.0 fault)
