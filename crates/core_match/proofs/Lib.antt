@@ -1,4 +1,3 @@
 pub mod FieldMatches
 pub mod MatchesAlike
-pub mod VariantIndexes
 pub mod Variants

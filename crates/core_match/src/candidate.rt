@@ -2,19 +2,17 @@
 
 ghost use Rattle.std.specs.Prelude.{◌≡◌, ◌≢◌, ◌++◌, ◌∷◌, [], IfOk, IfErr, IfSome, Ok, Err};
 ghost use Rattle.std.specs.Option.{option_to_list};
-ghost use Rattle.core_match.specs.Matches.{path_found, enum_matched, fields_matched, type_matched};
+ghost use Rattle.core_match.specs.Matches.{enum_matched, fields_matched, matching_path, path_found, type_matched};
 ghost use Rattle.core_match.specs.Steps.{step_matched};
 ghost use Rattle.core_spec.specs.declared.error.AccessError.TheVariants.{BtfError as TypeError};
 ghost use Rattle.btf_records.specs.declared.error.BtfError.TheVariants.{OutOfMemory};
 
 use crate::step::{Progress, step_matched};
 use crate::variant::variant_matched;
-use crate::variant_finder::VariantFinder;
 use btf_compatibility::types_are_compatible;
 use btf_records::BtfError;
 use btf_tables::Btf;
-use core_members::MemberFinder;
-use core_spec::{AccessError, AccessPath, Step, Steps};
+use core_spec::{AccessError, AccessPath, Step, Steps, Subject};
 
 /// The path at its end.
 fn path_found(
@@ -38,18 +36,17 @@ fn path_found(
 fn go_on<'t>(
     local: &Btf<'t>,
     step: Step,
-    members: &mut MemberFinder<'t>,
+    target: &Btf<'t>,
     from: Progress,
     steps: &mut Steps,
 ) -> Result<Option<Progress>, AccessError>
-    ensures value { IfOk result (λ next. step_matched local.now step members.old from ≡ Ok next) }
+    ensures value { IfOk result (λ next. step_matched local.now step target.now from ≡ Ok next) }
     ensures steps { IfOk result (λ next.
         IfSome next (λ n. steps.new ≡ steps.old ++ option_to_list n.last)) }
     ensures refused { IfErr result (λ e.
-        e ≢ TypeError OutOfMemory → step_matched local.now step members.old from ≡ Err e) }
-    ensures same { members.new ≡ members.old }
+        e ≢ TypeError OutOfMemory → step_matched local.now step target.now from ≡ Err e) }
 {
-    let Some(next) = step_matched(local, step, members, from)? else {
+    let Some(next) = step_matched(local, step, target, from)? else {
         return Ok(None);
     };
     if let Some(last) = next.last {
@@ -60,17 +57,16 @@ fn go_on<'t>(
 
 /// The path of a field in a type of the target.
 #[tactic(auto, using(crate::proofs::FieldMatches::none_left, crate::proofs::FieldMatches::no_step, crate::proofs::FieldMatches::one_step))]
-pub(crate) fn fields_matched<'t>(
+fn fields_matched<'t>(
     local: &Btf<'t>,
     path: &[Step],
-    members: &mut MemberFinder<'t>,
+    target: &Btf<'t>,
     type_id: u32,
 ) -> Result<Option<AccessPath>, AccessError>
     ensures value { IfOk result (λ found.
-        fields_matched local.now path.now members.old type_id ≡ Ok found) }
+        fields_matched local.now path.now target.now type_id ≡ Ok found) }
     ensures refused { IfErr result (λ e.
-        e ≢ TypeError OutOfMemory → fields_matched local.now path.now members.old type_id ≡ Err e) }
-    ensures same { members.new ≡ members.old }
+        e ≢ TypeError OutOfMemory → fields_matched local.now path.now target.now type_id ≡ Err e) }
 {
     let mut progress = Progress {
         type_id,
@@ -78,9 +74,9 @@ pub(crate) fn fields_matched<'t>(
         bits: Some(0),
         parts: 0,
     };
-    let mut steps = Steps::new(members.target().allocator());
+    let mut steps = Steps::new(target.allocator());
     for step in path {
-        let Some(next) = go_on(local, *step, members, progress, &mut steps)? else {
+        let Some(next) = go_on(local, *step, target, progress, &mut steps)? else {
             return Ok(None);
         };
         progress = next;
@@ -89,7 +85,7 @@ pub(crate) fn fields_matched<'t>(
 }
 
 /// The whole of a type of the target that is compatible with the local one.
-pub(crate) fn type_matched<'t>(
+fn type_matched<'t>(
     local: &Btf<'t>,
     local_id: u32,
     target: &Btf<'t>,
@@ -112,29 +108,58 @@ pub(crate) fn type_matched<'t>(
 }
 
 /// The variant of an enum of the target.
-pub(crate) fn enum_matched(
+fn enum_matched(
     local: &Btf<'_>,
     step: Option<Step>,
-    variants: &mut VariantFinder<'_>,
+    target: &Btf<'_>,
     type_id: u32,
 ) -> Result<Option<AccessPath>, AccessError>
     ensures value { IfOk result (λ found.
-        enum_matched local.now step variants.old type_id ≡ Ok found) }
+        enum_matched local.now step target.now type_id ≡ Ok found) }
     ensures refused { IfErr result (λ e.
-        e ≢ TypeError OutOfMemory → enum_matched local.now step variants.old type_id ≡ Err e) }
-    ensures same { variants.new ≡ variants.old }
+        e ≢ TypeError OutOfMemory → enum_matched local.now step target.now type_id ≡ Err e) }
 {
     let Some(Step::Variant(place)) = step else {
         return Err(AccessError::InvalidRelocationKindForType { type_id });
     };
-    let Some(found) = variant_matched(local, place, variants, type_id)? else {
+    let Some(found) = variant_matched(local, place, target, type_id)? else {
         return Ok(None);
     };
-    let mut steps = Steps::new(variants.target().allocator());
+    let mut steps = Steps::new(target.allocator());
     steps.push(Step::Variant(found))?;
     Ok(Some(AccessPath {
         type_id,
         steps,
         bit_offset: 0,
     }))
+}
+
+/// The path of a type relocation in a type of the target, where the type has what the local path
+/// leads to: the fields that its steps lead to by name and index, the variant of the same name, or
+/// the whole type, if it is compatible (`bpf_core_spec_match`, tools/lib/bpf/relo_core.c). An index
+/// past an array's end is none, unless the array is without elements and the last member of a
+/// struct.
+///
+/// `MaximumNestingLevelReached` where a step would come after 64 elements and members or more,
+/// those without names too, or a struct or union is met inside itself; `BtfError::InvalidTypeInfo`
+/// where the field lies 2^32 bits or more after the type's beginning; and what the look-ups of
+/// names, sizes and types and the comparisons on the way answer.
+pub fn matching_path<'t>(
+    subject: Subject,
+    local: &Btf<'t>,
+    path: &AccessPath,
+    target: &Btf<'t>,
+    type_id: u32,
+) -> Result<Option<AccessPath>, AccessError>
+    ensures value { IfOk result (λ found.
+        matching_path subject local.now path.now target.now type_id ≡ Ok found) }
+    ensures refused { IfErr result (λ e.
+        e ≢ TypeError OutOfMemory
+        → matching_path subject local.now path.now target.now type_id ≡ Err e) }
+{
+    match subject {
+        Subject::Field => fields_matched(local, path.steps.as_slice(), target, type_id),
+        Subject::Type => type_matched(local, path.type_id, target, type_id),
+        Subject::Variant => enum_matched(local, path.steps.last(), target, type_id),
+    }
 }

@@ -3,12 +3,9 @@
 #![tactic(auto)]
 
 mod candidate;
-mod finder;
 mod laws;
 mod step;
 mod variant;
-mod variant_finder;
-mod variant_index;
 
-pub use finder::{PathFinder, matching_path};
+pub use candidate::matching_path;
 pub use laws::matches_rest;

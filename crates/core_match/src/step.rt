@@ -8,7 +8,7 @@ ghost use Rattle.btf_records.specs.declared.error.BtfError.TheVariants.{OutOfMem
 use btf_encoding::TypeRef;
 use btf_records::BtfMember;
 use btf_tables::Btf;
-use core_members::{Found, MemberFinder};
+use core_members::{Found, find_member};
 use core_spec::{AccessError, Place, Step, elements_after, is_in_array};
 
 /// A step isn't begun with this number of parts: libbpf's `BPF_CORE_SPEC_MAX_LEN`.
@@ -115,16 +115,14 @@ fn gone_to(from: Progress, found: Option<Found>) -> Option<Progress>
 fn member_matched<'t>(
     local: &Btf<'t>,
     place: Place,
-    members: &mut MemberFinder<'t>,
+    target: &Btf<'t>,
     from: Progress,
 ) -> Result<Option<Progress>, AccessError>
     ensures value { IfOk result (λ next.
-        member_matched local.now place members.old from ≡ Ok next) }
+        member_matched local.now place target.now from ≡ Ok next) }
     ensures refused { IfErr result (λ e.
-        e ≢ TypeError OutOfMemory → member_matched local.now place members.old from ≡ Err e) }
-    ensures same { members.new ≡ members.old }
+        e ≢ TypeError OutOfMemory → member_matched local.now place target.now from ≡ Err e) }
 {
-    let target = members.target();
     let root = target.resolve_type(from.type_id)?;
     let member = local_member(local, place)?;
     let name = local.string_at(member.name_offset)?;
@@ -132,7 +130,7 @@ fn member_matched<'t>(
     if from.parts >= MAX_PARTS && has_members(&t) {
         return Err(AccessError::MaximumNestingLevelReached);
     }
-    let found = members.find(local, member.btf_type, name, root, from.bits)?;
+    let found = find_member(local, member.btf_type, name, target, root, from.bits)?;
     Ok(gone_to(from, found))
 }
 
@@ -144,17 +142,16 @@ fn member_matched<'t>(
 pub(crate) fn step_matched<'t>(
     local: &Btf<'t>,
     step: Step,
-    members: &mut MemberFinder<'t>,
+    target: &Btf<'t>,
     from: Progress,
 ) -> Result<Option<Progress>, AccessError>
-    ensures value { IfOk result (λ next. step_matched local.now step members.old from ≡ Ok next) }
+    ensures value { IfOk result (λ next. step_matched local.now step target.now from ≡ Ok next) }
     ensures refused { IfErr result (λ e.
-        e ≢ TypeError OutOfMemory → step_matched local.now step members.old from ≡ Err e) }
-    ensures same { members.new ≡ members.old }
+        e ≢ TypeError OutOfMemory → step_matched local.now step target.now from ≡ Err e) }
 {
     match step {
-        Step::Element(place) => element_matched(members.target(), from, place.index),
-        Step::Member(place) => member_matched(local, place, members, from),
+        Step::Element(place) => element_matched(target, from, place.index),
+        Step::Member(place) => member_matched(local, place, target, from),
         Step::Variant(place) => Err(AccessError::InvalidRelocationKindForType {
             type_id: place.type_id,
         }),

@@ -1,17 +1,14 @@
 //! Variants of enums by name.
 
-ghost use Rattle.std.specs.Prelude.{◌≡◌, ◌≢◌, IfOk, IfErr, MatchResult, Ok, Err};
-ghost use Rattle.core_spec.specs.declared.error.AccessError.TheVariants.{BtfError as TypeError};
-ghost use Rattle.btf_records.specs.declared.error.BtfError.TheVariants.{OutOfMemory};
+ghost use Rattle.std.specs.Prelude.{◌≡◌, MatchResult, Ok, Err};
 ghost use Rattle.core_match.specs.VariantMatches.{first_variant, is_so_named, local_variant, variant_matched};
 
-use crate::variant_finder::VariantFinder;
 use btf_encoding::TypeRef;
 use btf_tables::{Btf, essential_name};
 use core_spec::{AccessError, Place, variant_count, variant_name};
 
 /// Whether the name at an offset is this one, flavours aside.
-pub(crate) fn is_so_named(target: &Btf<'_>, offset: u32, name: &str) -> Result<bool, AccessError>
+fn is_so_named(target: &Btf<'_>, offset: u32, name: &str) -> Result<bool, AccessError>
     ensures { result ≡ is_so_named target.now offset name.now }
 {
     let text = target.string_at(offset)?;
@@ -20,7 +17,7 @@ pub(crate) fn is_so_named(target: &Btf<'_>, offset: u32, name: &str) -> Result<b
 
 /// The index of the first variant of a name, flavours aside.
 #[tactic(auto, using(crate::proofs::Variants::none_left, crate::proofs::Variants::unnamed, crate::proofs::Variants::this_variant, crate::proofs::Variants::bad_variant, crate::proofs::Variants::next_variant))]
-pub(crate) fn first_variant(
+fn first_variant(
     target: &Btf<'_>,
     t: &TypeRef<'_>,
     count: usize,
@@ -64,16 +61,11 @@ fn local_variant<'l>(local: &'l Btf<'_>, place: Place) -> Result<&'l str, Access
 pub(crate) fn variant_matched(
     local: &Btf<'_>,
     place: Place,
-    variants: &mut VariantFinder<'_>,
+    target: &Btf<'_>,
     type_id: u32,
 ) -> Result<Option<Place>, AccessError>
-    ensures value { IfOk result (λ found.
-        variant_matched local.now place variants.old type_id ≡ Ok found) }
-    ensures refused { IfErr result (λ e.
-        e ≢ TypeError OutOfMemory → variant_matched local.now place variants.old type_id ≡ Err e) }
-    ensures same { variants.new ≡ variants.old }
+    ensures { result ≡ variant_matched local.now place target.now type_id }
 {
-    let target = variants.target();
     let root = target.resolve_type(type_id)?;
     let t = target.type_by_id(root)?;
     let Some(count) = variant_count(&t) else {
@@ -83,7 +75,7 @@ pub(crate) fn variant_matched(
         Ok(name) => name,
         Err(error) => return Err(error),
     };
-    match variants.first(root, &t, count, name)? {
+    match first_variant(target, &t, count, name)? {
         Some(index) => Ok(Some(Place {
             type_id: root,
             index: index as u64,

@@ -1,25 +1,22 @@
 -- What is known of structs and unions that hold nothing.
-use Rattle.std.proofs.Common.{◌≡◌, ℕ, zero, suc, ◌+◌, ◌<◌, ◌≤◌, ◌⊎◌, inl, inr, Bool, true, false, cond, List, [], ◌∷◌, ◌++◌, length, None, Some, Ok, Option, Result, refl, sym, ap, subst, ◌∙◌, arith}
+use Rattle.std.proofs.Common.{◌≡◌, ℕ, zero, suc, ◌+◌, ◌<◌, ◌≤◌, Bool, true, false, cond, List, [], ◌∷◌, ◌++◌, length, None, Some, Ok, Option, refl, sym, ap, subst, ◌∙◌, arith}
 use Rattle.std.proofs.lemmas.Bool.Decides.{nat_tests}
 use Rattle.std.specs.Prelude.{◌==◌, ◌||◌, slice_get}
-use Rattle.core_spec.specs.declared.error.AccessError.{AccessError}
 use Rattle.btf_records.specs.Fields.{members_of}
 use Rattle.btf_records.specs.declared.item.BtfMember.{BtfMember}
 use Rattle.btf_records.specs.declared.types.BtfType.{BtfType}
 use Rattle.btf_tables.specs.Tables.{Table, type_by_id}
 use Rattle.core_members.specs.EmptyTypes.{AreApart, HoldNothing, NotesOne, free, is_noted}
 use Rattle.core_members.specs.Looks.{Search, look_at}
-use Rattle.core_members.specs.Searches.{found_in, is_among, members_found, most_open}
-use Rattle.core_members.specs.Frames.{is_open}
-use Rattle.core_members.specs.Stacks.{AllPassed, ArePassed, AreSearched, Ends, IsPassed, IsSound, Passes, first_id, ids, inside, opened, or_noted}
-use Rattle.core_members.specs.declared.look.Look.TheVariants.{Inside}
-use Rattle.core_members.specs.declared.search.Found.{Found}
-use Rattle.core_members.specs.declared.stack.Frame.{Frame}
+use Rattle.core_members.specs.Searches.{found_in, is_among, most_open}
+use Rattle.core_members.specs.Stacks.{AllPassed, Ends, IsPassed, IsSound, Passes, entered, first_id, ids, is_open, opened, or_noted}
+use Rattle.core_members.specs.declared.look.Look.TheVariants.{Descend}
+use Rattle.core_members.specs.declared.turn.Frame.{Frame}
 use Rattle.core_members.proofs.Free.{among-kept, among-new, among-push, free-none, free-pop, free-push, length-push, not-twice}
 use Rattle.core_members.proofs.Nesting.{IsKnown, known-below}
 use Rattle.core_members.proofs.Passed.{passed-more, passed-next, passed-none}
-use Rattle.core_members.proofs.Rests.{after_next, skipping}
-use Rattle.core_members.proofs.Turns.{among-ids, ids-pushed}
+use Rattle.core_members.proofs.Rests.{after_next}
+use Rattle.core_members.proofs.Stacks.{among-ids, ids-pushed}
 
 -- ---- sets
 
@@ -92,21 +89,16 @@ few-none target = none-few (most_open target)
 
 -- ---- nothing is found
 
-by-members : (search : Search) (noted : List ℕ) (f : Frame) (t : BtfType) (go : ℕ → Option ℕ → Result (Option Found) AccessError) (depth : ℕ) (bits : Option ℕ) → ((k : ℕ) → is_noted noted k ≡ true → (b : Option ℕ) → go k b ≡ Ok None)
-    → ArePassed search (is_noted noted) f.next (members_of t) ⊎ AreSearched search (is_noted noted) (members_of t) → Ends search (slice_get (members_of t) f.next) → members_found go search f.type_id t depth bits 0 (members_of t) ≡ Ok None
-by-members search noted f t go depth bits h (inl are) ends = passed-none go search (is_noted noted) f.type_id t depth bits h f.next 0 (members_of t) are ends
-by-members search noted f t go depth bits h (inr are) ends = passed-none go search (is_noted noted) f.type_id t depth bits h are.index 0 (members_of t) are.passed are.ends
-
 -- in one whose members are all passed, where others hold nothing
-searched-none : (search : Search) (noted : List ℕ) (f : Frame) (t : BtfType) → f.skipped ≡ false → HoldNothing search noted → is_noted noted f.type_id ≡ false → type_by_id search.target f.type_id ≡ Some t → IsPassed search (is_noted noted) f → Ends search (slice_get (members_of t) f.next)
+searched-none : (search : Search) (noted : List ℕ) (f : Frame) (t : BtfType) → HoldNothing search noted → is_noted noted f.type_id ≡ false → type_by_id search.target f.type_id ≡ Some t → IsPassed search (is_noted noted) f → Ends search (slice_get (members_of t) f.next)
     → (open_ids : List ℕ) → AreApart noted open_ids → is_among open_ids f.type_id ≡ false → (n : ℕ) → free (most_open search.target) open_ids ≤ n → (bits : Option ℕ) → found_in n search open_ids f.type_id bits ≡ Ok None
 unfolding found_in
-searched-none search noted f t clean nothing fresh known passed ends open_ids apart once zero le bits =
+searched-none search noted f t nothing fresh known passed ends open_ids apart once zero le bits =
     absurd (omega (arith, free-push (most_open search.target) open_ids f.type_id (known-below search.target f.type_id (record { found = t; is = known })) once))
-searched-none search noted f t clean nothing fresh known passed ends open_ids apart once (suc n) le bits =
+searched-none search noted f t nothing fresh known passed ends open_ids apart once (suc n) le bits =
     let fewer = free-push (most_open search.target) open_ids f.type_id (known-below search.target f.type_id (record { found = t; is = known })) once in
     let inner = apart-push noted open_ids f.type_id apart fresh in
-    rw (once, known) (by-members search noted f t (found_in n search (open_ids ++ f.type_id ∷ [])) (length (open_ids ++ f.type_id ∷ [])) bits (λ k is b. nothing.each k is (open_ids ++ f.type_id ∷ []) inner n (omega arith) b) (passed.members clean t known) ends)
+    rw (once, known) (passed-none (found_in n search (open_ids ++ f.type_id ∷ [])) search (is_noted noted) f.type_id t (length (open_ids ++ f.type_id ∷ [])) bits (λ k is b. nothing.each k is (open_ids ++ f.type_id ∷ []) inner n (omega arith) b) f.next 0 (members_of t) (passed.members t known) ends)
 
 not-open : (noted open_ids : List ℕ) (id : ℕ) → AreApart noted open_ids → is_noted noted id ≡ true → is_among open_ids id ≡ false
 not-open noted open_ids id apart is = by (is_among open_ids id) refl where
@@ -114,13 +106,13 @@ not-open noted open_ids id apart is = by (is_among open_ids id) refl where
   by true e = absurd (let other : is_noted noted id ≡ false = apart.each id e in cc)
   by false e = e
 
-hold-more : (search : Search) (before after : List ℕ) (f : Frame) (t : BtfType) → f.skipped ≡ false → HoldNothing search before → NotesOne before after f.type_id → is_noted before f.type_id ≡ false → type_by_id search.target f.type_id ≡ Some t → IsPassed search (is_noted before) f → Ends search (slice_get (members_of t) f.next) → HoldNothing search after
-hold-more search before after f t clean nothing notes fresh known passed ends =
+hold-more : (search : Search) (before after : List ℕ) (f : Frame) (t : BtfType) → HoldNothing search before → NotesOne before after f.type_id → is_noted before f.type_id ≡ false → type_by_id search.target f.type_id ≡ Some t → IsPassed search (is_noted before) f → Ends search (slice_get (members_of t) f.next) → HoldNothing search after
+hold-more search before after f t nothing notes fresh known passed ends =
     record { each = λ id is open_ids apart n le bits. by id (id == f.type_id) refl is open_ids apart n le bits } where
       by : (id : ℕ) (b : Bool) → (id == f.type_id) ≡ b → is_noted after id ≡ true → (open_ids : List ℕ) → AreApart after open_ids → (n : ℕ) → free (most_open search.target) open_ids ≤ n → (bits : Option ℕ) → found_in n search open_ids id bits ≡ Ok None
       by id true e is open_ids apart n le bits =
           subst (λ (j : ℕ). found_in n search open_ids j bits ≡ Ok None) (sym (same_number id f.type_id e))
-          (searched-none search before f t clean nothing fresh known passed ends open_ids (apart-less before after open_ids f.type_id notes apart) (not-open after open_ids f.type_id apart (noted-self before after f.type_id notes)) n le bits)
+          (searched-none search before f t nothing fresh known passed ends open_ids (apart-less before after open_ids f.type_id notes apart) (not-open after open_ids f.type_id apart (noted-self before after f.type_id notes)) n le bits)
       by id false e is open_ids apart n le bits =
           let old : is_noted before id ≡ true = rw e at (sym (notes.each id) ∙ is) in
           nothing.each id old open_ids (apart-less before after open_ids f.type_id notes apart) n le bits
@@ -158,8 +150,8 @@ pub sound-on : (search : Search) (noted : List ℕ) (outer : List Frame) (f : Fr
 sound-on search noted outer f t m sound known here pass =
     record { nothing = sound.nothing; apart = sound.apart; few = sound.few; passed = passed-next search (is_noted noted) f t m sound.passed known here pass; around = sound.around }
 
-passes-inside : (search : Search) (noted : List ℕ) (m : BtfMember) (id : ℕ) → Ok (Inside id) ≡ look_at search m → Passes (or_noted noted id) (look_at search m)
-passes-inside search noted m id seen = subst (Passes (or_noted noted id)) seen (by (id == id) (is_noted noted id) (self id)) where
+passes-descended : (search : Search) (noted : List ℕ) (m : BtfMember) (id : ℕ) → Ok (Descend id) ≡ look_at search m → Passes (or_noted noted id) (look_at search m)
+passes-descended search noted m id seen = subst (Passes (or_noted noted id)) seen (by (id == id) (is_noted noted id) (self id)) where
   by : (a b : Bool) → a ≡ true → (a || b) ≡ true
   by true b e = refl
   by false b e = absurd cc
@@ -168,22 +160,22 @@ or_right : (a b : Bool) → b ≡ true → (a || b) ≡ true
 or_right true b e = refl
 or_right false b e = e
 
-pub sound-in : (search : Search) (noted : List ℕ) (outer : List Frame) (f : Frame) (t : BtfType) (m : BtfMember) (id : ℕ) (bits : Option ℕ) → IsSound search noted outer f → type_by_id search.target f.type_id ≡ Some t → Some m ≡ slice_get (members_of t) f.next → Ok (Inside id) ≡ look_at search m
-    → is_noted noted id ≡ false → is_open (outer ++ after_next f ∷ []) id ≡ false → IsKnown search.target id → IsSound search noted (outer ++ after_next f ∷ []) (inside id bits)
+pub sound-in : (search : Search) (noted : List ℕ) (outer : List Frame) (f : Frame) (t : BtfType) (m : BtfMember) (id : ℕ) (bits : Option ℕ) → IsSound search noted outer f → type_by_id search.target f.type_id ≡ Some t → Some m ≡ slice_get (members_of t) f.next → Ok (Descend id) ≡ look_at search m
+    → is_noted noted id ≡ false → is_open (outer ++ after_next f ∷ []) id ≡ false → IsKnown search.target id → IsSound search noted (outer ++ after_next f ∷ []) (entered id bits)
 sound-in search noted outer f t m id bits sound known here seen unnoted fresh there =
     let same : ids (outer ++ after_next f ∷ []) ≡ opened outer f = ids-pushed outer (after_next f) in
     let once : is_among (opened outer f) id ≡ false = ap (λ (xs : List ℕ). is_among xs id) (sym same) ∙ (among-ids (outer ++ after_next f ∷ []) id ∙ fresh) in
-    let after = passed-next search (or_noted noted id) f t m (passed-more search (is_noted noted) (or_noted noted id) f (λ k e. or_right (k == id) (is_noted noted k) e) sound.passed) known here (passes-inside search noted m id seen) in
+    let after = passed-next search (or_noted noted id) f t m (passed-more search (is_noted noted) (or_noted noted id) f (λ k e. or_right (k == id) (is_noted noted k) e) sound.passed) known here (passes-descended search noted m id seen) in
     record {
       nothing = sound.nothing;
       apart = subst (λ (xs : List ℕ). AreApart noted (xs ++ id ∷ [])) (sym same) (apart-push noted (opened outer f) id sound.apart unnoted);
       few = subst (λ (xs : List ℕ). AreFew search.target (xs ++ id ∷ [])) (sym same) (few-push search.target (opened outer f) id sound.few (known-below search.target id there) once);
-      passed = record { members = λ clean u is. inl tt };
+      passed = record { members = λ u is. tt };
       around = around-push search noted outer (after_next f) id sound.around after;
     }
 
-pub sound-left : (search : Search) (before after : List ℕ) (outer : List Frame) (g f : Frame) (t : BtfType) → f.skipped ≡ false → IsSound search before (outer ++ g ∷ []) f → NotesOne before after f.type_id → type_by_id search.target f.type_id ≡ Some t → Ends search (slice_get (members_of t) f.next) → IsSound search after outer g
-sound-left search before after outer g f t clean sound notes known ends =
+pub sound-left : (search : Search) (before after : List ℕ) (outer : List Frame) (g f : Frame) (t : BtfType) → IsSound search before (outer ++ g ∷ []) f → NotesOne before after f.type_id → type_by_id search.target f.type_id ≡ Some t → Ends search (slice_get (members_of t) f.next) → IsSound search after outer g
+sound-left search before after outer g f t sound notes known ends =
     let same : ids (outer ++ g ∷ []) ≡ opened outer g = ids-pushed outer g in
     let apart = subst (λ (xs : List ℕ). AreApart before (xs ++ f.type_id ∷ [])) same sound.apart in
     let few = subst (λ (xs : List ℕ). AreFew search.target (xs ++ f.type_id ∷ [])) same sound.few in
@@ -191,47 +183,19 @@ sound-left search before after outer g f t clean sound notes known ends =
     let fresh = apart.each f.type_id (among-new (opened outer g) f.type_id) in
     let parts = around-pop search before outer g f.type_id sound.around in
     record {
-      nothing = hold-more search before after f t clean sound.nothing notes fresh known sound.passed ends;
+      nothing = hold-more search before after f t sound.nothing notes fresh known sound.passed ends;
       apart = apart-pop before after (opened outer g) f.type_id notes apart once;
       few = few-pop search.target (opened outer g) f.type_id few;
       passed = passed-more search (or_noted before f.type_id) (is_noted after) g (λ k e. noted-either before after f.type_id k notes e) parts.1;
       around = around-more search before after f.type_id notes outer g.type_id parts.0;
     }
 
-or_first : (a b : Bool) → (a || b) ≡ false → a ≡ false
-or_first true b e = absurd cc
-or_first false b e = refl
-
--- where members in the innermost may be skipped
-pub sound-or : (search : Search) (noted : List ℕ) (outer : List Frame) (f : Frame) (skipped : Bool) → IsSound search noted outer f → IsSound search noted outer (skipping (f.skipped || skipped) f)
-sound-or search noted outer f skipped sound = record {
-  nothing = sound.nothing;
-  apart = sound.apart;
-  few = sound.few;
-  passed = record { members = λ clean t known. sound.passed.members (or_first f.skipped skipped clean) t known };
-  around = sound.around;
-}
-
--- where members in one that is left were skipped
-pub sound-skips : (search : Search) (noted : List ℕ) (outer : List Frame) (g f : Frame) → IsSound search noted (outer ++ g ∷ []) f → IsSound search noted outer (skipping true g)
-sound-skips search noted outer g f sound =
-    let same : ids (outer ++ g ∷ []) ≡ opened outer g = ids-pushed outer g in
-    let apart = subst (λ (xs : List ℕ). AreApart noted (xs ++ f.type_id ∷ [])) same sound.apart in
-    let few = subst (λ (xs : List ℕ). AreFew search.target (xs ++ f.type_id ∷ [])) same sound.few in
-    record {
-      nothing = sound.nothing;
-      apart = record { each = λ k e. apart.each k (among-kept (opened outer g) f.type_id k e) };
-      few = few-pop search.target (opened outer g) f.type_id few;
-      passed = record { members = λ clean t known. absurd (let no : true ≡ false = clean in cc) };
-      around = (around-pop search noted outer g f.type_id sound.around).0;
-    }
-
-pub sound-first : (search : Search) (root : ℕ) (bits : Option ℕ) (t : BtfType) → type_by_id search.target root ≡ Some t → IsSound search [] [] (inside root bits)
+pub sound-first : (search : Search) (root : ℕ) (bits : Option ℕ) (t : BtfType) → type_by_id search.target root ≡ Some t → IsSound search [] [] (entered root bits)
 sound-first search root bits t known =
     record {
       nothing = record { each = λ id is open_ids apart n le b. absurd cc };
       apart = record { each = λ id e. refl };
       few = few-push search.target [] root (few-none search.target) (known-below search.target root (record { found = t; is = known })) refl;
-      passed = record { members = λ clean u is. inl tt };
+      passed = record { members = λ u is. tt };
       around = tt;
     }

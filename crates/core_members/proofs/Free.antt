@@ -7,15 +7,15 @@ use Rattle.std.specs.Prelude.{◌||◌, ◌⊎◌, ◌==◌}
 use Rattle.core_members.specs.EmptyTypes.{failing, free}
 use Rattle.core_members.specs.Searches.{is_among}
 
-counts : (a b : Bool) (m n : ℕ) → (a ≡ false → b ≡ false) → m ≤ n → cond a 0 1 + m ≤ cond b 0 1 + n
-counts true true m n h le = omega arith
-counts true false m n h le = omega arith
-counts false true m n h le = absurd (let e : true ≡ false = h refl in cc)
-counts false false m n h le = omega arith
+counts : (a b : Bool) (w m n : ℕ) → (a ≡ false → b ≡ false) → m ≤ n → cond a 0 w + m ≤ cond b 0 w + n
+counts true true w m n h le = omega arith
+counts true false w m n h le = omega arith
+counts false true w m n h le = absurd (let e : true ≡ false = h refl in cc)
+counts false false w m n h le = omega arith
 
-fails-le : (p q : ℕ → Bool) (n : ℕ) → ((k : ℕ) → k < n → p k ≡ false → q k ≡ false) → failing p n ≤ failing q n
-fails-le p q zero h = omega arith
-fails-le p q (suc n) h = counts (p n) (q n) _ _ (h n (omega arith)) (fails-le p q n (λ k lt. h k (omega arith)))
+pub fails-le : (w : ℕ → ℕ) (p q : ℕ → Bool) (n : ℕ) → ((k : ℕ) → k < n → p k ≡ false → q k ≡ false) → failing w p n ≤ failing w q n
+fails-le w p q zero h = omega arith
+fails-le w p q (suc n) h = counts (p n) (q n) (w n) _ _ (h n (omega arith)) (fails-le w p q n (λ k lt. h k (omega arith)))
 
 at_most_one : (a b : Bool) (m n : ℕ) → m ≤ n → cond a 0 1 + m ≤ suc (cond b 0 1 + n)
 at_most_one true true m n le = omega arith
@@ -35,41 +35,45 @@ same_number k y e = grind (arith, nat_tests)
 other_number : (k n y : ℕ) → n ≡ y → k < n → (k == y) ≡ false
 other_number k n y e lt = grind (arith, nat_tests)
 
-one-by : (p q : ℕ → Bool) (y n : ℕ) (b : Bool) → (n == y) ≡ b → ((k : ℕ) → (k == y) ≡ false → p k ≡ false → q k ≡ false) → failing p n ≤ suc (failing q n) → failing p (suc n) ≤ suc (failing q (suc n))
-one-by p q y n true e h below = at_most_one (p n) (q n) _ _ (fails-le p q n (λ k lt. h k (other_number k n y (same_number n y e) lt)))
+abbrev one : ℕ → ℕ
+one k = 1
+
+one-by : (p q : ℕ → Bool) (y n : ℕ) (b : Bool) → (n == y) ≡ b → ((k : ℕ) → (k == y) ≡ false → p k ≡ false → q k ≡ false) → failing one p n ≤ suc (failing one q n) → failing one p (suc n) ≤ suc (failing one q (suc n))
+one-by p q y n true e h below = at_most_one (p n) (q n) _ _ (fails-le one p q n (λ k lt. h k (other_number k n y (same_number n y e) lt)))
 one-by p q y n false e h below = counts_more (p n) (q n) _ _ (h n e) below
 
 -- a test that fails but at one number where the other does
-fails-one : (p q : ℕ → Bool) (y n : ℕ) → ((k : ℕ) → (k == y) ≡ false → p k ≡ false → q k ≡ false) → failing p n ≤ suc (failing q n)
+fails-one : (p q : ℕ → Bool) (y n : ℕ) → ((k : ℕ) → (k == y) ≡ false → p k ≡ false → q k ≡ false) → failing one p n ≤ suc (failing one q n)
 fails-one p q y zero h = omega arith
 fails-one p q y (suc n) h = one-by p q y n (n == y) refl h (fails-one p q y n h)
 
 below_suc : (k n : ℕ) → k < suc n → (k ≡ n) ⊎ (k < n)
 below_suc k n lt = grind arith
 
-keeps : (p q : ℕ → Bool) → ((k : ℕ) → p k ≡ true → q k ≡ true) → (k : ℕ) → q k ≡ false → p k ≡ false
+pub keeps : (p q : ℕ → Bool) → ((k : ℕ) → p k ≡ true → q k ≡ true) → (k : ℕ) → q k ≡ false → p k ≡ false
 keeps p q h k e = by (p k) refl where
   by : (b : Bool) → p k ≡ b → p k ≡ false
   by true is = absurd (let t : q k ≡ true = h k is in cc)
   by false is = is
 
-at_last : (a b : Bool) (m n : ℕ) → a ≡ false → b ≡ true → m ≤ n → suc (cond b 0 1 + m) ≤ cond a 0 1 + n
-at_last false true m n here there le = omega arith
-at_last true b m n here there le = absurd cc
-at_last false false m n here there le = absurd cc
+at_last : (a b : Bool) (w m n : ℕ) → a ≡ false → b ≡ true → m ≤ n → w + (cond b 0 w + m) ≤ cond a 0 w + n
+at_last false true w m n here there le = omega arith
+at_last true b w m n here there le = absurd cc
+at_last false false w m n here there le = absurd cc
 
-before : (a b : Bool) (m n : ℕ) → (b ≡ false → a ≡ false) → suc m ≤ n → suc (cond b 0 1 + m) ≤ cond a 0 1 + n
-before true true m n h lt = omega arith
-before false true m n h lt = omega arith
-before false false m n h lt = omega arith
-before true false m n h lt = absurd (let e : true ≡ false = h refl in cc)
+before : (a b : Bool) (v w m n : ℕ) → (b ≡ false → a ≡ false) → v + m ≤ n → v + (cond b 0 w + m) ≤ cond a 0 w + n
+before true true v w m n h le = omega arith
+before false true v w m n h le = omega arith
+before false false v w m n h le = omega arith
+before true false v w m n h le = absurd (let e : true ≡ false = h refl in cc)
 
-pub fails-lt : (p q : ℕ → Bool) (y n : ℕ) → ((k : ℕ) → p k ≡ true → q k ≡ true) → y < n → p y ≡ false → q y ≡ true → suc (failing q n) ≤ failing p n
-fails-lt p q y zero h lt here there = absurd (omega arith)
-fails-lt p q y (suc n) h lt here there =
+-- one fewer fails
+pub fails-lt : (w : ℕ → ℕ) (p q : ℕ → Bool) (y n : ℕ) → ((k : ℕ) → p k ≡ true → q k ≡ true) → y < n → p y ≡ false → q y ≡ true → w y + failing w q n ≤ failing w p n
+fails-lt w p q y zero h lt here there = absurd (omega arith)
+fails-lt w p q y (suc n) h lt here there =
     elim (below_suc y n lt) [
-      | inl same ↦ at_last (p n) (q n) _ _ (ap p (sym same) ∙ here) (ap q (sym same) ∙ there) (fails-le q p n (λ k below. keeps p q h k))
-      | inr below ↦ before (p n) (q n) _ _ (keeps p q h n) (fails-lt p q y n h below here there)
+      | inl same ↦ subst (λ (x : ℕ). w x + failing w q (suc n) ≤ failing w p (suc n)) (sym same) (at_last (p n) (q n) (w n) _ _ (ap p (sym same) ∙ here) (ap q (sym same) ∙ there) (fails-le w q p n (λ k below. keeps p q h k)))
+      | inr below ↦ before (p n) (q n) (w y) (w n) _ _ (keeps p q h n) (fails-lt w p q y n h below here there)
     ]
 
 -- ---- open ids
@@ -107,7 +111,7 @@ among-new xs y = among-push xs y y ∙ or_right (is_among xs y) (y == y) (self y
 
 -- one more is open
 pub free-push : (n : ℕ) (xs : List ℕ) (y : ℕ) → y < n → is_among xs y ≡ false → suc (free n (xs ++ y ∷ [])) ≤ free n xs
-free-push n xs y lt fresh = fails-lt (is_among xs) (is_among (xs ++ y ∷ [])) y n (λ k e. among-kept xs y k e) lt fresh (among-new xs y)
+free-push n xs y lt fresh = omega (arith, fails-lt one (is_among xs) (is_among (xs ++ y ∷ [])) y n (λ k e. among-kept xs y k e) lt fresh (among-new xs y))
 
 -- one fewer is
 pub free-pop : (n : ℕ) (xs : List ℕ) (y : ℕ) → free n xs ≤ suc (free n (xs ++ y ∷ []))

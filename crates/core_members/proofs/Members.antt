@@ -7,7 +7,7 @@ use Rattle.btf_records.specs.Fields.{members_of}
 use Rattle.btf_records.specs.declared.types.BtfType.{BtfType}
 use Rattle.btf_records.specs.declared.types.BtfType.TheVariants as types
 
-pub few_members : (t : BtfType) → length (members_of t) ≤ count_of t
+few_members : (t : BtfType) → length (members_of t) ≤ count_of t
 few_members (types.Struct t) = omega arith
 few_members (types.Union t) = omega arith
 few_members _ = omega arith

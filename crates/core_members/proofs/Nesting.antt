@@ -17,10 +17,10 @@ use Rattle.btf_tables.specs.Tables.{Table, type_by_id}
 use Rattle.string_table.specs.Texts.{text_at}
 use Rattle.core_members.specs.EmptyTypes.{free}
 use Rattle.core_members.specs.Laws.{NestingNeverDecides}
-use Rattle.core_members.specs.Looks.{Search, is_composite, look_at, look_at_type, look_by_name}
-use Rattle.core_members.specs.Searches.{by_look, found_in, is_among, member_found, member_here, members_found, most_open}
+use Rattle.core_members.specs.Looks.{Search, is_composite, look_at, look_at_named, look_by_name}
+use Rattle.core_members.specs.Searches.{by_look, found_in, is_among, member_found, found_here, members_found, most_open}
 use Rattle.core_members.specs.declared.look.Look.{Look}
-use Rattle.core_members.specs.declared.look.Look.TheVariants.{GoOn, Here, Inside, NotHere}
+use Rattle.core_members.specs.declared.look.Look.TheVariants.{Next, Match, Descend, Mismatch}
 use Rattle.core_members.specs.declared.search.Found.{Found}
 use Rattle.core_members.proofs.Free.{free-none, free-push}
 
@@ -39,64 +39,64 @@ known-below target id h = within target.types (id == 0) id h.found types.Unknown
 -- ---- a look leads inside types that are there
 
 -- where a look leads inside
-abbrev pub KnowsInside : Table → Result Look AccessError → Type 0
-KnowsInside target r = (id : ℕ) → r ≡ Ok (Inside id) → IsKnown target id
+abbrev pub DescendsToKnown : Table → Result Look AccessError → Type 0
+DescendsToKnown target r = (id : ℕ) → r ≡ Ok (Descend id) → IsKnown target id
 
 -- one of two looks
 abbrev either_look : Bool → Look → Look → Result Look AccessError
 either_look b x y = if b then Ok x else Ok y
 
-by_kind : (target : Table) (id inner : ℕ) (t : BtfType) (b : Bool) → type_by_id target id ≡ Some t → either_look b (Inside id) GoOn ≡ Ok (Inside inner) → IsKnown target inner
+by_kind : (target : Table) (id inner : ℕ) (t : BtfType) (b : Bool) → type_by_id target id ≡ Some t → either_look b (Descend id) Next ≡ Ok (Descend inner) → IsKnown target inner
 by_kind target id inner t true known e = let same : id ≡ inner = cc in record { found = t; is = rw same at known }
 by_kind target id inner t false known e = absurd cc
 
-by_type : (target : Table) (id inner : ℕ) (o : Option BtfType) → type_by_id target id ≡ o → with_found {T = BtfType} {U = Look} (found_type target id o) (λ t. if is_composite t then Ok (Inside id) else Ok GoOn) ≡ Ok (Inside inner) → IsKnown target inner
+by_type : (target : Table) (id inner : ℕ) (o : Option BtfType) → type_by_id target id ≡ o → with_found {T = BtfType} {U = Look} (found_type target id o) (λ t. if is_composite t then Ok (Descend id) else Ok Next) ≡ Ok (Descend inner) → IsKnown target inner
 by_type target id inner None known e = absurd cc
 by_type target id inner (Some t) known e = by_kind target id inner t (is_composite t) known e
 
-by_end : (target : Table) (inner : ℕ) (r : Result ℕ BtfError) → with_found {T = ℕ} {U = Look} r (λ id. with_type target id (λ t. if is_composite t then Ok (Inside id) else Ok GoOn)) ≡ Ok (Inside inner) → IsKnown target inner
+by_end : (target : Table) (inner : ℕ) (r : Result ℕ BtfError) → with_found {T = ℕ} {U = Look} r (λ id. with_type target id (λ t. if is_composite t then Ok (Descend id) else Ok Next)) ≡ Ok (Descend inner) → IsKnown target inner
 by_end target inner (Err f) e = absurd cc
 by_end target inner (Ok id) e = by_type target id inner (type_by_id target id) refl e
 
-compared : (inner : ℕ) (b : Bool) → either_look b Here NotHere ≡ Ok (Inside inner) → ⊥
+compared : (inner : ℕ) (b : Bool) → either_look b Match Mismatch ≡ Ok (Descend inner) → ⊥
 compared inner true e = absurd cc
 compared inner false e = absurd cc
 
-by_comparison : (inner : ℕ) (r : Result Bool BtfError) → with_found {T = Bool} {U = Look} r (λ yes. if yes then Ok Here else Ok NotHere) ≡ Ok (Inside inner) → ⊥
+by_comparison : (inner : ℕ) (r : Result Bool BtfError) → with_found {T = Bool} {U = Look} r (λ yes. if yes then Ok Match else Ok Mismatch) ≡ Ok (Descend inner) → ⊥
 by_comparison inner (Err f) e = absurd cc
 by_comparison inner (Ok is) e = compared inner is e
 
-by_same_name : (search : Search) (m : BtfMember) (inner : ℕ) (b : Bool) → (if b then look_at_type search.local search.type_id search.target m else Ok GoOn) ≡ Ok (Inside inner) → IsKnown search.target inner
+by_same_name : (search : Search) (m : BtfMember) (inner : ℕ) (b : Bool) → (if b then look_at_named search.local search.type_id search.target m else Ok Next) ≡ Ok (Descend inner) → IsKnown search.target inner
 by_same_name search m inner true e = absurd (by_comparison inner (fields_compatible search.local search.type_id search.target m.btf_type) e)
 by_same_name search m inner false e = absurd cc
 
-by_name : (search : Search) (m : BtfMember) (inner : ℕ) (name : List ℕ) → look_by_name search m name ≡ Ok (Inside inner) → IsKnown search.target inner
+by_name : (search : Search) (m : BtfMember) (inner : ℕ) (name : List ℕ) → look_by_name search m name ≡ Ok (Descend inner) → IsKnown search.target inner
 by_name search m inner [] e = by_end search.target inner (resolved_type search.target m.btf_type) e
 by_name search m inner (b ∷ bs) e = by_same_name search m inner _ e
 
-by_text : (search : Search) (m : BtfMember) (inner : ℕ) (o : Option (List ℕ)) → with_found {T = List ℕ} {U = Look} (found_text m.name_offset o) (look_by_name search m) ≡ Ok (Inside inner) → IsKnown search.target inner
+by_text : (search : Search) (m : BtfMember) (inner : ℕ) (o : Option (List ℕ)) → with_found {T = List ℕ} {U = Look} (found_text m.name_offset o) (look_by_name search m) ≡ Ok (Descend inner) → IsKnown search.target inner
 by_text search m inner None e = absurd cc
 by_text search m inner (Some text) e = by_name search m inner text e
 
-pub leads-inside : (search : Search) (m : BtfMember) → KnowsInside search.target (look_at search m)
-leads-inside search m = λ inner e. by_text search m inner (text_at search.target.strings m.name_offset) e
+pub descends-to-known : (search : Search) (m : BtfMember) → DescendsToKnown search.target (look_at search m)
+descends-to-known search m = λ inner e. by_text search m inner (text_at search.target.strings m.name_offset) e
 
 -- ---- searches inside that answer alike
 
-same-look : (go go' : ℕ → Option ℕ → Result (Option Found) AccessError) (target : Table) (here : Found) (next next' : Result (Option Found) AccessError) (r : Result Look AccessError) → KnowsInside target r → next ≡ next' → ((id : ℕ) → IsKnown target id → (bits : Option ℕ) → go id bits ≡ go' id bits)
+same-look : (go go' : ℕ → Option ℕ → Result (Option Found) AccessError) (target : Table) (here : Found) (next next' : Result (Option Found) AccessError) (r : Result Look AccessError) → DescendsToKnown target r → next ≡ next' → ((id : ℕ) → IsKnown target id → (bits : Option ℕ) → go id bits ≡ go' id bits)
     → and_then r (by_look go here next) ≡ and_then r (by_look go' here next')
 same-look go go' target here next next' (Err e) inside same h = refl
-same-look go go' target here next next' (Ok GoOn) inside same h = same
-same-look go go' target here next next' (Ok NotHere) inside same h = refl
-same-look go go' target here next next' (Ok Here) inside same h = refl
-same-look go go' target here next next' (Ok (Inside id)) inside same h = rw (h id (inside id refl) here.bits, same) refl
+same-look go go' target here next next' (Ok Next) inside same h = same
+same-look go go' target here next next' (Ok Mismatch) inside same h = refl
+same-look go go' target here next next' (Ok Match) inside same h = refl
+same-look go go' target here next next' (Ok (Descend id)) inside same h = rw (h id (inside id refl) here.bits, same) refl
 
 pub same-members : (go go' : ℕ → Option ℕ → Result (Option Found) AccessError) (search : Search) (id : ℕ) (t : BtfType) (depth : ℕ) (bits : Option ℕ) (index : ℕ) (ms : List BtfMember) → ((id : ℕ) → IsKnown search.target id → (bits : Option ℕ) → go id bits ≡ go' id bits)
     → members_found go search id t depth bits index ms ≡ members_found go' search id t depth bits index ms
 unfolding members_found
 same-members go go' search id t depth bits index [] h = refl
 same-members go go' search id t depth bits index (m ∷ ms) h =
-    same-look go go' search.target (member_here id t depth bits index m) _ _ (look_at search m) (leads-inside search m) (same-members go go' search id t depth bits (suc index) ms h) h
+    same-look go go' search.target (found_here id t depth bits index m) _ _ (look_at search m) (descends-to-known search m) (same-members go go' search id t depth bits (suc index) ms h) h
 
 same-type : (search : Search) (id : ℕ) (o : Option BtfType) (ask ask' : BtfType → Result (Option Found) AccessError) → ((t : BtfType) → ask t ≡ ask' t) → with_found (found_type search.target id o) ask ≡ with_found (found_type search.target id o) ask'
 same-type search id None ask ask' h = refl

@@ -1,5 +1,5 @@
 -- Members that are passed.
-use Rattle.std.proofs.Common.{◌≡◌, ℕ, zero, suc, ◌+◌, ◌⊎◌, inl, inr, Bool, true, List, [], ◌∷◌, None, Some, Ok, Err, Option, Result, refl, sym, subst, add-one}
+use Rattle.std.proofs.Common.{◌≡◌, ℕ, zero, suc, ◌+◌, Bool, true, List, [], ◌∷◌, None, Some, Ok, Err, Option, Result, refl, sym, subst, add-one}
 use Rattle.std.specs.Prelude.{slice_get}
 use Rattle.core_spec.specs.Lookups.{and_then}
 use Rattle.core_spec.specs.declared.error.AccessError.{AccessError}
@@ -8,12 +8,12 @@ use Rattle.btf_records.specs.declared.item.BtfMember.{BtfMember}
 use Rattle.btf_records.specs.declared.types.BtfType.{BtfType}
 use Rattle.btf_tables.specs.Tables.{type_by_id}
 use Rattle.core_members.specs.Looks.{Search, look_at}
-use Rattle.core_members.specs.Searches.{by_look, member_here, members_found}
-use Rattle.core_members.specs.Stacks.{ArePassed, AreSearched, Ends, IsPassed, Passes}
+use Rattle.core_members.specs.Searches.{by_look, found_here, members_found}
+use Rattle.core_members.specs.Stacks.{ArePassed, Ends, IsPassed, Passes}
 use Rattle.core_members.specs.declared.look.Look.{Look}
-use Rattle.core_members.specs.declared.look.Look.TheVariants.{GoOn, Here, Inside, NotHere}
+use Rattle.core_members.specs.declared.look.Look.TheVariants.{Next, Match, Descend, Mismatch}
 use Rattle.core_members.specs.declared.search.Found.{Found}
-use Rattle.core_members.specs.declared.stack.Frame.{Frame}
+use Rattle.core_members.specs.declared.turn.Frame.{Frame}
 use Rattle.core_members.proofs.Rests.{after_next}
 
 -- ---- one more is passed
@@ -30,21 +30,18 @@ of_record search p n t u same h = rw (add-one, ← same) h
 pub passed-next : (search : Search) (p : ℕ → Bool) (f : Frame) (t : BtfType) (m : BtfMember) → IsPassed search p f → type_by_id search.target f.type_id ≡ Some t → Some m ≡ slice_get (members_of t) f.next → Passes p (look_at search m) → IsPassed search p (after_next f)
 passed-next search p f t m h known here pass =
     record {
-      members = λ clean u is.
+      members = λ u is.
           let same : t ≡ u = cc in
-          by u same (h.members clean t known);
-    } where
-      by : (u : BtfType) → t ≡ u → ArePassed search p f.next (members_of t) ⊎ AreSearched search p (members_of t) → ArePassed search p (f.next + 1) (members_of u) ⊎ AreSearched search p (members_of u)
-      by u same (inl are) = inl (of_record search p f.next t u same (one_more search p f.next (members_of t) m are here pass))
-      by u same (inr are) = inr (subst (λ (x : BtfType). AreSearched search p (members_of x)) same are)
+          of_record search p f.next t u same (one_more search p f.next (members_of t) m (h.members t known) here pass);
+    }
 
 -- ---- more hold nothing
 
 more_pass : (p q : ℕ → Bool) → ((k : ℕ) → p k ≡ true → q k ≡ true) → (r : Result Look AccessError) → Passes p r → Passes q r
-more_pass p q h (Ok GoOn) pass = tt
-more_pass p q h (Ok NotHere) pass = absurd pass
-more_pass p q h (Ok Here) pass = absurd pass
-more_pass p q h (Ok (Inside k)) pass = h k pass
+more_pass p q h (Ok Next) pass = tt
+more_pass p q h (Ok Mismatch) pass = absurd pass
+more_pass p q h (Ok Match) pass = absurd pass
+more_pass p q h (Ok (Descend k)) pass = h k pass
 more_pass p q h (Err e) pass = absurd pass
 
 more_passed : (search : Search) (p q : ℕ → Bool) → ((k : ℕ) → p k ≡ true → q k ≡ true) → (n : ℕ) (ms : List BtfMember) → ArePassed search p n ms → ArePassed search q n ms
@@ -52,22 +49,16 @@ more_passed search p q h zero ms are = tt
 more_passed search p q h (suc n) [] are = tt
 more_passed search p q h (suc n) (m ∷ ms) are = (more_pass p q h (look_at search m) are.0, more_passed search p q h n ms are.1)
 
-pub searched-more : (search : Search) (p q : ℕ → Bool) (ms : List BtfMember) → ((k : ℕ) → p k ≡ true → q k ≡ true) → AreSearched search p ms → AreSearched search q ms
-searched-more search p q ms h are = record { index = are.index; passed = more_passed search p q h are.index ms are.passed; ends = are.ends }
-
 pub passed-more : (search : Search) (p q : ℕ → Bool) (f : Frame) → ((k : ℕ) → p k ≡ true → q k ≡ true) → IsPassed search p f → IsPassed search q f
-passed-more search p q f h is = record { members = λ clean t known. by t (is.members clean t known) } where
-  by : (t : BtfType) → ArePassed search p f.next (members_of t) ⊎ AreSearched search p (members_of t) → ArePassed search q f.next (members_of t) ⊎ AreSearched search q (members_of t)
-  by t (inl are) = inl (more_passed search p q h f.next (members_of t) are)
-  by t (inr are) = inr (searched-more search p q (members_of t) h are)
+passed-more search p q f h is = record { members = λ t known. more_passed search p q h f.next (members_of t) (is.members t known) }
 
 -- ---- all are passed
 
 pass_on : (go : ℕ → Option ℕ → Result (Option Found) AccessError) (p : ℕ → Bool) (here : Found) (next : Result (Option Found) AccessError) → ((k : ℕ) → p k ≡ true → (b : Option ℕ) → go k b ≡ Ok None) → next ≡ Ok None → (r : Result Look AccessError) → Passes p r → and_then r (by_look go here next) ≡ Ok None
-pass_on go p here next h none (Ok GoOn) pass = none
-pass_on go p here next h none (Ok NotHere) pass = absurd pass
-pass_on go p here next h none (Ok Here) pass = absurd pass
-pass_on go p here next h none (Ok (Inside k)) pass = rw (h k pass here.bits) none
+pass_on go p here next h none (Ok Next) pass = none
+pass_on go p here next h none (Ok Mismatch) pass = absurd pass
+pass_on go p here next h none (Ok Match) pass = absurd pass
+pass_on go p here next h none (Ok (Descend k)) pass = rw (h k pass here.bits) none
 pass_on go p here next h none (Err e) pass = absurd pass
 
 pub passed-none : (go : ℕ → Option ℕ → Result (Option Found) AccessError) (search : Search) (p : ℕ → Bool) (id : ℕ) (t : BtfType) (depth : ℕ) (bits : Option ℕ) → ((k : ℕ) → p k ≡ true → (b : Option ℕ) → go k b ≡ Ok None)
@@ -76,4 +67,4 @@ unfolding members_found
 passed-none go search p id t depth bits h n index [] are ends = refl
 passed-none go search p id t depth bits h zero index (m ∷ ms) are ends = rw (sym ends) refl
 passed-none go search p id t depth bits h (suc n) index (m ∷ ms) are ends =
-    pass_on go p (member_here id t depth bits index m) _ h (passed-none go search p id t depth bits h n (suc index) ms are.1 ends) (look_at search m) are.0
+    pass_on go p (found_here id t depth bits index m) _ h (passed-none go search p id t depth bits h n (suc index) ms are.1 ends) (look_at search m) are.0

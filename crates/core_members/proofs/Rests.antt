@@ -1,5 +1,5 @@
 -- What the members that are left of an open struct or union give, by the look at the next.
-use Rattle.std.proofs.Common.{◌≡◌, ℕ, zero, suc, ◌+◌, ◌-◌, Bool, List, [], ◌∷◌, drop, length, None, Some, Ok, Err, Option, Result, refl, sym, add-one}
+use Rattle.std.proofs.Common.{◌≡◌, ℕ, zero, suc, ◌+◌, ◌-◌, List, [], ◌∷◌, drop, length, None, Some, Ok, Err, Option, Result, refl, sym, add-one}
 use Rattle.std.specs.Prelude.{slice_get}
 use Rattle.core_spec.specs.declared.error.AccessError.{AccessError}
 use Rattle.core_spec.specs.declared.error.AccessError.TheVariants.{BtfError as TypeError}
@@ -9,11 +9,11 @@ use Rattle.btf_records.specs.declared.item.BtfMember.{BtfMember}
 use Rattle.btf_records.specs.declared.types.BtfType.{BtfType}
 use Rattle.btf_tables.specs.Tables.{type_by_id}
 use Rattle.core_members.specs.Looks.{Search, look_at}
-use Rattle.core_members.specs.Searches.{found_in, member_here, members_found, most_open, or_next}
+use Rattle.core_members.specs.Searches.{found_in, found_here, members_found, most_open, or_next}
 use Rattle.core_members.specs.Stacks.{rest_of}
-use Rattle.core_members.specs.declared.look.Look.TheVariants.{GoOn, Here, Inside, NotHere}
+use Rattle.core_members.specs.declared.look.Look.TheVariants.{Next, Match, Descend, Mismatch}
 use Rattle.core_members.specs.declared.search.Found.{Found}
-use Rattle.core_members.specs.declared.stack.Frame.{Frame}
+use Rattle.core_members.specs.declared.turn.Frame.{Frame}
 
 drop-past : {A : Type 0} (xs : List A) (n : ℕ) → None ≡ slice_get xs n → drop n xs ≡ []
 drop-past [] zero e = refl
@@ -30,21 +30,13 @@ drop-at (y ∷ xs) (suc n) x e = drop-at xs n x e
 abbrev pub after_next : Frame → Frame
 after_next f = record f { next = f.next + 1 }
 
--- and where members in it are skipped, or aren't
-abbrev pub skipping : Bool → Frame → Frame
-skipping skipped f = record f { skipped = skipped }
-
-pub rest_skipping : (search : Search) (open_ids : List ℕ) (skipped : Bool) (f : Frame) → rest_of search open_ids (skipping skipped f) ≡ rest_of search open_ids f
-unfolding rest_of
-rest_skipping search open_ids skipped f = refl
-
--- searches inside the innermost
-abbrev pub go_inside : Search → List ℕ → ℕ → Option ℕ → Result (Option Found) AccessError
-go_inside search open_ids = found_in (most_open search.target - length open_ids) search open_ids
+-- searches descend from the innermost
+abbrev pub descend : Search → List ℕ → ℕ → Option ℕ → Result (Option Found) AccessError
+descend search open_ids = found_in (most_open search.target - length open_ids) search open_ids
 
 -- the next member, if it is the one
 abbrev pub next_here : Search → List ℕ → Frame → BtfType → BtfMember → Found
-next_here search open_ids f t m = member_here f.type_id t (length open_ids) f.bits f.next m
+next_here search open_ids f t m = found_here f.type_id t (length open_ids) f.bits f.next m
 
 pub rest_unknown : (search : Search) (open_ids : List ℕ) (f : Frame) → type_by_id search.target f.type_id ≡ None → rest_of search open_ids f ≡ Err (TypeError (UnknownBtfType f.type_id))
 unfolding rest_of
@@ -58,19 +50,19 @@ pub rest_bad : (search : Search) (open_ids : List ℕ) (f : Frame) (t : BtfType)
 unfolding rest_of members_found
 rest_bad search open_ids f t m e known here seen = rw (known, drop-at (members_of t) f.next m here, sym seen) refl
 
-pub rest_on : (search : Search) (open_ids : List ℕ) (f : Frame) (t : BtfType) (m : BtfMember) → type_by_id search.target f.type_id ≡ Some t → Some m ≡ slice_get (members_of t) f.next → Ok GoOn ≡ look_at search m → rest_of search open_ids f ≡ rest_of search open_ids (after_next f)
+pub rest_next : (search : Search) (open_ids : List ℕ) (f : Frame) (t : BtfType) (m : BtfMember) → type_by_id search.target f.type_id ≡ Some t → Some m ≡ slice_get (members_of t) f.next → Ok Next ≡ look_at search m → rest_of search open_ids f ≡ rest_of search open_ids (after_next f)
 unfolding rest_of members_found
-rest_on search open_ids f t m known here seen = rw (known, drop-at (members_of t) f.next m here, sym seen, add-one) refl
+rest_next search open_ids f t m known here seen = rw (known, drop-at (members_of t) f.next m here, sym seen, add-one) refl
 
-pub rest_not_here : (search : Search) (open_ids : List ℕ) (f : Frame) (t : BtfType) (m : BtfMember) → type_by_id search.target f.type_id ≡ Some t → Some m ≡ slice_get (members_of t) f.next → Ok NotHere ≡ look_at search m → rest_of search open_ids f ≡ Ok None
+pub rest_mismatch : (search : Search) (open_ids : List ℕ) (f : Frame) (t : BtfType) (m : BtfMember) → type_by_id search.target f.type_id ≡ Some t → Some m ≡ slice_get (members_of t) f.next → Ok Mismatch ≡ look_at search m → rest_of search open_ids f ≡ Ok None
 unfolding rest_of members_found
-rest_not_here search open_ids f t m known here seen = rw (known, drop-at (members_of t) f.next m here, sym seen) refl
+rest_mismatch search open_ids f t m known here seen = rw (known, drop-at (members_of t) f.next m here, sym seen) refl
 
-pub rest_here : (search : Search) (open_ids : List ℕ) (f : Frame) (t : BtfType) (m : BtfMember) → type_by_id search.target f.type_id ≡ Some t → Some m ≡ slice_get (members_of t) f.next → Ok Here ≡ look_at search m → rest_of search open_ids f ≡ Ok (Some (next_here search open_ids f t m))
+pub rest_match : (search : Search) (open_ids : List ℕ) (f : Frame) (t : BtfType) (m : BtfMember) → type_by_id search.target f.type_id ≡ Some t → Some m ≡ slice_get (members_of t) f.next → Ok Match ≡ look_at search m → rest_of search open_ids f ≡ Ok (Some (next_here search open_ids f t m))
 unfolding rest_of members_found
-rest_here search open_ids f t m known here seen = rw (known, drop-at (members_of t) f.next m here, sym seen) refl
+rest_match search open_ids f t m known here seen = rw (known, drop-at (members_of t) f.next m here, sym seen) refl
 
-pub rest_inside : (search : Search) (open_ids : List ℕ) (f : Frame) (t : BtfType) (m : BtfMember) (id : ℕ) → type_by_id search.target f.type_id ≡ Some t → Some m ≡ slice_get (members_of t) f.next → Ok (Inside id) ≡ look_at search m
-    → rest_of search open_ids f ≡ or_next (go_inside search open_ids id (next_here search open_ids f t m).bits) (rest_of search open_ids (after_next f))
+pub rest_descend : (search : Search) (open_ids : List ℕ) (f : Frame) (t : BtfType) (m : BtfMember) (id : ℕ) → type_by_id search.target f.type_id ≡ Some t → Some m ≡ slice_get (members_of t) f.next → Ok (Descend id) ≡ look_at search m
+    → rest_of search open_ids f ≡ or_next (descend search open_ids id (next_here search open_ids f t m).bits) (rest_of search open_ids (after_next f))
 unfolding rest_of members_found
-rest_inside search open_ids f t m id known here seen = rw (known, drop-at (members_of t) f.next m here, sym seen, add-one) refl
+rest_descend search open_ids f t m id known here seen = rw (known, drop-at (members_of t) f.next m here, sym seen, add-one) refl

@@ -17,14 +17,14 @@ pub record NotesOne (before after : List ℕ) (id : ℕ) : Type 0 where
 pub record AreApart (noted open_ids : List ℕ) : Type 0 where
   pub each : (id : ℕ) → is_among open_ids id ≡ true → is_noted noted id ≡ false
 
--- how many numbers below one fail a test
-abbrev pub failing : (ℕ → Bool) → ℕ → ℕ
-failing test zero = 0
-failing test (suc n) = (if test n then 0 else 1) + failing test n
+-- the weights of the numbers below one that fail a test
+abbrev pub failing : (ℕ → ℕ) → (ℕ → Bool) → ℕ → ℕ
+failing weight test zero = 0
+failing weight test (suc n) = (if test n then 0 else weight n) + failing weight test n
 
 -- how many ids below a number aren't open
 abbrev pub free : ℕ → List ℕ → ℕ
-free n open_ids = failing (is_among open_ids) n
+free n open_ids = failing (λ id. 1) (is_among open_ids) n
 
 -- nothing is found in these, wherever they are met
 pub record HoldNothing (search : Search) (noted : List ℕ) : Type 0 where

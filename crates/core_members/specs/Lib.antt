@@ -1,14 +1,5 @@
-pub mod Collecting
-pub mod Counts
 pub mod EmptyTypes
-pub mod Finders
-pub mod Frames
-pub mod Indexes
 pub mod Laws
 pub mod Looks
-pub mod MemberTypes
-pub mod Namesakes
-pub mod OwnNames
 pub mod Searches
 pub mod Stacks
-pub mod Visits

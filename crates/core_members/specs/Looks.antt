@@ -1,8 +1,7 @@
 -- What one member of a struct or union says in a search for a member (`bpf_core_match_member`,
 -- tools/lib/bpf/relo_core.c).
-use Rattle.std.specs.Prelude.{◌≡◌, ℕ, ⊤, Bool, false, true, nat_eq, List, [], ◌∷◌, Result, Ok, if◌then◌else◌}
+use Rattle.std.specs.Prelude.{ℕ, Bool, false, true, nat_eq, List, [], ◌∷◌, Result, Ok, if◌then◌else◌}
 use Rattle.std.specs.Cmp.Lexicographic.{pointwise}
-use Rattle.std.specs.Option.{IsSomeAnd}
 use Rattle.core_spec.specs.Lookups.{with_found, with_text, with_type}
 use Rattle.core_spec.specs.declared.error.AccessError.{AccessError}
 use Rattle.btf_compatibility.specs.FieldCompatibility.{fields_compatible}
@@ -10,9 +9,9 @@ use Rattle.btf_records.specs.declared.item.BtfMember.{BtfMember}
 use Rattle.btf_records.specs.declared.types.BtfType.{BtfType}
 use Rattle.btf_records.specs.declared.types.BtfType.TheVariants as types
 use Rattle.btf_tables.specs.ResolvedTypes.{resolved_type}
-use Rattle.btf_tables.specs.Tables.{Table, type_by_id}
+use Rattle.btf_tables.specs.Tables.{Table}
 use Rattle.core_members.specs.declared.look.Look.{Look}
-use Rattle.core_members.specs.declared.look.Look.TheVariants.{GoOn, Here, Inside, NotHere}
+use Rattle.core_members.specs.declared.look.Look.TheVariants.{Next, Match, Descend, Mismatch}
 
 -- a member of the target's types is searched by the name and the type of a member of the local ones
 pub record Search : Type 0 where
@@ -30,34 +29,24 @@ is_composite (types.Union t) = true
 is_composite _ = false
 
 -- one without a name may be a struct or union
-abbrev pub look_inside : Table → BtfMember → Result Look AccessError
-look_inside target m =
+abbrev pub look_at_unnamed : Table → BtfMember → Result Look AccessError
+look_at_unnamed target m =
     with_found (resolved_type target m.btf_type) (λ id.
     with_type target id (λ t.
-    if is_composite t then Ok (Inside id) else Ok GoOn))
+    if is_composite t then Ok (Descend id) else Ok Next))
 
 -- one of the name is compared
-abbrev pub look_at_type : Table → ℕ → Table → BtfMember → Result Look AccessError
-look_at_type local id target m =
+abbrev pub look_at_named : Table → ℕ → Table → BtfMember → Result Look AccessError
+look_at_named local id target m =
     with_found (fields_compatible local id target m.btf_type) (λ yes.
-    if yes then Ok Here else Ok NotHere)
+    if yes then Ok Match else Ok Mismatch)
 
 abbrev pub look_by_name : Search → BtfMember → List ℕ → Result Look AccessError
-look_by_name search m [] = look_inside search.target m
+look_by_name search m [] = look_at_unnamed search.target m
 look_by_name search m (b ∷ bs) =
-    if pointwise nat_eq (b ∷ bs) search.name then look_at_type search.local search.type_id
+    if pointwise nat_eq (b ∷ bs) search.name then look_at_named search.local search.type_id
     search.target m
-    else Ok GoOn
+    else Ok Next
 
 abbrev pub look_at : Search → BtfMember → Result Look AccessError
 look_at search m = with_text search.target m.name_offset (look_by_name search m)
-
--- a text isn't empty, and isn't the name
-abbrev pub IsOther : List ℕ → List ℕ → Type 0
-IsOther name [] = ⊥
-IsOther name (b ∷ bs) = pointwise nat_eq (b ∷ bs) name ≡ false
-
--- a look leads inside types that are there
-abbrev pub LeadsInside : Table → Look → Type 0
-LeadsInside target (Inside id) = IsSomeAnd (type_by_id target id) (λ _. ⊤)
-LeadsInside target _ = ⊤

@@ -14,7 +14,7 @@ use Rattle.btf_records.specs.declared.types.BtfType.{BtfType}
 use Rattle.btf_tables.specs.Tables.{Table}
 use Rattle.core_members.specs.Looks.{Search, look_at}
 use Rattle.core_members.specs.declared.look.Look.{Look}
-use Rattle.core_members.specs.declared.look.Look.TheVariants.{GoOn, Here, Inside, NotHere}
+use Rattle.core_members.specs.declared.look.Look.TheVariants.{Next, Match, Descend, Mismatch}
 use Rattle.core_members.specs.declared.search.Found.{Found}
 
 -- an answer, or another one where nothing was found
@@ -26,19 +26,19 @@ or_next (Ok (Some found)) next = Ok (Some found)
 or_next (Err e) next = Err e
 
 -- after a look at a member that begins at these bits, where `next` is the answer for the members
--- after it; `go` searches inside
+-- after it; `go` descends
 abbrev pub by_look : (ℕ → Option ℕ → Result (Option Found) AccessError) → Found → Result
     (Option Found) AccessError → Look
     → Result (Option Found) AccessError
-by_look go here next GoOn = next
-by_look go here next NotHere = Ok None
-by_look go here next Here = Ok (Some here)
-by_look go here next (Inside id) = or_next (go id here.bits) next
+by_look go here next Next = next
+by_look go here next Mismatch = Ok None
+by_look go here next Match = Ok (Some here)
+by_look go here next (Descend id) = or_next (go id here.bits) next
 
 -- a member of this index, where the struct or union begins at these bits and is the last of that
 -- many open ones
-abbrev pub member_here : ℕ → BtfType → ℕ → Option ℕ → ℕ → BtfMember → Found
-member_here id t depth bits index m = record {
+abbrev pub found_here : ℕ → BtfType → ℕ → Option ℕ → ℕ → BtfMember → Found
+found_here id t depth bits index m = record {
   place = record { type_id = id; index = index };
   type_id = m.btf_type;
   bits = bits_after bits (bit_offset_of (bits_of t).flag m);
@@ -52,7 +52,7 @@ unfoldable pub members_found : (ℕ → Option ℕ → Result (Option Found) Acc
 members_found go search id t depth bits index [] = Ok None
 members_found go search id t depth bits index (m ∷ ms) =
     and_then (look_at search m)
-    (by_look go (member_here id t depth bits index m)
+    (by_look go (found_here id t depth bits index m)
     (members_found go search id t depth bits (suc index) ms))
 
 abbrev pub is_among : List ℕ → ℕ → Bool

@@ -1,5 +1,6 @@
 -- A search by the structs and unions that are open, the innermost last.
-use Rattle.std.specs.Prelude.{◌≡◌, ℕ, zero, suc, ◌+◌, ◌<◌, ◌≤◌, ◌⊎◌, ⊤, true, false, ◌-◌, ◌*◌, ◌^◌, ◌==◌, ◌||◌, Bool, List, [], ◌∷◌, ◌++◌, drop, length, map, IfSome, Option, None, Some, Result, Ok, slice_get}
+use Rattle.std.specs.Prelude.{◌≡◌, ℕ, zero, suc, ◌+◌, ◌<◌, ◌≤◌, ◌⊎◌, ⊤, true, false, ◌-◌, ◌==◌, ◌||◌, Bool, List, [], ◌∷◌, ◌++◌, drop, length, map, Option, None, Some, Result, Ok}
+use Rattle.std.specs.List.{list_any}
 use Rattle.std.specs.Option.{option_map_or}
 use Rattle.core_spec.specs.Lookups.{with_type}
 use Rattle.core_spec.specs.declared.error.AccessError.{AccessError}
@@ -8,20 +9,23 @@ use Rattle.btf_records.specs.Fields.{members_of}
 use Rattle.btf_records.specs.declared.item.BtfMember.{BtfMember}
 use Rattle.btf_records.specs.declared.types.BtfType.{BtfType}
 use Rattle.btf_tables.specs.Tables.{Table, type_by_id}
-use Rattle.core_members.specs.EmptyTypes.{AreApart, HoldNothing, NotesOne, free, is_noted}
-use Rattle.core_members.specs.Frames.{is_open}
+use Rattle.core_members.specs.EmptyTypes.{AreApart, HoldNothing, NotesOne, failing, free, is_noted}
 use Rattle.core_members.specs.Looks.{Search, look_at}
-use Rattle.core_members.specs.Searches.{found_in, members_found, most_open, or_next}
+use Rattle.core_members.specs.Searches.{found_in, is_among, members_found, most_open, or_next}
 use Rattle.core_members.specs.declared.look.Look.{Look}
-use Rattle.core_members.specs.declared.look.Look.TheVariants.{GoOn, Here, Inside, NotHere}
+use Rattle.core_members.specs.declared.look.Look.TheVariants.{Descend, Match, Mismatch, Next}
 use Rattle.core_members.specs.declared.search.Found.{Found}
-use Rattle.core_members.specs.declared.stack.Frame.{Frame}
+use Rattle.core_members.specs.declared.turn.Frame.{Frame}
 use Rattle.core_members.specs.declared.turn.Turn.{Turn}
 use Rattle.core_members.specs.declared.turn.Turn.TheVariants as turns
 
 -- a struct or union before its members are looked at
-abbrev pub inside : ℕ → Option ℕ → Frame
-inside id bits = record { type_id = id; next = 0; bits = bits; skipped = false }
+abbrev pub entered : ℕ → Option ℕ → Frame
+entered id bits = record { type_id = id; next = 0; bits = bits }
+
+-- whether one of an id is open
+abbrev pub is_open : List Frame → ℕ → Bool
+is_open stack id = list_any (λ f. f.type_id == id) stack
 
 abbrev pub ids : List Frame → List ℕ
 ids stack = map (λ f. f.type_id) stack
@@ -51,118 +55,36 @@ value_above search open_ids (f ∷ fs) below =
 abbrev pub stack_value : Search → List Frame → Result (Option Found) AccessError
 stack_value search stack = value_above search [] stack (Ok None)
 
+-- ---- how much is left to do
+
 -- how many members are left
 abbrev pub left_of : Table → Frame → ℕ
 left_of target f =
     option_map_or (λ t. length (members_of t) - f.next) (type_by_id target f.type_id) 0
 
+abbrev pub turns_left : Table → List Frame → ℕ
+turns_left target [] = 0
+turns_left target (f ∷ fs) = suc (left_of target f) + turns_left target fs
+
+-- of a struct or union that wasn't entered yet
+abbrev pub turns_in : Table → ℕ → ℕ
+turns_in target id = suc (left_of target (entered id None))
+
+abbrev pub is_met : List ℕ → List ℕ → ℕ → Bool
+is_met noted open_ids id = is_among open_ids id || is_noted noted id
+
 -- a number that each turn makes less
-unfoldable pub work_from : Table → ℕ → List Frame → ℕ
-work_from target depth [] = 0
-work_from target depth (f ∷ fs) =
-    suc (left_of target f) * 65537 ^ (most_open target - depth) + work_from target (suc depth) fs
+abbrev pub work : Table → List ℕ → List Frame → Frame → ℕ
+work target noted outer f =
+    turns_left target (outer ++ f ∷ [])
+    + failing (turns_in target) (is_met noted (opened outer f)) (most_open target)
 
-abbrev pub work : Table → List Frame → ℕ
-work target stack = work_from target 0 stack
-
--- a turn finds the member, or leaves a stack that gives the same
-pub record IsTurn (search : Search) (before : List Frame) (found : Option Found)
-    (after : List Frame) : Type 0 where
-  pub here : IfSome found (λ f. stack_value search before ≡ Ok (Some f))
-  pub same : found ≡ None → stack_value search after ≡ stack_value search before
-  pub smaller : found ≡ None → work search.target after < work search.target before
-
--- what a turn has found
-abbrev pub found_of : Turn → Option Found
-found_of (turns.Found found) = Some found
-found_of _ = None
-
--- and where it goes on
-abbrev pub frames_of : Turn → List Frame
-frames_of (turns.On f) = f ∷ []
-frames_of _ = []
-
--- the innermost goes on as this
-abbrev pub GoesOn : Frame → List Frame → List ℕ → Turn → List Frame → List ℕ → Type 0
-GoesOn f old before turn new after = (turn ≡ turns.On f) × (new ≡ old) × (after ≡ before)
-
--- one in which members were skipped isn't noted, and those are skipped in the one around it too
-pub record SkipsAround (old : List Frame) (before : List ℕ) (f : Frame) (new : List Frame)
-    (after : List ℕ) : Type 0 where
-  pub around : Frame
-  pub popped : old ≡ new ++ around ∷ []
-  pub frame : f ≡ record around { skipped = true }
-  pub same : after ≡ before
-
-abbrev pub GoesOnAround : Bool
-    → ℕ
-    → List Frame
-    → List ℕ
-    → Frame
-    → List Frame
-    → List ℕ
-    → Type 0
-GoesOnAround false id old before f new after = (old ≡ new ++ f ∷ []) × NotesOne before after id
-GoesOnAround true id old before f new after = SkipsAround old before f new after
-
--- nothing was found in the innermost, and the one that it lies in goes on
-abbrev pub IsLeft : Frame → List Frame → List ℕ → Turn → List Frame → List ℕ → Type 0
-IsLeft left old before (turns.Found found) new after = ⊥
-IsLeft left old before (turns.On f) new after =
-    GoesOnAround left.skipped left.type_id old before f new after
-IsLeft left old before turns.Over new after = (length old ≡ 0) × (length new ≡ 0)
-
--- one that isn't open is entered
-abbrev pub IsEntered : Table
-    → ℕ
-    → Option ℕ
-    → Frame
-    → List Frame
-    → List ℕ
-    → Turn
-    → List Frame
-    → List ℕ
-    → Type 0
-IsEntered target id bits f old before turn new after =
-    (turn ≡ turns.On (inside id bits))
-    × (new ≡ old ++ f ∷ [])
-    × (after ≡ before)
-    × (is_noted before id ≡ false)
-    × (is_open (old ++ f ∷ []) id ≡ false)
-    × (length old + 1 < most_open target)
-    × (left_of target (inside id bits) < 65536)
-
--- what a look at a member makes of the stack without the innermost: `f` is the innermost after that
--- member. One that is known to hold nothing isn't entered
-abbrev pub IsFollowed : Table
-    → Look
-    → Found
-    → Frame
-    → List Frame
-    → List ℕ
-    → Turn
-    → List Frame
-    → List ℕ
-    → Type 0
-IsFollowed target GoOn here f old before turn new after = GoesOn f old before turn new after
-IsFollowed target NotHere here f old before turn new after =
-    IsLeft f old before turn new after
-IsFollowed target Here here f old before turn new after = turn ≡ turns.Found here
-IsFollowed target (Inside id) here f old before turn new after =
-    ((is_noted before id ≡ true) × GoesOn f old before turn new after)
-    ⊎ IsEntered target id here.bits f old before turn new after
-
--- why it is refused
-abbrev pub IsTooDeep : Table → Look → List Frame → AccessError → Type 0
-IsTooDeep target (Inside id) stack e =
-    (e ≡ MaximumNestingLevelReached)
-    × ((is_open stack id ≡ true) ⊎ (most_open target ≤ length stack))
-IsTooDeep target _ stack e = ⊥
+-- ---- what holds between turns
 
 -- a member that is passed isn't the one, or has no name, and holds nothing
 abbrev pub Passes : (ℕ → Bool) → Result Look AccessError → Type 0
-Passes holds_nothing (Ok GoOn) = ⊤
-Passes holds_nothing (Ok (Inside id)) = holds_nothing id ≡ true
+Passes holds_nothing (Ok Next) = ⊤
+Passes holds_nothing (Ok (Descend id)) = holds_nothing id ≡ true
 Passes holds_nothing _ = ⊥
 
 -- the first ones
@@ -175,22 +97,13 @@ ArePassed search holds_nothing (suc n) (m ∷ ms) =
 -- there are no more, or the next has the name and isn't the one
 abbrev pub Ends : Search → Option BtfMember → Type 0
 Ends search None = ⊤
-Ends search (Some m) = Ok NotHere ≡ look_at search m
+Ends search (Some m) = Ok Mismatch ≡ look_at search m
 
--- a search that comes to them ends after those that are passed
-pub record AreSearched (search : Search) (holds_nothing : ℕ → Bool) (members : List BtfMember)
-    : Type 0 where
-  pub index : ℕ
-  pub passed : ArePassed search holds_nothing index members
-  pub ends : Ends search (slice_get members index)
-
--- those before the next are passed, or a search has ended before it, if none were skipped
+-- those before the next
 pub record IsPassed (search : Search) (holds_nothing : ℕ → Bool) (f : Frame) : Type 0 where
-  pub members : f.skipped ≡ false
-      → (t : BtfType)
+  pub members : (t : BtfType)
       → type_by_id search.target f.type_id ≡ Some t
       → ArePassed search holds_nothing f.next (members_of t)
-      ⊎ AreSearched search holds_nothing (members_of t)
 
 -- besides those that are noted the one that is being searched
 abbrev pub or_noted : List ℕ → ℕ → ℕ → Bool
@@ -206,7 +119,6 @@ AllPassed search noted [] top = ⊤
 AllPassed search noted (f ∷ fs) top =
     IsPassed search (or_noted noted (first_id fs top)) f × AllPassed search noted fs top
 
--- what holds between turns
 pub record IsSound (search : Search) (noted : List ℕ) (outer : List Frame) (f : Frame)
     : Type 0 where
   pub nothing : HoldNothing search noted
@@ -216,7 +128,75 @@ pub record IsSound (search : Search) (noted : List ℕ) (outer : List Frame) (f 
   pub passed : IsPassed search (is_noted noted) f
   pub around : AllPassed search noted outer f.type_id
 
-abbrev pub IsSoundTurn : Search → Turn → List ℕ → List Frame → Type 0
-IsSoundTurn search (turns.On f) noted outer = IsSound search noted outer f
-IsSoundTurn search turns.Over noted outer = outer ≡ []
-IsSoundTurn search (turns.Found found) noted outer = ⊤
+-- ---- a turn
+
+-- it leaves a stack that gives the same
+pub record GoesOn (search : Search) (before : List ℕ) (below : List Frame) (f : Frame)
+    (after : List ℕ) (new : List Frame) (g : Frame) : Type 0 where
+  pub same : stack_value search (new ++ g ∷ []) ≡ stack_value search (below ++ f ∷ [])
+  pub less : work search.target after new g < work search.target before below f
+  pub sound : IsSound search after new g
+
+-- or finds the member, or comes to the end
+abbrev pub IsTurn : Search
+    → List ℕ
+    → List Frame
+    → Frame
+    → Turn
+    → List ℕ
+    → List Frame
+    → Type 0
+IsTurn search before below f (turns.Found found) after new =
+    stack_value search (below ++ f ∷ []) ≡ Ok (Some found)
+IsTurn search before below f (turns.On g) after new = GoesOn search before below f after new g
+IsTurn search before below f turns.Over after new = stack_value search (below ++ f ∷ []) ≡ Ok None
+
+-- nothing was found in the innermost, and the one that it lies in goes on
+abbrev pub IsLeft : ℕ → List Frame → List ℕ → Turn → List Frame → List ℕ → Type 0
+IsLeft id old before (turns.Found found) new after = ⊥
+IsLeft id old before (turns.On g) new after = (old ≡ new ++ g ∷ []) × NotesOne before after id
+IsLeft id old before turns.Over new after = old ≡ []
+
+-- one that isn't open is entered
+abbrev pub IsEntered : ℕ
+    → Option ℕ
+    → Frame
+    → List Frame
+    → List ℕ
+    → Turn
+    → List Frame
+    → List ℕ
+    → Type 0
+IsEntered id bits f old before turn new after =
+    (turn ≡ turns.On (entered id bits))
+    × (new ≡ old ++ f ∷ [])
+    × (after ≡ before)
+    × (is_noted before id ≡ false)
+    × (is_open (old ++ f ∷ []) id ≡ false)
+
+-- the innermost goes on as this
+abbrev pub StaysIn : Frame → List Frame → List ℕ → Turn → List Frame → List ℕ → Type 0
+StaysIn f old before turn new after = (turn ≡ turns.On f) × (new ≡ old) × (after ≡ before)
+
+-- what a look at a member makes of the stack without the innermost: `f` is the innermost after that
+-- member. One that is known to hold nothing isn't entered
+abbrev pub IsFollowed : Look
+    → Found
+    → Frame
+    → List Frame
+    → List ℕ
+    → Turn
+    → List Frame
+    → List ℕ
+    → Type 0
+IsFollowed Next here f old before turn new after = StaysIn f old before turn new after
+IsFollowed Mismatch here f old before turn new after = IsLeft f.type_id old before turn new after
+IsFollowed Match here f old before turn new after = turn ≡ turns.Found here
+IsFollowed (Descend id) here f old before turn new after =
+    ((is_noted before id ≡ true) × StaysIn f old before turn new after)
+    ⊎ IsEntered id here.bits f old before turn new after
+
+-- why it is refused
+abbrev pub IsOpenInside : Look → List Frame → AccessError → Type 0
+IsOpenInside (Descend id) stack e = (e ≡ MaximumNestingLevelReached) × (is_open stack id ≡ true)
+IsOpenInside _ stack e = ⊥

@@ -1,10 +1,7 @@
 //! What one member says.
 
-ghost use Rattle.std.specs.Prelude.{◌≡◌, ◌∷◌, ℕ, List, IfOk, false, nat_eq, true};
-ghost use Rattle.std.specs.Cmp.Lexicographic.{pointwise};
-ghost use Rattle.std.specs.Option.{IsSomeAnd};
-ghost use Rattle.string_table.specs.Texts.{text_at};
-ghost use Rattle.core_members.specs.Looks.{IsOther, LeadsInside, is_composite, look_at, look_at_type, look_inside, searched};
+ghost use Rattle.std.specs.Prelude.{◌≡◌};
+ghost use Rattle.core_members.specs.Looks.{is_composite, look_at, look_at_named, look_at_unnamed, searched};
 
 use btf_compatibility::fields_are_compatible;
 use btf_encoding::TypeRef;
@@ -14,15 +11,15 @@ use core_spec::AccessError;
 
 /// What a look at a member of a struct or union gives.
 #[derive(Clone, Copy, Debug)]
-pub enum Look {
+pub(crate) enum Look {
     /// It isn't the one, and the next may be.
-    GoOn,
+    Next,
     /// It has the name, and isn't compatible: the struct or union doesn't hold the one.
-    NotHere,
+    Mismatch,
     /// It is the one.
-    Here,
-    /// It has no name, and is the struct or union of this id.
-    Inside(u32),
+    Match,
+    /// It has no name, and is the struct or union of this id, which is searched.
+    Descend(u32),
 }
 
 fn is_composite(t: &TypeRef<'_>) -> bool
@@ -32,62 +29,31 @@ fn is_composite(t: &TypeRef<'_>) -> bool
 }
 
 /// A member without a name.
-pub fn look_inside(target: &Btf<'_>, member: BtfMember) -> Result<Look, AccessError>
-    ensures value { result ≡ look_inside target.now member }
-    ensures inside { IfOk result (LeadsInside target.now) }
+fn look_at_unnamed(target: &Btf<'_>, member: BtfMember) -> Result<Look, AccessError>
+    ensures { result ≡ look_at_unnamed target.now member }
 {
     let type_id = target.resolve_type(member.btf_type)?;
     let t = target.type_by_id(type_id)?;
     if is_composite(&t) {
-        Ok(Look::Inside(type_id))
+        Ok(Look::Descend(type_id))
     } else {
-        Ok(Look::GoOn)
+        Ok(Look::Next)
     }
 }
 
 /// A member of the wanted name.
-fn look_at_type<'t>(
+fn look_at_named<'t>(
     local: &Btf<'t>,
     type_id: u32,
     target: &Btf<'t>,
     member: BtfMember,
 ) -> Result<Look, AccessError>
-    ensures value { result ≡ look_at_type local.now type_id target.now member }
-    ensures inside { IfOk result (LeadsInside target.now) }
+    ensures { result ≡ look_at_named local.now type_id target.now member }
 {
     if fields_are_compatible(local, type_id, target, member.btf_type)? {
-        Ok(Look::Here)
+        Ok(Look::Match)
     } else {
-        Ok(Look::NotHere)
-    }
-}
-
-/// Whether a text that begins with this byte is neither empty nor this name.
-#[tactic(auto, using(crate::proofs::FirstBytes::first_apart))]
-fn begins_another(first: u8, name: &str) -> bool
-    ensures some { result ≡ true → nat_eq first 0 ≡ false }
-    ensures other { result ≡ true
-        → (rest : List ℕ)
-        → pointwise nat_eq (first ∷ rest) name.now ≡ false }
-{
-    match name.as_bytes() {
-        [wanted, ..] => first != 0 && first != *wanted,
-        [] => first != 0,
-    }
-}
-
-/// Whether the name at an offset is known to be another one, by its first byte.
-#[tactic(auto, using(crate::proofs::FirstBytes::told_apart))]
-fn is_another(target: &Btf<'_>, name: &str, offset: u32) -> bool
-    ensures { result ≡ true → IsSomeAnd (text_at target.now.strings offset) (IsOther name.now) }
-{
-    let strings = target.strings();
-    if !strings.are_texts() {
-        return false;
-    }
-    match strings.as_slice().get(offset as usize) {
-        Some(first) => begins_another(*first, name),
-        None => false,
+        Ok(Look::Mismatch)
     }
 }
 
@@ -95,26 +61,21 @@ fn is_another(target: &Btf<'_>, name: &str, offset: u32) -> bool
 /// of this id.
 ///
 /// `BtfError` where its name or its type can't be looked up, or types can't be compared.
-#[tactic(auto, using(crate::proofs::FirstBytes::look_on))]
-pub fn look_at<'t>(
+pub(crate) fn look_at<'t>(
     local: &Btf<'t>,
     type_id: u32,
     name: &str,
     target: &Btf<'t>,
     member: BtfMember,
 ) -> Result<Look, AccessError>
-    ensures value { result ≡ look_at (searched local.now type_id name.now target.now) member }
-    ensures inside { IfOk result (LeadsInside target.now) }
+    ensures { result ≡ look_at (searched local.now type_id name.now target.now) member }
 {
-    if is_another(target, name, member.name_offset) {
-        return Ok(Look::GoOn);
-    }
     let member_name = target.string_at(member.name_offset)?;
     if member_name.is_empty() {
-        return look_inside(target, member);
+        return look_at_unnamed(target, member);
     }
     if member_name == name {
-        return look_at_type(local, type_id, target, member);
+        return look_at_named(local, type_id, target, member);
     }
-    Ok(Look::GoOn)
+    Ok(Look::Next)
 }

@@ -49,7 +49,7 @@ pub fn find_member<'t>(
 {
     let _root = target.type_by_id(root)?;
     let mut memory = Memory::new(target.allocator());
-    let mut frame = entered(target, root, bits);
+    let mut frame = entered(root, bits);
     loop {
         match next_turn(local, type_id, name, target, frame, &mut memory)? {
             Turn::Found(found) => return Ok(Some(found)),

@@ -5,5 +5,4 @@ pub mod MatchesOf
 pub mod OneTable
 pub mod OutcomeTables
 pub mod OutcomesAlike
-pub mod TableFinders
 pub mod WantedCandidates

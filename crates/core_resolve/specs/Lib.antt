@@ -5,4 +5,3 @@ pub mod Matches
 pub mod OneTable
 pub mod Outcomes
 pub mod RelocationOutcomes
-pub mod TableFinders

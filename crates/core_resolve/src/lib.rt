@@ -3,7 +3,6 @@
 #![tactic(auto)]
 
 mod error;
-mod finders;
 mod known;
 mod laws;
 mod matcher;

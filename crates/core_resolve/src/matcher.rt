@@ -12,7 +12,6 @@ ghost use Rattle.core_resolve.specs.RelocationOutcomes.{IsTableOf, relocation_ou
 ghost use Rattle.core_resolve.specs.declared.error.TypeRelocationError.TheVariants.{OutOfMemory};
 
 use crate::error::TypeRelocationError;
-use crate::finders::TableFinders;
 use crate::known::{AccessKey, KnownOutcome, access_key, is_same};
 use crate::matches::{Match, matches_of, searched_tables};
 use crate::paths::{FoundPath, KnownPaths, ask_for_one, is_part, matches_from, paths_of};
@@ -43,7 +42,6 @@ pub struct TypeMatcher<'m, 'c, 'l> {
     /// The paths that were found for relocations about fields and variants, by type and access
     /// string.
     paths: BTreeMap<(u32, u32), KnownPaths>,
-    finders: TableFinders<'m>,
 }
 
 impl<'m, 'c, 'l> Drop for TypeMatcher<'m, 'c, 'l> {
@@ -57,7 +55,6 @@ impl<'m, 'c, 'l> Drop for TypeMatcher<'m, 'c, 'l> {
             shared: _shared,
             known: _known,
             paths: _paths,
-            finders: _finders,
         } = self;
     }
 }
@@ -77,7 +74,6 @@ impl<'m, 'c, 'l> Model for TypeMatcher<'m, 'c, 'l> {
         (IfSome m.collected (λ c. c ≡ m.targets.now))
         × AreOutcomes m.local.now m.targets.now (values_of m.known.entries)
         × AreKnown m.local.now m.targets.now (values_of m.paths.entries)
-        × (m.finders ≡ m.targets.now)
         × (IfSome m.shared (λ c. c.now ≡ m.targets.now))
         × (IfSome m.wanted (λ w. w ≡ m.local.now)) };
 }
@@ -167,7 +163,6 @@ impl<'m, 'c, 'l> TypeMatcher<'m, 'c, 'l> {
             shared: None,
             known: BTreeMap::new(local.allocator()),
             paths: BTreeMap::new(local.allocator()),
-            finders: TableFinders::new(local.allocator(), targets),
         }
     }
 
@@ -192,7 +187,6 @@ impl<'m, 'c, 'l> TypeMatcher<'m, 'c, 'l> {
             shared: None,
             known: BTreeMap::new(local.allocator()),
             paths: BTreeMap::new(local.allocator()),
-            finders: TableFinders::new(local.allocator(), targets),
         })
     }
 
@@ -215,7 +209,6 @@ impl<'m, 'c, 'l> TypeMatcher<'m, 'c, 'l> {
             shared: Some(candidates),
             known: BTreeMap::new(local.allocator()),
             paths: BTreeMap::new(local.allocator()),
-            finders: TableFinders::new(local.allocator(), targets),
         }
     }
 
@@ -294,25 +287,24 @@ impl<'m, 'c, 'l> TypeMatcher<'m, 'c, 'l> {
     /// The paths in all tables that lead to a part of a local type.
     #[tactic(auto, using(crate::proofs::WantedCandidates::paths_among))]
     fn found_paths(
-        &mut self,
+        &self,
         kind: RelocationKind,
         path: &AccessPath,
     ) -> Result<Vec<FoundPath>, TypeRelocationError>
         requires { is_part (subject_of kind) ≡ true }
         ensures value { IfOk result (λ found.
-            found_paths (subject_of kind) self.old.local path.now self.old.targets
+            found_paths (subject_of kind) self.now.local path.now self.now.targets
             ≡ Ok found.items) }
         ensures refused { IfErr result (λ e.
             e ≢ OutOfMemory
-            → found_paths (subject_of kind) self.old.local path.now self.old.targets ≡ Err e) }
-        ensures same { self.new ≡ self.old }
+            → found_paths (subject_of kind) self.now.local path.now self.now.targets ≡ Err e) }
     {
         let found = self.candidates_of(kind, path.type_id)?;
         paths_of(
             subject_of(kind),
             self.local,
             path,
-            &mut self.finders,
+            self.targets,
             found.as_slice(),
         )
     }

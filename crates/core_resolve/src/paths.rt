@@ -4,12 +4,12 @@ ghost use Rattle.std.specs.Prelude.{◌≡◌, ◌≢◌, [], map, true, IfOk, I
 ghost use Rattle.core_resolve.specs.FoundPaths.{AskForOne, IsAdded, is_part, match_from, path_at, paths_of};
 ghost use Rattle.core_resolve.specs.declared.error.TypeRelocationError.TheVariants.{OutOfMemory};
 
-use crate::error::TypeRelocationError;
-use crate::finders::TableFinders;
+use crate::error::{TypeRelocationError, at_kernel_type};
 use crate::matches::Match;
 use crate::relocation::TypeRelocation;
 use btf_tables::Btf;
 use core_candidates::KernelType;
+use core_match::matching_path;
 use core_spec::{AccessPath, Subject, path_value, subject_of};
 use ebpf_items::RelocationKind;
 use std::alloc::{AllocError, Global};
@@ -52,23 +52,49 @@ pub(crate) fn ask_for_one(one: TypeRelocation, other: TypeRelocation) -> bool
     one.access_str_off == other.access_str_off
 }
 
+/// The path in a candidate, if this has what is asked for.
+fn path_at<'t>(
+    subject: Subject,
+    local: &Btf<'t>,
+    path: &AccessPath,
+    targets: &[Btf<'t>],
+    place: KernelType,
+) -> Result<Option<FoundPath>, TypeRelocationError>
+    ensures value { IfOk result (λ found.
+        path_at subject local.now path.now targets.now place ≡ Ok found) }
+    ensures refused { IfErr result (λ e.
+        e ≢ OutOfMemory → path_at subject local.now path.now targets.now place ≡ Err e) }
+{
+    let Some(target) = targets.get(place.table) else {
+        return Ok(None);
+    };
+    match matching_path(subject, local, path, target, place.type_id) {
+        Ok(Some(path)) => Ok(Some(FoundPath {
+            table: place.table,
+            path,
+        })),
+        Ok(None) => Ok(None),
+        Err(error) => Err(at_kernel_type(place, error)),
+    }
+}
+
 /// Adds the path in a candidate, if this has what is asked for.
 fn add_path<'t>(
     subject: Subject,
     local: &Btf<'t>,
     path: &AccessPath,
-    finders: &mut TableFinders<'t>,
+    targets: &[Btf<'t>],
     place: KernelType,
     paths: &mut Vec<FoundPath>,
 ) -> Result<(), TypeRelocationError>
     ensures added { OnOk result
-        (IsAdded (path_at subject local.now path.now finders.old place) paths.old.items
+        (IsAdded (path_at subject local.now path.now targets.now place) paths.old.items
         paths.new.items) }
     ensures refused { IfErr result (λ e.
-        e ≢ OutOfMemory → path_at subject local.now path.now finders.old place ≡ Err e) }
-    ensures same { finders.new ≡ finders.old }
+        e ≢ OutOfMemory → path_at subject local.now path.now targets.now place ≡ Err e) }
+    ensures same { finders.new ≡ targets.now }
 {
-    match finders.path_at(subject, local, path, place)? {
+    match path_at(subject, local, path, targets, place)? {
         Some(found) => {
             paths.push(found)?;
             Ok(())
@@ -83,19 +109,19 @@ pub(crate) fn paths_of<'t>(
     subject: Subject,
     local: &Btf<'t>,
     path: &AccessPath,
-    finders: &mut TableFinders<'t>,
+    targets: &[Btf<'t>],
     candidates: &[KernelType],
 ) -> Result<Vec<FoundPath>, TypeRelocationError>
     ensures value { IfOk result (λ found.
-        paths_of subject local.now path.now finders.old [] candidates.now ≡ Ok found.items) }
+        paths_of subject local.now path.now targets.now [] candidates.now ≡ Ok found.items) }
     ensures refused { IfErr result (λ e.
         e ≢ OutOfMemory
-        → paths_of subject local.now path.now finders.old [] candidates.now ≡ Err e) }
-    ensures same { finders.new ≡ finders.old }
+        → paths_of subject local.now path.now targets.now [] candidates.now ≡ Err e) }
+    ensures same { finders.new ≡ targets.now }
 {
     let mut paths = Vec::new(local.allocator());
     for candidate in candidates {
-        add_path(subject, local, path, finders, *candidate, &mut paths)?;
+        add_path(subject, local, path, targets, *candidate, &mut paths)?;
     }
     Ok(paths)
 }

@@ -9,8 +9,6 @@
 //! - `library-example OBJECT [KERNEL_TYPES]`: what an object holds, and its plan, by the example of
 //!   the library's use;
 //! - `linkers OBJECT..`: linked programs beside those of the plain linker;
-//! - `matchings COUNT [counts]`: type relocations over random tables of types, beside the plain
-//!   definitions;
 //! - `refused-objects TYPES SYMBOLS OBJECT..`, `refused-structs`, `refused-tables`: steps, one of
 //!   whose requests for memory may be refused;
 //! - `measure-types FILE [STRUCT..]`, `measure-matching FILE STRUCT..`, `measure-symbols FILE
@@ -19,7 +17,6 @@
 
 mod changed_objects;
 mod linked_objects;
-mod matchings;
 mod memory_calls;
 mod object_steps;
 mod relocated_objects;
@@ -67,7 +64,6 @@ fn run(rt: &HostRuntime, exercise: &str, words: &mut Args) -> ExitCode {
         "changed-lines" => status_of(rt, print_changed_lines(rt, words)),
         "library-example" => status_of_example(rt, print_object_and_plan(rt, words)),
         "linkers" => status_of(rt, linked_objects::run(rt, words)),
-        "matchings" => status_of(rt, matchings::run(rt, words)),
         "refused-objects" => status_of(rt, relocated_objects::run(rt, words)),
         "refused-structs" => thousand_structs::run(rt),
         "refused-tables" => rewritten_tables::run(rt),

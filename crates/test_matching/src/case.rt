@@ -1,5 +1,6 @@
 //! Type relocations, and what they come to.
 
+use crate::answer::Answer;
 use crate::tables::{ACCESS, parse, section_of};
 use btf_records::Endianness;
 use btf_tables::Btf;
@@ -7,7 +8,6 @@ use core_resolve::{
     RelocationOutcome, TypeMatcher, TypeRelocation, TypeRelocationError, relocation_outcome,
 };
 use ebpf_items::RelocationKind;
-use plain_matching::Answer;
 use std::alloc::Global;
 use std::process::Abort;
 use test_table_samples::ORDERS;

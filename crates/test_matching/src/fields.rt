@@ -1,5 +1,6 @@
 //! Fields in structs with members that have no name, or another type, and what fields are like.
 
+use crate::answer::{Answer, Fault};
 use crate::case::{Case, check, check_one};
 use crate::tables::{
     A, B, BITS_1, CONST, D, EMPTY, ENUM_1, FLAVOURED_S, FWD, INT, PTR, S, SIGNED_ENUM_1, STRUCT,
@@ -7,7 +8,6 @@ use crate::tables::{
 };
 use crate::worked::{AT_3, AT_64, FOUR, OBJECT};
 use ebpf_items::RelocationKind;
-use plain_matching::{Answer, Fault};
 use std::alloc::Global;
 use std::process::Abort;
 

@@ -1,5 +1,6 @@
 //! Variants of enums, by name.
 
+use crate::answer::{Answer, Fault};
 use crate::case::{Case, check, check_one};
 use crate::tables::{
     A, ACCESS, B, C, ENUM_1, ENUM_2, ENUM64_1, ENUM64_2, FLAVOURED_C, INT, S, TYPEDEF, UNION_1,
@@ -10,7 +11,6 @@ use btf_rewrite::fixup_and_sanitize;
 use btf_tables::Btf;
 use core_resolve::{TypeRelocation, relocation_outcome};
 use ebpf_items::RelocationKind;
-use plain_matching::{Answer, Fault};
 use std::alloc::{AllocError, Global};
 use std::process::Abort;
 use string_map::TextMap;

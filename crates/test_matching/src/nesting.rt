@@ -1,10 +1,10 @@
 //! Paths of many parts, and structs inside themselves.
 
+use crate::answer::{Answer, Fault};
 use crate::case::{check_one, outcome};
 use crate::tables::{A, B, INT, S, STRUCT_1, STRUCT_2, append};
 use crate::worked::OBJECT;
 use ebpf_items::RelocationKind;
-use plain_matching::{Answer, Fault};
 use std::alloc::Global;
 use std::process::Abort;
 use test_table_samples::ORDERS;

@@ -1,5 +1,6 @@
 //! The calls that a type relocation is made of.
 
+use crate::answer::{Answer, Fault};
 use crate::tables::{ACCESS, parse, section_of};
 use crate::worked::{AT_64, OBJECT};
 use btf_records::Endianness;
@@ -9,7 +10,6 @@ use core_members::find_member;
 use core_resolve::{kernel_matches, outcome_of};
 use core_spec::{AccessPath, Step, Subject, local_path, path_value, subject_of};
 use ebpf_items::RelocationKind;
-use plain_matching::{Answer, Fault};
 use std::alloc::Global;
 use std::process::Abort;
 use test_table_samples::ORDERS;

@@ -1,10 +1,10 @@
 //! Which of several faults is answered, and access strings.
 
+use crate::answer::{Answer, Fault};
 use crate::case::{Case, check, check_case, check_one};
 use crate::tables::{A, BITS_1, INT, S, STRUCT, STRUCT_1, UNREADABLE};
 use crate::worked::{AT_64, OBJECT};
 use ebpf_items::RelocationKind;
-use plain_matching::{Answer, Fault};
 use std::alloc::Global;
 use std::process::Abort;
 

@@ -1,10 +1,10 @@
 //! Relocations about whole types.
 
+use crate::answer::{Answer, Fault};
 use crate::case::{Case, check, check_one};
 use crate::tables::{A, ARRAY, B, FUNC, FWD, INT, S, STRUCT, STRUCT_1, TYPEDEF, UNREADABLE};
 use crate::worked::{AT_64, OBJECT};
 use ebpf_items::RelocationKind;
-use plain_matching::{Answer, Fault};
 
 const LOCAL: RelocationKind = RelocationKind::TypeIdLocal;
 

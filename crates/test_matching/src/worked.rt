@@ -1,9 +1,9 @@
 //! A struct `s` with an integer `a` in the object, and in kernels where it lies elsewhere.
 
+use crate::answer::{Answer, Fault};
 use crate::case::{Case, check, check_case, check_one, outcome};
 use crate::tables::{A, ARRAY, B, BITS_1, INT, S, SIGNED_ENUM_1, STRUCT_1, STRUCT_2};
 use ebpf_items::RelocationKind;
-use plain_matching::{Answer, Fault};
 use std::alloc::Global;
 use std::process::Abort;
 use test_table_samples::ORDERS;

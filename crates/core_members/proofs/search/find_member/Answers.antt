@@ -2,7 +2,7 @@ use Rattle.std.proofs.Common.{Err, sym, ap, ◌∙◌}
 use Rattle.core_spec.specs.declared.error.AccessError.TheVariants.{BtfError as TypeError}
 use Rattle.btf_records.specs.declared.error.BtfError.{BtfError}
 use Rattle.core_members.specs.Looks.{searched}
-use Rattle.core_members.proofs.Followed.{begins, ended, refused_by, unknown-root}
+use Rattle.core_members.proofs.Turns.{begins, refused_by, unknown-root}
 use Rattle.core_members.proofs.search.find_member.Goals as goal
 
 pub returns-in_err-_root-clause-refused : goal.returns-in_err-_root-clause-refused
@@ -15,10 +15,5 @@ returns-in_err-_root-clause-refused c =
 pub loop-memory-init : goal.loop-memory-init
 loop-memory-init c =
     let search = searched c.args.local.now c.args.type_id c.args.name.now c.args.target.now in
-    let first = begins search c.args.root c.args.bits _ c.new-memory.result.outer c.new-memory.result.nothing.keys c.entered-frame.result c.new-memory.ensures.outer c.new-memory.ensures.nothing c.entered-frame.ensures.value c.in_ok-_root.ensures in
+    let first = begins search c.args.root c.args.bits _ c.new-memory.result.outer.items c.new-memory.result.nothing.keys c.entered-frame.result c.new-memory.ensures.outer c.new-memory.ensures.nothing c.entered-frame.ensures c.in_ok-_root.ensures in
     record { same = first.same; sound = first.sound }
-
-pub returns-in-Over-clause-value : goal.returns-in-Over-clause-value
-returns-in-Over-clause-value c =
-    let search = searched c.args.local.now c.args.type_id c.args.name.now c.args.target.now in
-    ended search _ _ c.in_ok-found.field-0 _ _ c.in-Over.is c.in_ok-found.ensures.turn c.in_ok-found.ensures.sound c.loop-memory.invariant.same

@@ -17,18 +17,18 @@ pub returns-in_err-paths-clause-refused : goal.returns-in_err-paths-clause-refus
 returns-in_err-paths-clause-refused c =
     paths_refused c.args.relocation.kind c.args.self.now.local c.args.path.now c.args.self.now.targets _ _ c.requires.part c.in_err-paths.ensures.refused c.from_residual-in_err-paths.ensures.1
 
-pub invariant_of-self-2 : goal.invariant_of-self-2
-invariant_of-self-2 c =
+pub invariant_of-self : goal.invariant_of-self
+invariant_of-self c =
     let m = c.args.self.now in
     let r = c.args.relocation in
     let here = paths_here m.local m.targets r c.args.path.now c.in_ok-paths.paths.items c.requires.path c.in_ok-paths.ensures.value in
-    let inside = subst (λ (t : Matched). ArePathsOf t.local t.targets r c.in_ok-paths.paths.items) (sym (c.self-2.view_is ∙ c.in_ok-paths.ensures.same)) here in
-    let known = paths_more _ c.self-2.inside.paths.entries _ (record { relocation = r; paths = c.in_ok-paths.paths }) c.self-2.inside.local.now c.self-2.inside.targets.now c.self-2.invariant.2 inside in
-    (c.self-2.invariant.0, c.self-2.invariant.1, rw c.in_ok-insert.ensures.entries known, c.self-2.invariant.3, c.self-2.invariant.4, c.self-2.invariant.5)
+    let inside = subst (λ (t : Matched). ArePathsOf t.local t.targets r c.in_ok-paths.paths.items) (sym c.self.view_is) here in
+    let known = paths_more _ c.self.inside.paths.entries _ (record { relocation = r; paths = c.in_ok-paths.paths }) c.self.inside.local.now c.self.inside.targets.now c.self.invariant.2 inside in
+    (c.self.invariant.0, c.self.invariant.1, rw c.in_ok-insert.ensures.entries known, c.self.invariant.3, c.self.invariant.4)
 
 pub returns-clause-value : goal.returns-clause-value
 returns-clause-value c =
     let m = c.args.self.now in
     let r = c.args.relocation in
-    let are = c.in_ok-matches-2.ensures ∙ ap (λ (ps : List FoundPath). map (match_from r.kind c.self-2.inside.targets.now) ps) c.as_slice.ensures.value in
-    matches_are r.kind m.local c.args.path.now m.targets c.self-2.inside.targets.now c.in_ok-paths.paths.items _ c.requires.part c.in_ok-paths.ensures.value (ap (λ (t : Matched). t.targets) (c.self-2.view_is ∙ c.in_ok-paths.ensures.same)) are
+    let are = c.in_ok-matches-2.ensures ∙ ap (λ (ps : List FoundPath). map (match_from r.kind c.self.inside.targets.now) ps) c.as_slice.ensures.value in
+    matches_are r.kind m.local c.args.path.now m.targets c.self.inside.targets.now c.in_ok-paths.paths.items _ c.requires.part c.in_ok-paths.ensures.value (ap (λ (t : Matched). t.targets) c.self.view_is) are

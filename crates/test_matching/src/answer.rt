@@ -6,7 +6,7 @@ use core_spec::{AccessError, RelocationValue, WholeField};
 
 /// Why something is refused.
 #[derive(Clone, Copy, Debug, PartialEq, Eq)]
-pub enum Fault {
+pub(crate) enum Fault {
     InvalidAccessString,
     /// The type, the index, and how many there are.
     InvalidAccessIndex(u32, u64, usize),
@@ -34,7 +34,7 @@ impl Fault {
         }
     }
 
-    pub fn of(error: &AccessError) -> Fault {
+    pub(crate) fn of(error: &AccessError) -> Fault {
         match error {
             AccessError::InvalidAccessString => Fault::InvalidAccessString,
             AccessError::InvalidAccessIndex { place, len } => {
@@ -51,7 +51,7 @@ impl Fault {
 
 /// What a type relocation comes to.
 #[derive(Clone, Copy, Debug, PartialEq, Eq)]
-pub enum Answer {
+pub(crate) enum Answer {
     Value(u64),
     /// An offset, and the type and the size of the field that is there.
     Field(u64, u32, u32),
@@ -65,14 +65,14 @@ pub enum Answer {
 }
 
 impl Answer {
-    pub fn of_value(value: RelocationValue) -> Answer {
+    pub(crate) fn of_value(value: RelocationValue) -> Answer {
         match value.field {
             Some(WholeField { type_id, size }) => Answer::Field(value.value, type_id, size),
             None => Answer::Value(value.value),
         }
     }
 
-    pub fn of_outcome(outcome: Outcome) -> Answer {
+    pub(crate) fn of_outcome(outcome: Outcome) -> Answer {
         match outcome {
             Outcome::Value(value) => Answer::of_value(value),
             Outcome::Poison => Answer::Poison,
@@ -80,7 +80,7 @@ impl Answer {
     }
 
     /// What an error is.
-    pub fn refused(error: &TypeRelocationError) -> Answer {
+    pub(crate) fn refused(error: &TypeRelocationError) -> Answer {
         match error {
             TypeRelocationError::Local(error) => Answer::Local(Fault::of(error)),
             TypeRelocationError::UnreadableName { place, offset } => Answer::Kernel(
@@ -97,7 +97,7 @@ impl Answer {
         }
     }
 
-    pub fn of(answer: &Result<RelocationOutcome, TypeRelocationError>) -> Answer {
+    pub(crate) fn of(answer: &Result<RelocationOutcome, TypeRelocationError>) -> Answer {
         match answer {
             Ok(found) => Answer::of_outcome(found.outcome),
             Err(error) => Answer::refused(error),
