@@ -7,8 +7,8 @@ on. A struct stands for its members by its place in `Types.structs`, so that typ
 import collections
 import struct
 
-from describe_objects import ARRAY, CONST, DATASEC, DECL_TAG, ENUM, ENUM64, FLOAT, FUNC, FUNC_PROTO, INT, PTR, STRUCT, TYPE_TAG
-from describe_objects import TYPEDEF, VAR
+from expected_objects import ARRAY, CONST, DATASEC, DECL_TAG, ENUM, ENUM64, FLOAT, FUNC, FUNC_PROTO, INT, PTR, STRUCT, TYPE_TAG
+from expected_objects import TYPEDEF, VAR
 from make_rows import Names
 from type_relocations import EXISTS, KERNEL_ID, LOCAL_ID, RIGHT_SHIFT, TYPE_EXISTS, TYPE_SIZE, VALUE, VALUE_EXISTS
 

@@ -1,13 +1,13 @@
 """What type relocations come to in a kernel's types, and what they write into slots, worked out slowly and plainly.
 
 By the kernel's Documentation/bpf/llvm_reloc.rst ("CO-RE Relocations") and Documentation/bpf/btf.rst, and by docs/OBJECTS.md and
-docs/FORMATS.md. Tables of types are the `Types` of describe_objects. Each relocation is looked up anew, and nothing is remembered.
+docs/FORMATS.md. Tables of types are the `Types` of expected_objects. Each relocation is looked up anew, and nothing is remembered.
 What no compiler writes, as a path past a struct's last member, ends in an error of Python.
 """
 import collections
 import struct
 
-from describe_objects import ARRAY, ENUM, ENUM64, FLOAT, FUNC_PROTO, FWD, INT, PTR, STRUCT, UNION
+from expected_objects import ARRAY, ENUM, ENUM64, FLOAT, FUNC_PROTO, FWD, INT, PTR, STRUCT, UNION
 
 BYTE_OFFSET, BYTE_SIZE, EXISTS, SIGNED, LEFT_SHIFT, RIGHT_SHIFT = range(6)
 LOCAL_ID, KERNEL_ID, TYPE_EXISTS, TYPE_SIZE, VALUE_EXISTS, VALUE = range(6, 12)

@@ -6,9 +6,10 @@
 //!   cut off or changed in one byte, and of an object for kernel types that are;
 //! - `changed-texts PLAN`, `changed-lines PLAN`: the text of a plan that is cut off or changed in one
 //!   byte, and for each byte the lines at which it is refused with each other value of it;
+//! - `read-plans PLAN..`: whether texts are plans' that are written alike, and the lines at which
+//!   others are refused;
 //! - `library-example OBJECT [KERNEL_TYPES]`: what an object holds, and its plan, by the example of
 //!   the library's use;
-//! - `linkers OBJECT..`: linked programs beside those of the plain linker;
 //! - `refused-objects TYPES SYMBOLS OBJECT..`, `refused-structs`, `refused-tables`: steps, one of
 //!   whose requests for memory may be refused;
 //! - `measure-types FILE [STRUCT..]`, `measure-matching FILE STRUCT..`, `measure-symbols FILE
@@ -16,17 +17,18 @@
 #![tactic(auto)]
 
 mod changed_objects;
-mod linked_objects;
 mod memory_calls;
 mod object_steps;
 mod relocated_objects;
 mod rewritten_tables;
 mod thousand_structs;
 
-use changed_plans::{print_changed_lines, print_changed_plans, print_changed_texts};
 use exercise_words::ExerciseError;
 use library_example::{ExampleError, print_object_and_plan};
 use measures::{measure_matching, measure_object, measure_symbols, measure_types};
+use mutated_plans::{
+    print_changed_lines, print_changed_plans, print_changed_texts, print_read_plans,
+};
 use std::env;
 use std::env::Args;
 use std::fmt::Display;
@@ -62,8 +64,8 @@ fn run(rt: &HostRuntime, exercise: &str, words: &mut Args) -> ExitCode {
         "changed-plans" => status_of(rt, print_changed_plans(rt, words)),
         "changed-texts" => status_of(rt, print_changed_texts(rt, words)),
         "changed-lines" => status_of(rt, print_changed_lines(rt, words)),
+        "read-plans" => status_of(rt, print_read_plans(rt, words)),
         "library-example" => status_of_example(rt, print_object_and_plan(rt, words)),
-        "linkers" => status_of(rt, linked_objects::run(rt, words)),
         "refused-objects" => status_of(rt, relocated_objects::run(rt, words)),
         "refused-structs" => thousand_structs::run(rt),
         "refused-tables" => rewritten_tables::run(rt),

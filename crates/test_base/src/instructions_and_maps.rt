@@ -5,12 +5,10 @@ ghost use Rattle.ebpf_items.specs.Maps.{map_view};
 
 use ebpf_items::{
     BtfMap, BtfMapDef, EbpfSectionKind, LegacyMap, Map, ParseError, PinningType, RelocationKind,
-    Section, Slots, bpf_insn, bpf_map_def, bpf_map_info, copy_instructions, parse_map_info,
+    Slots, bpf_insn, bpf_map_def, bpf_map_info, copy_instructions, parse_map_info,
 };
-use elf64::{ElfError, ElfFile};
 use std::alloc::{AllocError, Global};
 use std::process::Abort;
-use test_object_samples::{ONE_PROGRAM, with_bytes};
 
 const CALL: [u8; 8] = [0x85, 0x10, 0, 0, 0xff, 0xff, 0xff, 0xff];
 
@@ -268,56 +266,4 @@ fn says_that_a_symbol_is_missing(rt: HostRuntime) {
     };
     let text = "no function of section 2 at address 0x8";
     assert!(rt; has_text(rt.alloc(), &error, text) == Ok(true));
-}
-
-#[test]
-fn says_that_a_license_is_wrong(rt: HostRuntime) {
-    let bytes = Vec::from_slice(rt.alloc(), b"GPL\0x\0").expect(&rt, "memory");
-    let error = ParseError::InvalidLicense { bytes };
-    let text = "invalid license \"GPL\\x00x\\x00\"";
-    assert!(rt; has_text(rt.alloc(), &error, text) == Ok(true));
-}
-
-// Where the program's section of the sample has its name and its offset.
-const NAME: usize = 312;
-
-const OFFSET: usize = 336;
-
-// What a section comes to: its index, address, size and kind, or what is wrong with which.
-#[derive(Clone, Copy, PartialEq)]
-enum Answer {
-    Section(usize, u64, u64, EbpfSectionKind),
-    Unreadable(usize, ElfError),
-    Other,
-}
-
-// What the program's section comes to.
-fn answer_of(object: &[u8]) -> Answer {
-    let Ok(file) = ElfFile::parse(object) else {
-        return Answer::Other;
-    };
-    let Some(view) = file.sections().nth(1) else {
-        return Answer::Other;
-    };
-    match Section::try_from(&view) {
-        Ok(section) => {
-            Answer::Section(section.index, section.address, section.size, section.kind)
-        }
-        Err(ParseError::SectionError { index, error }) => Answer::Unreadable(index, error),
-        Err(_) => Answer::Other,
-    }
-}
-
-fn check_section(rt: &impl Abort, at: usize, bytes: &[u8], expected: Answer) {
-    assert!(rt; answer_of(&with_bytes(&ONE_PROGRAM, &[(at, bytes)])) == expected);
-}
-
-#[test]
-fn reads_sections(rt: HostRuntime) {
-    let program = Answer::Section(2, 0, 16, EbpfSectionKind::Program);
-    check_section(&rt, OFFSET, &[0x48], program);
-    let no_data = Answer::Unreadable(2, ElfError::SectionData);
-    check_section(&rt, OFFSET, &[0, 0, 0, 1], no_data);
-    let no_name = Answer::Unreadable(2, ElfError::Name);
-    check_section(&rt, NAME, &[0, 0, 0, 1], no_name);
 }

@@ -122,7 +122,7 @@ static SECTIONS: [Case; 9] = [
 /// A case comes to what it says.
 fn check_case(rt: &impl Abort, alloc: Global, slots: &[u8; 16], case: &Case) {
     let (relocations, known, expected) = *case;
-    assert!(rt; answer_of(alloc, slots, relocations, known) == Some(expected));
+    assert!(rt; answer_of(alloc, 0, slots, relocations, known) == Some(expected));
 }
 
 #[test]
@@ -253,4 +253,39 @@ fn other_codes_are_refused(rt: HostRuntime) {
         }
     }
     assert!(rt; count == 254);
+}
+
+const LOAD: [u8; 8] = [0x18, 0x01, 0, 0, 0, 0, 0, 0];
+
+#[test]
+fn missing_extern_is_refused_before_its_place(rt: HostRuntime) {
+    let expected = Relocated {
+        f: None,
+        g: None,
+        refused: Some(("f", Refused::Unresolvable("kernel"))),
+    };
+    let case = ([(8, 1), FAR], [Some(LOST), None], expected);
+    check_case(&rt, rt.alloc(), &both(EXIT, LOAD), &case);
+}
+
+/// The last eight of the offsets of 64 bits begin here.
+const LAST_SLOT: usize = 0xffff_ffff_ffff_fff8;
+
+#[test]
+fn function_that_ends_past_all_offsets_is_relocated(rt: HostRuntime) {
+    let relocations = [(LAST_SLOT as u64, 1), FAR];
+    let slots = both(LOAD, [0; 8]);
+    let found = answer_of(
+        rt.alloc(),
+        LAST_SLOT,
+        &slots,
+        relocations,
+        [Some(BY_ID), None],
+    );
+    let expected = Relocated {
+        f: Some([[0x18, 0x31, 0, 0, 4, 3, 2, 1], [0; 8]]),
+        g: None,
+        refused: None,
+    };
+    assert!(rt; found == Some(expected));
 }

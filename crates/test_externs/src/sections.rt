@@ -135,19 +135,20 @@ fn externs(alloc: Global, known: [Option<Known>; 2]) -> Option<Externs<'static>>
     Some(externs)
 }
 
-/// A function at the beginning of a section with these slots.
+/// A function at an offset of a section with these slots.
 fn function<'a>(
     alloc: Global,
     name: &'a str,
     section_index: usize,
+    section_offset: usize,
     slots: &'a [u8],
 ) -> Option<Function<'a>> {
     let instructions = Slots::borrowed(alloc, slots)?;
     Some(Function {
-        address: 0,
+        address: section_offset as u64,
         name,
         section_index,
-        section_offset: 0,
+        section_offset,
         instructions,
         func_info: FuncSecInfo::from_records(Vec::new(alloc)),
         line_info: LineSecInfo::from_records(Vec::new(alloc)),
@@ -161,46 +162,48 @@ fn insert<'a>(functions: &mut Functions<'a>, function: Option<Function<'a>>) -> 
     functions.insert(function?).ok()
 }
 
-/// The functions `f` of `kprobe` and `g` of `xdp`, each with these slots.
-fn functions_of<'a>(alloc: Global, slots: &'a [u8]) -> Option<Functions<'a>> {
+/// The functions `f` of `kprobe` and `g` of `xdp`, each with these slots, `f` at an offset.
+fn functions_of<'a>(alloc: Global, begin: usize, slots: &'a [u8]) -> Option<Functions<'a>> {
     let mut functions = Functions::new(alloc);
-    insert(&mut functions, function(alloc, "f", 2, slots))?;
-    insert(&mut functions, function(alloc, "g", 3, slots))?;
+    insert(&mut functions, function(alloc, "f", 2, begin, slots))?;
+    insert(&mut functions, function(alloc, "g", 3, 0, slots))?;
     Some(functions)
 }
 
 /// The slots of a function that has a list of its own.
-fn written(functions: &Functions<'_>, section_index: usize) -> Option<Written> {
-    let slots = &functions.get((section_index, 0))?.instructions;
+fn written(functions: &Functions<'_>, section_index: usize, begin: usize) -> Option<Written> {
+    let slots = &functions.get((section_index, begin as u64))?.instructions;
     if slots.is_borrowed() {
         return None;
     }
     Some([slots.get(0)?.to_bytes(), slots.get(1)?.to_bytes()])
 }
 
-/// What becomes of two functions of these slots in a file.
+/// What becomes of two functions of these slots in a file, `f` at an offset.
 fn relocated_in(
     alloc: Global,
     file: &ObjectFile<'_>,
+    begin: usize,
     slots: &[u8; 16],
     externs: &Externs<'_>,
 ) -> Option<Relocated> {
-    let mut functions = functions_of(alloc, slots)?;
+    let mut functions = functions_of(alloc, begin, slots)?;
     let refused = match relocate_externs(alloc, file, &mut functions, externs) {
         Ok(()) => None,
         Err(error) => Some(refusal_of(&error)),
     };
     Some(Relocated {
-        f: written(&functions, 2),
-        g: written(&functions, 3),
+        f: written(&functions, 2, begin),
+        g: written(&functions, 3, 0),
         refused,
     })
 }
 
-/// What becomes of two functions of these slots by a relocation of each section, that of `kprobe`
-/// first.
+/// What becomes of two functions of these slots, `f` at an offset, by a relocation of each section,
+/// that of `kprobe` first.
 pub(crate) fn answer_of(
     alloc: Global,
+    begin: usize,
     slots: &[u8; 16],
     relocations: [Relocation; 2],
     known: [Option<Known>; 2],
@@ -216,7 +219,7 @@ pub(crate) fn answer_of(
     );
     let externs = externs(alloc, known)?;
     match ObjectFile::parse(alloc, &object) {
-        Ok(file) => relocated_in(alloc, &file, slots, &externs),
+        Ok(file) => relocated_in(alloc, &file, begin, slots, &externs),
         Err(_) => None,
     }
 }

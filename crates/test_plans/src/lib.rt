@@ -1,11 +1,7 @@
-//! Tests of load plans: what is planned of an object, and what the plan's text says.
+//! Tests of load plans: when a kernel is asked, and what is read of a plan's text.
 #![tactic(auto)]
 
 #[cfg(test)]
-mod cut_and_changed;
-#[cfg(test)]
-mod map_of_variables;
-#[cfg(test)]
-mod plans_of_objects;
+mod newer_helpers;
 #[cfg(test)]
 mod texts;

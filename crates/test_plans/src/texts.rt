@@ -4,7 +4,6 @@ use plan_text::{BtfFeature, PinningType, Plan, PlanMap, PlanReadError, Watched};
 use std::alloc::Global;
 use std::io;
 use std::io::{ErrorKind, Write};
-use std::process::Abort;
 use std::test::Fail;
 
 /// The types of two functions.
@@ -42,23 +41,6 @@ const FUNCTIONS_PLAN: &[u8] = b"bpf-plan 2\n\
       func 2 5\n\
       end\n";
 
-const LINES_PLAN: &[u8] = b"bpf-plan 2\n\
-      license 47504c\n\
-      version any\n\
-      feature Func yes\n\
-      feature FuncGlobal yes\n\
-      types 9feb01001800000000000000400000004000000018000000010000000000000104000000200000000000\
-      00000000000d00000000050000000100000c02000000000000000000000d00000000070000000000000c040000\
-      0000696e74006600616464006b70726f6265002e7465787400\n\
-      program 66 1 0 0\n\
-      slots 85100000010000009500000000000000b7000000070000009500000000000000\n\
-      tables -\n\
-      line 0 1 2 3\n\
-      line 1 4 5 6\n\
-      line 2 1 2 3\n\
-      line 3 4 5 6\n\
-      end\n";
-
 const INNER_PLAN: &[u8] = b"bpf-plan 2\n\
       license -\n\
       version 330240\n\
@@ -81,12 +63,6 @@ const FEATURES_PLAN: &[u8] = b"bpf-plan 2\n\
       types none\n\
       end\n";
 
-const EMPTY_PLAN: &[u8] = b"bpf-plan 2\n\
-      license 47504c\n\
-      version any\n\
-      types none\n\
-      end\n";
-
 /// The text of a plan in the first version, and the same in the second.
 const FIRST_VERSION: &[u8] = b"bpf-plan 1\n\
       license 47504c\n\
@@ -104,68 +80,6 @@ const FROM_FIRST_VERSION: &[u8] = b"bpf-plan 2\n\
       slots b7000000000000009500000000000000\n\
       tables ?\n\
       end\n";
-
-/// Bytes that are no plan's text, with the first line with which none begins.
-static NO_PLANS: [(&[u8], usize); 22] = [
-    (b"bpf-plan 3\n", 1),
-    (b"bpf-plan 2\nlicense 47504C\nversion any\n", 2),
-    (b"bpf-plan 2\nlicense 00\n", 2),
-    (b"bpf-plan 2\nlicense  47504c\n", 2),
-    (b"bpf-plan 2\nlicense -\nversion 007\n", 3),
-    (b"bpf-plan 2\nlicense -\nversion +1\n", 3),
-    (b"bpf-plan 2\nlicense -\nversion any\r\n", 3),
-    (b"bpf-plan 2\nlicense -\nversion 4294967294\n", 3),
-    (b"bpf-plan 2\nlicense -\nversion 4294967296\n", 3),
-    (
-        b"bpf-plan 2\nlicense -\nversion any\nfeature Func yes\nfeature Func yes\n",
-        5,
-    ),
-    (b"bpf-plan 2\nlicense -\nversion any\ntypes -\n", 4),
-    (
-        b"bpf-plan 2\nlicense -\nversion any\ntypes none\nend\n\n",
-        6,
-    ),
-    (
-        b"bpf-plan 2\nlicense -\nversion any\ntypes none\nmap 61 2147483648 legacy 1 4 8 16 0 0 0 0 0 0 -\n",
-        5,
-    ),
-    (
-        b"bpf-plan 2\nlicense -\nversion any\ntypes none\nmap 61 7 legacy 1 4 8 16 0 1 0 0 0 0 -\n",
-        5,
-    ),
-    (
-        b"bpf-plan 2\nlicense -\nversion any\ntypes none\nprogram 66 30 0 0\n",
-        5,
-    ),
-    (
-        b"bpf-plan 2\nlicense -\nversion any\ntypes none\nprogram 66 1 0 0\nslots 95\n",
-        6,
-    ),
-    (
-        b"bpf-plan 2\nlicense -\nversion any\ntypes none\nprogram 66 1 0 0\nslots -\ntables 1 0\nend\n",
-        7,
-    ),
-    (
-        b"bpf-plan 2\nlicense -\nversion any\ntypes none\nprogram 66 1 0 0\nslots -\ntables 01\nend\n",
-        7,
-    ),
-    (
-        b"bpf-plan 2\nlicense -\nversion any\ntypes none\nprogram 66 1 0 0\nslots -\ntables 4294967296\nend\n",
-        7,
-    ),
-    (
-        b"bpf-plan 2\nlicense -\nversion any\ntypes none\nprogram 66 1 0 0\nslots -\nend\n",
-        7,
-    ),
-    (
-        b"bpf-plan 1\nlicense -\nversion any\ntypes none\nprogram 66 1 0 0\nslots -\ntables -\nend\n",
-        7,
-    ),
-    (
-        b"bpf-plan 2\nlicense -\nversion any\ntypes none\nprogram 62 1 0 0\nslots -\ntables -\nprogram 61 1 0 0\nslots -\ntables -\nend\n",
-        8,
-    ),
-];
 
 /// Takes a number of bytes, one at a time, and then fails or takes nothing.
 #[derive(Drop)]
@@ -209,21 +123,8 @@ fn is_written_as(alloc: Global, text: &[u8], other: &[u8]) -> bool {
     }
 }
 
-/// Texts that are written as they are read.
-static TEXTS: [&[u8]; 6] = [
-    MAPS_PLAN,
-    FUNCTIONS_PLAN,
-    LINES_PLAN,
-    INNER_PLAN,
-    FEATURES_PLAN,
-    EMPTY_PLAN,
-];
-
 #[test]
-fn texts_are_written_again(rt: HostRuntime) {
-    for text in &TEXTS {
-        assert!(rt; is_written_as(rt.alloc(), text, text));
-    }
+fn first_version_is_written_as_the_second(rt: HostRuntime) {
     assert!(rt; is_written_as(rt.alloc(), FIRST_VERSION, FROM_FIRST_VERSION));
 }
 
@@ -246,26 +147,11 @@ fn last_line(text: &[u8]) -> usize {
     line
 }
 
-/// Checks that of each front of a text the last line is refused.
-fn check_fronts(rt: &impl Abort, alloc: Global, text: &[u8]) {
-    for end in 0..text.len() {
-        let front = &text[..end];
-        assert!(rt; refused_line(alloc, front) == Some(last_line(front)));
-    }
-}
-
 #[test]
-fn fronts_are_refused(rt: HostRuntime) {
-    check_fronts(&rt, rt.alloc(), MAPS_PLAN);
-    check_fronts(&rt, rt.alloc(), LINES_PLAN);
-    check_fronts(&rt, rt.alloc(), INNER_PLAN);
-    check_fronts(&rt, rt.alloc(), FIRST_VERSION);
-}
-
-#[test]
-fn first_bad_line_is_named(rt: HostRuntime) {
-    for (text, line) in &NO_PLANS {
-        assert!(rt; refused_line(rt.alloc(), text) == Some(*line));
+fn fronts_of_the_first_version_are_refused(rt: HostRuntime) {
+    for end in 0..FIRST_VERSION.len() {
+        let front = &FIRST_VERSION[..end];
+        assert!(rt; refused_line(rt.alloc(), front) == Some(last_line(front)));
     }
 }
 

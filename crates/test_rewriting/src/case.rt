@@ -1,12 +1,8 @@
 //! Tables, and what they become.
 
-use btf::{
-    Answers, Btf, BtfError, BtfFeature, Endianness, KsymsIds, TextMap, TextMapBuilder,
-    fixup_and_sanitize,
-};
+use btf::{Answers, Btf, BtfError, BtfFeature, Endianness, KsymsIds, TextMap, fixup_and_sanitize};
 use std::alloc::Global;
 use std::process::Abort;
-use test_table_samples::{ORDERS, section};
 
 pub(crate) const ALL: [BtfFeature; 8] = [
     BtfFeature::Func,
@@ -18,39 +14,6 @@ pub(crate) const ALL: [BtfFeature; 8] = [
     BtfFeature::TypeTag,
     BtfFeature::Enum64,
 ];
-
-/// The sizes of an object's sections.
-pub(crate) static SIZES: [(&str, u64); 3] = [(".bss", 6), ("a/b", 16), (".long", 0x1_0000_0000)];
-
-/// The offsets of its symbols.
-pub(crate) static OFFSETS: [(&str, u64); 2] = [("v", 24), ("far", 0x1_0000_0000)];
-
-/// The words of a table's records, its strings, the ids of its section `.ksyms`, and what a kernel
-/// grants; the questions that are asked with their answers, the words of the records then, and the
-/// strings that are added.
-pub(crate) struct Case {
-    pub(crate) title: &'static str,
-    pub(crate) types: &'static [u32],
-    pub(crate) strings: &'static [u8],
-    pub(crate) ksyms: Option<KsymsIds>,
-    pub(crate) granted: &'static [BtfFeature],
-    pub(crate) answers: &'static [(BtfFeature, bool)],
-    pub(crate) rewritten: &'static [u32],
-    pub(crate) added: &'static [u8],
-}
-
-fn numbers_of(
-    rt: &impl Abort,
-    alloc: Global,
-    numbers: &[(&'static str, u64)],
-) -> TextMap<'static, u64> {
-    let mut entered = TextMapBuilder::new(alloc);
-    for (name, number) in numbers {
-        let inserted = entered.insert(*name, *number);
-        assert!(rt; inserted.is_ok());
-    }
-    entered.build(alloc).expect(rt, "a map")
-}
 
 /// What a kernel grants, and how often it was asked.
 #[derive(Drop)]
@@ -66,18 +29,17 @@ impl Kernel {
     }
 }
 
-/// The call itself, over maps of its caller.
+/// The call itself, over what its caller knows of sections and symbols.
 fn rewrite<'m, 'n>(
     table: &mut Btf<'_>,
-    sizes: &'m TextMap<'n, u64>,
-    offsets: &'m TextMap<'n, u64>,
+    numbers: &'m TextMap<'n, u64>,
     ksyms: Option<KsymsIds>,
     kernel: &mut Kernel,
 ) -> Result<Answers, BtfError> {
     fixup_and_sanitize(
         table,
-        sizes,
-        offsets,
+        numbers,
+        numbers,
         ksyms,
         |feature| kernel.grants(feature),
     )
@@ -91,20 +53,18 @@ fn is_counted(outcome: &Result<Answers, BtfError>, calls: usize) -> bool {
     }
 }
 
-/// Rewrites a table for a kernel that grants these features, for an object of these sections. Each
-/// answer was asked for once.
+/// Rewrites a table for a kernel that grants these features, for an object without sections and
+/// symbols. Each answer was asked for once.
 pub(crate) fn sanitize(
     rt: &impl Abort,
     alloc: Global,
     table: &mut Btf<'_>,
-    sizes: &[(&'static str, u64)],
     ksyms: Option<KsymsIds>,
     granted: &'static [BtfFeature],
 ) -> Result<Answers, BtfError> {
-    let sizes = numbers_of(rt, alloc, sizes);
-    let offsets = numbers_of(rt, alloc, &OFFSETS);
+    let numbers = TextMap::new(alloc);
     let mut kernel = Kernel { granted, calls: 0 };
-    let outcome = rewrite(table, &sizes, &offsets, ksyms, &mut kernel);
+    let outcome = rewrite(table, &numbers, ksyms, &mut kernel);
     assert!(rt; is_counted(&outcome, kernel.calls));
     outcome
 }
@@ -140,38 +100,4 @@ fn is_written_as(table: &Btf<'_>, section: &[u8]) -> bool {
 /// Whether a table that isn't needed any more is written as a section.
 pub(crate) fn is_written(table: Btf<'_>, section: &[u8]) -> bool {
     is_written_as(&table, section)
-}
-
-/// Whether the table of a section becomes that of another, as its case says.
-fn becomes(
-    rt: &impl Abort,
-    alloc: Global,
-    order: Endianness,
-    case: &Case,
-    [before, after]: [&[u8]; 2],
-) -> bool {
-    let mut table = parse(rt, alloc, before, order);
-    let outcome = sanitize(rt, alloc, &mut table, &SIZES, case.ksyms, case.granted);
-    let is_asked = are_answers(outcome, case.answers);
-    is_written(table, after) && is_asked
-}
-
-fn is_rewritten(rt: &impl Abort, alloc: Global, order: Endianness, case: &Case) -> bool {
-    let before = section(alloc, order, case.types, case.strings, &[]).expect(rt, "a section");
-    let after = section(alloc, order, case.rewritten, case.strings, case.added);
-    let after = after.expect(rt, "a section");
-    becomes(
-        rt,
-        alloc,
-        order,
-        case,
-        [before.as_slice(), after.as_slice()],
-    )
-}
-
-/// Rewrites the table of a case in both byte orders.
-pub(crate) fn check(rt: &impl Abort, alloc: Global, case: &Case) {
-    for order in ORDERS {
-        assert!(rt; is_rewritten(rt, alloc, order, case), "{}", case.title);
-    }
 }

@@ -1,11 +1,10 @@
 //! The section `.ksyms`.
 
-use crate::case::{ALL, Case, check, is_written, parse};
+use crate::case::{is_written, parse};
 use crate::sections::{
-    DATASEC, DATASEC_1, DATASEC_2, ENUM, EXTERN, FUNC, GLOBAL, INT, PROTO, PROTO_1, SIGNED_INT,
-    STRUCT_2, TYPEDEF, VAR,
+    DATASEC, DATASEC_1, DATASEC_2, EXTERN, FUNC, GLOBAL, INT, PROTO, SIGNED_INT, VAR,
 };
-use btf::{BtfFeature, Endianness, fixup_ksyms_datasec};
+use btf::{Endianness, fixup_ksyms_datasec};
 use std::alloc::Global;
 use std::process::Abort;
 use test_table_samples::{ORDERS, section};
@@ -111,57 +110,5 @@ fn check_step(rt: &impl Abort, alloc: Global, step: &Step) {
 fn externs_get_their_places(rt: HostRuntime) {
     for step in &STEPS {
         check_step(&rt, rt.alloc(), step);
-    }
-}
-
-static CASES: [Case; 3] = [
-    Case {
-        title: "externs where nothing is granted",
-        types: &EXTERNS,
-        strings: &STRINGS,
-        ksyms: Some((8, Some(7))),
-        granted: &[],
-        answers: &[(BtfFeature::Func, false), (BtfFeature::DataSec, false)],
-        rewritten: &[
-            0, INT, 8, 0x40, 0, INT, 4, 0x20, 0, INT, 4, 0x20, 0, ENUM, 4, 1, TYPEDEF, 4, 3, INT,
-            1, 8, 12, INT, 1, 8, 14, STRUCT_2, 2, 12, 7, 0, 3, 6, 32,
-        ],
-        added: b"_ksyms\0",
-    },
-    Case {
-        title: "externs where all is granted",
-        types: &EXTERNS,
-        strings: &STRINGS,
-        ksyms: Some((8, Some(7))),
-        granted: &ALL,
-        answers: &[
-            (BtfFeature::Func, true),
-            (BtfFeature::FuncGlobal, true),
-            (BtfFeature::DataSec, true),
-        ],
-        rewritten: &[
-            0, INT, 8, 0x40, 0, INT, 4, 0x20, 0, INT, 4, 0x20, 0, PROTO, 0, 1, GLOBAL, 4, 3, VAR,
-            2, 1, 12, VAR, 2, 1, 5, DATASEC_2, 8, 7, 0, 4, 6, 4, 4,
-        ],
-        added: b"",
-    },
-    Case {
-        title: "the integer stands before what else is added",
-        types: &[3, VAR, 0, 2, 5, DATASEC_1, 0, 1, 0, 0, 1, PROTO_1, 0, 0, 1],
-        strings: &STRINGS,
-        ksyms: Some((2, None)),
-        granted: &[BtfFeature::Func, BtfFeature::DataSec],
-        answers: &[(BtfFeature::DataSec, true), (BtfFeature::Func, true)],
-        rewritten: &[
-            3, VAR, 4, 1, 5, DATASEC_1, 4, 1, 0, 4, 1, PROTO_1, 0, 18, 1, 14, INT, 4, SIGNED_INT,
-        ],
-        added: b"int\0param0\0",
-    },
-];
-
-#[test]
-fn externs_are_rewritten_before_the_rest(rt: HostRuntime) {
-    for case in &CASES {
-        check(&rt, rt.alloc(), case);
     }
 }

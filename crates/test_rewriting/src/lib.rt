@@ -7,16 +7,10 @@ mod case;
 #[cfg(test)]
 mod externs;
 #[cfg(test)]
-mod functions;
-#[cfg(test)]
 mod kinds;
 #[cfg(test)]
 mod refusals;
 #[cfg(test)]
 mod sections;
-#[cfg(test)]
-mod variables;
-#[cfg(test)]
-mod worked;
 
 pub use carried::{SizeAfter, size_after};

@@ -3,37 +3,7 @@
 
 pub(crate) const INT: u32 = 0x0100_0000;
 
-pub(crate) const PTR: u32 = 0x0200_0000;
-
-pub(crate) const ARRAY: u32 = 0x0300_0000;
-
-pub(crate) const STRUCT: u32 = 0x0400_0000;
-
-pub(crate) const STRUCT_1: u32 = 0x0400_0001;
-
-pub(crate) const STRUCT_2: u32 = 0x0400_0002;
-
-pub(crate) const UNION: u32 = 0x0500_0000;
-
-pub(crate) const UNION_1: u32 = 0x0500_0001;
-
-pub(crate) const UNION_2: u32 = 0x0500_0002;
-
 pub(crate) const ENUM: u32 = 0x0600_0000;
-
-pub(crate) const ENUM_1: u32 = 0x0600_0001;
-
-pub(crate) const ENUM_3: u32 = 0x0600_0003;
-
-pub(crate) const FWD: u32 = 0x0700_0000;
-
-pub(crate) const TYPEDEF: u32 = 0x0800_0000;
-
-pub(crate) const VOLATILE: u32 = 0x0900_0000;
-
-pub(crate) const CONST: u32 = 0x0a00_0000;
-
-pub(crate) const RESTRICT: u32 = 0x0b00_0000;
 
 /// Of functions: static, global, extern, and of no linkage that is known.
 pub(crate) const FUNC: u32 = 0x0c00_0000;
@@ -42,18 +12,8 @@ pub(crate) const GLOBAL: u32 = 0x0c00_0001;
 
 pub(crate) const EXTERN: u32 = 0x0c00_0002;
 
-pub(crate) const OTHER_FUNC: u32 = 0x0c00_0101;
-
 /// Of signatures.
 pub(crate) const PROTO: u32 = 0x0d00_0000;
-
-pub(crate) const PROTO_1: u32 = 0x0d00_0001;
-
-pub(crate) const PROTO_3: u32 = 0x0d00_0003;
-
-pub(crate) const PROTO_4: u32 = 0x0d00_0004;
-
-pub(crate) const PROTO_11: u32 = 0x0d00_000b;
 
 pub(crate) const VAR: u32 = 0x0e00_0000;
 
@@ -62,8 +22,6 @@ pub(crate) const DATASEC: u32 = 0x0f00_0000;
 pub(crate) const DATASEC_1: u32 = 0x0f00_0001;
 
 pub(crate) const DATASEC_2: u32 = 0x0f00_0002;
-
-pub(crate) const DATASEC_3: u32 = 0x0f00_0003;
 
 pub(crate) const FLOAT: u32 = 0x1000_0000;
 
@@ -77,8 +35,6 @@ pub(crate) const ENUM64_1: u32 = 0x1300_0001;
 
 /// Of signed enums, the last of 64 bits.
 pub(crate) const SIGNED: u32 = 0x8600_0000;
-
-pub(crate) const SIGNED_1: u32 = 0x8600_0001;
 
 pub(crate) const SIGNED64_2: u32 = 0x9300_0002;
 

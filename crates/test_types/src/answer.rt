@@ -9,18 +9,12 @@ pub(crate) enum Answer {
     No,
     Id(u32),
     Size(u64),
-    InvalidHeader,
     InvalidTypeInfo,
-    InvalidTypeKind(u32),
     InvalidStringOffset(usize),
     UnknownBtfType(u32),
     UnexpectedBtfType(u32),
     UnknownBtfTypeName,
     MaximumTypeDepthReached(u32),
-    InvalidInfo(usize, usize, usize),
-    InvalidLineInfo(usize, usize, usize),
-    InvalidRelocationInfo,
-    InvalidRelocationKind(u32),
     OutOfMemory,
     Other,
 }
@@ -28,9 +22,7 @@ pub(crate) enum Answer {
 impl Answer {
     pub(crate) fn refused(error: &BtfError) -> Answer {
         match error {
-            BtfError::InvalidHeader => Answer::InvalidHeader,
             BtfError::InvalidTypeInfo => Answer::InvalidTypeInfo,
-            BtfError::InvalidTypeKind { kind } => Answer::InvalidTypeKind(*kind),
             BtfError::InvalidStringOffset { offset } => Answer::InvalidStringOffset(*offset),
             BtfError::UnknownBtfType { type_id } => Answer::UnknownBtfType(*type_id),
             BtfError::UnexpectedBtfType { type_id } => Answer::UnexpectedBtfType(*type_id),
@@ -38,18 +30,6 @@ impl Answer {
             BtfError::MaximumTypeDepthReached { type_id } => {
                 Answer::MaximumTypeDepthReached(*type_id)
             }
-            BtfError::InvalidInfo {
-                offset,
-                len,
-                section_len,
-            } => Answer::InvalidInfo(*offset, *len, *section_len),
-            BtfError::InvalidLineInfo {
-                offset,
-                len,
-                section_len,
-            } => Answer::InvalidLineInfo(*offset, *len, *section_len),
-            BtfError::InvalidRelocationInfo => Answer::InvalidRelocationInfo,
-            BtfError::InvalidRelocationKind { kind } => Answer::InvalidRelocationKind(*kind),
             BtfError::OutOfMemory => Answer::OutOfMemory,
             _ => Answer::Other,
         }

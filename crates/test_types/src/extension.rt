@@ -1,10 +1,7 @@
 //! Sections by hand, from the kernel's BTF documentation, in both byte orders.
 
-use crate::answer::Answer;
 use crate::sections::parse;
-use btf::{
-    BtfError, BtfExt, Endianness, FuncSecInfo, LineSecInfo, SecInfo, bpf_func_info, bpf_line_info,
-};
+use btf::{BtfExt, Endianness, FuncSecInfo, LineSecInfo, SecInfo, bpf_func_info, bpf_line_info};
 use btf_records::push_half_word;
 use std::alloc::{AllocError, Global};
 use std::process::Abort;
@@ -188,20 +185,12 @@ fn section(alloc: Global, order: Endianness, words: &[u32]) -> Result<Vec<u8>, A
     Ok(out)
 }
 
-/// What becomes of a section beside the table.
-fn parsed<'a>(
-    rt: &impl Abort,
-    alloc: Global,
-    order: Endianness,
-    bytes: &'a [u8],
-) -> Result<BtfExt<'a>, BtfError> {
-    let table = parse(rt, alloc, &TABLE, Endianness::Little);
-    BtfExt::parse(alloc, bytes, order, &table)
-}
-
 /// A section that is read.
 fn extension<'a>(rt: &impl Abort, alloc: Global, order: Endianness, bytes: &'a [u8]) -> BtfExt<'a> {
-    parsed(rt, alloc, order, bytes).expect(rt, "a section")
+    let table = parse(rt, alloc, &TABLE, Endianness::Little);
+    BtfExt::parse(alloc, bytes, order, &table)
+        .ok()
+        .expect(rt, "a section")
 }
 
 fn check_row(rt: &impl Abort, alloc: Global, order: Endianness, row: &Row) {
@@ -217,114 +206,6 @@ fn sections_are_read(rt: HostRuntime) {
         for row in &ROWS {
             check_row(&rt, rt.alloc(), order, row);
         }
-    }
-}
-
-const INFO: Answer = Answer::InvalidInfo(32, 20, 52);
-
-const LONG_INFO: Answer = Answer::InvalidInfo(32, 21, 52);
-
-const LINES: Answer = Answer::InvalidLineInfo(32, 20, 52);
-
-const RELOCATIONS: Answer = Answer::InvalidRelocationInfo;
-
-const TEXT: Answer = Answer::InvalidStringOffset(17);
-
-/// The words of sections that are refused, and by what; of several faults by the first.
-static REFUSED: [(&[u32], Answer); 20] = [
-    (&[7], Answer::InvalidHeader),
-    (&[9], Answer::InvalidHeader),
-    (&[32, 0, 21, 20, 0, 20, 0, 8, 0, 1, 16, 42], LONG_INFO),
-    (
-        &[32, 0, 20, 20, 0, 21, 0, 8, 0, 1, 16, 42],
-        Answer::InvalidInfo(53, 0, 52),
-    ),
-    (
-        &[32, 0, 20, 0, 3, 20, 0, 8, 0, 1, 16, 42],
-        Answer::InvalidInfo(32, 3, 52),
-    ),
-    (&[32, 0, 20, 20, 0, 20, 0, 7, 0, 1, 16, 42], INFO),
-    (&[32, 0, 0, 0, 20, 0, 0, 15, 0, 1, 16, 42], LINES),
-    (&[32, 0, 0, 0, 0, 0, 20, 15, 0, 1, 16, 42], RELOCATIONS),
-    (&[32, 0, 20, 20, 0, 20, 0, 8, 0, 2, 16, 42], INFO),
-    (&[32, 0, 0, 0, 20, 0, 0, 16, 0, 1, 16, 42], LINES),
-    (&[32, 0, 0, 0, 0, 0, 20, 16, 0, 1, 16, 42], RELOCATIONS),
-    (
-        &[32, 0, 20, 20, 0, 20, 0, 0xffff_ffff, 0, 0xffff_ffff, 16, 42],
-        INFO,
-    ),
-    (&[32, 0, 20, 20, 0, 20, 0, 8, 17, 1, 16, 42], TEXT),
-    (
-        &[32, 0, 0, 0, 28, 0, 0, 16, 19, 1, 0, 0, 0, 0],
-        Answer::InvalidStringOffset(19),
-    ),
-    (
-        &[32, 0, 0, 0, 0, 0, 28, 16, 0, 1, 0, 0, 0, 12],
-        Answer::InvalidRelocationKind(12),
-    ),
-    (
-        &[32, 0, 0, 0, 0, 0, 44, 16, 0, 2, 0, 0, 0, 1, 0, 0, 0, 99],
-        Answer::InvalidRelocationKind(99),
-    ),
-    // Ends of regions before sizes, sizes before groups, functions before lines.
-    (&[32, 0, 20, 20, 0, 0, 21, 7, 0, 1, 16, 42], LONG_INFO),
-    (&[32, 0, 20, 20, 0, 20, 0, 8, 17, 2, 16, 42], INFO),
-    (
-        &[32, 0, 20, 20, 20, 40, 0, 8, 17, 1, 16, 42, 15, 0, 1, 16, 42],
-        TEXT,
-    ),
-    (
-        &[32, 0, 36, 0, 0, 0, 0, 8, 17, 1, 16, 42, 0, 9, 16, 42],
-        TEXT,
-    ),
-];
-
-/// Sections whose headers end inside a word, or before it, low byte first, and their functions'
-/// size.
-static BYTES: [(&[u8], Answer); 4] = [
-    (&[0x9f, 0xeb, 1, 0, 8, 0, 0], Answer::InvalidHeader),
-    (
-        &[0x9f, 0xeb, 1, 0, 10, 0, 0, 0, 0, 0, 20, 0, 0, 0, 9, 0, 0, 0],
-        Answer::Size(0),
-    ),
-    (
-        &[
-            0x9f, 0xeb, 1, 0, 13, 0, 0, 0, 0, 0, 0, 0, 20, 8, 0, 0, 0, 0, 0, 0, 0, 1, 0, 0, 0, 16,
-            0, 0, 0, 42, 0, 0, 0,
-        ],
-        Answer::Size(8),
-    ),
-    (
-        &[
-            0x9f, 0xeb, 1, 0, 14, 0, 0, 0, 0, 0, 0, 0, 20, 1, 8, 0, 0, 0, 0, 0, 0, 0, 1, 0, 0, 0,
-            16, 0, 0, 0, 42, 0, 0, 0,
-        ],
-        Answer::InvalidInfo(14, 276, 34),
-    ),
-];
-
-/// The size of a section's records of functions, or why the section is refused.
-fn func_size(rt: &impl Abort, alloc: Global, order: Endianness, bytes: &[u8]) -> Answer {
-    match parsed(rt, alloc, order, bytes) {
-        Ok(extension) => Answer::Size(extension.func_info_rec_size() as u64),
-        Err(error) => Answer::refused(&error),
-    }
-}
-
-fn check_refused(rt: &impl Abort, alloc: Global, order: Endianness, words: &[u32], wanted: Answer) {
-    let bytes = section(alloc, order, words).expect(rt, "a section");
-    assert!(rt; func_size(rt, alloc, order, bytes.as_slice()) == wanted);
-}
-
-#[test]
-fn sections_are_refused(rt: HostRuntime) {
-    for order in ORDERS {
-        for (words, wanted) in &REFUSED {
-            check_refused(&rt, rt.alloc(), order, words, *wanted);
-        }
-    }
-    for (bytes, wanted) in &BYTES {
-        assert!(rt; func_size(&rt, rt.alloc(), Endianness::Little, bytes) == *wanted);
     }
 }
 

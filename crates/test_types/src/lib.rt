@@ -1,4 +1,4 @@
-//! Tests of type tables and of what stands beside these.
+//! Tests of type records, of type tables and of what stands beside these.
 #![tactic(auto)]
 
 #[cfg(test)]
@@ -8,7 +8,13 @@ mod asking;
 #[cfg(test)]
 mod comparisons;
 #[cfg(test)]
+mod encoding;
+#[cfg(test)]
 mod extension;
+#[cfg(test)]
+mod plain;
+#[cfg(test)]
+mod records;
 #[cfg(test)]
 mod sections;
 #[cfg(test)]

@@ -3,7 +3,10 @@
 use crate::answer::{Answer, Question, id};
 use crate::asking::{Asked, Case, ask, ask_case};
 use crate::sections::{ARRAY, CONST, FWD, INT, INT_SECTION, PTR, STRUCT_1, VAR, append, parse};
-use btf::{Btf, BtfKind, BtfType, Endianness, Enum64Fallback, Int, IntEncoding, Items, Ptr, Union};
+use btf::{
+    Btf, BtfError, BtfKind, BtfType, Endianness, Enum64Fallback, Int, IntEncoding, Items, Ptr,
+    Union,
+};
 use std::alloc::Global;
 use std::process::Abort;
 use test_table_samples::{ORDERS, section};
@@ -133,42 +136,18 @@ fn sizes_and_names_are_found(rt: HostRuntime) {
     }
 }
 
-/// What becomes of a section that is parsed.
-fn parsed(alloc: Global, section: &[u8]) -> Answer {
-    match Btf::parse(alloc, section, Endianness::Little) {
-        Ok(_table) => Answer::Yes,
-        Err(error) => Answer::refused(&error),
-    }
-}
-
-fn check_parsed(rt: &impl Abort, alloc: Global, section: &[u8], wanted: Answer) {
-    assert!(rt; parsed(alloc, section) == wanted);
-}
-
-/// Changed bytes of the section of an `int`: one at a place, and the low byte of a count. They make
-/// another kind, a STRUCT with two members, and types that go past the end.
-static CHANGES: [(usize, u8, u8, Answer); 3] = [
-    (31, 20, 0, Answer::InvalidTypeKind(20)),
-    (31, 4, 2, Answer::InvalidTypeInfo),
-    (13, 1, 0, Answer::InvalidTypeInfo),
-];
-
-fn changed(at: usize, byte: u8, count: u8) -> [u8; 45] {
-    let mut section = INT_SECTION;
-    section[28] = count;
-    if let Some(place) = section.get_mut(at) {
-        *place = byte;
-    }
-    section
+/// Whether a section is refused for its header.
+fn has_no_header(alloc: Global, section: &[u8]) -> bool {
+    matches!(
+        Btf::parse(alloc, section, Endianness::Little),
+        Err(BtfError::InvalidHeader)
+    )
 }
 
 #[test]
-fn broken_sections_are_refused(rt: HostRuntime) {
+fn fronts_of_a_section_are_refused(rt: HostRuntime) {
     for len in 0..45 {
-        check_parsed(&rt, rt.alloc(), &INT_SECTION[..len], Answer::InvalidHeader);
-    }
-    for (at, byte, count, wanted) in &CHANGES {
-        check_parsed(&rt, rt.alloc(), &changed(*at, *byte, *count), *wanted);
+        assert!(rt; has_no_header(rt.alloc(), &INT_SECTION[..len]));
     }
 }
 
@@ -259,11 +238,6 @@ fn is_named(table: &Btf<'_>, t: &BtfType, wanted: &str) -> bool {
     }
 }
 
-/// Whether the name of an `int` is read as this text.
-fn int_is_named(table: &Btf<'_>, wanted: &str) -> bool {
-    is_named(table, &int(1), wanted)
-}
-
 static ADDED: [(Question, Answer); 2] = [
     (Question::Text(1, "int"), Answer::Yes),
     (Question::Count, Answer::Size(2)),
@@ -277,7 +251,7 @@ fn a_table_grows(rt: HostRuntime) {
     assert!(rt; id(table.add_string("int")) == Answer::Id(1));
     assert!(rt; id(table.add_type(int(1))) == Answer::Id(1));
     assert!(rt; is_written_as(&table, &INT_SECTION));
-    assert!(rt; int_is_named(&table, "int"));
+    assert!(rt; is_named(&table, &int(1), "int"));
     ask(&rt, "a table with an int", &table, &ADDED);
     grow(&rt, &mut table);
     assert!(rt; is_written(table, &GROWN_SECTION));

@@ -1,0 +1,22 @@
+//! What the texts of plans come to.
+
+use crate::texts::is_written_as;
+use exercise_words::ExerciseError;
+use load_plan::{Plan, PlanReadError};
+
+/// Prints whether a text, the one of a file, is a plan's that is written alike, or the line at which
+/// it is refused.
+pub(crate) fn print_answer(rt: &HostRuntime, name: &str, text: &[u8]) -> Result<(), ExerciseError> {
+    match Plan::read(rt.alloc(), text) {
+        Ok(plan) => {
+            let is_alike = is_written_as(rt.alloc(), &plan, text);
+            println!(rt;
+                "{name}: read{}",
+                if is_alike { ", and written alike" } else { "" }
+            )?;
+        }
+        Err(PlanReadError::Line(line)) => println!(rt; "{name}: refused at line {line}")?,
+        Err(PlanReadError::OutOfMemory) => return Err(ExerciseError::OutOfMemory),
+    }
+    Ok(())
+}

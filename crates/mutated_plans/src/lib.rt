@@ -1,0 +1,134 @@
+//! Plans of an object that is cut off or changed in one byte, and of an object for kernel types
+//! that are: how many runs of `prepare` end with a plan, whose text is read as a plan that is
+//! written alike, or with a refusal. For the program of exercises.
+#![tactic(auto)]
+
+mod answers;
+mod changes;
+mod counts;
+mod planning;
+mod refused_lines;
+mod texts;
+
+use answers::print_answer;
+use counts::Counts;
+use exercise_words::{ExerciseError, next_word, read_next};
+use load_plan::Endianness;
+use planning::{changed_object_counts, changed_types_counts};
+use refused_lines::print_refused_lines;
+use std::env::Args;
+use std::fs;
+use texts::{changed_text_counts, count_refused_texts};
+
+/// Prints what runs came to, and how many came to a plan where that is asked for.
+fn print_counts(
+    rt: &HostRuntime,
+    what: &str,
+    counts: Counts,
+    shows_plans: bool,
+) -> Result<(), ExerciseError> {
+    println!(rt;
+        "{} of {} runs on {what} end with a plan or a refusal",
+        counts.answered(),
+        counts.all()
+    )?;
+    if counts.left_out > 0 {
+        println!(rt;
+            "{} runs are left out, for zeros of more than 16 MiB",
+            counts.left_out
+        )?;
+    }
+    if shows_plans {
+        println!(rt; "{} plans, {} refusals", counts.plans, counts.refusals)?;
+    }
+    Ok(())
+}
+
+/// The byte order of a word.
+fn order_of(word: &str) -> Result<Endianness, ExerciseError> {
+    match word {
+        "little" => Ok(Endianness::Little),
+        "big" => Ok(Endianness::Big),
+        _ => Err(ExerciseError::Usage),
+    }
+}
+
+/// The bytes of the files that the words name.
+fn read_files(rt: &HostRuntime, words: &mut Args) -> Result<Vec<Vec<u8>>, ExerciseError> {
+    let mut files = Vec::new(rt.alloc());
+    for name in words {
+        files.push(fs::read(rt, name.as_str())?)?;
+    }
+    Ok(files)
+}
+
+/// Counts over the object that the words name after the names of maps, the first word, and over
+/// each file of kernel types that they name after the byte order of these.
+fn count_all(
+    rt: &HostRuntime,
+    maps: &str,
+    words: &mut Args,
+    shows_plans: bool,
+) -> Result<(), ExerciseError> {
+    let mut object = read_next(rt, words)?;
+    let order = order_of(next_word(words)?.as_str())?;
+    let mut types = read_files(rt, words)?;
+    let counts = changed_object_counts(rt.alloc(), maps, &mut object, &types, order)?;
+    print_counts(rt, "changed objects", counts, shows_plans)?;
+    for bytes in types.iter_mut() {
+        let counts = changed_types_counts(rt.alloc(), maps, &object, bytes, order)?;
+        print_counts(rt, "changed kernel types", counts, shows_plans)?;
+    }
+    Ok(())
+}
+
+/// Counts over the plan's text that a word names.
+fn count_texts(rt: &HostRuntime, words: &mut Args) -> Result<(), ExerciseError> {
+    let mut text = read_next(rt, words)?;
+    let fronts = count_refused_texts(rt.alloc(), text.as_slice());
+    println!(rt;
+        "{fronts} of {} fronts are refused at the line after their last whole one",
+        text.len()
+    )?;
+    let counts = changed_text_counts(rt.alloc(), text.as_mut_slice());
+    println!(rt;
+        "{} of {} texts with another byte are read and written alike, or refused at the line of the byte or after it",
+        counts.read.saturating_add(counts.refused),
+        counts.all
+    )?;
+    Ok(())
+}
+
+/// Counts over what the words name, and prints what it comes to: `[--plans] MAP[,MAP].. OBJECT
+/// little|big [TYPES..]`, maps that get a number, the object's file, the byte order of the kernel's
+/// types and their files. With `--plans` how many plans there are is printed too.
+pub fn print_changed_plans(rt: &HostRuntime, words: &mut Args) -> Result<(), ExerciseError> {
+    let first = next_word(words)?;
+    if first.as_str() == "--plans" {
+        let maps = next_word(words)?;
+        return count_all(rt, maps.as_str(), words, true);
+    }
+    count_all(rt, first.as_str(), words, false)
+}
+
+/// Reads the text of a plan, whose file a word names, cut off and changed in one byte, and prints
+/// what that comes to.
+pub fn print_changed_texts(rt: &HostRuntime, words: &mut Args) -> Result<(), ExerciseError> {
+    count_texts(rt, words)
+}
+
+/// Prints for each byte of the text of a plan, whose file a word names, the lines at which it is
+/// refused with each other value of the byte.
+pub fn print_changed_lines(rt: &HostRuntime, words: &mut Args) -> Result<(), ExerciseError> {
+    let mut text = read_next(rt, words)?;
+    print_refused_lines(rt, text.as_mut_slice())
+}
+
+/// Prints what the texts come to whose files the words name.
+pub fn print_read_plans(rt: &HostRuntime, words: &mut Args) -> Result<(), ExerciseError> {
+    for name in words {
+        let text = fs::read(rt, name.as_str())?;
+        print_answer(rt, name.as_str(), text.as_slice())?;
+    }
+    Ok(())
+}

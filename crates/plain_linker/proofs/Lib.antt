@@ -1,3 +1,0 @@
-pub mod Opens
-pub mod Copies
-pub mod References
