@@ -1,40 +1,41 @@
 -- Candidates, type by type.
-use Rattle.std.proofs.Common.{◌≡◌, ◌≢◌, ℕ, suc, ◌+◌, ◌-◌, ◌<◌, ◌≤◌, Bool, true, false, List, [], ◌∷◌, ◌++◌, map, find, filter, Ok, Err, Option, None, Some, Result, refl, sym, ap, ◌∙◌, arith, append_assoc, subst}
+use Rattle.std.proofs.Common.{◌≡◌, ◌≢◌, ℕ, suc, ◌+◌, ◌-◌, ◌<◌, ◌≤◌, Bool, true, false, List, [], ◌∷◌, ◌++◌, map, find, filter, Ok, Err, Option, None, Some, Result, refl, sym, ap, ◌∙◌, arith, append_assoc, subst, add-one, drop, drop-cons, get_or, length}
+use Rattle.std.proofs.lemmas.Grind.{common_steps}
 use Rattle.std.proofs.lemmas.List.Elements.{filter-append}
 use Rattle.std.proofs.lemmas.List.Folds.{find-append}
 use Rattle.std.specs.List.{flat_map, range_with_len}
 use Rattle.std.specs.Option.{IsSomeAnd, option_map_or}
 use Rattle.std.specs.Result.{IfErr, IsErrAnd}
-use Rattle.core_candidates.specs.Candidates.{first_types}
+use Rattle.core_candidates.specs.Searched.{type_at, types_of_ids}
 use Rattle.core_candidates.specs.declared.error.CandidateError.{CandidateError}
 use Rattle.core_candidates.specs.declared.error.CandidateError.TheVariants.{OutOfMemory}
 use Rattle.core_candidates.specs.declared.kernel_type.KernelType.{KernelType}
 
--- a type of a table
-abbrev pub type_at : ℕ → ℕ → KernelType
-type_at table id = record { table = table; type_id = id }
+-- those of a table's types of some ids that are left from an index on
+abbrev pub types_left : ℕ → List ℕ → ℕ → List KernelType
+types_left table ids i = types_of_ids table (drop i ids)
 
--- those of its types that are left from an id on, as many as `n`
-abbrev pub types_left : ℕ → ℕ → ℕ → List KernelType
-types_left table n id = map (type_at table) (range_with_len id (n - id))
+abbrev pub id_at : List ℕ → ℕ → ℕ
+id_at ids i = get_or ids i 0
 
-pub all_left : (table n : ℕ) → types_left table n 0 ≡ first_types table n
-all_left table n = let same : n - 0 ≡ n = omega arith in rw same refl
+this_type : (table : ℕ) (ids : List ℕ) (i : ℕ) → i < length ids → types_left table ids i ≡ type_at table (id_at ids i) ∷ types_left table ids (i + 1)
+this_type table ids i lt = let cut : drop i ids ≡ id_at ids i ∷ drop (i + 1) ids = rw add-one (drop-cons ids i 0 lt) in ap (types_of_ids table) cut
+
+nothing_left : (ids : List ℕ) (i : ℕ) → length ids ≤ i → drop i ids ≡ []
+nothing_left ids i le = grind (arith, common_steps)
+
+pub no_type_left : (table : ℕ) (ids : List ℕ) (i : ℕ) → length ids ≤ i → types_left table ids i ≡ []
+no_type_left table ids i le = ap (types_of_ids table) (nothing_left ids i le)
+
+-- what passes of the types that are left, when one has been looked at
+pub filter_on : (p : KernelType → Bool) (table : ℕ) (ids : List ℕ) (i : ℕ) (old new all : List KernelType) → i < length ids → old ++ filter p (types_left table ids i) ≡ all → new ≡ old ++ filter p (type_at table (id_at ids i) ∷ []) → new ++ filter p (types_left table ids (i + 1)) ≡ all
+filter_on p table ids i old new all lt left is =
+    let here = type_at table (id_at ids i) in
+    let parts = filter-append p (here ∷ []) (types_left table ids (i + 1)) in
+    rw is (append_assoc old (filter p (here ∷ [])) (filter p (types_left table ids (i + 1))) ∙ (ap (λ (xs : List KernelType). old ++ xs) (sym parts) ∙ rw (this_type table ids i lt) at left))
 
 one_fewer : (n i : ℕ) → i < n → n - i ≡ suc (n - (i + 1))
 one_fewer n i lt = omega arith
-
-pub this_type : (table n id : ℕ) → id < n → types_left table n id ≡ type_at table id ∷ types_left table n (id + 1)
-this_type table n id lt = rw (one_fewer n id lt) refl
-
-pub no_type_left : (table n id : ℕ) → n ≤ id → types_left table n id ≡ []
-no_type_left table n id le = let none : n - id ≡ 0 = omega arith in rw none refl
-
--- what passes of the types that are left, when one has been looked at
-pub filter_on : (p : KernelType → Bool) (table n id : ℕ) (old new all : List KernelType) → id < n → old ++ filter p (types_left table n id) ≡ all → new ≡ old ++ filter p (type_at table id ∷ []) → new ++ filter p (types_left table n (id + 1)) ≡ all
-filter_on p table n id old new all lt left is =
-    let parts = filter-append p (type_at table id ∷ []) (types_left table n (id + 1)) in
-    rw is (append_assoc old (filter p (type_at table id ∷ [])) (filter p (types_left table n (id + 1))) ∙ (ap (λ (xs : List KernelType). old ++ xs) (sym parts) ∙ rw (this_type table n id lt) at left))
 
 found_past : (u : KernelType → Bool) (x : KernelType) (xs : List KernelType) (all : Option KernelType) → find u (x ∷ xs) ≡ all → u x ≡ false → find u xs ≡ all
 found_past u x xs all left is = let on : find u xs ≡ find u (x ∷ xs) = rw is refl in on ∙ left
@@ -42,11 +43,11 @@ found_past u x xs all left is = let on : find u xs ≡ find u (x ∷ xs) = rw is
 found_here : (u : KernelType → Bool) (x : KernelType) (xs : List KernelType) (all : Option KernelType) → find u (x ∷ xs) ≡ all → u x ≡ true → all ≡ Some x
 found_here u x xs all left is = let here : find u (x ∷ xs) ≡ Some x = rw is refl in sym left ∙ here
 
-pub find_on : (u : KernelType → Bool) (table n id : ℕ) (all : Option KernelType) → id < n → find u (types_left table n id) ≡ all → u (type_at table id) ≡ false → find u (types_left table n (id + 1)) ≡ all
-find_on u table n id all lt left is = found_past u (type_at table id) (types_left table n (id + 1)) all (rw (this_type table n id lt) at left) is
+pub find_on : (u : KernelType → Bool) (table : ℕ) (ids : List ℕ) (i : ℕ) (all : Option KernelType) → i < length ids → find u (types_left table ids i) ≡ all → u (type_at table (id_at ids i)) ≡ false → find u (types_left table ids (i + 1)) ≡ all
+find_on u table ids i all lt left is = found_past u (type_at table (id_at ids i)) (types_left table ids (i + 1)) all (rw (this_type table ids i lt) at left) is
 
-pub find_here : (u : KernelType → Bool) (table n id : ℕ) (all : Option KernelType) → id < n → find u (types_left table n id) ≡ all → u (type_at table id) ≡ true → all ≡ Some (type_at table id)
-find_here u table n id all lt left is = found_here u (type_at table id) (types_left table n (id + 1)) all (rw (this_type table n id lt) at left) is
+pub find_here : (u : KernelType → Bool) (table : ℕ) (ids : List ℕ) (i : ℕ) (all : Option KernelType) → i < length ids → find u (types_left table ids i) ≡ all → u (type_at table (id_at ids i)) ≡ true → all ≡ Some (type_at table (id_at ids i))
+find_here u table ids i all lt left is = found_here u (type_at table (id_at ids i)) (types_left table ids (i + 1)) all (rw (this_type table ids i lt) at left) is
 
 -- table by table: what is left of the first tables
 abbrev pub tables_left : (ℕ → List KernelType) → ℕ → ℕ → List KernelType
@@ -80,10 +81,10 @@ passed_on (Ok x) e P h p = tt
 passed_on (Err f) e P h p = subst P (sym h) p
 
 -- a fault at a type is the table's
-pub type_refused : {T : Type 0} (u : KernelType → Bool) (bad : KernelType → CandidateError) (table n id : ℕ) (all : Option KernelType) (result : Result T CandidateError) (e : CandidateError) → id < n → find u (types_left table n id) ≡ all
-    → (e ≢ OutOfMemory → (e ≡ bad (type_at table id)) × (u (type_at table id) ≡ true)) → IsErrAnd result (λ f. f ≡ e) → IfErr result (λ f. f ≢ OutOfMemory → IsSomeAnd all (λ place. f ≡ bad place))
-type_refused u bad table n id all result e lt left refused is =
-    passed_on result e (λ f. f ≢ OutOfMemory → IsSomeAnd all (λ place. f ≡ bad place)) is (λ other. subst (λ (o : Option KernelType). IsSomeAnd o (λ place. e ≡ bad place)) (sym (find_here u table n id all lt left (refused other).1)) (refused other).0)
+pub type_refused : {T : Type 0} (u : KernelType → Bool) (bad : KernelType → CandidateError) (table : ℕ) (ids : List ℕ) (i : ℕ) (all : Option KernelType) (result : Result T CandidateError) (e : CandidateError) → i < length ids → find u (types_left table ids i) ≡ all
+    → (e ≢ OutOfMemory → (e ≡ bad (type_at table (id_at ids i))) × (u (type_at table (id_at ids i)) ≡ true)) → IsErrAnd result (λ f. f ≡ e) → IfErr result (λ f. f ≢ OutOfMemory → IsSomeAnd all (λ place. f ≡ bad place))
+type_refused u bad table ids i all result e lt left refused is =
+    passed_on result e (λ f. f ≢ OutOfMemory → IsSomeAnd all (λ place. f ≡ bad place)) is (λ other. subst (λ (o : Option KernelType). IsSomeAnd o (λ place. e ≡ bad place)) (sym (find_here u table ids i all lt left (refused other).1)) (refused other).0)
 
 answer_of : (bad : KernelType → CandidateError) (ok : Result (List KernelType) CandidateError) (all found : Option KernelType) (e : CandidateError) → ((x : KernelType) → found ≡ Some x → all ≡ Some x) → IsSomeAnd found (λ place. e ≡ bad place) → option_map_or (λ place. Err (bad place)) all ok ≡ Err e
 answer_of bad ok all None e same h = absurd h

@@ -1,11 +1,2 @@
-pub mod FirstTable
 pub mod FoundCandidates
-pub mod Held
-pub mod Lengths
-pub mod NamesBegin
-pub mod Numbers
-pub mod OtherTypes
-pub mod PickedTypes
-pub mod SeenBlocks
-pub mod SeenTypes
-pub mod WantedById
+pub mod Searched

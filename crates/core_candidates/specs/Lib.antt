@@ -1,4 +1,2 @@
 pub mod Candidates
-pub mod NamedTypes
-pub mod WantedBeginnings
-pub mod WantedTypes
+pub mod Searched

@@ -2,21 +2,12 @@
 //! (`bpf_core_add_cands`, tools/lib/bpf/libbpf.c).
 #![tactic(auto)]
 
-mod collected;
+mod candidates;
 mod error;
 mod kernel_type;
-mod long_names;
-mod places;
-mod search;
-mod sighting;
-mod walk;
 mod wanted;
-mod wanted_names;
-mod wanted_types;
 
-pub use collected::Candidates;
+pub use candidates::Candidates;
 pub use error::CandidateError;
 pub use kernel_type::KernelType;
-pub use search::candidates;
 pub use wanted::WantedType;
-pub use wanted_types::WantedTypes;

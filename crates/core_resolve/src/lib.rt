@@ -11,10 +11,10 @@ mod outcome;
 mod paths;
 mod relocation;
 
-pub use core_candidates::{Candidates, KernelType};
+pub use core_candidates::KernelType;
 pub use error::TypeRelocationError;
 pub use laws::{lists_of_one_table, outcomes_rest};
-pub use matcher::{TypeMatcher, collected};
+pub use matcher::TypeMatcher;
 pub use matches::{Match, kernel_matches};
 pub use outcome::{Outcome, conflicts, outcome_of};
 pub use relocation::{RelocationOutcome, TypeRelocation, relocation_outcome};

@@ -3,7 +3,7 @@
 ghost use Rattle.std.specs.Prelude.{◌≡◌, ◌≢◌, [], true, IfOk, IfErr, IfSome, Ok, Err};
 ghost use Rattle.core_spec.specs.LocalPaths.{local_path};
 ghost use Rattle.core_spec.specs.Subjects.{subject_of};
-ghost use Rattle.core_candidates.specs.Candidates.{candidates, wanted_for};
+ghost use Rattle.core_candidates.specs.Candidates.{candidates};
 ghost use Rattle.core_candidates.specs.declared.error.CandidateError.TheVariants.{OutOfMemory as NoMemory};
 ghost use Rattle.core_resolve.specs.FoundPaths.{ArePathsOf, found_paths, is_part};
 ghost use Rattle.core_resolve.specs.KnownOutcomes.{IsOutcome};
@@ -13,13 +13,11 @@ ghost use Rattle.core_resolve.specs.declared.error.TypeRelocationError.TheVarian
 
 use crate::error::TypeRelocationError;
 use crate::known::{AccessKey, KnownOutcome, access_key, is_same};
-use crate::matches::{Match, matches_of, searched_tables};
+use crate::matches::{Match, matches_of};
 use crate::paths::{FoundPath, KnownPaths, ask_for_one, is_part, matches_from, paths_of};
 use crate::relocation::{RelocationOutcome, TypeRelocation, local_value, settled};
 use btf_tables::Btf;
-use core_candidates::{
-    CandidateError, Candidates, KernelType, WantedType, WantedTypes, candidates,
-};
+use core_candidates::{CandidateError, Candidates, KernelType, WantedType};
 use core_spec::{AccessError, AccessPath, local_path, subject_of};
 use ebpf_items::RelocationKind;
 use std::alloc::{AllocError, Global};
@@ -28,15 +26,10 @@ use std::marker::Model;
 
 /// An object's own types, and a kernel's, with the candidates of relocations.
 #[derive(Debug)]
-pub struct TypeMatcher<'m, 'c, 'l> {
+pub struct TypeMatcher<'m> {
     local: &'m Btf<'m>,
     targets: &'m [Btf<'m>],
-    /// What is wanted for local types, where it was found for all at once.
-    wanted: Option<WantedTypes<'m>>,
-    /// The candidates, where they were collected.
-    collected: Option<Candidates<'m, 'm>>,
-    /// Those that were collected before, and serve others too.
-    shared: Option<&'c Candidates<'c, 'l>>,
+    candidates: Candidates<'m, 'm>,
     /// What relocations came to.
     known: BTreeMap<AccessKey, KnownOutcome>,
     /// The paths that were found for relocations about fields and variants, by type and access
@@ -44,23 +37,21 @@ pub struct TypeMatcher<'m, 'c, 'l> {
     paths: BTreeMap<(u32, u32), KnownPaths>,
 }
 
-impl<'m, 'c, 'l> Drop for TypeMatcher<'m, 'c, 'l> {
+impl<'m> Drop for TypeMatcher<'m> {
     // One call wherever it is dropped, in place of one for each part.
     fn drop(self) {
         let TypeMatcher {
             local: _,
             targets: _,
-            wanted: _wanted,
-            collected: _collected,
-            shared: _shared,
+            candidates: _candidates,
             known: _known,
             paths: _paths,
         } = self;
     }
 }
 
-impl<'m, 'c, 'l> Model for TypeMatcher<'m, 'c, 'l> {
-    ghost use Rattle.std.specs.Prelude.{◌≡◌, IfSome};
+impl<'m> Model for TypeMatcher<'m> {
+    ghost use Rattle.std.specs.Prelude.{◌≡◌};
     ghost use Rattle.std.specs.Map.{values_of};
     ghost use Rattle.core_resolve.specs.FoundPaths.{AreKnown};
     ghost use Rattle.core_resolve.specs.KnownOutcomes.{AreOutcomes};
@@ -71,11 +62,9 @@ impl<'m, 'c, 'l> Model for TypeMatcher<'m, 'c, 'l> {
     ghost view = { λ m. record { local = m.local.now; targets = m.targets.now } };
 
     ghost invariant = { λ m.
-        (IfSome m.collected (λ c. c ≡ m.targets.now))
+        (m.candidates ≡ m.targets.now)
         × AreOutcomes m.local.now m.targets.now (values_of m.known.entries)
-        × AreKnown m.local.now m.targets.now (values_of m.paths.entries)
-        × (IfSome m.shared (λ c. c.now ≡ m.targets.now))
-        × (IfSome m.wanted (λ w. w ≡ m.local.now)) };
+        × AreKnown m.local.now m.targets.now (values_of m.paths.entries) };
 }
 
 /// The local types of relocations that are looked for in a kernel's types, each once.
@@ -91,78 +80,38 @@ fn wanted_ids(local: &Btf<'_>, relocations: &[TypeRelocation]) -> Result<Vec<u32
     Ok(type_ids)
 }
 
-/// What is wanted for the types that relocations are about.
-fn wanted_types<'l>(
-    local: &'l Btf<'l>,
-    relocations: &[TypeRelocation],
-) -> Result<WantedTypes<'l>, AllocError>
-    ensures { IfOk result (λ wanted. wanted ≡ local.now) }
-{
-    let type_ids = wanted_ids(local, relocations)?;
-    WantedTypes::find(local, type_ids.as_slice())
-}
-
-/// The candidates for wanted types; none where nothing is wanted.
-fn collected_for<'t, 'l>(
-    alloc: Global,
-    wanted: &WantedTypes<'l>,
-    targets: &'t [Btf<'t>],
-) -> Result<Option<Candidates<'t, 'l>>, AllocError>
-    ensures { IfOk result (λ found. IfSome found (λ c. c ≡ targets.now)) }
-{
-    if wanted.is_empty() {
-        return Ok(None);
-    }
-    let found = Candidates::collect(alloc, wanted, targets)?;
-    Ok(Some(found))
-}
-
-/// The candidates for the types that relocations are about, for which each of a kernel's tables is
-/// gone over once; none where nothing is wanted of a kernel's types.
-pub fn collected<'t, 'l>(
-    local: &'l Btf<'_>,
-    relocations: &[TypeRelocation],
-    targets: &'t [Btf<'t>],
-) -> Result<Option<Candidates<'t, 'l>>, AllocError>
-    ensures { IfOk result (λ found. IfSome found (λ c. c ≡ targets.now)) }
-{
-    let wanted = wanted_types(local, relocations)?;
-    collected_for(local.allocator(), &wanted, targets)
-}
-
-/// Those of collected candidates that a kind asks for.
+/// The candidates for a local type that a kind asks for.
 fn candidates_for(
     alloc: Global,
     kind: RelocationKind,
     wanted: &WantedType<'_>,
-    collected: &Candidates<'_, '_>,
+    types: &Candidates<'_, '_>,
 ) -> Result<Vec<KernelType>, CandidateError>
     ensures value { IfOk result (λ found.
-        candidates wanted.now (searched_tables kind collected.now) ≡ Ok found.items) }
+        candidates wanted.now (searched_tables kind types.now) ≡ Ok found.items) }
     ensures refused { IfErr result (λ e.
-        e ≢ NoMemory → candidates wanted.now (searched_tables kind collected.now) ≡ Err e) }
+        e ≢ NoMemory → candidates wanted.now (searched_tables kind types.now) ≡ Err e) }
 {
     match kind {
         RelocationKind::TypeIdLocal => Ok(Vec::new(alloc)),
-        RelocationKind::TypeIdTarget => collected.of_first(alloc, wanted),
-        _ => collected.of(alloc, wanted),
+        RelocationKind::TypeIdTarget => types.of_first(alloc, wanted),
+        _ => types.of(alloc, wanted),
     }
 }
 
-impl<'m, 'c, 'l> TypeMatcher<'m, 'c, 'l> {
+impl<'m> TypeMatcher<'m> {
     /// The types of an object and of a kernel. Each relocation goes over the kernel's tables.
     #[tactic(auto, using(crate::proofs::KnownOutcomes::none_known, crate::proofs::FoundPaths::no_paths_known))]
-    pub fn new(local: &'m Btf<'m>, targets: &'m [Btf<'m>]) -> TypeMatcher<'m, 'c, 'l>
+    pub fn new(local: &'m Btf<'m>, targets: &'m [Btf<'m>]) -> TypeMatcher<'m>
         ensures { result ≡ record { local = local.now; targets = targets.now } }
     {
+        let alloc = local.allocator();
         TypeMatcher {
             local,
             targets,
-            wanted: None,
-            collected: None,
-            shared: None,
-            known: BTreeMap::new(local.allocator()),
-            paths: BTreeMap::new(local.allocator()),
+            candidates: Candidates::new(alloc, targets),
+            known: BTreeMap::new(alloc),
+            paths: BTreeMap::new(alloc),
         }
     }
 
@@ -173,74 +122,20 @@ impl<'m, 'c, 'l> TypeMatcher<'m, 'c, 'l> {
         local: &'m Btf<'m>,
         relocations: &[TypeRelocation],
         targets: &'m [Btf<'m>],
-    ) -> Result<TypeMatcher<'m, 'c, 'l>, AllocError>
+    ) -> Result<TypeMatcher<'m>, AllocError>
         ensures { IfOk result (λ matcher.
             matcher ≡ record { local = local.now; targets = targets.now }) }
     {
-        let wanted = wanted_types(local, relocations)?;
-        let collected = collected_for(local.allocator(), &wanted, targets)?;
+        let alloc = local.allocator();
+        let type_ids = wanted_ids(local, relocations)?;
+        let candidates = Candidates::collect(alloc, local, type_ids.as_slice(), targets)?;
         Ok(TypeMatcher {
             local,
             targets,
-            wanted: Some(wanted),
-            collected,
-            shared: None,
-            known: BTreeMap::new(local.allocator()),
-            paths: BTreeMap::new(local.allocator()),
+            candidates,
+            known: BTreeMap::new(alloc),
+            paths: BTreeMap::new(alloc),
         })
-    }
-
-    /// The types of an object and of a kernel, with candidates that were collected before.
-    /// Relocations about types that weren't asked for then go over the kernel's tables.
-    #[tactic(auto, using(crate::proofs::KnownOutcomes::none_known, crate::proofs::FoundPaths::no_paths_known))]
-    pub fn among(
-        local: &'m Btf<'m>,
-        candidates: &'c Candidates<'c, 'l>,
-        targets: &'m [Btf<'m>],
-    ) -> TypeMatcher<'m, 'c, 'l>
-        requires { candidates.now ≡ targets.now }
-        ensures { result ≡ record { local = local.now; targets = targets.now } }
-    {
-        TypeMatcher {
-            local,
-            targets,
-            wanted: None,
-            collected: None,
-            shared: Some(candidates),
-            known: BTreeMap::new(local.allocator()),
-            paths: BTreeMap::new(local.allocator()),
-        }
-    }
-
-    /// The candidates for a local type.
-    fn candidates(
-        &self,
-        kind: RelocationKind,
-        wanted: &WantedType<'_>,
-    ) -> Result<Vec<KernelType>, CandidateError>
-        ensures value { IfOk result (λ found.
-            candidates wanted.now (searched_tables kind self.now.targets) ≡ Ok found.items) }
-        ensures refused { IfErr result (λ e.
-            e ≢ NoMemory → candidates wanted.now (searched_tables kind self.now.targets) ≡ Err e) }
-    {
-        let alloc = self.local.allocator();
-        if let Some(shared) = self.shared {
-            return candidates_for(alloc, kind, wanted, shared);
-        }
-        match &self.collected {
-            Some(collected) => candidates_for(alloc, kind, wanted, collected),
-            None => candidates(alloc, wanted, searched_tables(kind, self.targets)),
-        }
-    }
-
-    /// What is wanted for a local type, where it was found before.
-    fn wanted(&self, type_id: u32) -> Option<&WantedType<'m>>
-        ensures { IfSome result (λ wanted. wanted_for self.now.local type_id ≡ Ok wanted.now) }
-    {
-        match &self.wanted {
-            Some(wanted) => wanted.get(type_id),
-            None => None,
-        }
     }
 
     /// The candidates for the local type of an id.
@@ -255,15 +150,11 @@ impl<'m, 'c, 'l> TypeMatcher<'m, 'c, 'l> {
             e ≢ OutOfMemory
             → candidates_of kind self.now.local type_id self.now.targets ≡ Err e) }
     {
-        if let Some(wanted) = self.wanted(type_id) {
-            let found = self.candidates(kind, wanted)?;
-            return Ok(found);
-        }
         let wanted = match WantedType::find(self.local, type_id) {
             Ok(wanted) => wanted,
             Err(error) => return Err(TypeRelocationError::Local(AccessError::BtfError(error))),
         };
-        let found = self.candidates(kind, &wanted)?;
+        let found = candidates_for(self.local.allocator(), kind, &wanted, &self.candidates)?;
         Ok(found)
     }
 

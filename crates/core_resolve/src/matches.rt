@@ -2,7 +2,7 @@
 
 ghost use Rattle.std.specs.Prelude.{◌≡◌, ◌≢◌, ◌++◌, [], IfOk, IfErr, Ok, Err};
 ghost use Rattle.std.specs.Option.{option_to_list};
-ghost use Rattle.core_resolve.specs.Matches.{kernel_matches, match_at, match_in, match_of, matches_of, searched_tables};
+ghost use Rattle.core_resolve.specs.Matches.{kernel_matches, match_at, match_in, match_of, matches_of};
 ghost use Rattle.core_resolve.specs.declared.error.TypeRelocationError.TheVariants.{OutOfMemory};
 ghost use Rattle.core_spec.specs.declared.error.AccessError.TheVariants.{BtfError as TypeError};
 ghost use Rattle.btf_records.specs.declared.error.BtfError.TheVariants.{OutOfMemory as NoMemory};
@@ -139,20 +139,6 @@ pub(crate) fn matches_of<'t>(
         let _found = add_match(kind, local, path, targets, *candidate, &mut matches)?;
     }
     Ok(matches)
-}
-
-/// The tables that are searched for matches of a kind.
-pub(crate) fn searched_tables<'k, 't>(kind: RelocationKind, targets: &'k [Btf<'t>]) -> &'k [Btf<'t>]
-    ensures { result.now ≡ searched_tables kind targets.now }
-{
-    match kind {
-        RelocationKind::TypeIdLocal => &targets[..0],
-        RelocationKind::TypeIdTarget => match targets {
-            [] => targets,
-            _ => &targets[..1],
-        },
-        _ => targets,
-    }
 }
 
 /// The matches of a type relocation in a kernel's tables, in order, and in each by id: of the types

@@ -1,12 +1,6 @@
 pub mod Composed
 pub mod Each
-pub mod Entries
 pub mod FirstNamed
 pub mod Found
 pub mod Growing
-pub mod NamesBegin
-pub mod NothingLeft
-pub mod PassedTypes
-pub mod Placed
-pub mod SaidBlocks
 pub mod Seeking

@@ -1,214 +1,173 @@
-//! What the kernel's table has of the functions and variables that externs are declared as.
+//! The functions and variables of a kernel's table.
 
-ghost use Rattle.std.specs.Prelude.{◌≡◌, ◌+◌, length, true, IfOk, OnOk};
-ghost use Rattle.std.specs.Option.{option_copied};
-ghost use Rattle.extern_resolution.specs.Gathering.{AreAllSaid, AreBegun, AreEntriesWanted, AreNoneWanted, AreWantedFresh, SameWanted, WantsEntry};
-ghost use Rattle.extern_resolution.specs.Wanted.{AreKnown, IsEntryWanted, id_of};
+ghost use Rattle.std.specs.Prelude.{◌≡◌, ◌≢◌, ◌∷◌, [], ℕ, find, IfErr, IfOk};
+ghost use Rattle.btf_records.specs.declared.error.BtfError.TheVariants.{OutOfMemory};
+ghost use Rattle.btf_search.specs.NamedTypes.{named_ids};
+ghost use Rattle.btf_tables.specs.EssentialNames.{essential_name};
+ghost use Rattle.extern_resolution.specs.Outcomes.{IsKernelRecord, type_held_at};
+ghost use Rattle.extern_resolution.specs.Records.{IsFirst, IsRecord, is_readable, may_be_first};
 
-use crate::named_records::{NamedRecords, WantedNames};
-use btf_records::BtfKind;
+use btf_compatibility::types_are_compatible;
+use btf_records::{BtfError, BtfKind};
+use btf_search::NamedTypes;
 use btf_tables::{Btf, essential_name};
-use object_externs::{ExternDesc, Externs};
+use object_externs::Externs;
 use std::alloc::{AllocError, Global};
-use type_headers::TypeHeaders;
+use std::marker::Model;
+use std::slice;
 
-/// The functions and variables that are wanted, before a table is gone through.
-#[derive(Debug, Drop)]
-pub(crate) struct WantedRecords<'n> {
-    pub(crate) functions: WantedNames<'n>,
-    pub(crate) variables: WantedNames<'n>,
+/// What the kernel has of a kind and a name.
+#[derive(Clone, Copy)]
+pub(crate) enum KernelRecord {
+    /// A record whose type is compatible.
+    Compatible(u32),
+    /// One whose type isn't.
+    Incompatible,
+    /// None.
+    Missing,
 }
 
-impl<'n> WantedRecords<'n> {
-    /// No name is wanted.
-    fn new(alloc: Global) -> WantedRecords<'n>
-        ensures { AreWantedFresh result }
-    {
-        WantedRecords {
-            functions: WantedNames::new(alloc),
-            variables: WantedNames::new(alloc),
-        }
-    }
-
-    /// Wants the name of an extern with a type: of a function without its flavour, of a variable
-    /// whole.
-    fn want(
-        &mut self,
-        table: &Btf<'_>,
-        name: &'n str,
-        desc: &ExternDesc<'_>,
-    ) -> Result<(), AllocError>
-        ensures { OnOk result (WantsEntry table.now self.old self.new (name.now, desc.now)) }
-    {
-        if desc.type_id.is_none() {
-            return Ok(());
-        }
-        let Ok(t) = table.type_by_id(desc.btf_id) else {
-            return Ok(());
-        };
-        match t.kind() {
-            BtfKind::Func => self.functions.want(essential_name(name)),
-            BtfKind::Var => self.variables.want(name),
-            _ => Ok(()),
-        }
-    }
-}
-
-/// The kernel's functions and variables that have the names of externs.
+/// A kernel's table, and its functions and variables by name.
 #[derive(Debug)]
-pub(crate) struct KernelRecords<'n> {
-    pub(crate) functions: NamedRecords<'n>,
-    pub(crate) variables: NamedRecords<'n>,
+pub(crate) struct KernelRecords<'k, 'n> {
+    kernel: &'k Btf<'k>,
+    types: NamedTypes<'k, 'n>,
 }
 
-impl<'n> Drop for KernelRecords<'n> {
+impl<'k, 'n> Drop for KernelRecords<'k, 'n> {
     // One call wherever it is dropped, in place of one for each part.
     fn drop(self) {
         let KernelRecords {
-            functions: _functions,
-            variables: _variables,
+            kernel: _,
+            types: _types,
         } = self;
     }
 }
 
-impl<'n> KernelRecords<'n> {
-    /// No name is wanted.
-    fn new(alloc: Global) -> KernelRecords<'n>
-        ensures begun { AreBegun result }
-        ensures none { AreNoneWanted result }
-    {
-        KernelRecords {
-            functions: NamedRecords::new(alloc, BtfKind::Func),
-            variables: NamedRecords::new(alloc, BtfKind::Var),
+impl<'k, 'n> Model for KernelRecords<'k, 'n> {
+    ghost use Rattle.std.specs.Prelude.{◌≡◌, ◌∷◌, []};
+    ghost use Rattle.btf_tables.specs.Tables.{Table};
+
+    ghost Value = { Table };
+
+    ghost view = { λ k. k.kernel.now };
+
+    ghost invariant = { λ k. k.types ≡ k.kernel.now ∷ [] };
+}
+
+/// The names of the externs with types, without flavours.
+fn typed_names<'n>(alloc: Global, externs: &Externs<'n>) -> Result<Vec<&'n str>, AllocError> {
+    let mut names = Vec::new(alloc);
+    for (name, desc) in externs.iter() {
+        if desc.type_id.is_some() {
+            names.push(essential_name(name))?;
         }
     }
+    Ok(names)
+}
 
-    /// The names of these are wanted.
-    fn from_names(alloc: Global, wanted: WantedRecords<'n>) -> Result<KernelRecords<'n>, AllocError>
-        requires { AreWantedFresh wanted }
-        ensures begun { IfOk result AreBegun }
-        ensures functions { IfOk result (λ r. r.functions.ids ≡ wanted.entry.functions.names) }
-        ensures variables { IfOk result (λ r. r.variables.ids ≡ wanted.entry.variables.names) }
-    {
-        let WantedRecords {
-            functions,
-            variables,
-        } = wanted;
-        Ok(KernelRecords {
-            functions: NamedRecords::from_names(alloc, BtfKind::Func, functions)?,
-            variables: NamedRecords::from_names(alloc, BtfKind::Var, variables)?,
-        })
+/// Whether the name of the type of an id is this, or can't be read.
+fn may_be_first(kernel: &Btf<'_>, id: u32, name: &str) -> bool
+    ensures { result ≡ may_be_first kernel.now name.now id }
+{
+    let Ok(t) = kernel.type_by_id(id) else {
+        return false;
+    };
+    match kernel.string_at(t.name_offset()) {
+        Ok(text) => text == name,
+        Err(_error) => true,
     }
+}
 
-    /// Whether the name of an extern is wanted, or need not be.
-    fn has(&self, table: &Btf<'_>, name: &str, desc: &ExternDesc<'_>) -> bool
-        ensures { result ≡ true → IsEntryWanted table.now self.now (name.now, desc.now) }
-    {
-        if desc.type_id.is_none() {
-            return true;
-        }
-        let Ok(t) = table.type_by_id(desc.btf_id) else {
-            return true;
-        };
-        match t.kind() {
-            BtfKind::Func => self.functions.is_wanted(essential_name(name)),
-            BtfKind::Var => self.variables.is_wanted(name),
-            _ => true,
+/// The first id at which the name may be this.
+fn first_of(kernel: &Btf<'_>, ids: &[u32], name: &str) -> Option<u32>
+    ensures { result ≡ find (may_be_first kernel.now name.now) ids.now }
+{
+    for id in ids {
+        if may_be_first(kernel, *id, name) {
+            return Some(*id);
         }
     }
+    None
+}
 
-    /// Whether the names of all externs with types are wanted.
-    #[tactic(auto, using(crate::proofs::Entries::none_wanted))]
-    pub(crate) fn has_all(&self, externs: &Externs<'_>, table: &Btf<'_>) -> bool
-        ensures { result ≡ true → AreEntriesWanted table.now self.now externs.now.by_name }
+/// Whether the name of the type of an id can be read.
+fn is_readable(kernel: &Btf<'_>, id: u32) -> bool
+    ensures { result ≡ is_readable kernel.now id }
+{
+    match kernel.type_by_id(id) {
+        Ok(t) => kernel.string_at(t.name_offset()).is_ok(),
+        Err(_error) => false,
+    }
+}
+
+/// The id of the kernel's first record of a kind and a name; none where the name of an earlier
+/// record of the kind can't be read.
+#[tactic(auto, using(crate::proofs::FirstNamed::first_named, crate::proofs::FirstNamed::hidden, crate::proofs::FirstNamed::missing))]
+fn first_named(kernel: &Btf<'_>, ids: &[u32], name: &str, kind: BtfKind) -> Option<u32>
+    requires { ids.now ≡ named_ids (kind ∷ []) (essential_name name.now) kernel.now }
+    ensures { IsFirst kernel.now kind name.now result }
+{
+    let id = first_of(kernel, ids, name)?;
+    if is_readable(kernel, id) { Some(id) } else { None }
+}
+
+/// The type that the record of an id is of.
+fn type_held_at(kernel: &Btf<'_>, id: u32) -> u32
+    ensures { result ≡ type_held_at kernel.now id }
+{
+    match kernel.type_by_id(id) {
+        Ok(t) => t.btf_type().unwrap_or(0),
+        Err(_error) => 0,
+    }
+}
+
+impl<'k, 'n> KernelRecords<'k, 'n> {
+    /// Those of a kernel's table, which is gone over once for all externs with types.
+    pub(crate) fn find(
+        alloc: Global,
+        externs: &Externs<'n>,
+        kernel: &'k Btf<'k>,
+    ) -> Result<KernelRecords<'k, 'n>, AllocError>
+        ensures { IfOk result (λ records. records ≡ kernel.now) }
     {
-        for (name, desc) in externs.iter() {
-            if !self.has(table, name, desc) {
-                return false;
-            }
-        }
-        true
+        let names = typed_names(alloc, externs)?;
+        let tables = slice::from_ref(kernel);
+        let kinds = [BtfKind::Func, BtfKind::Var];
+        let types = NamedTypes::find(alloc, &kinds, names.as_slice(), tables)?;
+        Ok(KernelRecords { kernel, types })
     }
 
     /// The id of the first record of a kind and a name.
-    pub(crate) fn id(&self, name: &str, kind: BtfKind) -> Option<u32>
-        ensures { result ≡ id_of self.now kind name.now }
+    fn id(&self, name: &str, kind: BtfKind) -> Result<Option<u32>, AllocError>
+        ensures { IfOk result (IsFirst self.now kind name.now) }
     {
-        match kind {
-            BtfKind::Func => self.functions.id(name),
-            BtfKind::Var => self.variables.id(name),
-            _ => None,
+        let alloc = self.kernel.allocator();
+        let ids = self.types.ids(alloc, 0, &[kind], essential_name(name))?;
+        Ok(first_named(self.kernel, ids.as_slice(), name, kind))
+    }
+
+    /// What the kernel has of a kind and a name for a local type.
+    pub(crate) fn record(
+        &self,
+        table: &Btf<'_>,
+        type_id: u32,
+        name: &str,
+        kind: BtfKind,
+    ) -> Result<KernelRecord, BtfError>
+        ensures value { IfOk result (IsRecord table.now self.now type_id kind name.now) }
+        ensures refused { IfErr result (λ e.
+            e ≢ OutOfMemory
+            → (id : ℕ) × IsKernelRecord table.now self.now type_id kind name.now (Err e) id) }
+    {
+        let Some(id) = self.id(name, kind)? else {
+            return Ok(KernelRecord::Missing);
+        };
+        let held = type_held_at(self.kernel, id);
+        if types_are_compatible(table, type_id, self.kernel, held)? {
+            Ok(KernelRecord::Compatible(id))
+        } else {
+            Ok(KernelRecord::Incompatible)
         }
-    }
-
-    /// Goes through a table, once for functions and once for variables, as far as it can say more.
-    #[tactic(auto, using(crate::proofs::Entries::all_said))]
-    fn go_through(&mut self, kernel: &Btf<'_>) -> Result<(), AllocError>
-        requires { AreBegun self.old }
-        ensures said { OnOk result (AreAllSaid kernel.now self.new (length kernel.now.types + 1)) }
-        ensures wanted { OnOk result (SameWanted self.old self.new) }
-    {
-        let headers = TypeHeaders::new(kernel);
-        self.functions.go_through(kernel, &headers)?;
-        self.variables.go_through(kernel, &headers)?;
-        Ok(())
-    }
-}
-
-/// The names of the externs with types, wanted.
-#[tactic(auto, using(crate::proofs::Entries::none_wanted))]
-fn wanted_records<'n>(
-    alloc: Global,
-    externs: &Externs<'n>,
-    table: &Btf<'_>,
-) -> Result<KernelRecords<'n>, AllocError>
-    ensures begun { IfOk result AreBegun }
-    ensures wanted { IfOk result (λ records.
-        AreEntriesWanted table.now records externs.now.by_name) }
-{
-    let mut wanted = WantedRecords::new(alloc);
-    for (name, desc) in externs.iter() {
-        wanted.want(table, name, desc)?;
-    }
-    let records = KernelRecords::from_names(alloc, wanted)?;
-    Ok(records)
-}
-
-/// What a kernel's table has of the functions and variables that externs with types are declared as.
-/// It isn't gone through where there is no such extern.
-#[tactic(auto, using(crate::proofs::Entries::none_typed, crate::proofs::Entries::nothing_said, crate::proofs::Entries::still_wanted))]
-pub(crate) fn records_in<'n>(
-    alloc: Global,
-    externs: &Externs<'n>,
-    table: &Btf<'_>,
-    kernel: &Btf<'_>,
-) -> Result<KernelRecords<'n>, AllocError>
-    ensures said { IfOk result (λ records.
-        AreAllSaid kernel.now records (length kernel.now.types + 1)) }
-    ensures wanted { IfOk result (λ records.
-        AreEntriesWanted table.now records externs.now.by_name) }
-{
-    if !externs.has_typed() {
-        return Ok(KernelRecords::new(alloc));
-    }
-    let mut records = wanted_records(alloc, externs, table)?;
-    records.go_through(kernel)?;
-    Ok(records)
-}
-
-/// What the kernel's table, where one is given, has of them.
-#[tactic(auto, using(crate::proofs::Entries::none_given, crate::proofs::Entries::known))]
-pub(crate) fn kernel_records<'n>(
-    alloc: Global,
-    externs: &Externs<'n>,
-    table: &Btf<'_>,
-    kernel: Option<&Btf<'_>>,
-) -> Result<KernelRecords<'n>, AllocError>
-    ensures { IfOk result (λ records.
-        AreKnown table.now (option_copied kernel.entry) records externs.now.by_name) }
-{
-    match kernel {
-        Some(kernel) => records_in(alloc, externs, table, kernel),
-        None => Ok(KernelRecords::new(alloc)),
     }
 }

@@ -4,15 +4,9 @@
 
 mod addressed;
 mod error;
-mod kernel_externs;
 mod kernel_records;
-mod named_ids;
-mod named_records;
-mod records;
 mod resolving;
 mod typed;
-mod walk;
 
 pub use error::KsymsError;
-pub use kernel_externs::KernelExterns;
-pub use resolving::{resolve_externs, resolve_externs_among};
+pub use resolving::resolve_externs;

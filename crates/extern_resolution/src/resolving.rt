@@ -10,7 +10,6 @@ ghost use Rattle.extern_resolution.specs.declared.error.KsymsError.TheVariants.{
 
 use crate::addressed::{addressed_externs, sought_addresses};
 use crate::error::KsymsError;
-use crate::kernel_externs::KernelExterns;
 use crate::typed::typed_externs;
 use btf_tables::Btf;
 use object_externs::{ExternDesc, Externs};
@@ -26,9 +25,7 @@ fn resolved<'a, R: BufRead>(
     table: &Btf<'_>,
     kernel: Option<&Btf<'_>>,
     symbols: &mut Watched<R>,
-    shared: Option<&KernelExterns<'_, '_>>,
 ) -> Result<TextMap<'a, ExternDesc<'a>>, KsymsError>
-    requires { IfSome (option_copied shared) (λ k. option_copied kernel ≡ Some k) }
     ensures resolved { IfOk result (λ new.
         AreResolved table.now (option_copied kernel.entry) (R.remaining (watched_inner symbols.old))
         (has_failed symbols.new) externs.now
@@ -39,7 +36,7 @@ fn resolved<'a, R: BufRead>(
         (R.remaining (watched_inner symbols.old)) (has_failed symbols.new) externs.now f) }
     ensures unread { is_any_sought externs.now.by_name ≡ false → symbols.new ≡ symbols.old }
 {
-    let typed = typed_externs(alloc, externs, table, kernel, shared)?;
+    let typed = typed_externs(alloc, externs, table, kernel)?;
     let addresses = sought_addresses(alloc, externs, symbols)?;
     addressed_externs(alloc, &typed, &addresses)
 }
@@ -77,38 +74,10 @@ pub fn resolve_externs<'a, R: BufRead>(
     ensures err { OnErr result (externs.new ≡ externs.old) }
     ensures unread { is_any_sought externs.old.by_name ≡ false → symbols.new ≡ symbols.old }
 {
-    resolve_externs_among(alloc, externs, table, kernel_types, symbols, None)
-}
-
-/// As `resolve_externs`, with what was gathered of the kernel's first table before; where that
-/// hasn't all names, the table is gone over.
-pub fn resolve_externs_among<'a, R: BufRead>(
-    alloc: Global,
-    externs: &mut Externs<'a>,
-    table: Option<&Btf<'_>>,
-    kernel_types: &[Btf<'_>],
-    symbols: &mut Watched<R>,
-    shared: Option<&KernelExterns<'_, '_>>,
-) -> Result<(), KsymsError>
-    requires shared { IfSome (option_copied shared) (λ k. slice_get kernel_types.now 0 ≡ Some k) }
-    ensures resolved { OnOk result
-        (IfSome (option_copied table.entry) (λ t.
-        AreResolved t (slice_get kernel_types.now 0) (R.remaining (watched_inner symbols.old))
-        (has_failed symbols.new) externs.old externs.new)) }
-    ensures refused { IfErr result (λ f.
-        f ≢ OutOfMemory
-        → IsSomeAnd (option_copied table.entry) (λ t.
-        CannotResolve t (slice_get kernel_types.now 0) (R.remaining (watched_inner symbols.old))
-        (has_failed symbols.new) externs.old f)) }
-    ensures no_table { option_copied table.entry ≡ None
-        → (IsOk result) × (externs.new ≡ externs.old) × (symbols.new ≡ symbols.old) }
-    ensures err { OnErr result (externs.new ≡ externs.old) }
-    ensures unread { is_any_sought externs.old.by_name ≡ false → symbols.new ≡ symbols.old }
-{
     let Some(table) = table else {
         return Ok(());
     };
-    let resolved = resolved(alloc, externs, table, kernel_types.first(), symbols, shared)?;
+    let resolved = resolved(alloc, externs, table, kernel_types.first(), symbols)?;
     externs.set_by_name(resolved);
     Ok(())
 }

@@ -1,16 +1,13 @@
 //! Externs with a type.
 
-ghost use Rattle.std.specs.Prelude.{◌≡◌, ◌≢◌, Any, Some, option_copied, IfErr, IfOk, IfSome, OnOk};
+ghost use Rattle.std.specs.Prelude.{◌≡◌, ◌≢◌, Any, option_copied, IfErr, IfOk, OnOk};
 ghost use Rattle.extern_resolution.specs.Faults.{EntryTypedFault, KindFault, RecordFault, TypedFault};
 ghost use Rattle.extern_resolution.specs.Outcomes.{IsFound, IsFoundFor, IsFoundIn, kernel_name, with_kernel_id};
 ghost use Rattle.extern_resolution.specs.Steps.{AreSteps, EntryTyped, NoFault, TypedBecomes};
-ghost use Rattle.extern_resolution.specs.Wanted.{AreKnown, IsDeclaredKnown, IsEntryKnown, IsKnown};
 ghost use Rattle.extern_resolution.specs.declared.error.KsymsError.TheVariants.{OutOfMemory};
 
 use crate::error::KsymsError;
-use crate::kernel_externs::KernelExterns;
-use crate::kernel_records::{KernelRecords, kernel_records};
-use crate::records::{KernelRecord, kernel_record};
+use crate::kernel_records::{KernelRecord, KernelRecords};
 use btf_records::BtfKind;
 use btf_tables::{Btf, essential_name};
 use object_externs::{ExternDesc, Externs};
@@ -21,13 +18,11 @@ use string_map::TextMapBuilder;
 fn find_function(
     alloc: Global,
     table: &Btf<'_>,
-    kernel: &Btf<'_>,
-    records: &KernelRecords<'_>,
+    kernel: &KernelRecords<'_, '_>,
     name: &str,
     desc: &ExternDesc<'_>,
     type_id: u32,
 ) -> Result<Option<u32>, KsymsError>
-    requires { IsKnown kernel.now records.now BtfKind.Func (kernel_name BtfKind.Func name.now) }
     ensures found { IfOk result
         (IsFound table.now kernel.now type_id BtfKind.Func (kernel_name BtfKind.Func name.now)) }
     ensures accepted { OnOk result
@@ -36,7 +31,7 @@ fn find_function(
         f ≢ OutOfMemory → KindFault table.now kernel.now type_id BtfKind.Func name.now desc.now f) }
 {
     let name = essential_name(name);
-    match kernel_record(table, type_id, kernel, records, name, BtfKind::Func)? {
+    match kernel.record(table, type_id, name, BtfKind::Func)? {
         KernelRecord::Compatible(id) => Ok(Some(id)),
         KernelRecord::Incompatible if !desc.is_weak => {
             let name = String::from_str(alloc, name)?;
@@ -54,13 +49,11 @@ fn find_function(
 fn find_variable(
     alloc: Global,
     table: &Btf<'_>,
-    kernel: &Btf<'_>,
-    records: &KernelRecords<'_>,
+    kernel: &KernelRecords<'_, '_>,
     name: &str,
     desc: &ExternDesc<'_>,
     type_id: u32,
 ) -> Result<Option<u32>, KsymsError>
-    requires { IsKnown kernel.now records.now BtfKind.Var (kernel_name BtfKind.Var name.now) }
     ensures found { IfOk result
         (IsFound table.now kernel.now type_id BtfKind.Var (kernel_name BtfKind.Var name.now)) }
     ensures accepted { OnOk result
@@ -68,7 +61,7 @@ fn find_variable(
     ensures refused { IfErr result (λ f.
         f ≢ OutOfMemory → KindFault table.now kernel.now type_id BtfKind.Var name.now desc.now f) }
 {
-    match kernel_record(table, type_id, kernel, records, name, BtfKind::Var)? {
+    match kernel.record(table, type_id, name, BtfKind::Var)? {
         KernelRecord::Compatible(id) => Ok(Some(id)),
         KernelRecord::Incompatible if !desc.is_weak => {
             let name = String::from_str(alloc, name)?;
@@ -86,13 +79,11 @@ fn find_variable(
 fn find_declared(
     alloc: Global,
     table: &Btf<'_>,
-    kernel: &Btf<'_>,
-    records: &KernelRecords<'_>,
+    kernel: &KernelRecords<'_, '_>,
     name: &str,
     desc: &ExternDesc<'_>,
     type_id: u32,
 ) -> Result<Option<u32>, KsymsError>
-    requires { IsDeclaredKnown table.now kernel.now records.now name.now desc.now }
     ensures found { IfOk result (IsFoundFor table.now kernel.now name.now desc.now type_id) }
     ensures accepted { OnOk result
         (NoFault (RecordFault table.now kernel.now type_id name.now desc.now)) }
@@ -101,8 +92,8 @@ fn find_declared(
 {
     let t = table.type_by_id(desc.btf_id)?;
     match t.kind() {
-        BtfKind::Func => find_function(alloc, table, kernel, records, name, desc, type_id),
-        BtfKind::Var => find_variable(alloc, table, kernel, records, name, desc, type_id),
+        BtfKind::Func => find_function(alloc, table, kernel, name, desc, type_id),
+        BtfKind::Var => find_variable(alloc, table, kernel, name, desc, type_id),
         _ => Err(KsymsError::InvalidExternType {
             name: String::from_str(alloc, name)?,
         }),
@@ -113,14 +104,11 @@ fn find_declared(
 fn find_typed(
     alloc: Global,
     table: &Btf<'_>,
-    kernel: Option<&Btf<'_>>,
-    records: &KernelRecords<'_>,
+    kernel: Option<&KernelRecords<'_, '_>>,
     name: &str,
     desc: &ExternDesc<'_>,
     type_id: u32,
 ) -> Result<Option<u32>, KsymsError>
-    requires { IfSome (option_copied kernel) (λ types.
-        IsDeclaredKnown table.now types records.now name.now desc.now) }
     ensures found { IfOk result
         (IsFoundIn table.now (option_copied kernel.entry) name.now desc.now type_id) }
     ensures accepted { OnOk result
@@ -130,7 +118,7 @@ fn find_typed(
         → TypedFault table.now (option_copied kernel.entry) type_id name.now desc.now f) }
 {
     match kernel {
-        Some(kernel) => find_declared(alloc, table, kernel, records, name, desc, type_id),
+        Some(kernel) => find_declared(alloc, table, kernel, name, desc, type_id),
         None if desc.is_weak => Ok(None),
         None => Err(KsymsError::TypedKsymRequiresKernelBtf),
     }
@@ -156,13 +144,10 @@ fn with_kernel_id<'a>(found: Option<u32>, desc: &ExternDesc<'a>) -> ExternDesc<'
 fn typed_extern<'a>(
     alloc: Global,
     table: &Btf<'_>,
-    kernel: Option<&Btf<'_>>,
-    records: &KernelRecords<'_>,
+    kernel: Option<&KernelRecords<'_, '_>>,
     name: &str,
     desc: &ExternDesc<'a>,
 ) -> Result<ExternDesc<'a>, KsymsError>
-    requires { IfSome (option_copied kernel) (λ types.
-        IsEntryKnown table.now types records.now (name.now, desc.now)) }
     ensures becomes { IfOk result
         (TypedBecomes table.now (option_copied kernel.entry) name.now desc.now) }
     ensures accepted { OnOk result
@@ -174,22 +159,20 @@ fn typed_extern<'a>(
 {
     match desc.type_id {
         Some(type_id) => {
-            let found = find_typed(alloc, table, kernel, records, name, desc, type_id)?;
+            let found = find_typed(alloc, table, kernel, name, desc, type_id)?;
             Ok(with_kernel_id(found, desc))
         }
         None => Ok(with_kernel_id(None, desc)),
     }
 }
 
-/// The externs after the look-up by their types among these records.
+/// The externs after the look-up by their types in what is known of the kernel's.
 fn typed_by<'a>(
     alloc: Global,
     externs: &Externs<'a>,
     table: &Btf<'_>,
-    kernel: Option<&Btf<'_>>,
-    records: &KernelRecords<'_>,
+    kernel: Option<&KernelRecords<'_, '_>>,
 ) -> Result<Externs<'a>, KsymsError>
-    requires { AreKnown table.now (option_copied kernel) records.now externs.now.by_name }
     ensures becomes { IfOk result
         (AreSteps (EntryTyped table.now (option_copied kernel.entry)) externs.now) }
     ensures accepted { OnOk result
@@ -201,22 +184,20 @@ fn typed_by<'a>(
 {
     let mut by_name = TextMapBuilder::new(alloc);
     for (name, desc) in externs.iter() {
-        let desc = typed_extern(alloc, table, kernel, records, name, desc)?;
+        let desc = typed_extern(alloc, table, kernel, name, desc)?;
         by_name.insert(*name, desc)?;
     }
     let by_name = by_name.build(alloc)?;
     Ok(externs.replaced(by_name))
 }
 
-/// The externs after the look-up by their types, among shared records where those have all names.
+/// The externs after the look-up by their types.
 pub(crate) fn typed_externs<'a>(
     alloc: Global,
     externs: &Externs<'a>,
     table: &Btf<'_>,
     kernel: Option<&Btf<'_>>,
-    shared: Option<&KernelExterns<'_, '_>>,
 ) -> Result<Externs<'a>, KsymsError>
-    requires { IfSome (option_copied shared) (λ k. option_copied kernel ≡ Some k) }
     ensures becomes { IfOk result
         (AreSteps (EntryTyped table.now (option_copied kernel.entry)) externs.now) }
     ensures accepted { OnOk result
@@ -226,11 +207,9 @@ pub(crate) fn typed_externs<'a>(
         f ≢ OutOfMemory
         → Any (EntryTypedFault table.now (option_copied kernel.entry) f) externs.now.by_name) }
 {
-    if let Some(shared) = shared {
-        if let Some(records) = shared.records_of(externs, table) {
-            return typed_by(alloc, externs, table, kernel, records);
-        }
-    }
-    let records = kernel_records(alloc, externs, table, kernel)?;
-    typed_by(alloc, externs, table, kernel, &records)
+    let Some(kernel) = kernel else {
+        return typed_by(alloc, externs, table, None);
+    };
+    let records = KernelRecords::find(alloc, externs, kernel)?;
+    typed_by(alloc, externs, table, Some(&records))
 }

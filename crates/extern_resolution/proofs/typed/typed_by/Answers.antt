@@ -4,14 +4,8 @@ use Rattle.extern_resolution.specs.Faults.{EntryTypedFault}
 use Rattle.extern_resolution.specs.Steps.{EntryTyped}
 use Rattle.object_externs.specs.Names.{by_bytes}
 use Rattle.extern_resolution.proofs.Each.{none_at_all, none_more, passed_here}
-use Rattle.extern_resolution.proofs.Entries.{known_here}
 use Rattle.extern_resolution.proofs.Growing.{grows_by}
 use Rattle.extern_resolution.proofs.typed.typed_by.Goals as goal
-
-pub typed_extern-requires : goal.typed_extern-requires
-typed_extern-requires c =
-    let next : by_bytes c.loop-name.name-iterator ≡ (c.in-Some.name.now.now, c.in-Some.desc.now) ∷ by_bytes c.next.new.self = search rules in
-    known_here (EntryTypedFault c.args.table.now (option_copied c.args.kernel)) c.args.table.now (option_copied c.args.kernel) c.args.records.now c.args.externs.now.by_name _ _ _ c.requires c.loop-name.invariant.1 next
 
 pub returns-in_err-desc-clause-refused : goal.returns-in_err-desc-clause-refused
 returns-in_err-desc-clause-refused c =

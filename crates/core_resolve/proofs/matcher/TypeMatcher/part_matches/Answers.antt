@@ -24,7 +24,7 @@ invariant_of-self c =
     let here = paths_here m.local m.targets r c.args.path.now c.in_ok-paths.paths.items c.requires.path c.in_ok-paths.ensures.value in
     let inside = subst (λ (t : Matched). ArePathsOf t.local t.targets r c.in_ok-paths.paths.items) (sym c.self.view_is) here in
     let known = paths_more _ c.self.inside.paths.entries _ (record { relocation = r; paths = c.in_ok-paths.paths }) c.self.inside.local.now c.self.inside.targets.now c.self.invariant.2 inside in
-    (c.self.invariant.0, c.self.invariant.1, rw c.in_ok-insert.ensures.entries known, c.self.invariant.3, c.self.invariant.4)
+    (c.self.invariant.0, c.self.invariant.1, rw c.in_ok-insert.ensures.entries known)
 
 pub returns-clause-value : goal.returns-clause-value
 returns-clause-value c =

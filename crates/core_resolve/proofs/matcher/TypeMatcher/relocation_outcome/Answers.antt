@@ -9,7 +9,7 @@ pub invariant_of-self-2 : goal.invariant_of-self-2
 invariant_of-self-2 c =
     let here = subst (λ (m : Matched). IsOutcome m.local m.targets c.args.relocation c.in_ok-outcome.outcome) (sym (c.self.view_is ∙ c.in_ok-outcome.ensures.same)) c.in_ok-outcome.ensures.value in
     let known = one_more _ c.self.inside.known.entries _ (record { relocation = c.args.relocation; outcome = c.in_ok-outcome.outcome }) c.self.inside.local.now c.self.inside.targets.now c.self.invariant.1 here in
-    (c.self.invariant.0, rw c.in_ok-insert.ensures.entries known, c.self.invariant.2, c.self.invariant.3, c.self.invariant.4)
+    (c.self.invariant.0, rw c.in_ok-insert.ensures.entries known, c.self.invariant.2)
 
 pub returns-in-Some-clause-table : goal.returns-in-Some-clause-table
 returns-in-Some-clause-table c = table_of c.args.self.now.local c.args.self.now.targets c.args.relocation c.in-Some.outcome c.in-Some.ensures

@@ -1,0 +1,77 @@
+-- Types that aren't wanted, as their kinds and the beginnings of their names tell.
+use Rattle.std.proofs.Common.{◌≡◌, ℕ, Bool, true, false, cond, not, List, [], Option, None, Some, refl, sym, ap, ◌∙◌, subst, inr}
+use Rattle.std.specs.Prelude.{IfSome, ◌&&◌, is_some}
+use Rattle.std.specs.Cmp.Lexicographic.{same_text}
+use Rattle.std.specs.Option.{IsSomeAnd, option_map, option_map_or}
+use Rattle.std.specs.Str.{bytes_eq}
+use Rattle.btf_records.specs.Fields.{kind_of_type, name_offset_of}
+use Rattle.btf_records.specs.Kinds.{number_of}
+use Rattle.btf_records.specs.declared.kind.BtfKind.{BtfKind}
+use Rattle.btf_records.specs.declared.types.BtfType.{BtfType}
+use Rattle.btf_tables.specs.EssentialNames.{essential_name}
+use Rattle.btf_tables.specs.Tables.{Table, type_by_id}
+use Rattle.string_table.specs.FirstBytes.{is_marked}
+use Rattle.string_table.specs.Texts.{text_at}
+use Rattle.string_map.specs.Orders.{value_of}
+use Rattle.btf_search.specs.Beginnings.{BeginningMarks, MarksName, MayBegin}
+use Rattle.btf_search.specs.Headers.{BeginsOtherwise}
+use Rattle.btf_search.specs.NamedTypes.{is_so, name_of}
+use Rattle.btf_search.specs.Searches.{AreBeginnings, Searched, has_name, is_wanted}
+
+-- ---- how wanted names begin
+
+pub none_begin : (marks : BeginningMarks) → AreBeginnings [] marks
+none_begin marks = record { each = λ text. tt }
+
+more_by : (value : Option Bool) (Old New : Type 0) → (Old → New) → IfSome value (λ _. Old) → IfSome value (λ _. New)
+more_by None Old New grows has = tt
+more_by (Some n) Old New grows has = grows has
+
+name_by : (name other : List ℕ) (value : Bool) (Holds : Type 0) (old : Option Bool) (test : Bool) → test ≡ bytes_eq name other → (name ≡ other → Holds) → IfSome old (λ _. Holds) → IfSome (cond test (Some value) old) (λ _. Holds)
+name_by name other value Holds old true is now has = now (same_text name other is)
+name_by name other value Holds old false is now has = has
+
+-- one name more, whose beginnings are marked
+pub more_beginnings : (old new : List (List ℕ × Bool)) (name : List ℕ) (value : Bool) (before marks : BeginningMarks) → AreBeginnings old before → MarksName name before marks → ((other : List ℕ) → value_of other new ≡ cond (bytes_eq name other) (Some value) (value_of other old)) → AreBeginnings new marks
+more_beginnings old new name value before marks are begin put = record {
+  each = λ text.
+      subst (λ (o : Option Bool). IfSome o (λ _. MayBegin marks text)) (sym (put (essential_name text))) (name_by name (essential_name text) value (MayBegin marks text) (value_of (essential_name text) old) (bytes_eq name (essential_name text)) refl (λ same. begin.named text (inr (sym same))) (more_by (value_of (essential_name text) old) (MayBegin before text) (MayBegin marks text) (begin.stay text) (are.each text)));
+}
+
+-- ---- types that aren't wanted
+
+pub not_there : (search : Searched) (table : Table) (id : ℕ) → None ≡ option_map kind_of_type (type_by_id table id) → is_so (is_wanted search) table id ≡ false
+not_there search table id is = by (type_by_id table id) is where
+  by : (t : Option BtfType) → None ≡ option_map kind_of_type t → option_map_or (λ t. is_wanted search (kind_of_type t) (name_of table t)) t false ≡ false
+  by None is = refl
+  by (Some t) is = absurd cc
+
+and_false : (one other : Bool) → one ≡ false → (one && other) ≡ false
+and_false true other is = absurd cc
+and_false false other is = refl
+
+and_false_right : (one other : Bool) → other ≡ false → (one && other) ≡ false
+and_false_right true other is = is
+and_false_right false other is = refl
+
+pub of_another_kind : (search : Searched) (table : Table) (id : ℕ) (kind : BtfKind) → Some kind ≡ option_map kind_of_type (type_by_id table id) → is_marked search.kinds (number_of kind) ≡ false → is_so (is_wanted search) table id ≡ false
+of_another_kind search table id kind is other = by (type_by_id table id) is where
+  by : (t : Option BtfType) → Some kind ≡ option_map kind_of_type t → option_map_or (λ t. is_wanted search (kind_of_type t) (name_of table t)) t false ≡ false
+  by None is = refl
+  by (Some t) is =
+      let same : kind ≡ kind_of_type t = cc in
+      and_false (is_marked search.kinds (number_of (kind_of_type t))) (option_map_or (has_name search) (name_of table t) true) (ap (λ (k : BtfKind). is_marked search.kinds (number_of k)) (sym same) ∙ other)
+
+none_by : (value : Option Bool) (Begins : Type 0) → IfSome value (λ _. Begins) → (Begins → ⊥) → is_some value ≡ false
+none_by None Begins has isnt = refl
+none_by (Some n) Begins has isnt = absurd (isnt has)
+
+name_otherwise : (search : Searched) (marks : BeginningMarks) (text : Option (List ℕ)) → AreBeginnings search.names marks → IsSomeAnd text (λ t. MayBegin marks t → ⊥) → option_map_or (has_name search) (option_map essential_name text) true ≡ false
+name_otherwise search marks None are begins = absurd begins
+name_otherwise search marks (Some text) are begins = none_by (value_of (essential_name text) search.names) (MayBegin marks text) (are.each text) begins
+
+pub begins_otherwise : (search : Searched) (marks : BeginningMarks) (table : Table) (id : ℕ) → AreBeginnings search.names marks → BeginsOtherwise table marks id → is_so (is_wanted search) table id ≡ false
+begins_otherwise search marks table id are begins = by (type_by_id table id) begins where
+  by : (t : Option BtfType) → IsSomeAnd t (λ t. IsSomeAnd (text_at table.strings (name_offset_of t)) (λ text. MayBegin marks text → ⊥)) → option_map_or (λ t. is_wanted search (kind_of_type t) (name_of table t)) t false ≡ false
+  by None is = refl
+  by (Some t) is = and_false_right (is_marked search.kinds (number_of (kind_of_type t))) (option_map_or (has_name search) (name_of table t) true) (name_otherwise search marks (text_at table.strings (name_offset_of t)) are is)

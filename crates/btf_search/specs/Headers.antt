@@ -1,0 +1,36 @@
+-- Kinds and names of a table's types.
+use Rattle.std.specs.Prelude.{◌≡◌, ℕ, ◌-◌, ◌<◌, Bool, true, List, drop, length, map, slice_get, Some}
+use Rattle.std.specs.Option.{IsSomeAnd}
+use Rattle.btf_records.specs.Fields.{kind_of_type, name_offset_of}
+use Rattle.btf_records.specs.declared.kind.BtfKind.{BtfKind}
+use Rattle.btf_tables.specs.Tables.{Table, type_by_id}
+use Rattle.string_table.specs.FirstBytes.{AreTexts}
+use Rattle.string_table.specs.Texts.{text_at}
+use Rattle.btf_search.specs.Beginnings.{BeginningMarks, MayBegin}
+
+pub record Headers : Type 0 where
+  pub kinds : List BtfKind
+  pub name_offsets : List ℕ
+  pub strings : List ℕ
+  pub are_texts : Bool
+
+-- those of the types from id 1 on
+pub record AreHeadersOf (table : Table) (headers : Headers) : Type 0 where
+  pub kinds : headers.kinds ≡ map kind_of_type table.types
+  pub names : headers.name_offsets ≡ map name_offset_of table.types
+  pub strings : headers.strings ≡ table.strings
+  pub texts : headers.are_texts ≡ true → AreTexts headers.strings
+
+-- the name of the type of an id can be read, and begins as none of some names does
+abbrev pub BeginsOtherwise : Table → BeginningMarks → ℕ → Type 0
+BeginsOtherwise table marks id =
+    IsSomeAnd (type_by_id table id) (λ t.
+    IsSomeAnd (text_at table.strings (name_offset_of t)) (λ text. MayBegin marks text → ⊥))
+
+-- the name of this id, which isn't void's, lies in the strings, which go on with these bytes there
+pub record IsNameOf (headers : Headers) (id : ℕ) (bytes : List ℕ) : Type 0 where
+  pub offset : ℕ
+  pub named : slice_get headers.name_offsets (id - 1) ≡ Some offset
+  pub isnt_void : 0 < id
+  pub within : offset < length headers.strings
+  pub are : bytes ≡ drop offset headers.strings

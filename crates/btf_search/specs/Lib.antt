@@ -1,0 +1,4 @@
+pub mod Beginnings
+pub mod Headers
+pub mod NamedTypes
+pub mod Searches

@@ -1,0 +1,162 @@
+//! How names begin.
+
+ghost use Rattle.std.specs.Prelude.{◌≡◌, ◌&&◌, ℕ, List, Some, drop, false};
+ghost use Rattle.string_table.specs.FirstBytes.{is_marked};
+ghost use Rattle.string_table.specs.Texts.{text_at};
+ghost use Rattle.btf_search.specs.Beginnings.{MarksName, MarksTwoBytes, MayBegin, beginning, beginning_of, long_beginning, next_number};
+
+use std::marker::Model;
+use string_table::MarkedBytes;
+
+/// A number that all texts have which begin with these two bytes, a NUL after the last byte of a
+/// text being one of them. 31 is odd, so that where the second bytes are alike the numbers differ
+/// as the first bytes do.
+#[tactic(auto, using(crate::proofs::EmptyTexts::masked))]
+fn beginning_of(first: u8, second: u8) -> u8
+    ensures { result ≡ beginning_of first second }
+{
+    let number = first.wrapping_mul(31).wrapping_add(second);
+    // Which texts are empty a processor can't guess: they are told without a branch.
+    number & 0u8.wrapping_sub(u8::from(first != 0))
+}
+
+/// The number of the text that these bytes begin with, by its first two.
+fn beginning(bytes: &[u8]) -> u8
+    ensures { result ≡ beginning bytes.now }
+{
+    match bytes {
+        [first, second, ..] => beginning_of(*first, *second),
+        [first] => beginning_of(*first, 0),
+        [] => beginning_of(0, 0),
+    }
+}
+
+/// The number of some bytes and the next one.
+fn next_number(number: u8, byte: u8) -> u8
+    ensures { result ≡ next_number number byte }
+{
+    number.wrapping_mul(31).wrapping_add(byte)
+}
+
+/// A number that all texts have which begin with these eight bytes, if there are as many.
+#[tactic(auto, using(crate::proofs::LongBeginnings::too_few))]
+fn long_beginning(bytes: &[u8]) -> Option<u8>
+    ensures { result ≡ long_beginning bytes.now }
+{
+    match bytes {
+        [a, b, c, d, e, f, g, h, ..] => {
+            let two = next_number(next_number(0, *a), *b);
+            let four = next_number(next_number(two, *c), *d);
+            let six = next_number(next_number(four, *e), *f);
+            Some(next_number(next_number(six, *g), *h))
+        }
+        _ => None,
+    }
+}
+
+/// Marks how a text of a name can begin: as the name does, a flavour or the NUL following where it
+/// has fewer than two bytes.
+#[tactic(auto, using(crate::proofs::MarkedNames::two_bytes, crate::proofs::MarkedNames::one_byte, crate::proofs::MarkedNames::no_byte))]
+fn mark_two_bytes(marks: &mut MarkedBytes, name: &str)
+    ensures { MarksTwoBytes name.now marks.old marks.new }
+{
+    match name.as_bytes() {
+        [first, second, ..] => marks.mark(beginning_of(*first, *second)),
+        [first] => {
+            marks.mark(beginning_of(*first, 0));
+            marks.mark(beginning_of(*first, b'_'));
+        }
+        [] => {
+            marks.mark(beginning_of(0, 0));
+            marks.mark(beginning_of(b'_', b'_'));
+        }
+    }
+}
+
+/// How some names begin, with flavours or without: all by a number of their first two bytes, which
+/// tells most other texts apart, and by one of the first eight, or again of two where they have
+/// fewer.
+#[derive(Debug, Drop)]
+pub(crate) struct NameBeginnings {
+    pairs: MarkedBytes,
+    short: MarkedBytes,
+    long: MarkedBytes,
+    /// Whether a name has fewer than eight bytes.
+    has_short: bool,
+}
+
+impl Model for NameBeginnings {
+    ghost use Rattle.btf_search.specs.Beginnings.{BeginningMarks};
+
+    ghost Value = { BeginningMarks };
+
+    ghost view = { λ b.
+        record { pairs = b.pairs; short = b.short; long = b.long; has_short = b.has_short } };
+}
+
+impl NameBeginnings {
+    /// No names.
+    #[tactic(auto, using(crate::proofs::MarkedNames::none_begins))]
+    pub(crate) fn new() -> NameBeginnings
+        ensures { (text : List ℕ) → MayBegin result text → ⊥ }
+    {
+        NameBeginnings {
+            pairs: MarkedBytes::new(),
+            short: MarkedBytes::new(),
+            long: MarkedBytes::new(),
+            has_short: false,
+        }
+    }
+
+    /// Adds a name.
+    #[tactic(auto, using(crate::proofs::MarkedNames::marked_long, crate::proofs::MarkedNames::marked_short))]
+    pub(crate) fn mark(&mut self, name: &str)
+        ensures { MarksName name.now self.old self.new }
+    {
+        mark_two_bytes(&mut self.pairs, name);
+        match long_beginning(name.as_bytes()) {
+            Some(number) => self.long.mark(number),
+            None => {
+                mark_two_bytes(&mut self.short, name);
+                self.has_short = true;
+            }
+        }
+    }
+
+    /// Whether a text of one of the names has the number of the first two of these bytes.
+    fn has_pair(&self, bytes: &[u8]) -> bool
+        ensures { result ≡ is_marked self.now.pairs (beginning bytes.now) }
+    {
+        self.pairs.contains(beginning(bytes))
+    }
+
+    /// Whether these bytes may begin with a text of one of the names that have fewer than eight.
+    fn may_be_short(&self, bytes: &[u8]) -> bool
+        ensures { result
+            ≡ (self.now.has_short && is_marked self.now.short (beginning bytes.now)) }
+    {
+        self.has_short && self.short.contains(beginning(bytes))
+    }
+
+    /// Whether these bytes may begin with a text of one of the names.
+    #[tactic(auto, using(crate::proofs::RawTexts::unpaired, crate::proofs::RawTexts::unmarked, crate::proofs::RawTexts::too_short))]
+    pub(crate) fn may_begin(&self, bytes: &[u8]) -> bool
+        ensures { (strings text : List ℕ) (offset : ℕ)
+            → bytes.now ≡ drop offset strings
+            → text_at strings offset ≡ Some text
+            → result ≡ false
+            → MayBegin self.now text
+            → ⊥ }
+    {
+        if !self.has_pair(bytes) {
+            return false;
+        }
+        if self.may_be_short(bytes) {
+            return true;
+        }
+        match long_beginning(bytes) {
+            Some(number) => self.long.contains(number),
+            None => false,
+        }
+    }
+}

@@ -1,0 +1,104 @@
+//! Kinds and names of a table's types.
+
+ghost use Rattle.std.specs.Prelude.{◌≡◌, ◌<◌, drop, false, length, true, IfSome};
+ghost use Rattle.std.specs.Option.{option_map};
+ghost use Rattle.btf_records.specs.Fields.{kind_of_type};
+ghost use Rattle.btf_tables.specs.Tables.{Table, type_by_id};
+ghost use Rattle.btf_search.specs.Headers.{AreHeadersOf, BeginsOtherwise, IsNameOf};
+
+use crate::beginnings::NameBeginnings;
+use btf_records::BtfKind;
+use btf_tables::Btf;
+use std::marker::Model;
+
+/// The bytes from an index on, if there are some.
+fn bytes_from(bytes: &[u8], index: usize) -> Option<&[u8]>
+    ensures { IfSome result (λ rest.
+        (rest.now ≡ drop index bytes.now) × (index < length bytes.now)) }
+{
+    if index >= bytes.len() {
+        return None;
+    }
+    Some(&bytes[index..])
+}
+
+/// The kinds of a table's types, and where their names begin.
+#[derive(Debug, Drop)]
+pub(crate) struct TypeHeaders<'t> {
+    /// The kinds from id 1 on.
+    pub(crate) kinds: &'t [BtfKind],
+    /// The offsets of names from id 1 on.
+    pub(crate) name_offsets: &'t [u32],
+    pub(crate) strings: &'t [u8],
+    /// Whether each byte of the strings is known to begin a text.
+    pub(crate) are_texts: bool,
+}
+
+impl<'t> Model for TypeHeaders<'t> {
+    ghost use Rattle.btf_search.specs.Headers.{Headers};
+
+    ghost Value = { Headers };
+
+    ghost view = { λ h.
+        record {
+          kinds = h.kinds.now;
+          name_offsets = h.name_offsets.now;
+          strings = h.strings.now;
+          are_texts = h.are_texts;
+        } };
+}
+
+impl<'t> TypeHeaders<'t> {
+    /// Those of a table.
+    pub(crate) fn new(table: &'t Btf<'_>) -> TypeHeaders<'t>
+        ensures { AreHeadersOf table.now result }
+    {
+        TypeHeaders {
+            kinds: table.kinds(),
+            name_offsets: table.name_offsets(),
+            strings: table.strings().as_slice(),
+            are_texts: table.strings().are_texts(),
+        }
+    }
+
+    /// The kind of the type of an id; that of id 0 is void.
+    #[tactic(auto, using(crate::proofs::HeadersOf::void_kind, crate::proofs::HeadersOf::kind_is))]
+    pub(crate) fn kind(&self, id: usize) -> Option<BtfKind>
+        ensures { (table : Table)
+            → AreHeadersOf table self.now
+            → result ≡ option_map kind_of_type (type_by_id table id) }
+    {
+        if id == 0 {
+            return Some(BtfKind::Unknown);
+        }
+        self.kinds.get(id - 1).copied()
+    }
+
+    /// The strings from the name of the type of an id on. None of void, or where no name begins.
+    fn name_bytes(&self, id: usize) -> Option<&'t [u8]>
+        ensures { IfSome result (λ bytes. IsNameOf self.now id bytes.now) }
+    {
+        if id == 0 {
+            return None;
+        }
+        let offset = self.name_offsets.get(id - 1).copied()?;
+        bytes_from(self.strings, offset as usize)
+    }
+
+    /// Whether the name of the type of an id can be read, and begins as none of some names does.
+    #[tactic(auto, using(crate::proofs::HeadersOf::isnt_among))]
+    pub(crate) fn begins_otherwise(&self, id: usize, names: &NameBeginnings) -> bool
+        ensures { (table : Table)
+            → AreHeadersOf table self.now
+            → result ≡ true
+            → BeginsOtherwise table names.now id }
+    {
+        if !self.are_texts {
+            return false;
+        }
+        match self.name_bytes(id) {
+            Some(bytes) => !names.may_begin(bytes),
+            None => false,
+        }
+    }
+}

@@ -1,9 +1,0 @@
-pub mod EmptyTexts
-pub mod HeadersOf
-pub mod LongBeginnings
-pub mod MarkedNames
-pub mod NamedIds
-pub mod NoneOfKinds
-pub mod RawTexts
-pub mod TypesFrom
-pub mod WrittenIds
