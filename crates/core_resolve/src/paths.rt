@@ -92,7 +92,6 @@ fn add_path<'t>(
         paths.new.items) }
     ensures refused { IfErr result (λ e.
         e ≢ OutOfMemory → path_at subject local.now path.now targets.now place ≡ Err e) }
-    ensures same { finders.new ≡ targets.now }
 {
     match path_at(subject, local, path, targets, place)? {
         Some(found) => {
@@ -117,7 +116,6 @@ pub(crate) fn paths_of<'t>(
     ensures refused { IfErr result (λ e.
         e ≢ OutOfMemory
         → paths_of subject local.now path.now targets.now [] candidates.now ≡ Err e) }
-    ensures same { finders.new ≡ targets.now }
 {
     let mut paths = Vec::new(local.allocator());
     for candidate in candidates {

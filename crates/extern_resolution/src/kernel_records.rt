@@ -109,7 +109,11 @@ fn first_named(kernel: &Btf<'_>, ids: &[u32], name: &str, kind: BtfKind) -> Opti
     ensures { IsFirst kernel.now kind name.now result }
 {
     let id = first_of(kernel, ids, name)?;
-    if is_readable(kernel, id) { Some(id) } else { None }
+    if is_readable(kernel, id) {
+        Some(id)
+    } else {
+        None
+    }
 }
 
 /// The type that the record of an id is of.

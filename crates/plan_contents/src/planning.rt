@@ -12,8 +12,8 @@ use btf_ext::{FuncSecInfo, LineSecInfo};
 use btf_sanitize::Answers;
 use btf_tables::Btf;
 use ebpf_items::{ProgramSection, Slots};
-use object_whole::{Function, Object};
 use function_types::is_denied;
+use object_whole::{Function, Object};
 use plan_text::{Plan, PlanMap, PlanParts, PlanProgram, plan_of_parts};
 use std::alloc::{AllocError, Global};
 
