@@ -8,8 +8,8 @@ use Rattle.btf_records.specs.Info.{encoding_in}
 use Rattle.btf_records.specs.declared.types.BtfType.{BtfType}
 use Rattle.btf_records.specs.declared.types.BtfType.TheVariants as types
 use Rattle.btf_tables.specs.Tables.{Table, type_by_id}
-use Rattle.core_resolve.specs.declared.outcome.Outcome.{Outcome}
-use Rattle.core_resolve.specs.declared.outcome.Outcome.TheVariants as outcomes
+use Rattle.core_resolve.specs.declared.resolved.Resolved.{Resolved}
+use Rattle.core_resolve.specs.declared.resolved.Resolved.TheVariants as outcomes
 use Rattle.core_resolve.specs.declared.relocation.RelocationOutcome.{RelocationOutcome}
 use Rattle.core_patch.specs.declared.patch.Patch.{Patch}
 use Rattle.core_patch.specs.declared.patch.Patch.TheVariants.{Poison, Value}
@@ -52,7 +52,7 @@ width_of local target compiled field =
     (field_size field)
     else Unknown
 
-abbrev pub patch_for : Table → Option Table → Option WholeField → Outcome → Patch
+abbrev pub patch_for : Table → Option Table → Option WholeField → Resolved → Patch
 patch_for local target compiled (outcomes.Value v) =
     Value v.value (width_of local target compiled v.field)
 patch_for local target compiled outcomes.Poison = Poison

@@ -7,7 +7,7 @@ ghost use Rattle.core_patch.specs.Patches.{are_alike, is_unsigned, may_stand_for
 use btf_encoding::TypeRef;
 use btf_records::BtfKind;
 use btf_tables::Btf;
-use core_resolve::{Outcome, RelocationOutcome};
+use core_resolve::{RelocationOutcome, Resolved};
 use core_spec::WholeField;
 
 /// What becomes of the width of a load or a store.
@@ -109,7 +109,7 @@ pub fn patch_of(local: &Btf<'_>, targets: &[Btf<'_>], outcome: RelocationOutcome
     ensures { result ≡ patch_of local.now targets.now outcome }
 {
     match outcome.outcome {
-        Outcome::Value(found) => Patch::Value {
+        Resolved::Value(found) => Patch::Value {
             value: found.value,
             width: width_of(
                 local,
@@ -118,6 +118,6 @@ pub fn patch_of(local: &Btf<'_>, targets: &[Btf<'_>], outcome: RelocationOutcome
                 found.field,
             ),
         },
-        Outcome::Poison => Patch::Poison,
+        Resolved::Poison => Patch::Poison,
     }
 }

@@ -17,8 +17,8 @@ use Rattle.object_parts.specs.Installed.{AreChanged}
 use Rattle.string_table.specs.Texts.{text_at}
 use Rattle.core_resolve.specs.Laws.{OutcomesRest}
 use Rattle.core_resolve.specs.declared.error.TypeRelocationError.{TypeRelocationError}
-use Rattle.core_resolve.specs.declared.outcome.Outcome.{Outcome}
-use Rattle.core_resolve.specs.declared.outcome.Outcome.TheVariants as outcomes
+use Rattle.core_resolve.specs.declared.resolved.Resolved.{Resolved}
+use Rattle.core_resolve.specs.declared.resolved.Resolved.TheVariants as outcomes
 use Rattle.core_resolve.specs.declared.relocation.RelocationOutcome.{RelocationOutcome}
 use Rattle.core_patch.specs.Patches.{field_size, may_stand_for, patch_for, patch_of, type_of, width_of}
 use Rattle.core_patch.specs.declared.patch.Patch.{Patch}
@@ -93,7 +93,7 @@ width-same : (b : Both) (target : Option Table) (compiled field : Option WholeFi
 width-same b target compiled field here =
     ap (λ (t : Option BtfType). if field_size compiled == field_size field then Kept else if may_stand_for t (type_of target field) then Changed (field_size field) else Unknown) (type-same b compiled here)
 
-patch-same : (b : Both) (target : Option Table) (compiled : Option WholeField) (outcome : Outcome) → IfSome compiled (λ f. b.reached f.type_id ≡ true) → patch_for b.other target compiled outcome ≡ patch_for b.given.local target compiled outcome
+patch-same : (b : Both) (target : Option Table) (compiled : Option WholeField) (outcome : Resolved) → IfSome compiled (λ f. b.reached f.type_id ≡ true) → patch_for b.other target compiled outcome ≡ patch_for b.given.local target compiled outcome
 patch-same b target compiled (outcomes.Value v) here = ap (λ (w : Width). Value v.value w) (width-same b target compiled v.field here)
 patch-same b target compiled outcomes.Poison here = refl
 

@@ -107,7 +107,7 @@ impl<'r, 'o, 'f, 't, 'k> Lookup<'r, 'o, 'f, 't, 'k> {
     /// What a relocation of a number in its group comes to in the kernel's types.
     fn record_outcome(
         &self,
-        matcher: &mut TypeMatcher<'_, '_, '_>,
+        matcher: &mut TypeMatcher<'_>,
         number: usize,
         relocation: bpf_core_relo,
     ) -> Result<RelocationOutcome, BtfRelocationCause>
@@ -146,7 +146,7 @@ impl<'r, 'o, 'f, 't, 'k> Lookup<'r, 'o, 'f, 't, 'k> {
     /// A relocation of a section's group, in its function and with what it gives.
     fn place(
         &self,
-        matcher: &mut TypeMatcher<'_, '_, '_>,
+        matcher: &mut TypeMatcher<'_>,
         section_index: usize,
         position: Position,
         relocation: bpf_core_relo,
@@ -179,7 +179,7 @@ impl<'r, 'o, 'f, 't, 'k> Lookup<'r, 'o, 'f, 't, 'k> {
     /// be placed.
     fn place_records(
         &self,
-        matcher: &mut TypeMatcher<'_, '_, '_>,
+        matcher: &mut TypeMatcher<'_>,
         section_index: usize,
         first: Position,
         records: &[bpf_core_relo],
@@ -213,7 +213,7 @@ impl<'r, 'o, 'f, 't, 'k> Lookup<'r, 'o, 'f, 't, 'k> {
     /// Places the relocations of a group, up to the first that can't be placed.
     fn place_group(
         &self,
-        matcher: &mut TypeMatcher<'_, '_, '_>,
+        matcher: &mut TypeMatcher<'_>,
         number: usize,
         group: &RelocationGroup,
         list: &mut Vec<Placed>,
@@ -286,7 +286,7 @@ impl<'r, 'o, 'f, 't, 'k> Lookup<'r, 'o, 'f, 't, 'k> {
     /// Places the relocations of all groups, up to the first that can't be placed.
     pub(crate) fn place_groups(
         &self,
-        matcher: &mut TypeMatcher<'_, '_, '_>,
+        matcher: &mut TypeMatcher<'_>,
         groups: &[RelocationGroup],
         list: &mut Vec<Placed>,
     ) -> Result<(), BtfRelocationError>

@@ -22,7 +22,7 @@ use Rattle.core_resolve.specs.Matches.{followed_by, if_computed, kernel_matches,
 use Rattle.core_resolve.specs.RelocationOutcomes.{IsTableOf, decided, first_table, local_value, relocation_outcome, settled}
 use Rattle.core_resolve.specs.declared.error.TypeRelocationError.{TypeRelocationError}
 use Rattle.core_resolve.specs.declared.matches.Match.{Match}
-use Rattle.core_resolve.specs.declared.outcome.Outcome.{Outcome}
+use Rattle.core_resolve.specs.declared.resolved.Resolved.{Resolved}
 use Rattle.core_resolve.specs.declared.relocation.RelocationOutcome.{RelocationOutcome}
 use Rattle.core_resolve.specs.declared.relocation.TypeRelocation.{TypeRelocation}
 
@@ -124,7 +124,7 @@ TableIsOf targets o = IsTableOf targets o.table
 
 pub settled_is_of : (targets : List Table) (kind : RelocationKind) (matches : List Match) (value : RelocationValue) → FirstIsOf targets matches → IfOk (settled kind matches value) (TableIsOf targets)
 settled_is_of targets kind matches value first = by (decided kind value matches) where
-  by : (r : Result Outcome TypeRelocationError) → IfOk (followed_by r (λ outcome. Ok (record { outcome = outcome; local_field = value.field; table = first_table matches }))) (TableIsOf targets)
+  by : (r : Result Resolved TypeRelocationError) → IfOk (followed_by r (λ outcome. Ok (record { outcome = outcome; local_field = value.field; table = first_table matches }))) (TableIsOf targets)
   by (Ok outcome) = first
   by (Err e) = tt
 

@@ -8,10 +8,10 @@ use Rattle.ebpf_items.specs.declared.relocation_kind.RelocationKind.TheVariants 
 use Rattle.core_resolve.specs.declared.error.TypeRelocationError.{TypeRelocationError}
 use Rattle.core_resolve.specs.declared.error.TypeRelocationError.TheVariants.{ConflictingCandidates, MissingTargetDefinition}
 use Rattle.core_resolve.specs.declared.matches.Match.{Match}
-use Rattle.core_resolve.specs.declared.outcome.Outcome.{Outcome}
-use Rattle.core_resolve.specs.declared.outcome.Outcome.TheVariants.{Poison, Value}
+use Rattle.core_resolve.specs.declared.resolved.Resolved.{Resolved}
+use Rattle.core_resolve.specs.declared.resolved.Resolved.TheVariants.{Poison, Value}
 
-abbrev pub no_match : RelocationKind → Result Outcome TypeRelocationError
+abbrev pub no_match : RelocationKind → Result Resolved TypeRelocationError
 no_match kinds.FieldExists = Ok (Value (plain 0))
 no_match kinds.TypeExists = Ok (Value (plain 0))
 no_match kinds.EnumVariantExists = Ok (Value (plain 0))
@@ -27,15 +27,15 @@ same_values _ _ = true
 abbrev pub agree : Match → Match → Bool
 agree first other = (first.bit_offset == other.bit_offset) && same_values first.value other.value
 
-abbrev pub value_of_first : Option RelocationValue → Outcome
+abbrev pub value_of_first : Option RelocationValue → Resolved
 value_of_first (Some value) = Value value
 value_of_first None = Poison
 
-abbrev pub of_first : Match → Outcome
+abbrev pub of_first : Match → Resolved
 of_first first = value_of_first first.value
 
 -- in the order of tables and ids: the first decides, and the others must agree with it
-abbrev pub outcome_of : RelocationKind → List Match → Result Outcome TypeRelocationError
+abbrev pub outcome_of : RelocationKind → List Match → Result Resolved TypeRelocationError
 outcome_of kind [] = no_match kind
 outcome_of kind (first ∷ others) =
     if list_all (agree first) others then Ok (of_first first) else Err ConflictingCandidates

@@ -13,8 +13,8 @@ use Rattle.core_resolve.specs.Matches.{followed_by, kernel_matches, with_local}
 use Rattle.core_resolve.specs.Outcomes.{outcome_of}
 use Rattle.core_resolve.specs.declared.error.TypeRelocationError.{TypeRelocationError}
 use Rattle.core_resolve.specs.declared.matches.Match.{Match}
-use Rattle.core_resolve.specs.declared.outcome.Outcome.{Outcome}
-use Rattle.core_resolve.specs.declared.outcome.Outcome.TheVariants.{Value}
+use Rattle.core_resolve.specs.declared.resolved.Resolved.{Resolved}
+use Rattle.core_resolve.specs.declared.resolved.Resolved.TheVariants.{Value}
 use Rattle.core_resolve.specs.declared.relocation.RelocationOutcome.{RelocationOutcome}
 use Rattle.core_resolve.specs.declared.relocation.TypeRelocation.{TypeRelocation}
 
@@ -28,7 +28,7 @@ local_value local kind path = path_value local kind path
 abbrev pub decided : RelocationKind
     → RelocationValue
     → List Match
-    → Result Outcome TypeRelocationError
+    → Result Resolved TypeRelocationError
 decided kinds.TypeIdLocal value matches = Ok (Value value)
 decided kind value matches = outcome_of kind matches
 

@@ -7,14 +7,14 @@ mod known;
 mod laws;
 mod matcher;
 mod matches;
-mod outcome;
 mod paths;
 mod relocation;
+mod resolved;
 
 pub use core_candidates::KernelType;
 pub use error::TypeRelocationError;
 pub use laws::{lists_of_one_table, outcomes_rest};
 pub use matcher::TypeMatcher;
 pub use matches::{Match, kernel_matches};
-pub use outcome::{Outcome, conflicts, outcome_of};
 pub use relocation::{RelocationOutcome, TypeRelocation, relocation_outcome};
+pub use resolved::{Resolved, conflicts, outcome_of};

@@ -7,7 +7,7 @@ ghost use Rattle.core_resolve.specs.declared.error.TypeRelocationError.TheVarian
 use crate::error::TypeRelocationError;
 use crate::matcher::TypeMatcher;
 use crate::matches::Match;
-use crate::outcome::{Outcome, outcome_of};
+use crate::resolved::{Resolved, outcome_of};
 use btf_tables::Btf;
 use core_spec::{AccessError, AccessPath, RelocationValue, WholeField, path_value};
 use ebpf_items::RelocationKind;
@@ -25,7 +25,7 @@ pub struct TypeRelocation {
 /// What a type relocation comes to, and what its instruction was compiled for.
 #[derive(Clone, Copy, Debug)]
 pub struct RelocationOutcome {
-    pub outcome: Outcome,
+    pub outcome: Resolved,
     /// Of a byte offset the field in the object's own types, if it is no bit field.
     pub local_field: Option<WholeField>,
     /// The kernel's table in which the first match stands, counted from 0, also where its value
@@ -55,11 +55,11 @@ fn decided(
     kind: RelocationKind,
     value: RelocationValue,
     matches: &[Match],
-) -> Result<Outcome, TypeRelocationError>
+) -> Result<Resolved, TypeRelocationError>
     ensures { result ≡ decided kind value matches.now }
 {
     match kind {
-        RelocationKind::TypeIdLocal => Ok(Outcome::Value(value)),
+        RelocationKind::TypeIdLocal => Ok(Resolved::Value(value)),
         _ => outcome_of(kind, matches),
     }
 }

@@ -78,7 +78,7 @@ fn given(
 
 /// What a relocation comes to.
 fn answer_of(
-    matcher: &mut TypeMatcher<'_, '_, '_>,
+    matcher: &mut TypeMatcher<'_>,
     local: &Btf<'_>,
     targets: &[Btf<'_>],
     at: RelocationAt,
@@ -108,7 +108,7 @@ fn answer_of(
 /// What some relocations come to, with a matcher for these tables.
 fn all_answers(
     alloc: Global,
-    matcher: &mut TypeMatcher<'_, '_, '_>,
+    matcher: &mut TypeMatcher<'_>,
     local: &Btf<'_>,
     targets: &[Btf<'_>],
     relocations: &[RelocationAt],

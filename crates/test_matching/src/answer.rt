@@ -1,7 +1,7 @@
 //! What type relocations come to, in values that can be compared.
 
 use btf_records::BtfError;
-use core_resolve::{Outcome, RelocationOutcome, TypeRelocationError};
+use core_resolve::{RelocationOutcome, Resolved, TypeRelocationError};
 use core_spec::{AccessError, RelocationValue, WholeField};
 
 /// Why something is refused.
@@ -72,10 +72,10 @@ impl Answer {
         }
     }
 
-    pub(crate) fn of_outcome(outcome: Outcome) -> Answer {
+    pub(crate) fn of_outcome(outcome: Resolved) -> Answer {
         match outcome {
-            Outcome::Value(value) => Answer::of_value(value),
-            Outcome::Poison => Answer::Poison,
+            Resolved::Value(value) => Answer::of_value(value),
+            Resolved::Poison => Answer::Poison,
         }
     }
 

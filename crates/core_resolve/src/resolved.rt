@@ -12,7 +12,7 @@ use std::alloc::{AllocError, Global};
 
 /// What a type relocation comes to.
 #[derive(Clone, Copy, Debug)]
-pub enum Outcome {
+pub enum Resolved {
     /// This value.
     Value(RelocationValue),
     /// The instruction can't be run.
@@ -20,20 +20,20 @@ pub enum Outcome {
 }
 
 /// Without a match.
-fn no_match(kind: RelocationKind) -> Result<Outcome, TypeRelocationError>
+fn no_match(kind: RelocationKind) -> Result<Resolved, TypeRelocationError>
     ensures { result ≡ no_match kind }
 {
     match kind {
         RelocationKind::FieldExists
         | RelocationKind::TypeExists
-        | RelocationKind::EnumVariantExists => Ok(Outcome::Value(RelocationValue {
+        | RelocationKind::EnumVariantExists => Ok(Resolved::Value(RelocationValue {
             value: 0,
             field: None,
         })),
         RelocationKind::TypeIdTarget | RelocationKind::TypeSize => {
             Err(TypeRelocationError::MissingTargetDefinition)
         }
-        _ => Ok(Outcome::Poison),
+        _ => Ok(Resolved::Poison),
     }
 }
 
@@ -58,12 +58,12 @@ fn all_agree(first: Match, others: &[Match]) -> bool
 }
 
 /// What the first of several matches comes to.
-fn of_first(first: Match) -> Outcome
+fn of_first(first: Match) -> Resolved
     ensures { result ≡ of_first first }
 {
     match first.value {
-        Some(value) => Outcome::Value(value),
-        None => Outcome::Poison,
+        Some(value) => Resolved::Value(value),
+        None => Resolved::Poison,
     }
 }
 
@@ -74,7 +74,7 @@ fn of_first(first: Match) -> Outcome
 /// `ConflictingCandidates` where another match has another bit offset, or another value where both
 /// can be computed; `MissingTargetDefinition` where the id or the size of a type is asked for that
 /// isn't there.
-pub fn outcome_of(kind: RelocationKind, matches: &[Match]) -> Result<Outcome, TypeRelocationError>
+pub fn outcome_of(kind: RelocationKind, matches: &[Match]) -> Result<Resolved, TypeRelocationError>
     ensures { result ≡ outcome_of kind matches.now }
 {
     let [first, others @ ..] = matches else {
