@@ -8,7 +8,7 @@ use std::alloc::{AllocError, Global};
 const HEADER: u32 = 24;
 
 /// A length as a word, of which the greatest stands for all that are too long.
-pub(crate) fn length_word(len: usize) -> u32 {
+fn length_word(len: usize) -> u32 {
     u32::try_from(len).unwrap_or(u32::MAX)
 }
 
