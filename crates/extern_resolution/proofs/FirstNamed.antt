@@ -1,15 +1,17 @@
 -- The first record of a kind and a name is the first among the types that have the name, flavours
 -- aside.
-use Rattle.std.proofs.Common.{◌≡◌, ◌≢◌, ℕ, zero, suc, ◌+◌, ◌-◌, ◌<◌, ◌≤◌, Bool, true, false, List, [], ◌∷◌, filter, find, length, Option, None, Some, refl, ap, sym, ◌∙◌, subst, arith, below_more, nat_eq, nat_lt}
-use Rattle.std.specs.Prelude.{IfSome, ◌&&◌, ◌==◌, ◌||◌, is_some}
+use Rattle.std.proofs.Common.{◌≡◌, ◌≢◌, ℕ, zero, suc, ◌+◌, ◌-◌, ◌<◌, ◌≤◌, Bool, true, false, List, [], ◌∷◌, filter, find, length, Option, None, Some, refl, ap, sym, ◌∙◌, subst, arith, add-one, below_more, drop, drop-cons, get_or, nat_eq, nat_lt}
+use Rattle.std.specs.Prelude.{IfSome, ◌&&◌, ◌==◌, ◌||◌, is_some, slice_index_or}
 use Rattle.std.proofs.lemmas.Bool.Decides.{nat_tests}
+use Rattle.std.proofs.lemmas.Grind.{common_steps}
 use Rattle.std.proofs.lemmas.Option.{slice_get_past}
 use Rattle.std.specs.Cmp.Lexicographic.{other_text, pointwise, same_text}
 use Rattle.std.specs.List.{range_with_len}
 use Rattle.std.specs.Option.{IsSomeAnd, MatchOption, option_map, option_map_or}
 use Rattle.btf_records.specs.Fields.{kind_of_type, name_offset_of}
-use Rattle.btf_records.specs.Kinds.{number_of}
+use Rattle.btf_records.specs.Kinds.{all_kinds, number_of}
 use Rattle.btf_records.specs.declared.kind.BtfKind.{BtfKind}
+use Rattle.btf_records.specs.declared.kind.BtfKind.TheVariants.{Unknown, Int, Ptr, Array, Struct, Union, Enum, Fwd, Typedef, Volatile, Const, Restrict, Func, FuncProto, Var, DataSec, Float, DeclTag, TypeTag, Enum64}
 use Rattle.btf_records.specs.declared.types.BtfType.{BtfType}
 use Rattle.btf_search.specs.NamedTypes.{has_kind, ids_of, is_asked, is_so, name_of, named_ids}
 use Rattle.btf_tables.specs.EssentialNames.{essential_name}
@@ -40,8 +42,47 @@ record IsFirstLike (kernel : Table) (kind : BtfKind) (name : List ℕ) (id : ℕ
 abbrev Says : Table → BtfKind → List ℕ → Option ℕ → Type 0
 Says kernel kind name found = MatchOption found (IsMissing kernel kind name) (IsFirstLike kernel kind name)
 
+kind_back : (kind : BtfKind) → slice_index_or all_kinds (number_of kind) Unknown ≡ kind
+kind_back Unknown = refl
+kind_back Int = refl
+kind_back Ptr = refl
+kind_back Array = refl
+kind_back Struct = refl
+kind_back Union = refl
+kind_back Enum = refl
+kind_back Fwd = refl
+kind_back Typedef = refl
+kind_back Volatile = refl
+kind_back Const = refl
+kind_back Restrict = refl
+kind_back Func = refl
+kind_back FuncProto = refl
+kind_back Var = refl
+kind_back DataSec = refl
+kind_back Float = refl
+kind_back DeclTag = refl
+kind_back TypeTag = refl
+kind_back Enum64 = refl
+
 same_kind : (a b : BtfKind) → number_of a ≡ number_of b → a ≡ b
-same_kind a b is = grind
+same_kind a b is = sym (kind_back a) ∙ (ap (λ (n : ℕ). slice_index_or all_kinds n Unknown) is ∙ kind_back b)
+
+-- ---- the first of some ids
+
+this_id : (ids : List ℕ) (i : ℕ) → i < length ids → drop i ids ≡ get_or ids i 0 ∷ drop (i + 1) ids
+this_id ids i lt = rw add-one (drop-cons ids i 0 lt)
+
+pub find_on : (p : ℕ → Bool) (ids : List ℕ) (i : ℕ) (all : Option ℕ) → i < length ids → find p (drop i ids) ≡ all → p (get_or ids i 0) ≡ false → find p (drop (i + 1) ids) ≡ all
+find_on p ids i all lt left isnt = rw (this_id ids i lt, isnt) at left
+
+pub find_here : (p : ℕ → Bool) (ids : List ℕ) (i : ℕ) (all : Option ℕ) → i < length ids → find p (drop i ids) ≡ all → p (get_or ids i 0) ≡ true → Some (get_or ids i 0) ≡ all
+find_here p ids i all lt left is = rw (this_id ids i lt, is) at left
+
+none_left : (ids : List ℕ) (i : ℕ) → length ids ≤ i → drop i ids ≡ []
+none_left ids i le = grind (arith, common_steps)
+
+pub find_end : (p : ℕ → Bool) (ids : List ℕ) (i : ℕ) (all : Option ℕ) → length ids ≤ i → find p (drop i ids) ≡ all → None ≡ all
+find_end p ids i all le left = rw (none_left ids i le) at left
 
 -- ---- a type that isn't of the kind and the name
 

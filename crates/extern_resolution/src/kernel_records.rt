@@ -80,6 +80,7 @@ fn may_be_first(kernel: &Btf<'_>, id: u32, name: &str) -> bool
 }
 
 /// The first id at which the name may be this.
+#[tactic(auto, using(crate::proofs::FirstNamed::find_on, crate::proofs::FirstNamed::find_here, crate::proofs::FirstNamed::find_end))]
 fn first_of(kernel: &Btf<'_>, ids: &[u32], name: &str) -> Option<u32>
     ensures { result ≡ find (may_be_first kernel.now name.now) ids.now }
 {
