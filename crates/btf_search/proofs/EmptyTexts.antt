@@ -3,7 +3,7 @@ use Rattle.std.proofs.Common.{◌≡◌, ℕ, ◌+◌, ◌-◌, ◌*◌, ◌%◌
 use Rattle.std.specs.Prelude.{◌==◌, not, ◌<◌}
 use Rattle.std.specs.Int.Bits.{bit_and, and_zero_r}
 use Rattle.std.proofs.lemmas.Grind.{and_numeral}
-use Rattle.btf_search.specs.Beginnings.{beginning_of}
+use Rattle.btf_search.specs.Prefixes.{beginning_of}
 
 masked_by : (empty : Bool) (number mask : ℕ) → mask ≡ cond (not empty) 1 0 → number < 256 → bit_and number ((0 + (256 - mask)) % 256) ≡ cond empty 0 number
 masked_by true number mask is few = rw is (and_zero_r number)

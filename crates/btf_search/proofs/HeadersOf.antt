@@ -11,7 +11,7 @@ use Rattle.btf_records.specs.declared.types.BtfType.{BtfType}
 use Rattle.btf_tables.specs.Tables.{Table, type_by_id}
 use Rattle.string_table.specs.FirstBytes.{AreTexts}
 use Rattle.string_table.specs.Texts.{text_at}
-use Rattle.btf_search.specs.Beginnings.{BeginningMarks, MayBegin}
+use Rattle.btf_search.specs.Prefixes.{PrefixMarks, MayBegin}
 use Rattle.btf_search.specs.Headers.{AreHeadersOf, BeginsOtherwise, Headers, IsNameOf}
 
 by_id : (table : Table) (id : ℕ) → id ≢ 0 → type_by_id table id ≡ slice_get table.types (id - 1)
@@ -28,11 +28,11 @@ part_is A part table id isnt = slice_get-map part table.types (id - 1) ∙ ap (o
 pub kind_is : (table : Table) (headers : Headers) (id : ℕ) → id ≢ 0 → AreHeadersOf table headers → slice_get headers.kinds (id - 1) ≡ option_map kind_of_type (type_by_id table id)
 kind_is table headers id isnt are = ap (λ (ks : List BtfKind). slice_get ks (id - 1)) are.kinds ∙ part_is BtfKind kind_of_type table id isnt
 
-text_otherwise : (strings : List ℕ) (marks : BeginningMarks) (offset : ℕ) (text : Option (List ℕ)) → text_at strings offset ≡ text → is_some text ≡ true → ((other : List ℕ) → text_at strings offset ≡ Some other → MayBegin marks other → ⊥) → IsSomeAnd text (λ t. MayBegin marks t → ⊥)
+text_otherwise : (strings : List ℕ) (marks : PrefixMarks) (offset : ℕ) (text : Option (List ℕ)) → text_at strings offset ≡ text → is_some text ≡ true → ((other : List ℕ) → text_at strings offset ≡ Some other → MayBegin marks other → ⊥) → IsSomeAnd text (λ t. MayBegin marks t → ⊥)
 text_otherwise strings marks offset None is some isnt = absurd cc
 text_otherwise strings marks offset (Some text) is some isnt = isnt text is
 
-type_otherwise : (strings : List ℕ) (marks : BeginningMarks) (offset : ℕ) (t : Option BtfType) → AreTexts strings → offset < length strings → ((text : List ℕ) → text_at strings offset ≡ Some text → MayBegin marks text → ⊥) → option_map name_offset_of t ≡ Some offset
+type_otherwise : (strings : List ℕ) (marks : PrefixMarks) (offset : ℕ) (t : Option BtfType) → AreTexts strings → offset < length strings → ((text : List ℕ) → text_at strings offset ≡ Some text → MayBegin marks text → ⊥) → option_map name_offset_of t ≡ Some offset
     → IsSomeAnd t (λ t. IsSomeAnd (text_at strings (name_offset_of t)) (λ text. MayBegin marks text → ⊥))
 type_otherwise strings marks offset None texts within isnt named = absurd cc
 type_otherwise strings marks offset (Some t) texts within isnt named =
@@ -43,7 +43,7 @@ not_false : (b : Bool) → not b ≡ true → b ≡ false
 not_false true e = absurd cc
 not_false false e = refl
 
-pub isnt_among : (table : Table) (headers : Headers) (marks : BeginningMarks) (id : ℕ) (bytes : List ℕ) (may : Bool) → AreHeadersOf table headers → IsNameOf headers id bytes → headers.are_texts ≡ true → not may ≡ true → ((strings text : List ℕ) (offset : ℕ) → bytes ≡ drop offset strings → text_at strings offset ≡ Some text → may ≡ false → MayBegin marks text → ⊥) → BeginsOtherwise table marks id
+pub isnt_among : (table : Table) (headers : Headers) (marks : PrefixMarks) (id : ℕ) (bytes : List ℕ) (may : Bool) → AreHeadersOf table headers → IsNameOf headers id bytes → headers.are_texts ≡ true → not may ≡ true → ((strings text : List ℕ) (offset : ℕ) → bytes ≡ drop offset strings → text_at strings offset ≡ Some text → may ≡ false → MayBegin marks text → ⊥) → BeginsOtherwise table marks id
 isnt_among table headers marks id bytes may are name sure isnt otherwise =
     let named : option_map name_offset_of (type_by_id table id) ≡ Some name.offset =
     ap (option_map name_offset_of) (by_id table id (λ e. omega (arith, name.isnt_void, e))) ∙ (sym (slice_get-map name_offset_of table.types (id - 1)) ∙ (ap (λ (os : List ℕ). slice_get os (id - 1)) (sym are.names) ∙ name.named))

@@ -1,6 +1,6 @@
 pub mod EmptyTexts
 pub mod HeadersOf
-pub mod LongBeginnings
+pub mod LongPrefixes
 pub mod MarkedNames
 pub mod RawTexts
 pub mod Walks

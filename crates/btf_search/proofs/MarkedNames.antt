@@ -7,7 +7,7 @@ use Rattle.std.specs.List.{starts_with}
 use Rattle.std.specs.Option.{IsSomeAnd}
 use Rattle.btf_tables.specs.EssentialNames.{essential_name}
 use Rattle.string_table.specs.FirstBytes.{first_byte, is_marked}
-use Rattle.btf_search.specs.Beginnings.{BeginsAsOne, HasName, MarksName, MarksTwoBytes, MayBegin, beginning, beginning_of, long_beginning, next_number, number_after}
+use Rattle.btf_search.specs.Prefixes.{BeginsAsOne, HasName, MarksName, MarksTwoBytes, MayBegin, beginning, beginning_of, long_beginning, next_number, number_after}
 
 equal : (a b : ℕ) → nat_eq a b ≡ true → a ≡ b
 equal a b is = grind (arith, nat_tests, is)

@@ -7,7 +7,7 @@ use Rattle.std.specs.List.{position_or_len}
 use Rattle.std.specs.Option.{IsSomeAnd, option_map}
 use Rattle.std.specs.Str.{is_utf8}
 use Rattle.string_table.specs.FirstBytes.{first_byte, is_marked}
-use Rattle.btf_search.specs.Beginnings.{BeginningMarks, BeginsAsOne, MayBegin, beginning, beginning_of, long_beginning, next_number, number_after}
+use Rattle.btf_search.specs.Prefixes.{PrefixMarks, BeginsAsOne, MayBegin, beginning, beginning_of, long_beginning, next_number, number_after}
 use Rattle.string_table.specs.Texts.{before_nul, text_at, text_of}
 
 abbrev nul_at : List ℕ → ℕ
@@ -62,27 +62,27 @@ long_of : (strings text bytes : List ℕ) (offset number : ℕ) → bytes ≡ dr
 long_of strings text bytes offset number is e begins = front (nul_at bytes) 8 0 number bytes (ap long_beginning (text_taken strings text bytes offset is e) ∙ begins)
 
 -- short names are looked for by two bytes, and none has these
-abbrev pub NoShort : BeginningMarks → List ℕ → Type 0
+abbrev pub NoShort : PrefixMarks → List ℕ → Type 0
 NoShort marks bytes = (marks.has_short && is_marked marks.short (beginning bytes)) ≡ false
 
 other_test : (one other : Bool) → (one && other) ≡ false → one ≡ true → other ≡ false
 other_test true other both is = both
 other_test false other both is = absurd cc
 
-unmarked_short : (marks : BeginningMarks) (strings text bytes : List ℕ) (offset : ℕ) → bytes ≡ drop offset strings → text_at strings offset ≡ Some text → NoShort marks bytes → marks.has_short ≡ true → is_marked marks.short (beginning text) ≡ true → ⊥
+unmarked_short : (marks : PrefixMarks) (strings text bytes : List ℕ) (offset : ℕ) → bytes ≡ drop offset strings → text_at strings offset ≡ Some text → NoShort marks bytes → marks.has_short ≡ true → is_marked marks.short (beginning text) ≡ true → ⊥
 unmarked_short marks strings text bytes offset is e isnt has marked =
     let same : beginning text ≡ beginning bytes = sym (ap beginning (text_taken strings text bytes offset is e)) ∙ begins_by_bytes bytes in
     let both : true ≡ false = sym marked ∙ (ap (is_marked marks.short) same ∙ other_test marks.has_short (is_marked marks.short (beginning bytes)) isnt has) in
     absurd cc
 
 -- the first two bytes are marked of no name
-pub unpaired : (marks : BeginningMarks) (strings text bytes : List ℕ) (offset : ℕ) → bytes ≡ drop offset strings → text_at strings offset ≡ Some text → is_marked marks.pairs (beginning bytes) ≡ false → MayBegin marks text → ⊥
+pub unpaired : (marks : PrefixMarks) (strings text bytes : List ℕ) (offset : ℕ) → bytes ≡ drop offset strings → text_at strings offset ≡ Some text → is_marked marks.pairs (beginning bytes) ≡ false → MayBegin marks text → ⊥
 unpaired marks strings text bytes offset is e other may =
     let same : beginning text ≡ beginning bytes = sym (ap beginning (text_taken strings text bytes offset is e)) ∙ begins_by_bytes bytes in
     let both : true ≡ false = sym may.0 ∙ (ap (is_marked marks.pairs) same ∙ other) in
     absurd cc
 
-unmarked_as : (marks : BeginningMarks) (strings text bytes : List ℕ) (offset number : ℕ) → bytes ≡ drop offset strings → text_at strings offset ≡ Some text → NoShort marks bytes → Some number ≡ long_beginning bytes → is_marked marks.long number ≡ false → BeginsAsOne marks text → ⊥
+unmarked_as : (marks : PrefixMarks) (strings text bytes : List ℕ) (offset number : ℕ) → bytes ≡ drop offset strings → text_at strings offset ≡ Some text → NoShort marks bytes → Some number ≡ long_beginning bytes → is_marked marks.long number ≡ false → BeginsAsOne marks text → ⊥
 unmarked_as marks strings text bytes offset number is e isnt begins other (inl marked) = unmarked_short marks strings text bytes offset is e isnt marked.0 marked.1
 unmarked_as marks strings text bytes offset number is e isnt begins other (inr may) =
     let (found, has, marked) = marked_of marks.long (long_beginning text) may in
@@ -91,15 +91,15 @@ unmarked_as marks strings text bytes offset number is e isnt begins other (inr m
     let both : true ≡ false = sym marked ∙ (ap (is_marked marks.long) (sym same) ∙ other) in
     absurd cc
 
-pub unmarked : (marks : BeginningMarks) (strings text bytes : List ℕ) (offset number : ℕ) → bytes ≡ drop offset strings → text_at strings offset ≡ Some text → NoShort marks bytes → Some number ≡ long_beginning bytes → is_marked marks.long number ≡ false → MayBegin marks text → ⊥
+pub unmarked : (marks : PrefixMarks) (strings text bytes : List ℕ) (offset number : ℕ) → bytes ≡ drop offset strings → text_at strings offset ≡ Some text → NoShort marks bytes → Some number ≡ long_beginning bytes → is_marked marks.long number ≡ false → MayBegin marks text → ⊥
 unmarked marks strings text bytes offset number is e isnt begins other may = unmarked_as marks strings text bytes offset number is e isnt begins other may.1
 
-too_short_as : (marks : BeginningMarks) (strings text bytes : List ℕ) (offset : ℕ) → bytes ≡ drop offset strings → text_at strings offset ≡ Some text → NoShort marks bytes → None ≡ long_beginning bytes → BeginsAsOne marks text → ⊥
+too_short_as : (marks : PrefixMarks) (strings text bytes : List ℕ) (offset : ℕ) → bytes ≡ drop offset strings → text_at strings offset ≡ Some text → NoShort marks bytes → None ≡ long_beginning bytes → BeginsAsOne marks text → ⊥
 too_short_as marks strings text bytes offset is e isnt none (inl marked) = unmarked_short marks strings text bytes offset is e isnt marked.0 marked.1
 too_short_as marks strings text bytes offset is e isnt none (inr may) =
     let (found, has, marked) = marked_of marks.long (long_beginning text) may in
     let there : None ≡ Some found = none ∙ long_of strings text bytes offset found is e has in
     absurd cc
 
-pub too_short : (marks : BeginningMarks) (strings text bytes : List ℕ) (offset : ℕ) → bytes ≡ drop offset strings → text_at strings offset ≡ Some text → NoShort marks bytes → None ≡ long_beginning bytes → MayBegin marks text → ⊥
+pub too_short : (marks : PrefixMarks) (strings text bytes : List ℕ) (offset : ℕ) → bytes ≡ drop offset strings → text_at strings offset ≡ Some text → NoShort marks bytes → None ≡ long_beginning bytes → MayBegin marks text → ⊥
 too_short marks strings text bytes offset is e isnt none may = too_short_as marks strings text bytes offset is e isnt none may.1

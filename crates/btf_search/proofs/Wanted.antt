@@ -13,14 +13,14 @@ use Rattle.btf_tables.specs.Tables.{Table, type_by_id}
 use Rattle.string_table.specs.FirstBytes.{is_marked}
 use Rattle.string_table.specs.Texts.{text_at}
 use Rattle.string_map.specs.Orders.{value_of}
-use Rattle.btf_search.specs.Beginnings.{BeginningMarks, MarksName, MayBegin}
+use Rattle.btf_search.specs.Prefixes.{PrefixMarks, MarksName, MayBegin}
 use Rattle.btf_search.specs.Headers.{BeginsOtherwise}
 use Rattle.btf_search.specs.NamedTypes.{is_so, name_of}
-use Rattle.btf_search.specs.Searches.{AreBeginnings, Searched, has_name, is_wanted}
+use Rattle.btf_search.specs.Searches.{ArePrefixes, Searched, has_name, is_wanted}
 
 -- ---- how wanted names begin
 
-pub none_begin : (marks : BeginningMarks) → AreBeginnings [] marks
+pub none_begin : (marks : PrefixMarks) → ArePrefixes [] marks
 none_begin marks = record { each = λ text. tt }
 
 more_by : (value : Option Bool) (Old New : Type 0) → (Old → New) → IfSome value (λ _. Old) → IfSome value (λ _. New)
@@ -32,7 +32,7 @@ name_by name other value Holds old true is now has = now (same_text name other i
 name_by name other value Holds old false is now has = has
 
 -- one name more, whose beginnings are marked
-pub more_beginnings : (old new : List (List ℕ × Bool)) (name : List ℕ) (value : Bool) (before marks : BeginningMarks) → AreBeginnings old before → MarksName name before marks → ((other : List ℕ) → value_of other new ≡ cond (bytes_eq name other) (Some value) (value_of other old)) → AreBeginnings new marks
+pub more_beginnings : (old new : List (List ℕ × Bool)) (name : List ℕ) (value : Bool) (before marks : PrefixMarks) → ArePrefixes old before → MarksName name before marks → ((other : List ℕ) → value_of other new ≡ cond (bytes_eq name other) (Some value) (value_of other old)) → ArePrefixes new marks
 more_beginnings old new name value before marks are begin put = record {
   each = λ text.
       subst (λ (o : Option Bool). IfSome o (λ _. MayBegin marks text)) (sym (put (essential_name text))) (name_by name (essential_name text) value (MayBegin marks text) (value_of (essential_name text) old) (bytes_eq name (essential_name text)) refl (λ same. begin.named text (inr (sym same))) (more_by (value_of (essential_name text) old) (MayBegin before text) (MayBegin marks text) (begin.stay text) (are.each text)));
@@ -66,12 +66,12 @@ none_by : (value : Option Bool) (Begins : Type 0) → IfSome value (λ _. Begins
 none_by None Begins has isnt = refl
 none_by (Some n) Begins has isnt = absurd (isnt has)
 
-name_otherwise : (search : Searched) (marks : BeginningMarks) (text : Option (List ℕ)) → AreBeginnings search.names marks → IsSomeAnd text (λ t. MayBegin marks t → ⊥) → option_map_or (has_name search) (option_map essential_name text) true ≡ false
+name_otherwise : (search : Searched) (marks : PrefixMarks) (text : Option (List ℕ)) → ArePrefixes search.names marks → IsSomeAnd text (λ t. MayBegin marks t → ⊥) → option_map_or (has_name search) (option_map essential_name text) true ≡ false
 name_otherwise search marks None are begins = absurd begins
 name_otherwise search marks (Some text) are begins = none_by (value_of (essential_name text) search.names) (MayBegin marks text) (are.each text) begins
 
-pub begins_otherwise : (search : Searched) (marks : BeginningMarks) (table : Table) (id : ℕ) → AreBeginnings search.names marks → BeginsOtherwise table marks id → is_so (is_wanted search) table id ≡ false
-begins_otherwise search marks table id are begins = by (type_by_id table id) begins where
+pub is_filtered : (search : Searched) (marks : PrefixMarks) (table : Table) (id : ℕ) → ArePrefixes search.names marks → BeginsOtherwise table marks id → is_so (is_wanted search) table id ≡ false
+is_filtered search marks table id are begins = by (type_by_id table id) begins where
   by : (t : Option BtfType) → IsSomeAnd t (λ t. IsSomeAnd (text_at table.strings (name_offset_of t)) (λ text. MayBegin marks text → ⊥)) → option_map_or (λ t. is_wanted search (kind_of_type t) (name_of table t)) t false ≡ false
   by None is = refl
   by (Some t) is = and_false_right (is_marked search.kinds (number_of (kind_of_type t))) (option_map_or (has_name search) (name_of table t) true) (name_otherwise search marks (text_at table.strings (name_offset_of t)) are is)

@@ -6,7 +6,7 @@ use Rattle.btf_records.specs.declared.kind.BtfKind.{BtfKind}
 use Rattle.btf_tables.specs.Tables.{Table, type_by_id}
 use Rattle.string_table.specs.FirstBytes.{AreTexts}
 use Rattle.string_table.specs.Texts.{text_at}
-use Rattle.btf_search.specs.Beginnings.{BeginningMarks, MayBegin}
+use Rattle.btf_search.specs.Prefixes.{PrefixMarks, MayBegin}
 
 pub record Headers : Type 0 where
   pub kinds : List BtfKind
@@ -22,7 +22,7 @@ pub record AreHeadersOf (table : Table) (headers : Headers) : Type 0 where
   pub texts : headers.are_texts ≡ true → AreTexts headers.strings
 
 -- the name of the type of an id can be read, and begins as none of some names does
-abbrev pub BeginsOtherwise : Table → BeginningMarks → ℕ → Type 0
+abbrev pub BeginsOtherwise : Table → PrefixMarks → ℕ → Type 0
 BeginsOtherwise table marks id =
     IsSomeAnd (type_by_id table id) (λ t.
     IsSomeAnd (text_at table.strings (name_offset_of t)) (λ text. MayBegin marks text → ⊥))

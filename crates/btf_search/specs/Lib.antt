@@ -1,4 +1,4 @@
-pub mod Beginnings
+pub mod Prefixes
 pub mod Headers
 pub mod NamedTypes
 pub mod Searches

@@ -13,7 +13,7 @@ use Rattle.btf_tables.specs.Tables.{Table, type_by_id}
 use Rattle.string_table.specs.FirstBytes.{is_marked}
 use Rattle.string_table.specs.Texts.{text_at}
 use Rattle.string_map.specs.Orders.{value_of}
-use Rattle.btf_search.specs.Beginnings.{BeginningMarks, MayBegin}
+use Rattle.btf_search.specs.Prefixes.{PrefixMarks, MayBegin}
 
 -- the ids of a table, with void's
 abbrev pub ids_of : Table → List ℕ

@@ -10,7 +10,7 @@ use Rattle.btf_tables.specs.EssentialNames.{essential_name}
 use Rattle.btf_tables.specs.Tables.{Table, type_by_id}
 use Rattle.string_table.specs.FirstBytes.{is_marked}
 use Rattle.string_map.specs.Orders.{value_of}
-use Rattle.btf_search.specs.Beginnings.{BeginningMarks, MayBegin}
+use Rattle.btf_search.specs.Prefixes.{PrefixMarks, MayBegin}
 use Rattle.btf_search.specs.NamedTypes.{ids_of, is_so, name_of}
 
 -- kinds and names that are looked for
@@ -27,7 +27,7 @@ is_wanted search kind name =
     is_marked search.kinds (number_of kind) && option_map_or (has_name search) name true
 
 -- a text of one of the names begins so
-pub record AreBeginnings (names : List (List ℕ × Bool)) (marks : BeginningMarks) : Type 0 where
+pub record ArePrefixes (names : List (List ℕ × Bool)) (marks : PrefixMarks) : Type 0 where
   pub each : (text : List ℕ)
       → IfSome (value_of (essential_name text) names) (λ _. MayBegin marks text)
 

@@ -6,7 +6,7 @@ ghost use Rattle.btf_records.specs.Fields.{kind_of_type};
 ghost use Rattle.btf_tables.specs.Tables.{Table, type_by_id};
 ghost use Rattle.btf_search.specs.Headers.{AreHeadersOf, BeginsOtherwise, IsNameOf};
 
-use crate::beginnings::NameBeginnings;
+use crate::prefixes::PrefixFilter;
 use btf_records::BtfKind;
 use btf_tables::Btf;
 use std::marker::Model;
@@ -87,7 +87,7 @@ impl<'t> TypeHeaders<'t> {
 
     /// Whether the name of the type of an id can be read, and begins as none of some names does.
     #[tactic(auto, using(crate::proofs::HeadersOf::isnt_among))]
-    pub(crate) fn begins_otherwise(&self, id: usize, names: &NameBeginnings) -> bool
+    pub(crate) fn is_filtered(&self, id: usize, names: &PrefixFilter) -> bool
         ensures { (table : Table)
             → AreHeadersOf table self.now
             → result ≡ true

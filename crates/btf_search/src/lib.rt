@@ -3,10 +3,10 @@
 //! names begin, without a look at their records.
 #![tactic(auto)]
 
-mod beginnings;
 mod found;
 mod headers;
 mod named_types;
+mod prefixes;
 mod search;
 
 pub use named_types::NamedTypes;

@@ -7,11 +7,11 @@ ghost use Rattle.btf_tables.specs.Tables.{Table};
 ghost use Rattle.string_table.specs.FirstBytes.{is_marked};
 ghost use Rattle.btf_search.specs.Headers.{AreHeadersOf};
 ghost use Rattle.btf_search.specs.NamedTypes.{is_so};
-ghost use Rattle.btf_search.specs.Searches.{AreBeginnings, covers, has_name, is_wanted};
+ghost use Rattle.btf_search.specs.Searches.{ArePrefixes, covers, has_name, is_wanted};
 
-use crate::beginnings::NameBeginnings;
 use crate::found::FoundType;
 use crate::headers::TypeHeaders;
+use crate::prefixes::PrefixFilter;
 use btf_records::BtfKind;
 use std::alloc::{AllocError, Global};
 use std::marker::Model;
@@ -24,7 +24,7 @@ pub(crate) struct Search<'n> {
     kinds: MarkedBytes,
     names: TextMap<'n, bool>,
     /// How a text of one of the names can begin.
-    beginnings: NameBeginnings,
+    prefixes: PrefixFilter,
 }
 
 impl<'n> Drop for Search<'n> {
@@ -33,32 +33,32 @@ impl<'n> Drop for Search<'n> {
         let Search {
             kinds: _kinds,
             names: _names,
-            beginnings: _beginnings,
+            prefixes: _prefixes,
         } = self;
     }
 }
 
 impl<'n> Model for Search<'n> {
-    ghost use Rattle.btf_search.specs.Searches.{AreBeginnings, Searched};
+    ghost use Rattle.btf_search.specs.Searches.{ArePrefixes, Searched};
     ghost use Rattle.string_map.specs.Orders.{by_bytes};
 
     ghost Value = { Searched };
 
     ghost view = { λ s. record { kinds = s.kinds; names = by_bytes s.names } };
 
-    ghost invariant = { λ s. AreBeginnings (by_bytes s.names) s.beginnings };
+    ghost invariant = { λ s. ArePrefixes (by_bytes s.names) s.prefixes };
 }
 
 /// Adds a name.
 fn add_name<'n>(
     names: &mut TextMapBuilder<'n, bool>,
-    beginnings: &mut NameBeginnings,
+    prefixes: &mut PrefixFilter,
     name: &'n str,
 ) -> Result<(), AllocError>
-    requires { AreBeginnings names.old beginnings.old }
-    ensures { OnOk result (AreBeginnings names.new beginnings.new) }
+    requires { ArePrefixes names.old prefixes.old }
+    ensures { OnOk result (ArePrefixes names.new prefixes.new) }
 {
-    beginnings.mark(name);
+    prefixes.mark(name);
     names.insert(name, true)?;
     Ok(())
 }
@@ -79,7 +79,7 @@ impl<'n> Search<'n> {
         Search {
             kinds: MarkedBytes::new(),
             names: TextMap::new(alloc),
-            beginnings: NameBeginnings::new(),
+            prefixes: PrefixFilter::new(),
         }
     }
 
@@ -91,14 +91,14 @@ impl<'n> Search<'n> {
         wanted: &[&'n str],
     ) -> Result<Search<'n>, AllocError> {
         let mut names = TextMapBuilder::new(alloc);
-        let mut beginnings = NameBeginnings::new();
+        let mut prefixes = PrefixFilter::new();
         for name in wanted {
-            add_name(&mut names, &mut beginnings, *name)?;
+            add_name(&mut names, &mut prefixes, *name)?;
         }
         Ok(Search {
             kinds: marked(kinds),
             names: names.build(alloc)?,
-            beginnings,
+            prefixes,
         })
     }
 
@@ -145,7 +145,7 @@ impl<'n> Search<'n> {
 
     /// Whether the type of an id may be one of these, as its kind and the beginning of its name
     /// tell.
-    #[tactic(auto, using(crate::proofs::Wanted::not_there, crate::proofs::Wanted::of_another_kind, crate::proofs::Wanted::begins_otherwise))]
+    #[tactic(auto, using(crate::proofs::Wanted::not_there, crate::proofs::Wanted::of_another_kind, crate::proofs::Wanted::is_filtered))]
     pub(crate) fn may_want(&self, headers: &TypeHeaders<'_>, id: usize) -> bool
         ensures { (table : Table)
             → AreHeadersOf table headers.now
@@ -158,6 +158,6 @@ impl<'n> Search<'n> {
         if !self.has_kind(kind) {
             return false;
         }
-        !headers.begins_otherwise(id, &self.beginnings)
+        !headers.is_filtered(id, &self.prefixes)
     }
 }

@@ -1,5 +1,5 @@
-use Rattle.btf_search.specs.Searches.{AreBeginnings}
+use Rattle.btf_search.specs.Searches.{ArePrefixes}
 use Rattle.btf_search.proofs.search.Search.all_of.Given as goal
 
 abbrev pub invariant-loop-name : goal.invariant-loop-name
-invariant-loop-name l = AreBeginnings l.names l.beginnings
+invariant-loop-name l = ArePrefixes l.names l.prefixes

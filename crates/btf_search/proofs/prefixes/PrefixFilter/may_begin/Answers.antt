@@ -1,6 +1,6 @@
 use Rattle.std.proofs.Common.{sym, ◌∙◌}
 use Rattle.btf_search.proofs.RawTexts.{too_short, unmarked}
-use Rattle.btf_search.proofs.beginnings.NameBeginnings.may_begin.Goals as goal
+use Rattle.btf_search.proofs.prefixes.PrefixFilter.may_begin.Goals as goal
 
 pub returns-in-Some : goal.returns-in-Some
 returns-in-Some c = λ strings text offset is e isnt may.

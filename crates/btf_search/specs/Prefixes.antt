@@ -28,20 +28,20 @@ long_beginning bytes = number_after 8 0 bytes
 
 -- the numbers of all names by two bytes, of those of eight bytes or more, and of shorter ones, if
 -- there are some, by two bytes
-pub record BeginningMarks : Type 0 where
+pub record PrefixMarks : Type 0 where
   pub pairs : List Bool
   pub short : List Bool
   pub long : List Bool
   pub has_short : Bool
 
 -- a text of one of the names that have fewer than eight bytes begins so, or of one that has more
-abbrev pub BeginsAsOne : BeginningMarks → List ℕ → Type 0
+abbrev pub BeginsAsOne : PrefixMarks → List ℕ → Type 0
 BeginsAsOne marks text =
     ((marks.has_short ≡ true) × (is_marked marks.short (beginning text) ≡ true))
     ⊎ IsSomeAnd (long_beginning text) (λ number. is_marked marks.long number ≡ true)
 
 -- a text of one of the names begins so
-abbrev pub MayBegin : BeginningMarks → List ℕ → Type 0
+abbrev pub MayBegin : PrefixMarks → List ℕ → Type 0
 MayBegin marks text =
     (is_marked marks.pairs (beginning text) ≡ true) × BeginsAsOne marks text
 
@@ -50,7 +50,7 @@ abbrev pub HasName : List ℕ → List ℕ → Type 0
 HasName name text = (text ≡ name) ⊎ (essential_name text ≡ name)
 
 -- one more name is marked
-pub record MarksName (name : List ℕ) (old new : BeginningMarks) : Type 0 where
+pub record MarksName (name : List ℕ) (old new : PrefixMarks) : Type 0 where
   pub named : (text : List ℕ) → HasName name text → MayBegin new text
   pub stay : (text : List ℕ) → MayBegin old text → MayBegin new text
 

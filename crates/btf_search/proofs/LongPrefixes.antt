@@ -1,6 +1,6 @@
 -- The number of eight bytes.
 use Rattle.std.proofs.Common.{◌≡◌, ℕ, zero, suc, ◌<◌, List, [], ◌∷◌, None, length, refl, arith}
-use Rattle.btf_search.specs.Beginnings.{long_beginning, next_number, number_after}
+use Rattle.btf_search.specs.Prefixes.{long_beginning, next_number, number_after}
 
 few : (count number : ℕ) (bytes : List ℕ) → length bytes < count → None ≡ number_after count number bytes
 few zero number bytes less = absurd (omega (arith, less))

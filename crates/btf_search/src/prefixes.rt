@@ -3,7 +3,7 @@
 ghost use Rattle.std.specs.Prelude.{◌≡◌, ◌&&◌, ℕ, List, Some, drop, false};
 ghost use Rattle.string_table.specs.FirstBytes.{is_marked};
 ghost use Rattle.string_table.specs.Texts.{text_at};
-ghost use Rattle.btf_search.specs.Beginnings.{MarksName, MarksTwoBytes, MayBegin, beginning, beginning_of, long_beginning, next_number};
+ghost use Rattle.btf_search.specs.Prefixes.{MarksName, MarksTwoBytes, MayBegin, beginning, beginning_of, long_beginning, next_number};
 
 use std::marker::Model;
 use string_table::MarkedBytes;
@@ -39,7 +39,7 @@ fn next_number(number: u8, byte: u8) -> u8
 }
 
 /// A number that all texts have which begin with these eight bytes, if there are as many.
-#[tactic(auto, using(crate::proofs::LongBeginnings::too_few))]
+#[tactic(auto, using(crate::proofs::LongPrefixes::too_few))]
 fn long_beginning(bytes: &[u8]) -> Option<u8>
     ensures { result ≡ long_beginning bytes.now }
 {
@@ -77,7 +77,7 @@ fn mark_two_bytes(marks: &mut MarkedBytes, name: &str)
 /// tells most other texts apart, and by one of the first eight, or again of two where they have
 /// fewer.
 #[derive(Debug, Drop)]
-pub(crate) struct NameBeginnings {
+pub(crate) struct PrefixFilter {
     pairs: MarkedBytes,
     short: MarkedBytes,
     long: MarkedBytes,
@@ -85,22 +85,22 @@ pub(crate) struct NameBeginnings {
     has_short: bool,
 }
 
-impl Model for NameBeginnings {
-    ghost use Rattle.btf_search.specs.Beginnings.{BeginningMarks};
+impl Model for PrefixFilter {
+    ghost use Rattle.btf_search.specs.Prefixes.{PrefixMarks};
 
-    ghost Value = { BeginningMarks };
+    ghost Value = { PrefixMarks };
 
     ghost view = { λ b.
         record { pairs = b.pairs; short = b.short; long = b.long; has_short = b.has_short } };
 }
 
-impl NameBeginnings {
+impl PrefixFilter {
     /// No names.
     #[tactic(auto, using(crate::proofs::MarkedNames::none_begins))]
-    pub(crate) fn new() -> NameBeginnings
+    pub(crate) fn new() -> PrefixFilter
         ensures { (text : List ℕ) → MayBegin result text → ⊥ }
     {
-        NameBeginnings {
+        PrefixFilter {
             pairs: MarkedBytes::new(),
             short: MarkedBytes::new(),
             long: MarkedBytes::new(),
