@@ -104,7 +104,7 @@ fn is_readable(kernel: &Btf<'_>, id: u32) -> bool
 
 /// The id of the kernel's first record of a kind and a name; none where the name of an earlier
 /// record of the kind can't be read.
-#[tactic(auto, using(crate::proofs::FirstNamed::first_named, crate::proofs::FirstNamed::hidden, crate::proofs::FirstNamed::missing))]
+#[tactic(auto, using(crate::proofs::FirstNamed::hidden, crate::proofs::FirstNamed::missing))]
 fn first_named(kernel: &Btf<'_>, ids: &[u32], name: &str, kind: BtfKind) -> Option<u32>
     requires { ids.now ≡ named_ids (kind ∷ []) (essential_name name.now) kernel.now }
     ensures { IsFirst kernel.now kind name.now result }
