@@ -17,8 +17,8 @@ pub returns-in_err-paths-clause-refused : goal.returns-in_err-paths-clause-refus
 returns-in_err-paths-clause-refused c =
     paths_refused c.args.relocation.kind c.args.self.now.local c.args.path.now c.args.self.now.targets _ _ c.requires.part c.in_err-paths.ensures.refused c.from_residual-in_err-paths.ensures.1
 
-pub invariant_of-self : goal.invariant_of-self
-invariant_of-self c =
+pub invariant_of-self-2 : goal.invariant_of-self-2
+invariant_of-self-2 c =
     let m = c.args.self.now in
     let r = c.args.relocation in
     let here = paths_here m.local m.targets r c.args.path.now c.in_ok-paths.paths.items c.requires.path c.in_ok-paths.ensures.value in
