@@ -62,3 +62,35 @@ pub unasked_refused : (o : ObjectContent) (targets : List Table) → has_groups 
 unasked_refused o targets h =
     let g = types_of o targets in
     subst (λ gs. CanBeRelocated g gs) (sym (none_beside o.types o.extension h)) (none_refused g)
+
+-- so it is where the types aren't there, whatever the functions are
+typeless : (types : Option Table) (extension : Option Extension) → None ≡ types → groups_beside types extension ≡ []
+typeless None None h = refl
+typeless None (Some x) h = refl
+typeless (Some t) extension h = absurd cc
+
+pub typeless_written : (o : ObjectContent) (functions : Keyed) (targets : List Table) → None ≡ o.types → AreRelocated (types_of (record o { functions = functions }) targets) (type_groups o) functions
+typeless_written o functions targets h =
+    let g = types_of (record o { functions = functions }) targets in
+    subst (λ gs. AreRelocated g gs functions) (sym (typeless o.types o.extension h)) (none_written g)
+
+pub typeless_refused : (o : ObjectContent) (functions : Keyed) (targets : List Table) → None ≡ o.types → CanBeRelocated (types_of (record o { functions = functions }) targets) (type_groups o)
+typeless_refused o functions targets h =
+    let g = types_of (record o { functions = functions }) targets in
+    subst (λ gs. CanBeRelocated g gs) (sym (typeless o.types o.extension h)) (none_refused g)
+
+-- and where nothing stands beside them
+bare : (types : Option Table) (extension : Option Extension) → None ≡ extension → groups_beside types extension ≡ []
+bare None None h = refl
+bare (Some t) None h = refl
+bare types (Some x) h = absurd cc
+
+pub bare_written : (o : ObjectContent) (functions : Keyed) (targets : List Table) → None ≡ o.extension → AreRelocated (types_of (record o { functions = functions }) targets) (type_groups o) functions
+bare_written o functions targets h =
+    let g = types_of (record o { functions = functions }) targets in
+    subst (λ gs. AreRelocated g gs functions) (sym (bare o.types o.extension h)) (none_written g)
+
+pub bare_refused : (o : ObjectContent) (functions : Keyed) (targets : List Table) → None ≡ o.extension → CanBeRelocated (types_of (record o { functions = functions }) targets) (type_groups o)
+bare_refused o functions targets h =
+    let g = types_of (record o { functions = functions }) targets in
+    subst (λ gs. CanBeRelocated g gs) (sym (bare o.types o.extension h)) (none_refused g)

@@ -25,7 +25,7 @@ pub trait RelocateBtf {
 }
 
 /// Relocates the functions of an object, which were taken from it.
-#[tactic(auto, using(crate::proofs::NoTypeRelocations::none_written, crate::proofs::NoTypeRelocations::none_refused))]
+#[tactic(auto, using(crate::proofs::NoTypeRelocations::typeless_written, crate::proofs::NoTypeRelocations::typeless_refused, crate::proofs::NoTypeRelocations::bare_written, crate::proofs::NoTypeRelocations::bare_refused))]
 fn relocate_functions<'a>(
     object: &Object<'a>,
     kernel_types: &[Btf<'_>],
