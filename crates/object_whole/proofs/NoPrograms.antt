@@ -2,7 +2,7 @@
 use Rattle.std.proofs.Common.{◌≡◌, ℕ, List, [], sym, subst}
 use Rattle.object_parts.specs.Content.{FunctionContent, HaveFunctions, ProgramContent}
 
-pub nothing_lacks : (functions : List ((ℕ × ℕ) × FunctionContent)) → HaveFunctions [] functions
+nothing_lacks : (functions : List ((ℕ × ℕ) × FunctionContent)) → HaveFunctions [] functions
 unfolding HaveFunctions
 nothing_lacks functions = tt
 

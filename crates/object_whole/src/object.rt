@@ -294,7 +294,7 @@ impl<'a> Object<'a> {
     }
 
     /// Takes the programs and the functions away: the object has none then.
-    #[tactic(auto, using(crate::proofs::Linked::served, crate::proofs::NoPrograms::nothing_lacks))]
+    #[tactic(auto, using(crate::proofs::Linked::served, crate::proofs::NoPrograms::none_lacks))]
     pub fn take_code(&mut self) -> Code<'a>
         ensures programs { result.programs ≡ self.old.programs }
         ensures functions { result.functions ≡ self.old.functions }
