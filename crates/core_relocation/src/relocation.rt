@@ -34,13 +34,59 @@ struct Placement {
     stopped: Option<BtfRelocationError>,
 }
 
-/// Places the relocations of groups. Each table is gone over once for all of them.
-fn placement_of(
+/// Places the relocations of groups, with a matcher for these tables.
+fn placement_by(
     alloc: Global,
     file: &ObjectFile<'_>,
     functions: &Functions<'_>,
     local: &Btf<'_>,
     targets: &[Btf<'_>],
+    matcher: &mut TypeMatcher<'_>,
+    groups: &[RelocationGroup],
+) -> Result<Placement, AllocError>
+    requires few { length targets.now ≤ 2 ^ 32 }
+    requires matcher { matcher.old ≡ record { local = local.now; targets = targets.now } }
+    ensures front { IfOk result (λ p.
+        IsFront p.all.items
+        (all_placed (types_given file.now functions.now local.now targets.now) groups.now)) }
+    ensures whole { IfOk result (λ p.
+        p.stopped ≡ None
+        → (p.all.items
+        ≡ all_placed (types_given file.now functions.now local.now targets.now) groups.now)
+        × StandsNone
+        (GroupsFault (types_given file.now functions.now local.now targets.now) groups.now)) }
+    ensures stopped { IfOk result (λ p.
+        IfSome p.stopped (λ e.
+        e.error ≢ OutOfMemory
+        → GroupsFault (types_given file.now functions.now local.now targets.now) groups.now
+        e.error)) }
+{
+    let sections = section_indexes(alloc, file)?;
+    let lookup = Lookup {
+        alloc,
+        file,
+        sections: &sections,
+        functions,
+        local,
+        targets,
+    };
+    let mut all = Vec::new(alloc);
+    match lookup.place_groups(matcher, groups, &mut all) {
+        Ok(()) => Ok(Placement { all, stopped: None }),
+        Err(error) => Ok(Placement {
+            all,
+            stopped: Some(error),
+        }),
+    }
+}
+
+/// Places the relocations of groups. Each table is gone over once for all of them.
+fn placement_of<'t>(
+    alloc: Global,
+    file: &ObjectFile<'_>,
+    functions: &Functions<'_>,
+    local: &'t Btf<'t>,
+    targets: &'t [Btf<'t>],
     groups: &[RelocationGroup],
 ) -> Result<Placement, AllocError>
     requires { length targets.now ≤ 2 ^ 32 }
@@ -61,23 +107,7 @@ fn placement_of(
 {
     let asked = asked_by(alloc, groups)?;
     let mut matcher = TypeMatcher::collect(local, asked.as_slice(), targets)?;
-    let sections = section_indexes(alloc, file)?;
-    let lookup = Lookup {
-        alloc,
-        file,
-        sections: &sections,
-        functions,
-        local,
-        targets,
-    };
-    let mut all = Vec::new(alloc);
-    match lookup.place_groups(&mut matcher, groups, &mut all) {
-        Ok(()) => Ok(Placement { all, stopped: None }),
-        Err(error) => Ok(Placement {
-            all,
-            stopped: Some(error),
-        }),
-    }
+    placement_by(alloc, file, functions, local, targets, &mut matcher, groups)
 }
 
 /// Where a relocation stands at which a value doesn't fit.

@@ -128,10 +128,10 @@ fn all_answers(
 /// What each of some relocations of an object comes to in a kernel's types, by itself: by the slots
 /// of the object, as if no other relocation were made. Each table is
 /// gone over once for all of them.
-pub fn relocation_answers(
+pub fn relocation_answers<'t>(
     alloc: Global,
-    local: Option<&Btf<'_>>,
-    targets: &[Btf<'_>],
+    local: Option<&'t Btf<'t>>,
+    targets: &'t [Btf<'t>],
     relocations: &[RelocationAt],
 ) -> Result<Vec<RelocationAnswer>, AllocError>
     ensures { IfOk result (λ answers.
