@@ -116,9 +116,9 @@ fn repeated(
 }
 
 /// How many of some relocations come to something in a kernel's types.
-fn matched(
-    local: &Btf<'_>,
-    kernel: &[Btf<'_>],
+fn matched<'t>(
+    local: &'t Btf<'t>,
+    kernel: &'t [Btf<'t>],
     relocations: &[TypeRelocation],
 ) -> Result<usize, ExerciseError> {
     let mut matcher = TypeMatcher::collect(local, relocations, kernel)?;
