@@ -4,3 +4,6 @@ use Rattle.ebpf_object.proofs.type_relocations.ObjectRelocateBtf.relocate_btf.Go
 
 pub returns-then-not-has_btf_relocations-clause-sound : goal.returns-then-not-has_btf_relocations-clause-sound
 returns-then-not-has_btf_relocations-clause-sound c = unasked_refused c.args.self.now c.args.kernel_types.now (sym c.if-not-has_btf_relocations.ensures)
+
+pub relocate_functions-relocated-requires : goal.relocate_functions-relocated-requires
+relocate_functions-relocated-requires c = c.requires
