@@ -66,6 +66,7 @@ fn relocate_functions<'a>(
 impl<'a> RelocateBtf for Object<'a> {
     #[tactic(auto, using(crate::proofs::Served::serve))]
     fn relocate_btf(&mut self, kernel_types: &[Btf<'_>]) -> Result<(), BtfRelocationError>
+        requires { length kernel_types.now ≤ 2 ^ 32 }
         ensures relocated { OnOk result
             (AreRelocated (types_of self.old kernel_types.now) (type_groups self.old)
             self.new.functions) }
