@@ -14,8 +14,8 @@ use Rattle.btf_tables.specs.Tables.{type_by_id}
 element_held : (reached : ℕ → Bool) (array : BtfArray) → All (λ id. reached id ≡ true) (array.element_type ∷ array.index_type ∷ []) → All (λ id. reached id ≡ true) (array.element_type ∷ [])
 element_held reached array h = All-cons (λ id. reached id ≡ true) array.element_type [] (All-head (λ id. reached id ≡ true) array.element_type (array.index_type ∷ []) h) (All-nil (λ id. reached id ≡ true))
 
-signature_held : (reached : ℕ → Bool) (t : FuncProto) → All (λ id. reached id ≡ true) (t.return_type ∷ map (λ p. p.btf_type) t.params) → All (λ id. reached id ≡ true) (map (λ p. p.btf_type) t.params ++ t.return_type ∷ [])
-signature_held reached t h =
+func_proto_held : (reached : ℕ → Bool) (t : FuncProto) → All (λ id. reached id ≡ true) (t.return_type ∷ map (λ p. p.btf_type) t.params) → All (λ id. reached id ≡ true) (map (λ p. p.btf_type) t.params ++ t.return_type ∷ [])
+func_proto_held reached t h =
     let P = λ (id : ℕ). reached id ≡ true in
     let ids = map (λ p. p.btf_type) t.params in
     All-append P ids (t.return_type ∷ []) (All-tail P t.return_type ids h) (All-cons P t.return_type [] (All-head P t.return_type ids h) (All-nil P))
@@ -35,7 +35,7 @@ compared_held reached (types.Enum t) h = All-nil (λ id. reached id ≡ true)
 compared_held reached (types.Array t) h = element_held reached t.array h
 compared_held reached (types.Struct t) h = All-nil (λ id. reached id ≡ true)
 compared_held reached (types.Union t) h = All-nil (λ id. reached id ≡ true)
-compared_held reached (types.FuncProto t) h = signature_held reached t h
+compared_held reached (types.FuncProto t) h = func_proto_held reached t h
 compared_held reached (types.Var t) h = All-nil (λ id. reached id ≡ true)
 compared_held reached (types.DataSec t) h = All-nil (λ id. reached id ≡ true)
 compared_held reached (types.DeclTag t) h = All-nil (λ id. reached id ≡ true)

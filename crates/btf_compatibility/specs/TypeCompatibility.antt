@@ -49,7 +49,7 @@ verdict_of _ l a b = Ok true
 abbrev pub verdict : ℕ → BtfType → BtfType → Result Bool BtfError
 verdict l a b = if same_kind a b then verdict_of (kind_of_type a) l a b else Ok false
 
--- the types that a record is made of: what a pointer points to, an array's element, a signature's
+-- the types that a record is made of: what a pointer points to, an array's element, a function prototype's
 -- parameters and then what it returns
 abbrev pub parts_of : BtfType → List ℕ
 parts_of (types.Ptr t) = t.btf_type ∷ []

@@ -22,9 +22,9 @@ pub(crate) fn record_at<'t>(table: &'t Btf<'_>, id: u32) -> TypeRef<'t>
     }
 }
 
-/// A signature's parameters, and then what it returns.
+/// A function prototype's parameters, and then what it returns.
 #[tactic(auto, using(crate::proofs::Parts::param_at, crate::proofs::Parts::returned_at, crate::proofs::Parts::past_returned))]
-fn signature_part(t: &TypeRef<'_>, index: usize) -> Option<u32>
+fn func_proto_part(t: &TypeRef<'_>, index: usize) -> Option<u32>
     requires { kind_of_type t.now ≡ BtfKind.FuncProto }
     ensures value { result ≡ slice_get (parts_of t.now) index }
     ensures within { IfSome result (λ _. index < 65536) }
@@ -47,7 +47,7 @@ fn part(t: &TypeRef<'_>, index: usize) -> Option<u32>
     match t.kind() {
         BtfKind::Ptr if index == 0 => t.btf_type(),
         BtfKind::Array if index == 0 => Some(t.array()?.element_type),
-        BtfKind::FuncProto => signature_part(t, index),
+        BtfKind::FuncProto => func_proto_part(t, index),
         _ => None,
     }
 }
@@ -205,7 +205,7 @@ fn compared<'t>(
 /// tools/lib/bpf/relo_core.c).
 ///
 /// Both are of one kind, and so are the ends of their chains of modifiers and, in turn, what these
-/// point to, hold, take and return. Signatures take as many parameters, and integers begin with
+/// point to, hold, take and return. Function prototypes take as many parameters, and integers begin with
 /// their first bit.
 ///
 /// `UnknownBtfType` where a type isn't there, `UnexpectedBtfType` where functions, variables,

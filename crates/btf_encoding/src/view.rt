@@ -200,7 +200,7 @@ impl<'a> TypeRef<'a> {
         }
     }
 
-    /// Parameter `index` of a function's signature.
+    /// Parameter `index` of a function prototype.
     pub fn param(&self, index: usize) -> Option<BtfParam>
         ensures { result ≡ slice_get (params_of self.now) index }
     {

@@ -1,4 +1,4 @@
--- Groups in which no fault stands.
+-- Section infos in which no fault stands.
 use Rattle.std.proofs.Common.{◌≡◌, ℕ, zero, suc, ◌*◌, ◌<◌, ◌≤◌, List, None, drop, get_or, refl, arith}
 use Rattle.std.proofs.lemmas.Bool.{false≢true}
 use Rattle.std.specs.Prelude.{IsSome}
@@ -9,8 +9,8 @@ use Rattle.btf_records.specs.declared.words.Endianness.{Endianness}
 use Rattle.string_table.specs.Texts.{text_at}
 use Rattle.btf_ext.specs.Faults.{KindFault, NameFault}
 use Rattle.btf_ext.specs.Layout.{AreAllKindsKnown, AreKindsKnown, IsFaultless, IsRead}
-use Rattle.btf_ext.specs.Regions.{groups_bytes, size_in}
-use Rattle.btf_ext.specs.declared.group_list.GroupList.{GroupList}
+use Rattle.btf_ext.specs.Regions.{section_infos_bytes, size_in}
+use Rattle.btf_ext.specs.declared.section_info_list.SectionInfoList.{SectionInfoList}
 use Rattle.btf_ext.specs.declared.region.RegionKind.TheVariants.{Functions, Lines, Relocations}
 
 named : (order : Endianness) (strings bytes : List ℕ) (e : BtfError) → IsSome (text_at strings (word_at order bytes 0)) → NameFault order strings bytes e → ⊥
@@ -46,7 +46,7 @@ known_of order size strings bytes is = record {
 }
 
 -- the kinds of the relocations that were read are known
-pub all_known : (order : Endianness) (strings region : List ℕ) (g : GroupList) → IsRead Relocations order strings region g → AreAllKindsKnown g
+pub all_known : (order : Endianness) (strings region : List ℕ) (g : SectionInfoList) → IsRead Relocations order strings region g → AreAllKindsKnown g
 all_known order strings region g read = record {
-  each = rw (read.same_order, read.size, read.bytes) (λ i d lt. known_of order (size_in order region) strings (drop (get_or g.places.items i d) (groups_bytes region)) (read.places.faultless i d lt));
+  each = rw (read.same_order, read.size, read.bytes) (λ i d lt. known_of order (size_in order region) strings (drop (get_or g.places.items i d) (section_infos_bytes region)) (read.places.faultless i d lt));
 }

@@ -1,4 +1,4 @@
--- The records of a group, one by one.
+-- The records of a section info, one by one.
 use Rattle.std.proofs.Common.{◌≡◌, ℕ, zero, suc, ◌*◌, ◌<◌, ◌≤◌, List, length, drop, None, Option, Some, refl, ap, subst, ◌∙◌, arith, mul-zero, slice_get}
 use Rattle.std.specs.Prelude.{IfSome}
 use Rattle.std.proofs.lemmas.List.{drop-drop}
@@ -6,9 +6,9 @@ use Rattle.std.proofs.lemmas.Option.{slice_get_past}
 use Rattle.btf_encoding.specs.Items.{items_in}
 use Rattle.btf_ext.specs.Faults.{kind_count}
 use Rattle.btf_ext.specs.Records.{relocation_in}
-use Rattle.btf_ext.specs.SecInfos.{AreOfKnownKinds, records_in}
+use Rattle.btf_ext.specs.SecInfoRecords.{AreOfKnownKinds, records_in}
 use Rattle.btf_ext.specs.declared.record.bpf_core_relo.{bpf_core_relo}
-use Rattle.btf_ext.specs.declared.sec_info.GroupRecords.{GroupRecords}
+use Rattle.btf_ext.specs.declared.sec_info.SectionInfoRecords.{SectionInfoRecords}
 
 pub length_items_in : {T : Type 0} (item : List ℕ → T) (size n : ℕ) (bytes : List ℕ) → length (items_in item size n bytes) ≡ n
 length_items_in item size zero bytes = refl
@@ -32,10 +32,10 @@ kind_of_same a b e less =
     subst (λ (r : bpf_core_relo). r.kind < kind_count) same less
 
 -- the relocation at an index is of a known kind
-known_at : (g : GroupRecords) (index : ℕ) (r : bpf_core_relo) → AreOfKnownKinds g → Some r ≡ slice_get (records_in relocation_in g) index → index < g.count → r.kind < kind_count
+known_at : (g : SectionInfoRecords) (index : ℕ) (r : bpf_core_relo) → AreOfKnownKinds g → Some r ≡ slice_get (records_in relocation_in g) index → index < g.count → r.kind < kind_count
 known_at g index r are some within =
     kind_of_same r (relocation_in g.order (drop (g.size * index) g.bytes.now)) (some ∙ item_at (relocation_in g.order) g.size g.count index g.bytes.now within) (are.known index within)
 
-pub known_where_found : (g : GroupRecords) (index : ℕ) (found : Option bpf_core_relo) → AreOfKnownKinds g → found ≡ slice_get (records_in relocation_in g) index → IfSome found (λ r. index < g.count) → IfSome found (λ r. r.kind < kind_count)
+pub known_where_found : (g : SectionInfoRecords) (index : ℕ) (found : Option bpf_core_relo) → AreOfKnownKinds g → found ≡ slice_get (records_in relocation_in g) index → IfSome found (λ r. index < g.count) → IfSome found (λ r. r.kind < kind_count)
 known_where_found g index None are is within = tt
 known_where_found g index (Some r) are is within = known_at g index r are is within

@@ -1,5 +1,5 @@
 pub mod Faults
-pub mod Groups
+pub mod SectionInfos
 pub mod Items
 pub mod NameHashes
 pub mod Named

@@ -1,4 +1,4 @@
--- Places of groups by a hash of their names.
+-- Places of section infos by a hash of their names.
 use Rattle.std.proofs.Common.{◌≡◌, ◌≢◌, ℕ, zero, suc, ◌+◌, ◌-◌, ◌<◌, ◌≤◌, Bool, true, false, List, [], ◌∷◌, length, take, drop, nat_eq, reverse, cond, Option, None, Some, refl, sym, ap, subst, ◌∙◌, arith, slice_get}
 use Rattle.std.specs.Prelude.{◌==◌, All, find}
 use Rattle.std.specs.Cmp.Lexicographic.{pointwise, same_text}
@@ -11,14 +11,14 @@ use Rattle.std.proofs.lemmas.Bool.Decides.{nat_tests}
 use Rattle.btf_records.specs.Words.{word_at}
 use Rattle.btf_records.specs.declared.words.Endianness.{Endianness}
 use Rattle.string_table.specs.Texts.{text_at}
-use Rattle.btf_ext.specs.Groups.{IsGroup}
-use Rattle.btf_ext.specs.Layout.{AreSameGroups, AreWhole, is_named}
+use Rattle.btf_ext.specs.SectionInfos.{IsSectionInfo}
+use Rattle.btf_ext.specs.Layout.{AreSameSectionInfos, AreWhole, is_named}
 use Rattle.btf_ext.specs.NameHashes.{AreLastOf, AreNames, IsKept, has_hash, place_by, place_hash}
 use Rattle.string_table.specs.NameHashes.{name_hash}
-use Rattle.btf_ext.specs.declared.group_list.GroupList.{GroupList}
+use Rattle.btf_ext.specs.declared.section_info_list.SectionInfoList.{SectionInfoList}
 use Rattle.btf_ext.proofs.Named.{find_here, find_past, reverse_more}
 
-pub none_kept : (strings : List ℕ) (g : GroupList) → AreLastOf strings g 0 []
+pub none_kept : (strings : List ℕ) (g : SectionInfoList) → AreLastOf strings g 0 []
 none_kept strings g = record { last = λ hash. refl }
 
 equal : (a b : ℕ) → nat_eq a b ≡ true → a ≡ b
@@ -27,11 +27,11 @@ equal a b e = grind (arith, nat_tests)
 unequal : (a b : ℕ) → nat_eq a b ≡ false → b ≢ a
 unequal a b e = grind (arith, nat_tests)
 
-kept_by : (test : Bool) (strings : List ℕ) (g : GroupList) (xs : List ℕ) (old new : List (ℕ × ℕ)) (place hash : ℕ) → IsKept old new (place_hash strings g place) place → place_by old hash ≡ find (has_hash strings g hash) xs → has_hash strings g hash place ≡ test → place_by new hash ≡ find (has_hash strings g hash) (place ∷ xs)
+kept_by : (test : Bool) (strings : List ℕ) (g : SectionInfoList) (xs : List ℕ) (old new : List (ℕ × ℕ)) (place hash : ℕ) → IsKept old new (place_hash strings g place) place → place_by old hash ≡ find (has_hash strings g hash) xs → has_hash strings g hash place ≡ test → place_by new hash ≡ find (has_hash strings g hash) (place ∷ xs)
 kept_by true strings g xs old new place hash kept was is = ap (place_by new) (sym (equal (place_hash strings g place) hash is)) ∙ (kept.here ∙ sym (find_here (has_hash strings g hash) place xs is))
 kept_by false strings g xs old new place hash kept was is = kept.others hash (unequal (place_hash strings g place) hash is) ∙ (was ∙ sym (find_past (has_hash strings g hash) place xs is))
 
-pub one_more_kept : (strings : List ℕ) (g : GroupList) (index : ℕ) (old new : List (ℕ × ℕ)) (place : ℕ) → AreLastOf strings g index old → slice_get g.places.items index ≡ Some place → IsKept old new (place_hash strings g place) place → AreLastOf strings g (index + 1) new
+pub one_more_kept : (strings : List ℕ) (g : SectionInfoList) (index : ℕ) (old new : List (ℕ × ℕ)) (place : ℕ) → AreLastOf strings g index old → slice_get g.places.items index ≡ Some place → IsKept old new (place_hash strings g place) place → AreLastOf strings g (index + 1) new
 one_more_kept strings g index old new place are some kept =
     let xs = g.places.items in
     let more : reverse (take (index + 1) xs) ≡ place ∷ reverse (take index xs) = reverse_more xs index (slice_get_within xs index place some) ∙ ap (λ (p : ℕ). p ∷ reverse (take index xs)) (get_or_from_slice_get xs index place 0 some) in
@@ -44,11 +44,11 @@ none_past (x ∷ xs) (suc i) none =
     let rest : length xs ≤ i = none_past xs i none in
     omega (arith, rest)
 
-pub all_kept : (strings : List ℕ) (g : GroupList) (index : ℕ) (entries : List (ℕ × ℕ)) → AreLastOf strings g index entries → slice_get g.places.items index ≡ None → AreNames strings g entries
+pub all_kept : (strings : List ℕ) (g : SectionInfoList) (index : ℕ) (entries : List (ℕ × ℕ)) → AreLastOf strings g index entries → slice_get g.places.items index ≡ None → AreNames strings g entries
 all_kept strings g index entries are none = record { last = λ hash. are.last hash ∙ ap (λ (xs : List ℕ). find (has_hash strings g hash) (reverse xs)) (take_all index g.places.items (none_past g.places.items index none)) }
 
 -- a place of the name has the hash of the name
-named_by : (strings name : List ℕ) (g : GroupList) (place : ℕ) (text : Option (List ℕ)) → text_at strings (word_at g.order (drop place g.bytes.now) 0) ≡ text → option_map_or (λ t. pointwise nat_eq t name) text false ≡ true → place_hash strings g place ≡ name_hash name
+named_by : (strings name : List ℕ) (g : SectionInfoList) (place : ℕ) (text : Option (List ℕ)) → text_at strings (word_at g.order (drop place g.bytes.now) 0) ≡ text → option_map_or (λ t. pointwise nat_eq t name) text false ≡ true → place_hash strings g place ≡ name_hash name
 named_by strings name g place None is e = absurd cc
 named_by strings name g place (Some text) is e =
     ap (λ (t : Option (List ℕ)). option_map_or name_hash t 0) is ∙ ap name_hash (same_text text name (sym e))
@@ -56,7 +56,7 @@ named_by strings name g place (Some text) is e =
 same_number : (a b : ℕ) → a ≡ b → nat_eq a b ≡ true
 same_number a b e = grind (arith, nat_tests)
 
-named_hash : (strings name : List ℕ) (g : GroupList) (place : ℕ) → is_named strings name g place ≡ true → has_hash strings g (name_hash name) place ≡ true
+named_hash : (strings name : List ℕ) (g : SectionInfoList) (place : ℕ) → is_named strings name g place ≡ true → has_hash strings g (name_hash name) place ≡ true
 named_hash strings name g place e = same_number (place_hash strings g place) (name_hash name) (named_by strings name g place (text_at strings (word_at g.order (drop place g.bytes.now) 0)) refl e)
 
 -- where no element passes a test, none passes a stricter one; and the first that does is the first of the stricter if it passes that
@@ -82,10 +82,10 @@ first_stricter : (p q : ℕ → Bool) (xs : List ℕ) (y : ℕ) → ((x : ℕ) �
 first_stricter p q [] y stricter e here = absurd cc
 first_stricter p q (x ∷ xs) y stricter e here = step_first (p x) (q x) x y (find p xs) (find q xs) (stricter x) (λ same. ap p same ∙ here) (λ more. first_stricter p q xs y stricter more here) e
 
-pub none_of_hash : (strings name : List ℕ) (g : GroupList) (entries : List (ℕ × ℕ)) → AreNames strings g entries → place_by entries (name_hash name) ≡ None → find (is_named strings name g) (reverse g.places.items) ≡ None
+pub none_of_hash : (strings name : List ℕ) (g : SectionInfoList) (entries : List (ℕ × ℕ)) → AreNames strings g entries → place_by entries (name_hash name) ≡ None → find (is_named strings name g) (reverse g.places.items) ≡ None
 none_of_hash strings name g entries are none = none_stricter (is_named strings name g) (has_hash strings g (name_hash name)) (reverse g.places.items) (named_hash strings name g) (sym (are.last (name_hash name)) ∙ none)
 
-pub last_of_hash : (strings name : List ℕ) (g : GroupList) (entries : List (ℕ × ℕ)) (place : ℕ) → AreNames strings g entries → place_by entries (name_hash name) ≡ Some place → is_named strings name g place ≡ true → find (is_named strings name g) (reverse g.places.items) ≡ Some place
+pub last_of_hash : (strings name : List ℕ) (g : SectionInfoList) (entries : List (ℕ × ℕ)) (place : ℕ) → AreNames strings g entries → place_by entries (name_hash name) ≡ Some place → is_named strings name g place ≡ true → find (is_named strings name g) (reverse g.places.items) ≡ Some place
 last_of_hash strings name g entries place are some here = first_stricter (is_named strings name g) (has_hash strings g (name_hash name)) (reverse g.places.items) place (named_hash strings name g) (sym (are.last (name_hash name)) ∙ some) here
 
 all_reversed : (P : ℕ → Type 0) (xs : List ℕ) → All P xs → All P (reverse xs)
@@ -103,13 +103,13 @@ found_holds : (P : ℕ → Type 0) (q : ℕ → Bool) (xs : List ℕ) (y : ℕ) 
 found_holds P q [] y all e = absurd cc
 found_holds P q (x ∷ xs) y all e = found_by P (q x) x y (find q xs) (All-head P x xs all) (found_holds P q xs y (All-tail P x xs all)) e
 
--- a group begins at a place that is kept
-pub kept_stands : (strings : List ℕ) (g : GroupList) (entries : List (ℕ × ℕ)) (hash place : ℕ) → AreWhole g → AreNames strings g entries → place_by entries hash ≡ Some place → IsGroup g.order g.size (drop place g.bytes.now)
+-- a section info begins at a place that is kept
+pub kept_stands : (strings : List ℕ) (g : SectionInfoList) (entries : List (ℕ × ℕ)) (hash place : ℕ) → AreWhole g → AreNames strings g entries → place_by entries hash ≡ Some place → IsSectionInfo g.order g.size (drop place g.bytes.now)
 kept_stands strings g entries hash place whole are some =
-    found_holds (λ p. IsGroup g.order g.size (drop p g.bytes.now)) (has_hash strings g hash) (reverse g.places.items) place (all_reversed (λ p. IsGroup g.order g.size (drop p g.bytes.now)) g.places.items whole.stand) (sym (are.last hash) ∙ some)
+    found_holds (λ p. IsSectionInfo g.order g.size (drop p g.bytes.now)) (has_hash strings g hash) (reverse g.places.items) place (all_reversed (λ p. IsSectionInfo g.order g.size (drop p g.bytes.now)) g.places.items whole.stand) (sym (are.last hash) ∙ some)
 
--- groups that are the same have the same names
-pub same_names : (strings other : List ℕ) (g h : GroupList) (entries kept : List (ℕ × ℕ)) → other ≡ strings → AreSameGroups g h → kept ≡ entries → AreNames strings g entries → AreNames other h kept
+-- section infos that are the same have the same names
+pub same_names : (strings other : List ℕ) (g h : SectionInfoList) (entries kept : List (ℕ × ℕ)) → other ≡ strings → AreSameSectionInfos g h → kept ≡ entries → AreNames strings g entries → AreNames other h kept
 same_names strings other g h entries kept same sg se are = record {
   last = λ hash.
       let test = λ (s : List ℕ) (order : Endianness) (bytes : List ℕ) (place : ℕ). option_map_or name_hash (text_at s (word_at order (drop place bytes) 0)) 0 == hash in

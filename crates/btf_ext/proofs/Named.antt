@@ -1,15 +1,15 @@
--- Groups looked up by name from the last on.
+-- Section infos looked up by name from the last on.
 use Rattle.std.proofs.Common.{◌≡◌, ℕ, ◌+◌, ◌<◌, Bool, true, false, List, [], ◌∷◌, ◌++◌, length, map, take, drop, get_or, reverse, cond, Option, None, Some, refl, sym, ap, ◌∙◌}
 use Rattle.std.specs.Prelude.{find}
 use Rattle.std.specs.Option.{option_map}
 use Rattle.std.proofs.lemmas.List.{map-append, reverse-append, take_more}
 use Rattle.btf_records.specs.declared.words.Endianness.{Endianness}
-use Rattle.btf_ext.specs.Groups.{Group, group_in}
-use Rattle.btf_ext.specs.Layout.{AreAllKindsKnown, AreLaidOut, AreRecordsOf, AreSameGroups, extension_of, groups_at, is_named}
+use Rattle.btf_ext.specs.SectionInfos.{SectionInfo, section_info_in}
+use Rattle.btf_ext.specs.Layout.{AreAllKindsKnown, AreLaidOut, AreRecordsOf, AreSameSectionInfos, extension_of, section_infos_at, is_named}
 use Rattle.btf_ext.specs.Names.{is_text, records_of}
-use Rattle.btf_ext.specs.SecInfos.{records_in}
-use Rattle.btf_ext.specs.declared.group_list.GroupList.{GroupList}
-use Rattle.btf_ext.specs.declared.sec_info.GroupRecords.{GroupRecords}
+use Rattle.btf_ext.specs.SecInfoRecords.{records_in}
+use Rattle.btf_ext.specs.declared.section_info_list.SectionInfoList.{SectionInfoList}
+use Rattle.btf_ext.specs.declared.sec_info.SectionInfoRecords.{SectionInfoRecords}
 
 pub reverse_more : (xs : List ℕ) (i : ℕ) → i < length xs → reverse (take (i + 1) xs) ≡ get_or xs i 0 ∷ reverse (take i xs)
 reverse_more xs i lt = ap reverse (take_more xs i 0 lt) ∙ reverse-append (take i xs) (get_or xs i 0 ∷ [])
@@ -47,25 +47,25 @@ map_twice : {X Y Z : Type 0} (f : X → Y) (g : Y → Z) (found : Option X) → 
 map_twice f g None = refl
 map_twice f g (Some x) = refl
 
-pub named_records : {R : Type 0} (read : Endianness → List ℕ → R) (strings name : List ℕ) (g : GroupList) (found : Option ℕ) → find (is_named strings name g) (reverse g.places.items) ≡ found → records_of strings name (groups_at read g) ≡ option_map (λ place. (group_in g.order read g.size (drop place g.bytes.now)).records) found
+pub named_records : {R : Type 0} (read : Endianness → List ℕ → R) (strings name : List ℕ) (g : SectionInfoList) (found : Option ℕ) → find (is_named strings name g) (reverse g.places.items) ≡ found → records_of strings name (section_infos_at read g) ≡ option_map (λ place. (section_info_in g.order read g.size (drop place g.bytes.now)).records) found
 named_records {R} read strings name g found is =
-    let group = λ (place : ℕ). group_in g.order read g.size (drop place g.bytes.now) in
-    let named = λ (x : Group R). is_text strings name x.name_offset in
-    let records = λ (x : Group R). x.records in
-    ap (λ (gs : List (Group R)). option_map records (find named gs)) (reverse_map group g.places.items) ∙ (ap (option_map records) (find_map named group (reverse g.places.items)) ∙ (ap (λ (f : Option ℕ). option_map records (option_map group f)) is ∙ map_twice group records found))
+    let section_info = λ (place : ℕ). section_info_in g.order read g.size (drop place g.bytes.now) in
+    let named = λ (x : SectionInfo R). is_text strings name x.name_offset in
+    let records = λ (x : SectionInfo R). x.records in
+    ap (λ (gs : List (SectionInfo R)). option_map records (find named gs)) (reverse_map section_info g.places.items) ∙ (ap (option_map records) (find_map named section_info (reverse g.places.items)) ∙ (ap (λ (f : Option ℕ). option_map records (option_map section_info f)) is ∙ map_twice section_info records found))
 
-pub same_records : {R : Type 0} (read : Endianness → List ℕ → R) (g : GroupList) (place : ℕ) (records : GroupRecords) → AreRecordsOf g place records → records_in read records ≡ (group_in g.order read g.size (drop place g.bytes.now)).records
+pub same_records : {R : Type 0} (read : Endianness → List ℕ → R) (g : SectionInfoList) (place : ℕ) (records : SectionInfoRecords) → AreRecordsOf g place records → records_in read records ≡ (section_info_in g.order read g.size (drop place g.bytes.now)).records
 same_records read g place records are = rw (are.order, are.size, are.count, are.bytes) refl
 
--- groups that are the same say the same
-pub same_extension : (strings other : List ℕ) (f l r f' l' r' : GroupList) → other ≡ strings → AreSameGroups f f' → AreSameGroups l l' → AreSameGroups r r' → extension_of other f' l' r' ≡ extension_of strings f l r
+-- section infos that are the same say the same
+pub same_extension : (strings other : List ℕ) (f l r f' l' r' : SectionInfoList) → other ≡ strings → AreSameSectionInfos f f' → AreSameSectionInfos l l' → AreSameSectionInfos r r' → extension_of other f' l' r' ≡ extension_of strings f l r
 same_extension strings other f l r f' l' r' same sf sl sr = rw (same, sf.order, sf.size, sf.bytes, sf.places, sl.order, sl.size, sl.bytes, sl.places, sr.order, sr.size, sr.bytes, sr.places) refl
 
-pub same_laid_out : (least : ℕ) (g h : GroupList) → AreSameGroups g h → AreLaidOut least g → AreLaidOut least h
+pub same_laid_out : (least : ℕ) (g h : SectionInfoList) → AreSameSectionInfos g h → AreLaidOut least g → AreLaidOut least h
 same_laid_out least g h same are = record {
   whole = record { stand = rw (same.order, same.size, same.bytes, same.places) are.whole.stand };
   sized = rw (same.size, same.places) are.sized;
 }
 
-pub same_kinds : (g h : GroupList) → AreSameGroups g h → AreAllKindsKnown g → AreAllKindsKnown h
+pub same_kinds : (g h : SectionInfoList) → AreSameSectionInfos g h → AreAllKindsKnown g → AreAllKindsKnown h
 same_kinds g h same are = record { each = rw (same.order, same.size, same.bytes, same.places) are.each }

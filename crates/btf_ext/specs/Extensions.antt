@@ -3,9 +3,9 @@ use Rattle.std.specs.Prelude.{◌≡◌, ℕ, List}
 use Rattle.btf_records.specs.declared.error.BtfError.{BtfError}
 use Rattle.btf_records.specs.declared.words.Endianness.{Endianness}
 use Rattle.btf_ext.specs.Faults.{ExtensionFault}
-use Rattle.btf_ext.specs.Groups.{AreGroups, Group}
+use Rattle.btf_ext.specs.SectionInfos.{AreSectionInfos, SectionInfo}
 use Rattle.btf_ext.specs.Records.{func_in, line_in, relocation_in}
-use Rattle.btf_ext.specs.Regions.{HasHeader, IsWithin, groups_bytes, region_place, region_in, size_in}
+use Rattle.btf_ext.specs.Regions.{HasHeader, IsWithin, section_infos_bytes, region_place, region_in, size_in}
 use Rattle.btf_ext.specs.declared.record.bpf_core_relo.{bpf_core_relo}
 use Rattle.btf_ext.specs.declared.record.bpf_func_info.{bpf_func_info}
 use Rattle.btf_ext.specs.declared.record.bpf_line_info.{bpf_line_info}
@@ -13,28 +13,28 @@ use Rattle.btf_ext.specs.declared.region.RegionKind.{RegionKind}
 use Rattle.btf_ext.specs.declared.region.RegionKind.TheVariants.{Functions, Lines, Relocations}
 
 -- sizes of records are in bytes, as the section gives them; the strings are those of the table,
--- which name the groups
+-- which name the section infos
 pub record Extension : Type 0 where
   pub order : Endianness
   pub strings : List ℕ
   pub func_size : ℕ
   pub line_size : ℕ
-  pub functions : List (Group bpf_func_info)
-  pub lines : List (Group bpf_line_info)
-  pub relocations : List (Group bpf_core_relo)
+  pub functions : List (SectionInfo bpf_func_info)
+  pub lines : List (SectionInfo bpf_line_info)
+  pub relocations : List (SectionInfo bpf_core_relo)
 
--- the region says these groups
+-- the region says these section infos
 abbrev pub Holds : {R : Type 0}
     → RegionKind
     → Endianness
     → (Endianness → List ℕ → R)
     → List ℕ
-    → List (Group R)
+    → List (SectionInfo R)
     → Type 0
-Holds kind order read bytes groups =
+Holds kind order read bytes section_infos =
     IsWithin (region_place kind order bytes)
-    × AreGroups order read (size_in order (region_in kind order bytes))
-    (groups_bytes (region_in kind order bytes)) groups
+    × AreSectionInfos order read (size_in order (region_in kind order bytes))
+    (section_infos_bytes (region_in kind order bytes)) section_infos
 
 -- the section says this; neither its magic nor its version is checked
 pub record IsExtension (order : Endianness) (strings bytes : List ℕ) (extension : Extension)

@@ -5,9 +5,9 @@ use Rattle.btf_records.specs.declared.error.BtfError.{BtfError}
 use Rattle.btf_records.specs.declared.error.BtfError.TheVariants.{InvalidHeader, InvalidInfo, InvalidLineInfo, InvalidRelocationInfo, InvalidRelocationKind, InvalidStringOffset}
 use Rattle.btf_records.specs.declared.words.Endianness.{Endianness}
 use Rattle.string_table.specs.Texts.{text_at}
-use Rattle.btf_ext.specs.Groups.{IsGroup, StandsAfter, count_in, group_len}
+use Rattle.btf_ext.specs.SectionInfos.{IsSectionInfo, StandsAfter, count_in, section_info_len}
 use Rattle.btf_ext.specs.Records.{relocation_in}
-use Rattle.btf_ext.specs.Regions.{HasHeader, HasNoSize, IsHeaderCut, IsPastEnd, IsWithin, groups_bytes, least_size, region_place, region_in, size_in}
+use Rattle.btf_ext.specs.Regions.{HasHeader, HasNoSize, IsHeaderCut, IsPastEnd, IsWithin, section_infos_bytes, least_size, region_place, region_in, size_in}
 use Rattle.btf_ext.specs.declared.region.Place.{Place}
 use Rattle.btf_ext.specs.declared.region.RegionKind.{RegionKind}
 use Rattle.btf_ext.specs.declared.region.RegionKind.TheVariants.{Functions, Lines, Relocations}
@@ -22,7 +22,7 @@ bad_records Functions place = InvalidInfo place.offset place.len place.section_l
 bad_records Lines place = InvalidLineInfo place.offset place.len place.section_len
 bad_records Relocations place = InvalidRelocationInfo
 
--- the name of the group that the bytes begin with can't be read
+-- the name of the section info that the bytes begin with can't be read
 abbrev pub NameFault : Endianness → List ℕ → List ℕ → BtfError → Type 0
 NameFault order strings bytes (InvalidStringOffset offset) =
     (offset ≡ word_at order bytes 0) × (text_at strings offset ≡ None)
@@ -32,7 +32,7 @@ NameFault order strings bytes _ = ⊥
 abbrev pub kind_count : ℕ
 kind_count = 12
 
--- the group has a relocation of another kind
+-- the section info has a relocation of another kind
 pub record HasUnknownKind (order : Endianness) (size : ℕ) (bytes : List ℕ) (kind : ℕ) : Type 0 where
   pub index : ℕ
   pub within : index < count_in order bytes
@@ -43,21 +43,21 @@ abbrev pub KindFault : Endianness → ℕ → List ℕ → BtfError → Type 0
 KindFault order size bytes (InvalidRelocationKind kind) = HasUnknownKind order size bytes kind
 KindFault order size bytes _ = ⊥
 
--- what is wrong with a whole group; the names of relocations' groups aren't read here
-abbrev pub GroupFault : RegionKind → Endianness → ℕ → List ℕ → List ℕ → BtfError → Type 0
-GroupFault Functions order size strings bytes e = NameFault order strings bytes e
-GroupFault Lines order size strings bytes e = NameFault order strings bytes e
-GroupFault Relocations order size strings bytes e = KindFault order size bytes e
+-- what is wrong with a whole section info; the names of relocations' section infos aren't read here
+abbrev pub SectionInfoFault : RegionKind → Endianness → ℕ → List ℕ → List ℕ → BtfError → Type 0
+SectionInfoFault Functions order size strings bytes e = NameFault order strings bytes e
+SectionInfoFault Lines order size strings bytes e = NameFault order strings bytes e
+SectionInfoFault Relocations order size strings bytes e = KindFault order size bytes e
 
--- more than 8 bytes begin with a group, which is cut off
+-- more than 8 bytes begin with a section info, which is cut off
 abbrev pub IsCut : Endianness → ℕ → List ℕ → Type 0
-IsCut order size bytes = (8 < length bytes) × (length bytes < group_len order size bytes)
+IsCut order size bytes = (8 < length bytes) × (length bytes < section_info_len order size bytes)
 
--- what is wrong with the group that the bytes begin with
+-- what is wrong with the section info that the bytes begin with
 abbrev pub FaultHere : RegionKind → Endianness → ℕ → List ℕ → Place → BtfError → List ℕ → Type 0
 FaultHere kind order size strings place e bytes =
     ((e ≡ bad_records kind place) × IsCut order size bytes)
-    ⊎ (IsGroup order size bytes × GroupFault kind order size strings bytes e)
+    ⊎ (IsSectionInfo order size bytes × SectionInfoFault kind order size strings bytes e)
 
 -- the records of a region have a size, and it is long enough
 abbrev pub HasSize : RegionKind → Endianness → List ℕ → Type 0
@@ -71,7 +71,7 @@ abbrev pub RecordsFault : RegionKind → Endianness → List ℕ → Place → L
 RecordsFault kind order strings place region e =
     ((e ≡ bad_records kind place) × HasBadSize kind order region)
     ⊎ (HasSize kind order region
-    × StandsAfter order (size_in order region) (groups_bytes region)
+    × StandsAfter order (size_in order region) (section_infos_bytes region)
     (FaultHere kind order (size_in order region) strings place e))
 
 -- the section has no room for a region, or the region none for the size of its records

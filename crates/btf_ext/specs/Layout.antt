@@ -1,77 +1,77 @@
--- How the groups of a region lie in memory: where each begins.
+-- How the section infos of a region lie in memory: where each begins.
 use Rattle.std.specs.Prelude.{◌≡◌, ℕ, ◌⊎◌, ◌*◌, ◌<◌, ◌≤◌, Bool, List, All, drop, length, map}
 use Rattle.btf_records.specs.Words.{word_at}
 use Rattle.btf_records.specs.declared.error.BtfError.{BtfError}
 use Rattle.btf_records.specs.declared.words.Endianness.{Endianness}
 use Rattle.btf_ext.specs.Extensions.{Extension}
-use Rattle.btf_ext.specs.Faults.{GroupFault, HasSize, kind_count}
-use Rattle.btf_ext.specs.Groups.{Group, IsGroup, Reach, count_in, group_in}
+use Rattle.btf_ext.specs.Faults.{SectionInfoFault, HasSize, kind_count}
+use Rattle.btf_ext.specs.SectionInfos.{SectionInfo, IsSectionInfo, Reach, count_in, section_info_in}
 use Rattle.btf_ext.specs.Names.{is_text}
 use Rattle.btf_ext.specs.Records.{func_in, line_in, relocation_in}
-use Rattle.btf_ext.specs.Regions.{groups_bytes, size_in}
-use Rattle.btf_ext.specs.declared.group_list.GroupList.{GroupList}
-use Rattle.btf_ext.specs.declared.sec_info.GroupRecords.{GroupRecords}
+use Rattle.btf_ext.specs.Regions.{section_infos_bytes, size_in}
+use Rattle.btf_ext.specs.declared.section_info_list.SectionInfoList.{SectionInfoList}
+use Rattle.btf_ext.specs.declared.sec_info.SectionInfoRecords.{SectionInfoRecords}
 use Rattle.btf_ext.specs.declared.region.RegionKind.{RegionKind}
 
--- the groups at the places
-abbrev pub groups_at : {R : Type 0} → (Endianness → List ℕ → R) → GroupList → List (Group R)
-groups_at read g =
-    map (λ place. group_in g.order read g.size (drop place g.bytes.now)) g.places.items
+-- the section infos at the places
+abbrev pub section_infos_at : {R : Type 0} → (Endianness → List ℕ → R) → SectionInfoList → List (SectionInfo R)
+section_infos_at read g =
+    map (λ place. section_info_in g.order read g.size (drop place g.bytes.now)) g.places.items
 
--- a whole group begins at each place
-pub record AreWhole (g : GroupList) : Type 0 where
-  pub stand : All (λ place. IsGroup g.order g.size (drop place g.bytes.now)) g.places.items
+-- a whole section info begins at each place
+pub record AreWhole (g : SectionInfoList) : Type 0 where
+  pub stand : All (λ place. IsSectionInfo g.order g.size (drop place g.bytes.now)) g.places.items
 
 -- their records have at least that many bytes
-pub record AreLaidOut (least : ℕ) (g : GroupList) : Type 0 where
+pub record AreLaidOut (least : ℕ) (g : SectionInfoList) : Type 0 where
   pub whole : AreWhole g
   pub sized : All (λ place. least ≤ g.size) g.places.items
 
--- the group at a place has this name
-abbrev pub is_named : List ℕ → List ℕ → GroupList → ℕ → Bool
+-- the section info at a place has this name
+abbrev pub is_named : List ℕ → List ℕ → SectionInfoList → ℕ → Bool
 is_named strings name g place = is_text strings name (word_at g.order (drop place g.bytes.now) 0)
 
--- the records of the group at a place
-pub record AreRecordsOf (g : GroupList) (place : ℕ) (records : GroupRecords) : Type 0 where
+-- the records of the section info at a place
+pub record AreRecordsOf (g : SectionInfoList) (place : ℕ) (records : SectionInfoRecords) : Type 0 where
   pub order : records.order ≡ g.order
   pub size : records.size ≡ g.size
   pub count : records.count ≡ count_in g.order (drop place g.bytes.now)
   pub bytes : records.bytes.now ≡ drop 8 (drop place g.bytes.now)
 
-pub record AreSameGroups (g other : GroupList) : Type 0 where
+pub record AreSameSectionInfos (g other : SectionInfoList) : Type 0 where
   pub order : other.order ≡ g.order
   pub size : other.size ≡ g.size
   pub bytes : other.bytes.now ≡ g.bytes.now
   pub places : other.places.items ≡ g.places.items
 
 -- what an extension says, whose regions lie so
-abbrev pub extension_of : List ℕ → GroupList → GroupList → GroupList → Extension
+abbrev pub extension_of : List ℕ → SectionInfoList → SectionInfoList → SectionInfoList → Extension
 extension_of strings functions lines relocations = record {
   order = functions.order;
   strings = strings;
   func_size = functions.size;
   line_size = lines.size;
-  functions = groups_at func_in functions;
-  lines = groups_at line_in lines;
-  relocations = groups_at relocation_in relocations;
+  functions = section_infos_at func_in functions;
+  lines = section_infos_at line_in lines;
+  relocations = section_infos_at relocation_in relocations;
 }
 
--- each relocation of a group is of a kind that is known
+-- each relocation of a section info is of a kind that is known
 pub record AreKindsKnown (order : Endianness) (size : ℕ) (bytes : List ℕ) : Type 0 where
   pub known : (index : ℕ)
       → index < count_in order bytes
       → word_at order (drop (size * index) (drop 8 bytes)) 12 < kind_count
 
--- so are those of all groups
-pub record AreAllKindsKnown (g : GroupList) : Type 0 where
+-- so are those of all section infos
+pub record AreAllKindsKnown (g : SectionInfoList) : Type 0 where
   pub each : All (λ place. AreKindsKnown g.order g.size (drop place g.bytes.now)) g.places.items
 
--- no fault stands in a group
+-- no fault stands in a section info
 pub record IsFaultless (kind : RegionKind) (order : Endianness) (size : ℕ) (strings bytes : List ℕ)
     : Type 0 where
-  pub none : (e : BtfError) → GroupFault kind order size strings bytes e → ⊥
+  pub none : (e : BtfError) → SectionInfoFault kind order size strings bytes e → ⊥
 
--- these are the places of the groups that the bytes are, and no fault stands in one
+-- these are the places of the section infos that the bytes are, and no fault stands in one
 pub record ArePlaces (kind : RegionKind) (order : Endianness) (size : ℕ)
     (strings bytes places : List ℕ) : Type 0 where
   pub end : ℕ
@@ -79,12 +79,12 @@ pub record ArePlaces (kind : RegionKind) (order : Endianness) (size : ℕ)
   pub ended : length (drop end bytes) ≤ 8
   pub faultless : All (λ place. IsFaultless kind order size strings (drop place bytes)) places
 
--- the groups of a region were read
-pub record IsRead (kind : RegionKind) (order : Endianness) (strings region : List ℕ) (g : GroupList)
+-- the section infos of a region were read
+pub record IsRead (kind : RegionKind) (order : Endianness) (strings region : List ℕ) (g : SectionInfoList)
     : Type 0 where
   pub same_order : g.order ≡ order
   pub size : g.size ≡ size_in order region
-  pub bytes : g.bytes.now ≡ groups_bytes region
+  pub bytes : g.bytes.now ≡ section_infos_bytes region
   pub sized : (length region ≡ 0) ⊎ HasSize kind order region
-  pub places : ArePlaces kind order (size_in order region) strings (groups_bytes region)
+  pub places : ArePlaces kind order (size_in order region) strings (section_infos_bytes region)
       g.places.items

@@ -1,9 +1,9 @@
 pub mod Extensions
 pub mod Faults
-pub mod Groups
+pub mod SectionInfos
 pub mod Layout
 pub mod NameHashes
 pub mod Names
 pub mod Records
 pub mod Regions
-pub mod SecInfos
+pub mod SecInfoRecords

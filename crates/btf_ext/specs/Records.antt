@@ -1,4 +1,4 @@
--- The records of the groups ("BTF.ext section"; of relocations "BTF CO-RE relocations").
+-- The records of the section infos ("BTF.ext section"; of relocations "BTF CO-RE relocations").
 use Rattle.std.specs.Prelude.{ℕ, ◌/◌, List, [], ◌∷◌}
 use Rattle.std.specs.List.{flat_map}
 use Rattle.btf_records.specs.Words.{word_at, words_bytes}

@@ -64,12 +64,12 @@ abbrev pub region_in : RegionKind → Endianness → List ℕ → List ℕ
 region_in kind order bytes =
     take (region_place kind order bytes).len (drop (region_place kind order bytes).offset bytes)
 
--- a region: the size of its records, and then its groups; an empty one has neither
+-- a region: the size of its records, and then its section infos; an empty one has neither
 abbrev pub size_in : Endianness → List ℕ → ℕ
 size_in order region = if length region == 0 then 0 else word_at order region 0
 
-abbrev pub groups_bytes : List ℕ → List ℕ
-groups_bytes region = drop 4 region
+abbrev pub section_infos_bytes : List ℕ → List ℕ
+section_infos_bytes region = drop 4 region
 
 -- the least size of a region's records
 abbrev pub least_size : RegionKind → ℕ

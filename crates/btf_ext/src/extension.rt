@@ -6,12 +6,12 @@ ghost use Rattle.btf_ext.specs.Extensions.{HoldsExtension};
 ghost use Rattle.btf_ext.specs.Faults.{ExtensionFault};
 ghost use Rattle.btf_ext.specs.Names.{records_of};
 
-use crate::group_list::GroupList;
 use crate::header::{header, region_of};
-use crate::names::GroupNames;
+use crate::names::SectionInfoNames;
 use crate::region::RegionKind;
 use crate::relocations::SecInfoIter;
 use crate::sec_info::{FuncSecInfo, LineSecInfo};
+use crate::section_info_list::SectionInfoList;
 use btf_records::{BtfError, Endianness};
 use btf_tables::{Btf, Strings};
 use std::alloc::{AllocError, Global};
@@ -21,13 +21,13 @@ use std::marker::Model;
 /// for.
 #[derive(Debug)]
 pub struct BtfExt<'a> {
-    /// The table's strings, which name the groups.
+    /// The table's strings, which name the section infos.
     strings: Strings<'a>,
-    functions: GroupList<'a>,
-    function_names: GroupNames,
-    lines: GroupList<'a>,
-    line_names: GroupNames,
-    relocations: GroupList<'a>,
+    functions: SectionInfoList<'a>,
+    function_names: SectionInfoNames,
+    lines: SectionInfoList<'a>,
+    line_names: SectionInfoNames,
+    relocations: SectionInfoList<'a>,
 }
 
 impl<'a> Drop for BtfExt<'a> {
@@ -63,14 +63,14 @@ impl<'a> Model for BtfExt<'a> {
 }
 
 impl<'a> BtfExt<'a> {
-    /// What a section says, in this byte order, whose groups this table names. Neither magic nor
+    /// What a section says, in this byte order, whose section infos this table names. Neither magic nor
     /// version is checked; bytes of the header past its length count as 0.
     ///
     /// `InvalidHeader` where the header is shorter than 8 bytes, or cut off; `InvalidInfo` where a
     /// region goes past the end or has no room for the size of its records; `InvalidInfo`,
     /// `InvalidLineInfo` and `InvalidRelocationInfo` where records of functions, lines or
-    /// relocations are too short or a group of them is cut off; `InvalidStringOffset` where the
-    /// name of a group of functions or lines can't be read; `InvalidRelocationKind` where a
+    /// relocations are too short or a section info of them is cut off; `InvalidStringOffset` where the
+    /// name of a section info of functions or lines can't be read; `InvalidRelocationKind` where a
     /// relocation's kind is above 11.
     pub fn parse(
         alloc: Global,
@@ -87,12 +87,12 @@ impl<'a> BtfExt<'a> {
         let function_region = region_of(RegionKind::Functions, order, section, header)?;
         let line_region = region_of(RegionKind::Lines, order, section, header)?;
         let relocation_region = region_of(RegionKind::Relocations, order, section, header)?;
-        let functions = GroupList::read(alloc, order, table, function_region)?;
-        let lines = GroupList::read(alloc, order, table, line_region)?;
-        let relocations = GroupList::read(alloc, order, table, relocation_region)?;
+        let functions = SectionInfoList::read(alloc, order, table, function_region)?;
+        let lines = SectionInfoList::read(alloc, order, table, line_region)?;
+        let relocations = SectionInfoList::read(alloc, order, table, relocation_region)?;
         Ok(BtfExt {
-            function_names: GroupNames::new(alloc, table.strings(), &functions)?,
-            line_names: GroupNames::new(alloc, table.strings(), &lines)?,
+            function_names: SectionInfoNames::new(alloc, table.strings(), &functions)?,
+            line_names: SectionInfoNames::new(alloc, table.strings(), &lines)?,
             strings: table.strings().try_clone()?,
             functions,
             lines,
@@ -129,24 +129,24 @@ impl<'a> BtfExt<'a> {
             .function_names
             .last_named(&self.strings, &self.functions, name);
         match place {
-            Some(place) => Some(FuncSecInfo::of_group(self.functions.records(place))),
+            Some(place) => Some(FuncSecInfo::of_section_info(self.functions.records(place))),
             None => None,
         }
     }
 
-    /// The records of the lines of a section of instructions; of several groups of its name the
+    /// The records of the lines of a section of instructions; of several section infos of its name the
     /// last counts.
     pub fn line_info(&self, name: &str) -> Option<LineSecInfo<'_>>
         ensures { result ≡ records_of self.now.strings name.now self.now.lines }
     {
         let place = self.line_names.last_named(&self.strings, &self.lines, name);
         match place {
-            Some(place) => Some(LineSecInfo::of_group(self.lines.records(place))),
+            Some(place) => Some(LineSecInfo::of_section_info(self.lines.records(place))),
             None => None,
         }
     }
 
-    /// The type relocations, group by group.
+    /// The type relocations, section info by section info.
     pub fn relocations(&self) -> SecInfoIter<'_>
         ensures { result ≡ self.now.relocations }
     {
@@ -183,7 +183,7 @@ impl<'e> Model for FuncInfo<'e> {
 }
 
 impl<'e> FuncInfo<'e> {
-    /// The records of the functions of a section of instructions; of several groups of its name the
+    /// The records of the functions of a section of instructions; of several section infos of its name the
     /// last counts.
     pub fn get(&self, name: &str) -> Option<FuncSecInfo<'e>>
         ensures { result ≡ records_of self.now.strings name.now self.now.functions }

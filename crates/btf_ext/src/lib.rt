@@ -4,13 +4,13 @@
 #![tactic(auto)]
 
 mod extension;
-mod group_list;
 mod header;
 mod names;
 mod record;
 mod region;
 mod relocations;
 mod sec_info;
+mod section_info_list;
 
 pub use extension::{BtfExt, FuncInfo};
 pub use record::{bpf_core_relo, bpf_func_info, bpf_line_info};

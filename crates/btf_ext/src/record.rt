@@ -1,4 +1,4 @@
-//! The records of groups, under the kernel's names (`include/uapi/linux/bpf.h`).
+//! The records of section infos, under the kernel's names (`include/uapi/linux/bpf.h`).
 
 ghost use Rattle.std.specs.Prelude.{◌≡◌, ◌++◌, ◌≤◌, ℕ, List, length, OnOk};
 ghost use Rattle.btf_records.specs.Words.{words_bytes};
@@ -44,7 +44,7 @@ pub struct bpf_core_relo {
     pub kind: u32,
 }
 
-/// What begins each record of a group.
+/// What begins each record of a section info.
 pub(crate) trait Record: Copy {
     ghost SIZE: { ℕ };
 

@@ -1,30 +1,30 @@
-//! The type relocations of a section, group by group.
+//! The type relocations of a section, section info by section info.
 
 ghost use Rattle.std.specs.Prelude.{◌≡◌, ◌*◌, ◌≤◌, ◌<◌, ◌^◌, length, slice_get, IfSome};
 ghost use Rattle.std.specs.Iterator.{YieldsFirst, item_count};
 ghost use Rattle.btf_ext.specs.Faults.{kind_count};
-ghost use Rattle.btf_ext.specs.Layout.{AreAllKindsKnown, AreLaidOut, groups_at};
+ghost use Rattle.btf_ext.specs.Layout.{AreAllKindsKnown, AreLaidOut, section_infos_at};
 ghost use Rattle.btf_ext.specs.Records.{relocation_in};
 
-use crate::group_list::GroupList;
 use crate::record::bpf_core_relo;
-use crate::sec_info::{GroupRecords, record_at};
+use crate::sec_info::{SectionInfoRecords, record_at};
+use crate::section_info_list::SectionInfoList;
 use std::marker::Model;
 
-/// A group of type relocations: those of one section of instructions.
+/// A section info of type relocations: those of one section of instructions.
 #[derive(Debug, Drop)]
 pub struct SecInfo<'e> {
     name_offset: u32,
-    records: GroupRecords<'e>,
+    records: SectionInfoRecords<'e>,
 }
 
 impl<'e> Model for SecInfo<'e> {
-    ghost use Rattle.btf_ext.specs.Groups.{Group};
+    ghost use Rattle.btf_ext.specs.SectionInfos.{SectionInfo};
     ghost use Rattle.btf_ext.specs.Records.{relocation_in};
-    ghost use Rattle.btf_ext.specs.SecInfos.{AreOfKnownKinds, AreThere, records_in};
+    ghost use Rattle.btf_ext.specs.SecInfoRecords.{AreOfKnownKinds, AreThere, records_in};
     ghost use Rattle.btf_ext.specs.declared.record.bpf_core_relo.{bpf_core_relo};
 
-    ghost Value = { Group bpf_core_relo };
+    ghost Value = { SectionInfo bpf_core_relo };
 
     ghost view = { λ s.
         record { name_offset = s.name_offset; records = records_in relocation_in s.records } };
@@ -57,41 +57,41 @@ impl<'e> SecInfo<'e> {
     }
 }
 
-/// The groups of type relocations, in order.
+/// The section infos of type relocations, in order.
 #[derive(Debug, Drop)]
 pub struct SecInfoIter<'e> {
-    groups: &'e GroupList<'e>,
-    /// The index of the next group.
+    section_infos: &'e SectionInfoList<'e>,
+    /// The index of the next section info.
     next: usize,
 }
 
 impl<'e> Model for SecInfoIter<'e> {
     ghost use Rattle.std.specs.Prelude.{List, ◌≤◌, drop, length};
-    ghost use Rattle.btf_ext.specs.Groups.{Group};
-    ghost use Rattle.btf_ext.specs.Layout.{AreAllKindsKnown, AreLaidOut, groups_at};
+    ghost use Rattle.btf_ext.specs.SectionInfos.{SectionInfo};
+    ghost use Rattle.btf_ext.specs.Layout.{AreAllKindsKnown, AreLaidOut, section_infos_at};
     ghost use Rattle.btf_ext.specs.Records.{relocation_in};
     ghost use Rattle.btf_ext.specs.declared.record.bpf_core_relo.{bpf_core_relo};
 
-    ghost Value = { List (Group bpf_core_relo) };
+    ghost Value = { List (SectionInfo bpf_core_relo) };
 
-    ghost view = { λ s. drop s.next (groups_at relocation_in s.groups.now) };
+    ghost view = { λ s. drop s.next (section_infos_at relocation_in s.section_infos.now) };
 
     ghost invariant = { λ s.
-        AreLaidOut 16 s.groups.now
-        × AreAllKindsKnown s.groups.now
-        × (s.next ≤ length s.groups.now.places.items) };
+        AreLaidOut 16 s.section_infos.now
+        × AreAllKindsKnown s.section_infos.now
+        × (s.next ≤ length s.section_infos.now.places.items) };
 }
 
-/// The group of relocations at an index.
-fn group_at<'e>(groups: &'e GroupList<'e>, index: usize) -> Option<SecInfo<'e>>
-    requires laid_out { AreLaidOut 16 groups.now }
-    requires known { AreAllKindsKnown groups.now }
-    ensures { result ≡ slice_get (groups_at relocation_in groups.now) index }
+/// The section info of relocations at an index.
+fn section_info_at<'e>(section_infos: &'e SectionInfoList<'e>, index: usize) -> Option<SecInfo<'e>>
+    requires laid_out { AreLaidOut 16 section_infos.now }
+    requires known { AreAllKindsKnown section_infos.now }
+    ensures { result ≡ slice_get (section_infos_at relocation_in section_infos.now) index }
 {
-    match groups.place(index) {
+    match section_infos.place(index) {
         Some(place) => Some(SecInfo {
-            name_offset: groups.name_offset(place),
-            records: groups.records(place),
+            name_offset: section_infos.name_offset(place),
+            records: section_infos.records(place),
         }),
         None => None,
     }
@@ -106,10 +106,10 @@ impl<'e> Iterator for SecInfoIter<'e> {
 
     #[tactic(auto, using(crate::proofs::Written::left_some, crate::proofs::Written::left_none))]
     fn next(&mut self) -> Option<SecInfo<'e>> {
-        match group_at(self.groups, self.next) {
-            Some(group) => {
+        match section_info_at(self.section_infos, self.next) {
+            Some(section_info) => {
                 self.next += 1;
-                Some(group)
+                Some(section_info)
             }
             None => None,
         }
@@ -117,11 +117,14 @@ impl<'e> Iterator for SecInfoIter<'e> {
 }
 
 impl<'e> SecInfoIter<'e> {
-    pub(crate) fn new(groups: &'e GroupList<'e>) -> SecInfoIter<'e>
-        requires laid_out { AreLaidOut 16 groups.now }
-        requires known { AreAllKindsKnown groups.now }
-        ensures { result ≡ groups_at relocation_in groups.now }
+    pub(crate) fn new(section_infos: &'e SectionInfoList<'e>) -> SecInfoIter<'e>
+        requires laid_out { AreLaidOut 16 section_infos.now }
+        requires known { AreAllKindsKnown section_infos.now }
+        ensures { result ≡ section_infos_at relocation_in section_infos.now }
     {
-        SecInfoIter { groups, next: 0 }
+        SecInfoIter {
+            section_infos,
+            next: 0,
+        }
     }
 }

@@ -1,4 +1,4 @@
-//! The records of a group.
+//! The records of a section info.
 
 ghost use Rattle.std.specs.Prelude.{◌≡◌, ◌++◌, ◌+◌, ◌*◌, ◌≤◌, ◌<◌, ◌^◌, length, slice_get, IfOk, IfSome};
 ghost use Rattle.btf_encoding.specs.Items.{items_in};
@@ -10,9 +10,9 @@ use btf_records::Endianness;
 use std::alloc::{AllocError, Global};
 use std::marker::Model;
 
-/// The records of a group, as they lie in the section.
+/// The records of a section info, as they lie in the section.
 #[derive(Clone, Copy, Debug)]
-pub(crate) struct GroupRecords<'a> {
+pub(crate) struct SectionInfoRecords<'a> {
     pub(crate) order: Endianness,
     /// Bytes of a record.
     pub(crate) size: usize,
@@ -21,19 +21,22 @@ pub(crate) struct GroupRecords<'a> {
 }
 
 /// The record at an index.
-#[tactic(auto, using(crate::proofs::Groups::item_within))]
-pub(crate) fn record_at<R: Record>(group: &GroupRecords<'_>, index: usize) -> Option<R>
-    requires whole { group.now.size * group.now.count ≤ length group.now.bytes.now }
-    requires sized { R.SIZE ≤ group.now.size }
+#[tactic(auto, using(crate::proofs::SectionInfos::item_within))]
+pub(crate) fn record_at<R: Record>(section_info: &SectionInfoRecords<'_>, index: usize) -> Option<R>
+    requires whole { section_info.now.size * section_info.now.count ≤ length section_info.now.bytes.now }
+    requires sized { R.SIZE ≤ section_info.now.size }
     ensures value { result
         ≡ slice_get
-        (items_in (R.record_in group.now.order) group.now.size group.now.count group.now.bytes.now)
+        (items_in (R.record_in section_info.now.order) section_info.now.size section_info.now.count section_info.now.bytes.now)
         index }
-    ensures within { IfSome result (λ _. index < group.now.count) }
-    ensures few { group.now.count < 2 ^ 32 }
+    ensures within { IfSome result (λ _. index < section_info.now.count) }
+    ensures few { section_info.now.count < 2 ^ 32 }
 {
-    if index < group.count as usize {
-        Some(R::read(group.order, after(group.bytes, group.size * index)))
+    if index < section_info.count as usize {
+        Some(R::read(
+            section_info.order,
+            after(section_info.bytes, section_info.size * index),
+        ))
     } else {
         None
     }
@@ -41,11 +44,11 @@ pub(crate) fn record_at<R: Record>(group: &GroupRecords<'_>, index: usize) -> Op
 
 #[derive(Debug, Drop)]
 enum FuncRecords<'a> {
-    Group(GroupRecords<'a>),
+    SectionInfo(SectionInfoRecords<'a>),
     List(Vec<bpf_func_info>),
 }
 
-/// Records of functions: those of a group, or a list by itself.
+/// Records of functions: those of a section info, or a list by itself.
 #[derive(Debug, Drop)]
 pub struct FuncSecInfo<'a> {
     records: FuncRecords<'a>,
@@ -53,7 +56,7 @@ pub struct FuncSecInfo<'a> {
 
 impl<'a> Model for FuncSecInfo<'a> {
     ghost use Rattle.std.specs.Prelude.{List};
-    ghost use Rattle.btf_ext.specs.SecInfos.{AreFuncs, funcs_of};
+    ghost use Rattle.btf_ext.specs.SecInfoRecords.{AreFuncs, funcs_of};
     ghost use Rattle.btf_ext.specs.declared.record.bpf_func_info.{bpf_func_info};
 
     ghost Value = { List bpf_func_info };
@@ -64,16 +67,16 @@ impl<'a> Model for FuncSecInfo<'a> {
 }
 
 impl<'a> FuncSecInfo<'a> {
-    /// The records of a group.
-    pub(crate) fn of_group(group: GroupRecords<'a>) -> FuncSecInfo<'a>
-        requires whole { group.size * group.count ≤ length group.bytes.now }
-        requires sized { 8 ≤ group.size }
+    /// The records of a section info.
+    pub(crate) fn of_section_info(section_info: SectionInfoRecords<'a>) -> FuncSecInfo<'a>
+        requires whole { section_info.size * section_info.count ≤ length section_info.bytes.now }
+        requires sized { 8 ≤ section_info.size }
         ensures { result
-            ≡ items_in (func_in group.entry.order) group.entry.size group.entry.count
-            group.entry.bytes.now }
+            ≡ items_in (func_in section_info.entry.order) section_info.entry.size section_info.entry.count
+            section_info.entry.bytes.now }
     {
         FuncSecInfo {
-            records: FuncRecords::Group(group),
+            records: FuncRecords::SectionInfo(section_info),
         }
     }
 
@@ -93,7 +96,7 @@ impl<'a> FuncSecInfo<'a> {
         ensures { result ≡ length self.now }
     {
         match &self.records {
-            FuncRecords::Group(group) => group.count,
+            FuncRecords::SectionInfo(section_info) => section_info.count,
             FuncRecords::List(records) => records.len() as u32,
         }
     }
@@ -113,17 +116,19 @@ impl<'a> FuncSecInfo<'a> {
         ensures bounded { IfSome result (λ _. index < 2 ^ 32) }
     {
         match &self.records {
-            FuncRecords::Group(group) => record_at(group, index),
+            FuncRecords::SectionInfo(section_info) => record_at(section_info, index),
             FuncRecords::List(records) => records.get(index).copied(),
         }
     }
 
-    /// The same records; those of a group stay where they lie.
+    /// The same records; those of a section info stay where they lie.
     pub fn try_clone(&self) -> Result<FuncSecInfo<'a>, AllocError>
         ensures { IfOk result (λ records. records ≡ self.now) }
     {
         match &self.records {
-            FuncRecords::Group(group) => Ok(FuncSecInfo::of_group(*group)),
+            FuncRecords::SectionInfo(section_info) => Ok(FuncSecInfo::of_section_info(
+                *section_info,
+            )),
             FuncRecords::List(records) => {
                 let copy = Vec::from_slice(*records.allocator(), records.as_slice())?;
                 Ok(FuncSecInfo::from_records(copy))
@@ -147,11 +152,11 @@ impl<'a> FuncSecInfo<'a> {
 
 #[derive(Debug, Drop)]
 enum LineRecords<'a> {
-    Group(GroupRecords<'a>),
+    SectionInfo(SectionInfoRecords<'a>),
     List(Vec<bpf_line_info>),
 }
 
-/// Records of lines: those of a group, or a list by itself.
+/// Records of lines: those of a section info, or a list by itself.
 #[derive(Debug, Drop)]
 pub struct LineSecInfo<'a> {
     records: LineRecords<'a>,
@@ -159,7 +164,7 @@ pub struct LineSecInfo<'a> {
 
 impl<'a> Model for LineSecInfo<'a> {
     ghost use Rattle.std.specs.Prelude.{List};
-    ghost use Rattle.btf_ext.specs.SecInfos.{AreLines, lines_of};
+    ghost use Rattle.btf_ext.specs.SecInfoRecords.{AreLines, lines_of};
     ghost use Rattle.btf_ext.specs.declared.record.bpf_line_info.{bpf_line_info};
 
     ghost Value = { List bpf_line_info };
@@ -170,16 +175,16 @@ impl<'a> Model for LineSecInfo<'a> {
 }
 
 impl<'a> LineSecInfo<'a> {
-    /// The records of a group.
-    pub(crate) fn of_group(group: GroupRecords<'a>) -> LineSecInfo<'a>
-        requires whole { group.size * group.count ≤ length group.bytes.now }
-        requires sized { 16 ≤ group.size }
+    /// The records of a section info.
+    pub(crate) fn of_section_info(section_info: SectionInfoRecords<'a>) -> LineSecInfo<'a>
+        requires whole { section_info.size * section_info.count ≤ length section_info.bytes.now }
+        requires sized { 16 ≤ section_info.size }
         ensures { result
-            ≡ items_in (line_in group.entry.order) group.entry.size group.entry.count
-            group.entry.bytes.now }
+            ≡ items_in (line_in section_info.entry.order) section_info.entry.size section_info.entry.count
+            section_info.entry.bytes.now }
     {
         LineSecInfo {
-            records: LineRecords::Group(group),
+            records: LineRecords::SectionInfo(section_info),
         }
     }
 
@@ -199,7 +204,7 @@ impl<'a> LineSecInfo<'a> {
         ensures { result ≡ length self.now }
     {
         match &self.records {
-            LineRecords::Group(group) => group.count,
+            LineRecords::SectionInfo(section_info) => section_info.count,
             LineRecords::List(records) => records.len() as u32,
         }
     }
@@ -219,17 +224,19 @@ impl<'a> LineSecInfo<'a> {
         ensures bounded { IfSome result (λ _. index < 2 ^ 32) }
     {
         match &self.records {
-            LineRecords::Group(group) => record_at(group, index),
+            LineRecords::SectionInfo(section_info) => record_at(section_info, index),
             LineRecords::List(records) => records.get(index).copied(),
         }
     }
 
-    /// The same records; those of a group stay where they lie.
+    /// The same records; those of a section info stay where they lie.
     pub fn try_clone(&self) -> Result<LineSecInfo<'a>, AllocError>
         ensures { IfOk result (λ records. records ≡ self.now) }
     {
         match &self.records {
-            LineRecords::Group(group) => Ok(LineSecInfo::of_group(*group)),
+            LineRecords::SectionInfo(section_info) => Ok(LineSecInfo::of_section_info(
+                *section_info,
+            )),
             LineRecords::List(records) => {
                 let copy = Vec::from_slice(*records.allocator(), records.as_slice())?;
                 Ok(LineSecInfo::from_records(copy))

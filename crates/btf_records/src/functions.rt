@@ -1,4 +1,4 @@
-//! Functions and their signatures.
+//! Functions and their prototypes.
 
 ghost use Rattle.std.specs.Prelude.{◌≡◌, ◌<◌, false, length};
 ghost use Rattle.btf_records.specs.Encodings.{func_linkage_of, number_of_func_linkage};

@@ -21,7 +21,7 @@ use Rattle.btf_sanitize.specs.Additions.{Added, next_id, next_offset, small_int,
 use Rattle.btf_sanitize.specs.Facts.{Facts, name_at}
 use Rattle.btf_sanitize.specs.Faults.{IsTooMuch, KindFault}
 use Rattle.btf_sanitize.specs.Names.{filler_int_name, filler_name, has_byte, param_texts, placeholder_name, replaced}
-use Rattle.btf_sanitize.specs.Rewritten.{after, after_all, after_enum64, after_granted, after_section, after_signature, all_rewritten, is_filled, rewritten, with_new_name}
+use Rattle.btf_sanitize.specs.Rewritten.{after, after_all, after_enum64, after_granted, after_section, after_func_proto, all_rewritten, is_filled, rewritten, with_new_name}
 use Rattle.btf_sanitize.specs.Sanitized.{AnyFault, IsOverfull, NextFault, SanitizingFault, all_added, at_first, sanitized_strings, sanitized_types}
 use Rattle.btf_sanitize.proofs.Elements.{next_left, none_left, past_length}
 use Rattle.btf_sanitize.proofs.Faultless.{none_of_any, none_of_either}
@@ -103,8 +103,8 @@ least_section known a t = elim (known.grants feature.DataSec) as (λ b. IsAtLeas
   | false ↦ least_renamed 46 95 (name_at known t.name_offset) a
 ]
 
-least_signature : (known : Facts) (a : Added) (t : FuncProto) → IsAtLeast a (after_signature known a t)
-least_signature known a t = elim (known.grants feature.Func) as (λ b. IsAtLeast a (cond b (with_texts (param_texts 0 t.params) a) a)) [
+least_func_proto : (known : Facts) (a : Added) (t : FuncProto) → IsAtLeast a (after_func_proto known a t)
+least_func_proto known a t = elim (known.grants feature.Func) as (λ b. IsAtLeast a (cond b (with_texts (param_texts 0 t.params) a) a)) [
   | true ↦ least_texts (param_texts 0 t.params) a
   | false ↦ least_itself a
 ]
@@ -130,7 +130,7 @@ least_after known a (types.Enum t) = least_itself a
 least_after known a (types.Array t) = least_itself a
 least_after known a (types.Struct t) = least_itself a
 least_after known a (types.Union t) = least_itself a
-least_after known a (types.FuncProto t) = least_signature known a t
+least_after known a (types.FuncProto t) = least_func_proto known a t
 least_after known a (types.Var t) = least_itself a
 least_after known a (types.DataSec t) = least_section known a t
 least_after known a (types.DeclTag t) = least_itself a

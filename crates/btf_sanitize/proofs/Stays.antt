@@ -105,7 +105,7 @@ named_here ps i p wanted left here is = rw (next_left ps i p here, is) at left
 pub none_here : (ps : List BtfParam) (i : ℕ) (wanted : Bool) → list_any is_nameless (drop i ps) ≡ wanted → slice_get ps i ≡ None → list_any is_nameless (drop (i + 1) ps) ≡ wanted
 none_here ps i wanted left past = ap (list_any is_nameless) (drop_all (i + 1) ps (omega (arith, past_length ps i past)) ∙ sym (none_left ps i past)) ∙ left
 
--- a signature's count is that of its parameters
+-- a function prototype's count is that of its parameters
 few_params : (t : BtfType) → length (params_of t) ≤ count_of t
 few_params types.Unknown = omega arith
 few_params (types.Fwd t) = omega arith

@@ -47,8 +47,8 @@ rewritten_func known t =
 abbrev pub variant_of_param : BtfParam → BtfEnum
 variant_of_param p = record { name_offset = p.name_offset; value = p.btf_type }
 
-abbrev pub rewritten_signature : Facts → Added → FuncProto → BtfType
-rewritten_signature known a t =
+abbrev pub rewritten_func_proto : Facts → Added → FuncProto → BtfType
+rewritten_func_proto known a t =
     if not (known.grants feature.Func)
     then types.Enum
     (record {
@@ -59,8 +59,8 @@ rewritten_signature known a t =
     })
     else types.FuncProto (record t { params = named_params 0 (next_offset a) t.params })
 
-abbrev pub after_signature : Facts → Added → FuncProto → Added
-after_signature known a t =
+abbrev pub after_func_proto : Facts → Added → FuncProto → Added
+after_func_proto known a t =
     if known.grants feature.Func then with_texts (param_texts 0 t.params) a else a
 
 -- ENUM64: without the feature a UNION of its size with a member of one byte for each variant, as in
@@ -182,7 +182,7 @@ rewritten known a (types.Ptr t) = types.Ptr (record t { name_offset = 0 })
 rewritten known a (types.Var t) =
     if known.grants feature.DataSec then types.Var t else small_int t.name_offset
 rewritten known a (types.DataSec t) = rewritten_section known a t
-rewritten known a (types.FuncProto t) = rewritten_signature known a t
+rewritten known a (types.FuncProto t) = rewritten_func_proto known a t
 rewritten known a (types.Func t) = rewritten_func known t
 rewritten known a (types.Float t) =
     if known.grants feature.Float
@@ -206,7 +206,7 @@ rewritten known a t = t
 -- what is added after it
 abbrev pub after : Facts → Added → BtfType → Added
 after known a (types.DataSec t) = after_section known a t
-after known a (types.FuncProto t) = after_signature known a t
+after known a (types.FuncProto t) = after_func_proto known a t
 after known a (types.Enum64 t) = after_enum64 known a
 after known a _ = a
 

@@ -16,7 +16,7 @@ fn variant_of_param(param: BtfParam) -> BtfEnum
     }
 }
 
-/// A variant for each parameter of a signature.
+/// A variant for each parameter of a function prototype.
 pub(crate) fn variants_of_params(
     alloc: Global,
     params: &[BtfParam],

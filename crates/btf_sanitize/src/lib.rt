@@ -4,13 +4,13 @@
 
 mod additions;
 mod answers;
+mod func_proto;
 mod items;
 mod known;
 mod names;
 mod own_texts;
 mod rows;
 mod section;
-mod signature;
 mod staying;
 mod table;
 

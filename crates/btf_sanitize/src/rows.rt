@@ -6,15 +6,15 @@ ghost use Rattle.btf_records.specs.declared.error.BtfError.TheVariants.{OutOfMem
 ghost use Rattle.btf_records.specs.declared.types.BtfType.TheVariants as types;
 ghost use Rattle.btf_sanitize.specs.Faults.{IsTooMuch, KindFault};
 ghost use Rattle.btf_sanitize.specs.Knowledge.{facts_of};
-ghost use Rattle.btf_sanitize.specs.Rewritten.{after, after_enum64, after_signature, is_alone, member_of_variant, rewritten, rewritten_enum64, rewritten_func, rewritten_signature, variant_of_param};
+ghost use Rattle.btf_sanitize.specs.Rewritten.{after, after_enum64, after_func_proto, is_alone, member_of_variant, rewritten, rewritten_enum64, rewritten_func, rewritten_func_proto, variant_of_param};
 ghost use Rattle.btf_storage.specs.Faultless.{IsFaultless};
 
 use crate::additions::{Additions, small_int};
+use crate::func_proto::named_params;
 use crate::items::{members_of_variants, variants_of_params};
 use crate::known::Known;
 use crate::names::is_memory_function;
 use crate::section::rewritten_section;
-use crate::signature::named_params;
 use btf_records::{
     BtfError, BtfFeature, BtfType, Const, Enum, Enum64, Enum64Fallback, Func, FuncLinkage,
     FuncProto, InfoBits, Items, Ptr, Struct, Typedef, Union,
@@ -44,7 +44,7 @@ pub(crate) fn rewritten_func(known: &Known<'_, '_, '_>, t: Func) -> Result<BtfTy
 }
 
 /// The enum that stands for a `BTF_KIND_FUNC_PROTO` where the kernel has none.
-pub(crate) fn enum_of_signature(alloc: Global, t: &FuncProto) -> Result<Enum, AllocError>
+pub(crate) fn enum_of_func_proto(alloc: Global, t: &FuncProto) -> Result<Enum, AllocError>
     ensures { IfOk result (λ r.
         r
         ≡ record {
@@ -86,21 +86,21 @@ pub(crate) fn union_of_enum64(
 }
 
 /// What becomes of a `BTF_KIND_FUNC_PROTO`.
-fn rewritten_signature(
+fn rewritten_func_proto(
     alloc: Global,
     known: &Known<'_, '_, '_>,
     additions: &mut Additions,
     t: FuncProto,
 ) -> Result<BtfType, BtfError>
     ensures value { IfOk result (λ r.
-        r ≡ rewritten_signature (facts_of known.now) additions.old t) }
+        r ≡ rewritten_func_proto (facts_of known.now) additions.old t) }
     ensures added { OnOk result
-        (additions.new ≡ after_signature (facts_of known.now) additions.old t) }
+        (additions.new ≡ after_func_proto (facts_of known.now) additions.old t) }
     ensures refused { IfErr result (λ e.
-        e ≢ OutOfMemory → IsTooMuch (after_signature (facts_of known.now) additions.old t) e) }
+        e ≢ OutOfMemory → IsTooMuch (after_func_proto (facts_of known.now) additions.old t) e) }
 {
     if !known.grants(BtfFeature::Func) {
-        return Ok(BtfType::Enum(enum_of_signature(alloc, &t)?));
+        return Ok(BtfType::Enum(enum_of_func_proto(alloc, &t)?));
     }
     let params = named_params(alloc, additions, t.params.as_slice())?;
     Ok(BtfType::FuncProto(FuncProto {
@@ -182,7 +182,7 @@ pub fn rewritten(
     match t {
         BtfType::DataSec(t) => rewritten_section(alloc, known, additions, t),
         BtfType::Func(t) => rewritten_func(known, t),
-        BtfType::FuncProto(t) => rewritten_signature(alloc, known, additions, t),
+        BtfType::FuncProto(t) => rewritten_func_proto(alloc, known, additions, t),
         BtfType::Enum64(t) => rewritten_enum64(alloc, known, additions, t),
         t => Ok(rewritten_alone(known, additions, t)),
     }

@@ -12,7 +12,7 @@ use crate::names::is_nameless;
 use btf_encoding::TypeRef;
 use btf_records::{BtfFeature, BtfKind};
 
-/// Whether a signature has a parameter with a type and without a name.
+/// Whether a function prototype has a parameter with a type and without a name.
 #[tactic(auto, using(crate::proofs::Stays::nameless_here, crate::proofs::Stays::named_here, crate::proofs::Stays::none_here, crate::proofs::Stays::all_are_named))]
 fn has_nameless(t: &TypeRef<'_>) -> bool
     ensures { result ≡ list_any is_nameless (params_of t.now) }

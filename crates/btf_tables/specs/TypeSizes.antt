@@ -1,5 +1,5 @@
 -- Type sizes. libbpf has them as `btf__resolve_size` (tools/lib/bpf/btf.c); here functions and
--- signatures lead on to a size, and a size may pass 32 bits.
+-- function prototypes lead on to a size, and a size may pass 32 bits.
 use Rattle.std.specs.Prelude.{◌≡◌, ℕ, zero, suc, ◌*◌, ◌^◌, ◌<◌, List, [], ◌∷◌, length, ⊤, Option, None, Some, Result, Ok, Err, if◌then◌else◌, nat_lt}
 use Rattle.std.specs.Option.{IsSomeAnd, option_map, option_map_or}
 use Rattle.btf_tables.specs.ResolvedTypes.{max_depth}

@@ -6,7 +6,7 @@ use Rattle.std.specs.Option.{option_map, option_to_list}
 use Rattle.std.specs.Result.{result_ok}
 use Rattle.core_spec.specs.Laws.{AreAlike}
 use Rattle.core_spec.specs.declared.field_values.WholeField.{WholeField}
-use Rattle.btf_ext.specs.Groups.{Group}
+use Rattle.btf_ext.specs.SectionInfos.{SectionInfo}
 use Rattle.btf_ext.specs.declared.record.bpf_core_relo.{bpf_core_relo}
 use Rattle.btf_records.specs.declared.types.BtfType.{BtfType}
 use Rattle.btf_tables.specs.Tables.{Table}
@@ -25,14 +25,14 @@ use Rattle.core_patch.specs.declared.patch.Patch.{Patch}
 use Rattle.core_patch.specs.declared.patch.Patch.TheVariants.{Value}
 use Rattle.core_patch.specs.declared.patch.Width.{Width}
 use Rattle.core_patch.specs.declared.patch.Width.TheVariants.{Changed, Kept, Unknown}
-use Rattle.core_relocation.specs.Faults.{FaultOfGroup, GroupsFault, HasTypesFault, RecordsFault, WritesFault}
+use Rattle.core_relocation.specs.Faults.{FaultOfSectionInfo, SectionInfosFault, HasTypesFault, RecordsFault, WritesFault}
 use Rattle.core_relocation.specs.Laws.{AgreeOnReach, RelocationsRest, with_types_of}
-use Rattle.core_relocation.specs.Relocations.{Groups, TypesGiven, all_from, all_placed, function_holding, outcome_of_kind, placed, placed_as, placed_from, placed_group, placed_in, record_outcome, section_at, section_named}
+use Rattle.core_relocation.specs.Relocations.{SectionInfos, TypesGiven, all_from, all_placed, function_holding, outcome_of_kind, placed, placed_as, placed_from, placed_section_info, placed_in, record_outcome, section_at, section_named}
 use Rattle.core_relocation.specs.Writes.{AreRelocated, after_types, inside_of}
 use Rattle.relocation_errors.specs.declared.type_relocations.BtfRelocationCause.{BtfRelocationCause}
 use Rattle.relocation_errors.specs.declared.type_relocations.BtfRelocationCause.TheVariants as cause
-use Rattle.core_relocation.specs.declared.placed.Placed.{Placed}
-use Rattle.core_relocation.specs.declared.placed.Position.{Position}
+use Rattle.core_relocation.specs.declared.placed_relocation.PlacedRelocation.{PlacedRelocation}
+use Rattle.core_relocation.specs.declared.placed_relocation.Position.{Position}
 
 -- what is given, the other table, and what is reached
 record Both : Type 0 where
@@ -54,14 +54,14 @@ abbrev AllReached : Both → List bpf_core_relo → Type 0
 AllReached b [] = Unit {0}
 AllReached b (r ∷ rs) = IsReached b r × AllReached b rs
 
--- and the name of a group's section
-record IsReachedGroup (b : Both) (x : Group bpf_core_relo) : Type 0 where
+-- and the name of a section info's section
+record IsReachedSectionInfo (b : Both) (x : SectionInfo bpf_core_relo) : Type 0 where
   records : AllReached b x.records
   section : text_at b.other.strings x.name_offset ≡ text_at b.given.local.strings x.name_offset
 
-abbrev AllReachedGroups : Both → Groups → Type 0
-AllReachedGroups b [] = Unit {0}
-AllReachedGroups b (x ∷ xs) = IsReachedGroup b x × AllReachedGroups b xs
+abbrev AllReachedSectionInfos : Both → SectionInfos → Type 0
+AllReachedSectionInfos b [] = Unit {0}
+AllReachedSectionInfos b (x ∷ xs) = IsReachedSectionInfo b x × AllReachedSectionInfos b xs
 
 -- ---- outcomes
 
@@ -108,7 +108,7 @@ as-same b position r f o here =
 
 in-result : (b : Both) (position : Position) (r : bpf_core_relo) (f : FunctionContent) (result : Result RelocationOutcome TypeRelocationError) → IfOk result (HasReached b)
     → option_map (placed_as (there b) position r f) (result_ok result) ≡ option_map (placed_as b.given position r f) (result_ok result)
-in-result b position r f (Ok o) here = ap (λ (p : Placed). Some p) (as-same b position r f o here)
+in-result b position r f (Ok o) here = ap (λ (p : PlacedRelocation). Some p) (as-same b position r f o here)
 in-result b position r f (Err e) here = refl
 
 in-same : (b : Both) (position : Position) (r : bpf_core_relo) (f : FunctionContent) → IsReached b r → placed_in (there b) position r f ≡ placed_in b.given position r f
@@ -124,32 +124,32 @@ placed-same : (b : Both) (position : Position) (section : Option ℕ) (r : bpf_c
 placed-same b position None r here = refl
 placed-same b position (Some s) r here = holding-same b position r here (function_holding b.given.functions s r.insn_off)
 
-from-same : (b : Both) (group name : ℕ) (section : Option ℕ) (number : ℕ) (rs : List bpf_core_relo) → AllReached b rs → placed_from (there b) group name section number rs ≡ placed_from b.given group name section number rs
-from-same b group name section number [] here = refl
-from-same b group name section number (r ∷ rs) here =
-    ap (λ (p : Option Placed). option_to_list p ++ placed_from (there b) group name section (suc number) rs) (placed-same b (record { group = group; name_offset = name; number = number }) section r here.0)
-    ∙ ap (λ (ps : List Placed). option_to_list (placed b.given (record { group = group; name_offset = name; number = number }) section r) ++ ps) (from-same b group name section (suc number) rs here.1)
+from-same : (b : Both) (section_info name : ℕ) (section : Option ℕ) (number : ℕ) (rs : List bpf_core_relo) → AllReached b rs → placed_from (there b) section_info name section number rs ≡ placed_from b.given section_info name section number rs
+from-same b section_info name section number [] here = refl
+from-same b section_info name section number (r ∷ rs) here =
+    ap (λ (p : Option PlacedRelocation). option_to_list p ++ placed_from (there b) section_info name section (suc number) rs) (placed-same b (record { section_info = section_info; name_offset = name; number = number }) section r here.0)
+    ∙ ap (λ (ps : List PlacedRelocation). option_to_list (placed b.given (record { section_info = section_info; name_offset = name; number = number }) section r) ++ ps) (from-same b section_info name section (suc number) rs here.1)
 
-section-same : (b : Both) (x : Group bpf_core_relo) → IsReachedGroup b x → section_at (there b) x.name_offset ≡ section_at b.given x.name_offset
+section-same : (b : Both) (x : SectionInfo bpf_core_relo) → IsReachedSectionInfo b x → section_at (there b) x.name_offset ≡ section_at b.given x.name_offset
 section-same b x here = ap (option_and_then (section_named b.given.file)) here.section
 
-group-same : (b : Both) (group : ℕ) (x : Group bpf_core_relo) → IsReachedGroup b x → placed_group (there b) group x ≡ placed_group b.given group x
-group-same b group x here =
-    ap (λ (s : Option ℕ). placed_from (there b) group x.name_offset s 0 x.records) (section-same b x here)
-    ∙ from-same b group x.name_offset (section_at b.given x.name_offset) 0 x.records here.records
+section_info-same : (b : Both) (section_info : ℕ) (x : SectionInfo bpf_core_relo) → IsReachedSectionInfo b x → placed_section_info (there b) section_info x ≡ placed_section_info b.given section_info x
+section_info-same b section_info x here =
+    ap (λ (s : Option ℕ). placed_from (there b) section_info x.name_offset s 0 x.records) (section-same b x here)
+    ∙ from-same b section_info x.name_offset (section_at b.given x.name_offset) 0 x.records here.records
 
-groups-same : (b : Both) (group : ℕ) (xs : Groups) → AllReachedGroups b xs → all_from (there b) group xs ≡ all_from b.given group xs
-groups-same b group [] here = refl
-groups-same b group (x ∷ xs) here =
-    ap (λ (ps : List Placed). ps ++ all_from (there b) (suc group) xs) (group-same b group x here.0)
-    ∙ ap (λ (ps : List Placed). placed_group b.given group x ++ ps) (groups-same b (suc group) xs here.1)
+section_infos-same : (b : Both) (section_info : ℕ) (xs : SectionInfos) → AllReachedSectionInfos b xs → all_from (there b) section_info xs ≡ all_from b.given section_info xs
+section_infos-same b section_info [] here = refl
+section_infos-same b section_info (x ∷ xs) here =
+    ap (λ (ps : List PlacedRelocation). ps ++ all_from (there b) (suc section_info) xs) (section_info-same b section_info x here.0)
+    ∙ ap (λ (ps : List PlacedRelocation). placed_section_info b.given section_info x ++ ps) (section_infos-same b (suc section_info) xs here.1)
 
 -- ---- faults
 
-group-fault : (one other : TypesGiven) (name : ℕ) (c : BtfRelocationCause) → other.file ≡ one.file → text_at other.local.strings name ≡ text_at one.local.strings name → FaultOfGroup one name c → FaultOfGroup other name c
-group-fault one other name (cause.BtfError e) file text h = (h.0, text ∙ h.1)
-group-fault one other name cause.SectionNotFound file text h = (h.0, text ∙ h.1, ap (λ f. section_named f h.0) file ∙ h.2)
-group-fault one other name _ file text h = absurd h
+section_info-fault : (one other : TypesGiven) (name : ℕ) (c : BtfRelocationCause) → other.file ≡ one.file → text_at other.local.strings name ≡ text_at one.local.strings name → FaultOfSectionInfo one name c → FaultOfSectionInfo other name c
+section_info-fault one other name (cause.BtfError e) file text h = (h.0, text ∙ h.1)
+section_info-fault one other name cause.SectionNotFound file text h = (h.0, text ∙ h.1, ap (λ f. section_named f h.0) file ∙ h.2)
+section_info-fault one other name _ file text h = absurd h
 
 records-fault : (b : Both) (section : Option ℕ) (rs : List bpf_core_relo) (c : BtfRelocationCause) → AllReached b rs → RecordsFault b.given section rs c → RecordsFault (there b) section rs c
 records-fault b section [] c here none = elim none [ ]
@@ -163,19 +163,19 @@ records-fault-back b section (r ∷ rs) c here (inl lacks) = inl lacks
 records-fault-back b section (r ∷ rs) c here (inr (inl lacks)) = inr (inl (lacks.0, sym (outcome-same b r here.0) ∙ lacks.1, lacks.2))
 records-fault-back b section (r ∷ rs) c here (inr (inr rest)) = inr (inr (records-fault-back b section rs c here.1 rest))
 
-groups-fault : (b : Both) (xs : Groups) (c : BtfRelocationCause) → AllReachedGroups b xs → GroupsFault b.given xs c → GroupsFault (there b) xs c
-groups-fault b [] c here none = elim none [ ]
-groups-fault b (x ∷ xs) c here (inl fault) = inl (group-fault b.given (there b) x.name_offset c refl here.0.section fault)
-groups-fault b (x ∷ xs) c here (inr (inl fault)) =
+section_infos-fault : (b : Both) (xs : SectionInfos) (c : BtfRelocationCause) → AllReachedSectionInfos b xs → SectionInfosFault b.given xs c → SectionInfosFault (there b) xs c
+section_infos-fault b [] c here none = elim none [ ]
+section_infos-fault b (x ∷ xs) c here (inl fault) = inl (section_info-fault b.given (there b) x.name_offset c refl here.0.section fault)
+section_infos-fault b (x ∷ xs) c here (inr (inl fault)) =
     inr (inl (subst (λ (s : Option ℕ). RecordsFault (there b) s x.records c) (sym (section-same b x here.0)) (records-fault b (section_at b.given x.name_offset) x.records c here.0.records fault)))
-groups-fault b (x ∷ xs) c here (inr (inr rest)) = inr (inr (groups-fault b xs c here.1 rest))
+section_infos-fault b (x ∷ xs) c here (inr (inr rest)) = inr (inr (section_infos-fault b xs c here.1 rest))
 
-groups-fault-back : (b : Both) (xs : Groups) (c : BtfRelocationCause) → AllReachedGroups b xs → GroupsFault (there b) xs c → GroupsFault b.given xs c
-groups-fault-back b [] c here none = elim none [ ]
-groups-fault-back b (x ∷ xs) c here (inl fault) = inl (group-fault (there b) b.given x.name_offset c refl (sym here.0.section) fault)
-groups-fault-back b (x ∷ xs) c here (inr (inl fault)) =
+section_infos-fault-back : (b : Both) (xs : SectionInfos) (c : BtfRelocationCause) → AllReachedSectionInfos b xs → SectionInfosFault (there b) xs c → SectionInfosFault b.given xs c
+section_infos-fault-back b [] c here none = elim none [ ]
+section_infos-fault-back b (x ∷ xs) c here (inl fault) = inl (section_info-fault (there b) b.given x.name_offset c refl (sym here.0.section) fault)
+section_infos-fault-back b (x ∷ xs) c here (inr (inl fault)) =
     inr (inl (subst (λ (s : Option ℕ). RecordsFault b.given s x.records c) (section-same b x here.0) (records-fault-back b (section_at (there b) x.name_offset) x.records c here.0.records fault)))
-groups-fault-back b (x ∷ xs) c here (inr (inr rest)) = inr (inr (groups-fault-back b xs c here.1 rest))
+section_infos-fault-back b (x ∷ xs) c here (inr (inr rest)) = inr (inr (section_infos-fault-back b xs c here.1 rest))
 
 -- ---- together
 
@@ -187,63 +187,63 @@ records-reached b (r ∷ rs) types accesses = (
   records-reached b rs (All-tail (λ (r : bpf_core_relo). b.reached r.type_id ≡ true) r rs types) (All-tail (λ (r : bpf_core_relo). text_at b.other.strings r.access_str_off ≡ text_at b.given.local.strings r.access_str_off) r rs accesses),
 )
 
-abbrev HasReachedTypes : Both → Group bpf_core_relo → Type 0
+abbrev HasReachedTypes : Both → SectionInfo bpf_core_relo → Type 0
 HasReachedTypes b x = All (λ r. b.reached r.type_id ≡ true) x.records
 
-abbrev HasSameAccesses : Both → Group bpf_core_relo → Type 0
+abbrev HasSameAccesses : Both → SectionInfo bpf_core_relo → Type 0
 HasSameAccesses b x = All (λ r. text_at b.other.strings r.access_str_off ≡ text_at b.given.local.strings r.access_str_off) x.records
 
-abbrev HasSameSection : Both → Group bpf_core_relo → Type 0
+abbrev HasSameSection : Both → SectionInfo bpf_core_relo → Type 0
 HasSameSection b x = text_at b.other.strings x.name_offset ≡ text_at b.given.local.strings x.name_offset
 
-groups-reached : (b : Both) (xs : Groups) → All (HasReachedTypes b) xs → All (HasSameAccesses b) xs → All (HasSameSection b) xs → AllReachedGroups b xs
-groups-reached b [] types accesses sections = tt
-groups-reached b (x ∷ xs) types accesses sections = (
+section_infos-reached : (b : Both) (xs : SectionInfos) → All (HasReachedTypes b) xs → All (HasSameAccesses b) xs → All (HasSameSection b) xs → AllReachedSectionInfos b xs
+section_infos-reached b [] types accesses sections = tt
+section_infos-reached b (x ∷ xs) types accesses sections = (
   record { records = records-reached b x.records (All-head (HasReachedTypes b) x xs types) (All-head (HasSameAccesses b) x xs accesses); section = All-head (HasSameSection b) x xs sections },
-  groups-reached b xs (All-tail (HasReachedTypes b) x xs types) (All-tail (HasSameAccesses b) x xs accesses) (All-tail (HasSameSection b) x xs sections),
+  section_infos-reached b xs (All-tail (HasReachedTypes b) x xs types) (All-tail (HasSameAccesses b) x xs accesses) (All-tail (HasSameSection b) x xs sections),
 )
 
 abbrev both : OutcomesRest → (reached : ℕ → Bool) (g : TypesGiven) (other : Table) → AreAlike reached g.local other → Both
 both outcomes reached g other alike = record { outcomes = outcomes; reached = reached; given = g; other = other; alike = alike }
 
-reach : (outcomes : OutcomesRest) (reached : ℕ → Bool) (g : TypesGiven) (other : Table) (groups : Groups) → (a : AgreeOnReach reached g.local other groups) → AllReachedGroups (both outcomes reached g other a.alike) groups
-reach outcomes reached g other groups a = groups-reached (both outcomes reached g other a.alike) groups a.types a.accesses a.sections
+reach : (outcomes : OutcomesRest) (reached : ℕ → Bool) (g : TypesGiven) (other : Table) (section_infos : SectionInfos) → (a : AgreeOnReach reached g.local other section_infos) → AllReachedSectionInfos (both outcomes reached g other a.alike) section_infos
+reach outcomes reached g other section_infos a = section_infos-reached (both outcomes reached g other a.alike) section_infos a.types a.accesses a.sections
 
-all-same : (outcomes : OutcomesRest) (reached : ℕ → Bool) (g : TypesGiven) (other : Table) (groups : Groups) → AgreeOnReach reached g.local other groups → all_placed (with_types_of g other) groups ≡ all_placed g groups
-all-same outcomes reached g other groups a = groups-same (both outcomes reached g other a.alike) 0 groups (reach outcomes reached g other groups a)
+all-same : (outcomes : OutcomesRest) (reached : ℕ → Bool) (g : TypesGiven) (other : Table) (section_infos : SectionInfos) → AgreeOnReach reached g.local other section_infos → all_placed (with_types_of g other) section_infos ≡ all_placed g section_infos
+all-same outcomes reached g other section_infos a = section_infos-same (both outcomes reached g other a.alike) 0 section_infos (reach outcomes reached g other section_infos a)
 
 -- functions that are relocated, by what is placed
-abbrev Changed-by : TypesGiven → List ((ℕ × ℕ) × FunctionContent) → List Placed → Type 0
+abbrev Changed-by : TypesGiven → List ((ℕ × ℕ) × FunctionContent) → List PlacedRelocation → Type 0
 Changed-by g new ps = AreChanged (λ f. after_types (inside_of ps) f) g.functions new
 
-relocated-same : (outcomes : OutcomesRest) (reached : ℕ → Bool) (g : TypesGiven) (other : Table) (groups : Groups) → AgreeOnReach reached g.local other groups → (new : List ((ℕ × ℕ) × FunctionContent))
-    → (AreRelocated g groups new → AreRelocated (with_types_of g other) groups new) × (AreRelocated (with_types_of g other) groups new → AreRelocated g groups new)
-relocated-same outcomes reached g other groups a new =
-    let same = all-same outcomes reached g other groups a in
+relocated-same : (outcomes : OutcomesRest) (reached : ℕ → Bool) (g : TypesGiven) (other : Table) (section_infos : SectionInfos) → AgreeOnReach reached g.local other section_infos → (new : List ((ℕ × ℕ) × FunctionContent))
+    → (AreRelocated g section_infos new → AreRelocated (with_types_of g other) section_infos new) × (AreRelocated (with_types_of g other) section_infos new → AreRelocated g section_infos new)
+relocated-same outcomes reached g other section_infos a new =
+    let same = all-same outcomes reached g other section_infos a in
     ((λ h. subst (Changed-by g new) (sym same) h), (λ h. subst (Changed-by g new) same h))
 
 -- a fault of what is placed
-abbrev Fault-by : TypesGiven → BtfRelocationCause → List Placed → Type 0
+abbrev Fault-by : TypesGiven → BtfRelocationCause → List PlacedRelocation → Type 0
 Fault-by g c ps = WritesFault (inside_of ps) g.functions c
 
-refused-same : (outcomes : OutcomesRest) (reached : ℕ → Bool) (g : TypesGiven) (other : Table) (groups : Groups) → AgreeOnReach reached g.local other groups → (c : BtfRelocationCause)
-    → (HasTypesFault g groups c → HasTypesFault (with_types_of g other) groups c) × (HasTypesFault (with_types_of g other) groups c → HasTypesFault g groups c)
-refused-same outcomes reached g other groups a c = (there-is, back) where
+refused-same : (outcomes : OutcomesRest) (reached : ℕ → Bool) (g : TypesGiven) (other : Table) (section_infos : SectionInfos) → AgreeOnReach reached g.local other section_infos → (c : BtfRelocationCause)
+    → (HasTypesFault g section_infos c → HasTypesFault (with_types_of g other) section_infos c) × (HasTypesFault (with_types_of g other) section_infos c → HasTypesFault g section_infos c)
+refused-same outcomes reached g other section_infos a c = (there-is, back) where
   b : Both
   b = both outcomes reached g other a.alike
 
-  here : AllReachedGroups b groups
-  here = reach outcomes reached g other groups a
+  here : AllReachedSectionInfos b section_infos
+  here = reach outcomes reached g other section_infos a
 
-  same : all_placed (with_types_of g other) groups ≡ all_placed g groups
-  same = all-same outcomes reached g other groups a
+  same : all_placed (with_types_of g other) section_infos ≡ all_placed g section_infos
+  same = all-same outcomes reached g other section_infos a
 
-  there-is : HasTypesFault g groups c → HasTypesFault (with_types_of g other) groups c
-  there-is (inl fault) = inl (groups-fault b groups c here fault)
+  there-is : HasTypesFault g section_infos c → HasTypesFault (with_types_of g other) section_infos c
+  there-is (inl fault) = inl (section_infos-fault b section_infos c here fault)
   there-is (inr fault) = inr (subst (Fault-by g c) (sym same) fault)
 
-  back : HasTypesFault (with_types_of g other) groups c → HasTypesFault g groups c
-  back (inl fault) = inl (groups-fault-back b groups c here fault)
+  back : HasTypesFault (with_types_of g other) section_infos c → HasTypesFault g section_infos c
+  back (inl fault) = inl (section_infos-fault-back b section_infos c here fault)
   back (inr fault) = inr (subst (Fault-by g c) same fault)
 
 pub relocations_rest : OutcomesRest → RelocationsRest

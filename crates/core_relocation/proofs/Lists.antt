@@ -13,7 +13,7 @@ use Rattle.std.specs.declared.vec.Vec.{Vec}
 use Rattle.object_parts.specs.Content.{key_cmp}
 use Rattle.core_relocation.specs.Walks.{AreListed, ByFunction, listed_at}
 use Rattle.core_relocation.specs.Writes.{placed_at}
-use Rattle.core_relocation.specs.declared.placed.Placed.{Placed}
+use Rattle.core_relocation.specs.declared.placed_relocation.PlacedRelocation.{PlacedRelocation}
 use Rattle.core_relocation.proofs.Writing.{placed_append}
 
 -- keys are compared alike from both sides
@@ -31,18 +31,18 @@ both_sides a b =
     ∙ reversed_then (nat_cmp b.0 a.0) (nat_cmp b.1 a.1)
 
 -- one more in a list by key, which adds itself to those of its function
-abbrev with_offset : Placed → ℕ × Placed
+abbrev with_offset : PlacedRelocation → ℕ × PlacedRelocation
 with_offset p = (p.offset, p)
 
-placed_last : (p : Placed) (b : Bool) → map with_offset (cond b (p ∷ []) []) ≡ cond b (with_offset p ∷ []) []
+placed_last : (p : PlacedRelocation) (b : Bool) → map with_offset (cond b (p ∷ []) []) ≡ cond b (with_offset p ∷ []) []
 placed_last p true = refl
 placed_last p false = refl
 
-added : (b : Bool) (l m : List (ℕ × Placed)) → cond b (l ++ m) l ≡ l ++ cond b m []
+added : (b : Bool) (l m : List (ℕ × PlacedRelocation)) → cond b (l ++ m) l ≡ l ++ cond b m []
 added true l m = refl
 added false l m = sym (append-nil l)
 
-pub listed_more : (ps more : List Placed) (p : Placed) (old new : ByFunction) → more ≡ ps ++ (p ∷ []) → ((key : ℕ × ℕ) → listed_at new key ≡ (if is_at (key_cmp p.key) key then listed_at old key ++ ((p.offset, p) ∷ []) else listed_at old key)) → AreListed ps old → AreListed more new
+pub listed_more : (ps more : List PlacedRelocation) (p : PlacedRelocation) (old new : ByFunction) → more ≡ ps ++ (p ∷ []) → ((key : ℕ × ℕ) → listed_at new key ≡ (if is_at (key_cmp p.key) key then listed_at old key ++ ((p.offset, p) ∷ []) else listed_at old key)) → AreListed ps old → AreListed more new
 listed_more ps more p old new split updates are = record {
   at = λ key.
       updates key
@@ -69,11 +69,11 @@ same_keys (a, c) (b, d) h =
     let both = both_equal (nat_cmp a b) (nat_cmp c d) h in
     ap (λ n. (n, c)) (same_numbers a b both.0) ∙ ap (λ n. (b, n)) (same_numbers c d both.1)
 
-entered_if : (p : Placed) (old removed new : ByFunction) (list : Vec (ℕ × Placed) Global) (q : ℕ × ℕ) (b : Bool) → is_at (key_cmp p.key) q ≡ b → get key_cmp removed q ≡ cond b None (get key_cmp old q) → get key_cmp new q ≡ cond b (Some list) (get key_cmp removed q) → list.items ≡ listed_at old p.key ++ ((p.offset, p) ∷ []) → listed_at new q ≡ cond b (listed_at old q ++ ((p.offset, p) ∷ [])) (listed_at old q)
+entered_if : (p : PlacedRelocation) (old removed new : ByFunction) (list : Vec (ℕ × PlacedRelocation) Global) (q : ℕ × ℕ) (b : Bool) → is_at (key_cmp p.key) q ≡ b → get key_cmp removed q ≡ cond b None (get key_cmp old q) → get key_cmp new q ≡ cond b (Some list) (get key_cmp removed q) → list.items ≡ listed_at old p.key ++ ((p.offset, p) ∷ []) → listed_at new q ≡ cond b (listed_at old q ++ ((p.offset, p) ∷ [])) (listed_at old q)
 entered_if p old removed new list q true at out into items =
-    ap (λ (o : Option (Vec (ℕ × Placed) Global)). option_map_or (λ l. l.items) o []) into ∙ items ∙ ap (λ k. listed_at old k ++ ((p.offset, p) ∷ [])) (same_keys p.key q at)
+    ap (λ (o : Option (Vec (ℕ × PlacedRelocation) Global)). option_map_or (λ l. l.items) o []) into ∙ items ∙ ap (λ k. listed_at old k ++ ((p.offset, p) ∷ [])) (same_keys p.key q at)
 entered_if p old removed new list q false at out into items =
-    ap (λ (o : Option (Vec (ℕ × Placed) Global)). option_map_or (λ l. l.items) o []) (into ∙ out)
+    ap (λ (o : Option (Vec (ℕ × PlacedRelocation) Global)). option_map_or (λ l. l.items) o []) (into ∙ out)
 
-pub entered : (p : Placed) (old removed new : ByFunction) (list : Vec (ℕ × Placed) Global) → ((q : ℕ × ℕ) → get key_cmp removed q ≡ cond (is_at (key_cmp p.key) q) None (get key_cmp old q)) → ((q : ℕ × ℕ) → get key_cmp new q ≡ cond (is_at (key_cmp p.key) q) (Some list) (get key_cmp removed q)) → list.items ≡ listed_at old p.key ++ ((p.offset, p) ∷ []) → (q : ℕ × ℕ) → listed_at new q ≡ (if is_at (key_cmp p.key) q then listed_at old q ++ ((p.offset, p) ∷ []) else listed_at old q)
+pub entered : (p : PlacedRelocation) (old removed new : ByFunction) (list : Vec (ℕ × PlacedRelocation) Global) → ((q : ℕ × ℕ) → get key_cmp removed q ≡ cond (is_at (key_cmp p.key) q) None (get key_cmp old q)) → ((q : ℕ × ℕ) → get key_cmp new q ≡ cond (is_at (key_cmp p.key) q) (Some list) (get key_cmp removed q)) → list.items ≡ listed_at old p.key ++ ((p.offset, p) ∷ []) → (q : ℕ × ℕ) → listed_at new q ≡ (if is_at (key_cmp p.key) q then listed_at old q ++ ((p.offset, p) ∷ []) else listed_at old q)
 entered p old removed new list out into items q = entered_if p old removed new list q (is_at (key_cmp p.key) q) refl (out q) (into q) items

@@ -9,14 +9,14 @@ use Rattle.slot_relocation.specs.Writes.{HasFaultAmong}
 use Rattle.string_table.specs.Texts.{text_at}
 use Rattle.core_resolve.specs.declared.error.TypeRelocationError.{TypeRelocationError}
 use Rattle.core_resolve.specs.declared.error.TypeRelocationError.TheVariants as match
-use Rattle.core_relocation.specs.Relocations.{Groups, TypesGiven, function_holding, record_outcome, section_at, section_named}
+use Rattle.core_relocation.specs.Relocations.{SectionInfos, TypesGiven, function_holding, record_outcome, section_at, section_named}
 use Rattle.core_relocation.specs.Writes.{type_rule, types_inside}
 use Rattle.relocation_errors.specs.declared.type_relocations.BtfRelocationCause.{BtfRelocationCause}
 use Rattle.relocation_errors.specs.declared.type_relocations.BtfRelocationCause.TheVariants as cause
 use Rattle.core_patch.specs.declared.instruction.WriteFault.{WriteFault}
 use Rattle.core_patch.specs.declared.instruction.WriteFault.TheVariants as write
-use Rattle.core_relocation.specs.declared.placed.Placed.{Placed}
-use Rattle.core_relocation.specs.declared.placed.PlacedFault.{PlacedFault}
+use Rattle.core_relocation.specs.declared.placed_relocation.PlacedRelocation.{PlacedRelocation}
+use Rattle.core_relocation.specs.declared.placed_relocation.RelocationFault.{RelocationFault}
 
 -- ---- causes for what else refuses
 
@@ -47,19 +47,19 @@ OfWrite write.OtherWidth (cause.InvalidInstruction number index error) = Unit {0
 OfWrite write.OtherClass (cause.InvalidInstruction number index error) = Unit {0}
 OfWrite _ _ = ⊥
 
--- ---- faults of a group, of a relocation, and of what one writes
+-- ---- faults of a section info, of a relocation, and of what one writes
 
--- a group's name can't be read, or the file has no section of this name
-abbrev pub FaultOfGroup : TypesGiven → ℕ → BtfRelocationCause → Type 0
-FaultOfGroup g name (cause.BtfError e) =
+-- a section info's name can't be read, or the file has no section of this name
+abbrev pub FaultOfSectionInfo : TypesGiven → ℕ → BtfRelocationCause → Type 0
+FaultOfSectionInfo g name (cause.BtfError e) =
     (e ≡ btf.InvalidStringOffset name) × (text_at g.local.strings name ≡ None)
-FaultOfGroup g name cause.SectionNotFound =
+FaultOfSectionInfo g name cause.SectionNotFound =
     (text : List ℕ)
     × (text_at g.local.strings name ≡ Some text)
     × (section_named g.file text ≡ None)
-FaultOfGroup g name _ = ⊥
+FaultOfSectionInfo g name _ = ⊥
 
--- no function of the group's section holds the instruction
+-- no function of the section info's section holds the instruction
 abbrev pub LacksFunction : TypesGiven → Option ℕ → bpf_core_relo → BtfRelocationCause → Type 0
 LacksFunction g section r cause.FunctionNotFound =
     (s : ℕ) × (section ≡ Some s) × (function_holding g.functions s r.insn_off ≡ None)
@@ -69,39 +69,39 @@ LacksFunction g section r _ = ⊥
 abbrev pub LacksOutcome : TypesGiven → bpf_core_relo → BtfRelocationCause → Type 0
 LacksOutcome g r c = (e : TypeRelocationError) × (record_outcome g r ≡ Err e) × OfMatch e c
 
--- some relocation of a group does
+-- some relocation of a section info does
 abbrev pub RecordsFault : TypesGiven → Option ℕ → List bpf_core_relo → BtfRelocationCause → Type 0
 RecordsFault g section [] c = ⊥
 RecordsFault g section (r ∷ rs) c =
     LacksFunction g section r c ⊎ LacksOutcome g r c ⊎ RecordsFault g section rs c
 
--- some group, also one without relocations
-abbrev pub GroupsFault : TypesGiven → Groups → BtfRelocationCause → Type 0
-GroupsFault g [] c = ⊥
-GroupsFault g (x ∷ xs) c =
-    FaultOfGroup g x.name_offset c
+-- some section info, also one without relocations
+abbrev pub SectionInfosFault : TypesGiven → SectionInfos → BtfRelocationCause → Type 0
+SectionInfosFault g [] c = ⊥
+SectionInfosFault g (x ∷ xs) c =
+    FaultOfSectionInfo g x.name_offset c
     ⊎ RecordsFault g (section_at g x.name_offset) x.records c
-    ⊎ GroupsFault g xs c
+    ⊎ SectionInfosFault g xs c
 
 -- what a relocation of some function would write doesn't fit its instruction, by the slots after
 -- those before it
-abbrev pub WritesFault : (FunctionContent → List (ℕ × Placed))
+abbrev pub WritesFault : (FunctionContent → List (ℕ × PlacedRelocation))
     → List ((ℕ × ℕ) × FunctionContent)
     → BtfRelocationCause
     → Type 0
 WritesFault inside [] c = ⊥
 WritesFault inside (f ∷ fs) c =
     ((offset : ℕ)
-    × (e : PlacedFault)
+    × (e : RelocationFault)
     × HasFaultAmong type_rule f.1 (inside f.1) offset e
     × OfWrite e.fault c)
     ⊎ WritesFault inside fs c
 
 -- a fault of type relocations
-abbrev pub HasTypesFault : TypesGiven → Groups → BtfRelocationCause → Type 0
-HasTypesFault g groups c =
-    GroupsFault g groups c ⊎ WritesFault (types_inside g groups) g.functions c
+abbrev pub HasTypesFault : TypesGiven → SectionInfos → BtfRelocationCause → Type 0
+HasTypesFault g section_infos c =
+    SectionInfosFault g section_infos c ⊎ WritesFault (types_inside g section_infos) g.functions c
 
 -- no such fault stands
-pub record CanBeRelocated (g : TypesGiven) (groups : Groups) : Type 0 where
-  pub none : (c : BtfRelocationCause) → HasTypesFault g groups c → ⊥
+pub record CanBeRelocated (g : TypesGiven) (section_infos : SectionInfos) : Type 0 where
+  pub none : (c : BtfRelocationCause) → HasTypesFault g section_infos c → ⊥

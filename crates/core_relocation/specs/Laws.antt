@@ -8,53 +8,53 @@ use Rattle.object_parts.specs.Content.{FunctionContent, function_at}
 use Rattle.slot_relocation.specs.WriteLaws.{IsWritten, WritesAlone}
 use Rattle.string_table.specs.Texts.{text_at}
 use Rattle.core_relocation.specs.Faults.{HasTypesFault}
-use Rattle.core_relocation.specs.Relocations.{Groups, TypesGiven, all_placed}
+use Rattle.core_relocation.specs.Relocations.{SectionInfos, TypesGiven, all_placed}
 use Rattle.core_relocation.specs.Writes.{AreRelocated, type_rule, types_inside}
 use Rattle.relocation_errors.specs.declared.type_relocations.BtfRelocationCause.{BtfRelocationCause}
 
 -- some type relocation writes the slot at a place of a function: its own, or the next one
-abbrev pub WritesAt : TypesGiven → Groups → FunctionContent → ℕ → Type 0
-WritesAt g groups f place = IsWritten type_rule f (types_inside g groups f) place
+abbrev pub WritesAt : TypesGiven → SectionInfos → FunctionContent → ℕ → Type 0
+WritesAt g section_infos f place = IsWritten type_rule f (types_inside g section_infos f) place
 
 -- one alone does, and puts this into it
-abbrev pub PutsAt : TypesGiven → Groups → FunctionContent → ℕ → bpf_insn → Type 0
-PutsAt g groups f place s = WritesAlone type_rule f (types_inside g groups f) place s
+abbrev pub PutsAt : TypesGiven → SectionInfos → FunctionContent → ℕ → bpf_insn → Type 0
+PutsAt g section_infos f place s = WritesAlone type_rule f (types_inside g section_infos f) place s
 
 -- what holds of a function's slots after all: one that one relocation alone writes is what that one
 -- puts there, and one that none writes is as it was
-pub record HasTypes (g : TypesGiven) (groups : Groups) (old new : FunctionContent) : Type 0 where
+pub record HasTypes (g : TypesGiven) (section_infos : SectionInfos) (old new : FunctionContent) : Type 0 where
   pub alone : (place : ℕ) (s : bpf_insn)
-      → PutsAt g groups old place s
+      → PutsAt g section_infos old place s
       → place < length old.instructions
       → slice_get new.instructions place ≡ Some s
   pub others : (place : ℕ)
-      → (WritesAt g groups old place → ⊥)
+      → (WritesAt g section_infos old place → ⊥)
       → slice_get new.instructions place ≡ slice_get old.instructions place
   pub as_many : length new.instructions ≡ length old.instructions
 
 -- of the function of each key
-abbrev pub HaveTypes : TypesGiven → Groups → List ((ℕ × ℕ) × FunctionContent) → Type 0
-HaveTypes g groups new =
+abbrev pub HaveTypes : TypesGiven → SectionInfos → List ((ℕ × ℕ) × FunctionContent) → Type 0
+HaveTypes g section_infos new =
     (key : ℕ × ℕ) (f : FunctionContent) → function_at g.functions key ≡ Some f
-    → (h : FunctionContent) × (function_at new key ≡ Some h) × HasTypes g groups f h
+    → (h : FunctionContent) × (function_at new key ≡ Some h) × HasTypes g section_infos f h
 
 -- it holds of relocated functions
 pub record TypesAreWritten : Type 0 where
-  pub each : (g : TypesGiven) (groups : Groups) (new : List ((ℕ × ℕ) × FunctionContent))
-      → AreRelocated g groups new
-      → HaveTypes g groups new
+  pub each : (g : TypesGiven) (section_infos : SectionInfos) (new : List ((ℕ × ℕ) × FunctionContent))
+      → AreRelocated g section_infos new
+      → HaveTypes g section_infos new
 
 -- The types of relocations are reached, and two tables agree on what is: on the records, which lead
 -- to reached ones, on their texts, on the relocations' access strings and on the names of their
--- groups' sections.
-pub record AgreeOnReach (reached : ℕ → Bool) (one other : Table) (groups : Groups) : Type 0 where
+-- section infos' sections.
+pub record AgreeOnReach (reached : ℕ → Bool) (one other : Table) (section_infos : SectionInfos) : Type 0 where
   pub alike : AreAlike reached one other
-  pub types : All (λ x. All (λ r. reached r.type_id ≡ true) x.records) groups
+  pub types : All (λ x. All (λ r. reached r.type_id ≡ true) x.records) section_infos
   pub accesses : All (λ x.
       All (λ r. text_at other.strings r.access_str_off ≡ text_at one.strings r.access_str_off)
-      x.records) groups
+      x.records) section_infos
   pub sections : All (λ x. text_at other.strings x.name_offset ≡ text_at one.strings x.name_offset)
-      groups
+      section_infos
 
 -- the same with other types of the object's own
 abbrev pub with_types_of : TypesGiven → Table → TypesGiven
@@ -63,16 +63,16 @@ with_types_of g other = record g { local = other }
 -- what type relocations come to, write and are refused for is the same for every other table that
 -- agrees on their reach
 pub record RelocationsRest : Type 0 where
-  pub placed : (reached : ℕ → Bool) (g : TypesGiven) (other : Table) (groups : Groups)
-      → AgreeOnReach reached g.local other groups
-      → all_placed (with_types_of g other) groups ≡ all_placed g groups
-  pub relocated : (reached : ℕ → Bool) (g : TypesGiven) (other : Table) (groups : Groups)
-      → AgreeOnReach reached g.local other groups
+  pub placed : (reached : ℕ → Bool) (g : TypesGiven) (other : Table) (section_infos : SectionInfos)
+      → AgreeOnReach reached g.local other section_infos
+      → all_placed (with_types_of g other) section_infos ≡ all_placed g section_infos
+  pub relocated : (reached : ℕ → Bool) (g : TypesGiven) (other : Table) (section_infos : SectionInfos)
+      → AgreeOnReach reached g.local other section_infos
       → (new : List ((ℕ × ℕ) × FunctionContent))
-      → (AreRelocated g groups new → AreRelocated (with_types_of g other) groups new)
-      × (AreRelocated (with_types_of g other) groups new → AreRelocated g groups new)
-  pub refused : (reached : ℕ → Bool) (g : TypesGiven) (other : Table) (groups : Groups)
-      → AgreeOnReach reached g.local other groups
+      → (AreRelocated g section_infos new → AreRelocated (with_types_of g other) section_infos new)
+      × (AreRelocated (with_types_of g other) section_infos new → AreRelocated g section_infos new)
+  pub refused : (reached : ℕ → Bool) (g : TypesGiven) (other : Table) (section_infos : SectionInfos)
+      → AgreeOnReach reached g.local other section_infos
       → (c : BtfRelocationCause)
-      → (HasTypesFault g groups c → HasTypesFault (with_types_of g other) groups c)
-      × (HasTypesFault (with_types_of g other) groups c → HasTypesFault g groups c)
+      → (HasTypesFault g section_infos c → HasTypesFault (with_types_of g other) section_infos c)
+      × (HasTypesFault (with_types_of g other) section_infos c → HasTypesFault g section_infos c)

@@ -4,7 +4,7 @@ use Rattle.std.specs.Prelude.{◌==◌, ◌&&◌, ℕ, suc, find, List, [], ◌�
 use Rattle.std.specs.Option.{option_map, option_to_list}
 use Rattle.std.specs.Result.{result_ok}
 use Rattle.core_spec.specs.declared.error.AccessError.TheVariants.{BtfError as TypeError}
-use Rattle.btf_ext.specs.Groups.{Group}
+use Rattle.btf_ext.specs.SectionInfos.{SectionInfo}
 use Rattle.btf_ext.specs.declared.record.bpf_core_relo.{bpf_core_relo}
 use Rattle.btf_records.specs.declared.error.BtfError.TheVariants.{InvalidRelocationKind}
 use Rattle.btf_tables.specs.Tables.{Table}
@@ -20,11 +20,11 @@ use Rattle.core_resolve.specs.declared.error.TypeRelocationError.{TypeRelocation
 use Rattle.core_resolve.specs.declared.error.TypeRelocationError.TheVariants.{Local}
 use Rattle.core_resolve.specs.declared.relocation.RelocationOutcome.{RelocationOutcome}
 use Rattle.core_patch.specs.Patches.{patch_of}
-use Rattle.core_relocation.specs.declared.placed.Placed.{Placed}
-use Rattle.core_relocation.specs.declared.placed.Position.{Position}
+use Rattle.core_relocation.specs.declared.placed_relocation.PlacedRelocation.{PlacedRelocation}
+use Rattle.core_relocation.specs.declared.placed_relocation.Position.{Position}
 
-abbrev pub Groups : Type 0
-Groups = List (Group bpf_core_relo)
+abbrev pub SectionInfos : Type 0
+SectionInfos = List (SectionInfo bpf_core_relo)
 
 -- what type relocations rest on: the object's file and its functions by key, its own types, and the
 -- tables of a kernel
@@ -78,7 +78,7 @@ abbrev pub placed_as : TypesGiven
     → bpf_core_relo
     → FunctionContent
     → RelocationOutcome
-    → Placed
+    → PlacedRelocation
 placed_as g position r f o = record {
   key = key_of f;
   offset = r.insn_off;
@@ -87,30 +87,30 @@ placed_as g position r f o = record {
   table = o.table;
 }
 
-abbrev pub placed_in : TypesGiven → Position → bpf_core_relo → FunctionContent → Option Placed
+abbrev pub placed_in : TypesGiven → Position → bpf_core_relo → FunctionContent → Option PlacedRelocation
 placed_in g position r f = option_map (placed_as g position r f) (result_ok (record_outcome g r))
 
 -- in the function that holds its offset; one without section, function or outcome has no place
-abbrev pub placed : TypesGiven → Position → Option ℕ → bpf_core_relo → Option Placed
+abbrev pub placed : TypesGiven → Position → Option ℕ → bpf_core_relo → Option PlacedRelocation
 placed g position section r =
     option_and_then (λ s.
     option_and_then (placed_in g position r) (function_holding g.functions s r.insn_off)) section
 
--- those of a group, from a number on
-abbrev pub placed_from : TypesGiven → ℕ → ℕ → Option ℕ → ℕ → List bpf_core_relo → List Placed
-placed_from g group name section number [] = []
-placed_from g group name section number (r ∷ rs) =
+-- those of a section info, from a number on
+abbrev pub placed_from : TypesGiven → ℕ → ℕ → Option ℕ → ℕ → List bpf_core_relo → List PlacedRelocation
+placed_from g section_info name section number [] = []
+placed_from g section_info name section number (r ∷ rs) =
     option_to_list
-    (placed g (record { group = group; name_offset = name; number = number }) section r)
-    ++ placed_from g group name section (suc number) rs
+    (placed g (record { section_info = section_info; name_offset = name; number = number }) section r)
+    ++ placed_from g section_info name section (suc number) rs
 
--- those of the groups, from one on: group by group and record by record
-abbrev pub placed_group : TypesGiven → ℕ → Group bpf_core_relo → List Placed
-placed_group g group x = placed_from g group x.name_offset (section_at g x.name_offset) 0 x.records
+-- those of the section infos, from one on: section info by section info and record by record
+abbrev pub placed_section_info : TypesGiven → ℕ → SectionInfo bpf_core_relo → List PlacedRelocation
+placed_section_info g section_info x = placed_from g section_info x.name_offset (section_at g x.name_offset) 0 x.records
 
-abbrev pub all_from : TypesGiven → ℕ → Groups → List Placed
-all_from g group [] = []
-all_from g group (x ∷ xs) = placed_group g group x ++ all_from g (suc group) xs
+abbrev pub all_from : TypesGiven → ℕ → SectionInfos → List PlacedRelocation
+all_from g section_info [] = []
+all_from g section_info (x ∷ xs) = placed_section_info g section_info x ++ all_from g (suc section_info) xs
 
-abbrev pub all_placed : TypesGiven → Groups → List Placed
-all_placed g groups = all_from g 0 groups
+abbrev pub all_placed : TypesGiven → SectionInfos → List PlacedRelocation
+all_placed g section_infos = all_from g 0 section_infos

@@ -5,18 +5,18 @@ use Rattle.std.specs.Option.{option_map_or}
 use Rattle.std.specs.declared.alloc.Global.{Global}
 use Rattle.std.specs.declared.collections.BTreeMap.{BTreeMap}
 use Rattle.std.specs.declared.vec.Vec.{Vec}
-use Rattle.btf_ext.specs.Groups.{Group}
+use Rattle.btf_ext.specs.SectionInfos.{SectionInfo}
 use Rattle.btf_ext.specs.declared.record.bpf_core_relo.{bpf_core_relo}
 use Rattle.object_parts.specs.Content.{key_cmp}
 use Rattle.slot_relocation.specs.declared.driver.Stop.{Stop}
 use Rattle.slot_relocation.specs.declared.driver.Stop.TheVariants as stop
 use Rattle.core_resolve.specs.RelocationOutcomes.{Matched}
-use Rattle.core_relocation.specs.Faults.{FaultOfGroup, LacksFunction, LacksOutcome, OfWrite, RecordsFault}
+use Rattle.core_relocation.specs.Faults.{FaultOfSectionInfo, LacksFunction, LacksOutcome, OfWrite, RecordsFault}
 use Rattle.core_relocation.specs.Relocations.{TypesGiven, section_at}
 use Rattle.core_relocation.specs.Writes.{placed_at}
 use Rattle.relocation_errors.specs.declared.type_relocations.BtfRelocationCause.{BtfRelocationCause}
-use Rattle.core_relocation.specs.declared.placed.Placed.{Placed}
-use Rattle.core_relocation.specs.declared.placed.PlacedFault.{PlacedFault}
+use Rattle.core_relocation.specs.declared.placed_relocation.PlacedRelocation.{PlacedRelocation}
+use Rattle.core_relocation.specs.declared.placed_relocation.RelocationFault.{RelocationFault}
 
 -- no cause of these stands
 pub record StandsNone (Stands : BtfRelocationCause → Type 0) : Type 0 where
@@ -30,10 +30,10 @@ matched g = record { local = g.local; targets = g.targets }
 abbrev pub RecordFault : TypesGiven → Option ℕ → bpf_core_relo → BtfRelocationCause → Type 0
 RecordFault g section r c = LacksFunction g section r c ⊎ LacksOutcome g r c
 
--- what refuses a group before instructions are looked at
-abbrev pub GroupFault : TypesGiven → Group bpf_core_relo → BtfRelocationCause → Type 0
-GroupFault g x c =
-    FaultOfGroup g x.name_offset c ⊎ RecordsFault g (section_at g x.name_offset) x.records c
+-- what refuses a section info before instructions are looked at
+abbrev pub SectionInfoFault : TypesGiven → SectionInfo bpf_core_relo → BtfRelocationCause → Type 0
+SectionInfoFault g x c =
+    FaultOfSectionInfo g x.name_offset c ⊎ RecordsFault g (section_at g x.name_offset) x.records c
 
 -- a list with some more is a whole one
 abbrev pub IsFront : {A : Type 0} → List A → List A → Type 0
@@ -41,16 +41,16 @@ IsFront {A} front all = (rest : List A) × (front ++ rest ≡ all)
 
 -- lists by the keys of functions
 abbrev pub ByFunction : Type 0
-ByFunction = BTreeMap (ℕ × ℕ) (Vec (ℕ × Placed) Global) Global
+ByFunction = BTreeMap (ℕ × ℕ) (Vec (ℕ × PlacedRelocation) Global) Global
 
-abbrev pub listed_at : ByFunction → ℕ × ℕ → List (ℕ × Placed)
+abbrev pub listed_at : ByFunction → ℕ × ℕ → List (ℕ × PlacedRelocation)
 listed_at lists key = option_map_or (λ l. l.items) (get key_cmp lists key) []
 
 -- they are the relocations of each function
-pub record AreListed (ps : List Placed) (lists : ByFunction) : Type 0 where
+pub record AreListed (ps : List PlacedRelocation) (lists : ByFunction) : Type 0 where
   pub at : (key : ℕ × ℕ) → listed_at lists key ≡ placed_at ps key
 
 -- the cause for what stopped the writing
-abbrev pub IsCauseFor : Stop PlacedFault → BtfRelocationCause → Type 0
+abbrev pub IsCauseFor : Stop RelocationFault → BtfRelocationCause → Type 0
 IsCauseFor (stop.Fault x) c = OfWrite x.fault.fault c
 IsCauseFor stop.OutOfMemory c = ⊥

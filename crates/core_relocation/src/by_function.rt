@@ -5,15 +5,15 @@ ghost use Rattle.std.specs.BTreeMap.{is_at};
 ghost use Rattle.object_parts.specs.Content.{key_cmp};
 ghost use Rattle.core_relocation.specs.Walks.{AreListed, listed_at};
 
-use crate::placed::Placed;
+use crate::placed_relocation::PlacedRelocation;
 use std::alloc::{AllocError, Global};
 use std::collections::BTreeMap;
 
 /// Lists of type relocations, with their offsets, by the keys of functions.
-pub(crate) type ByFunction = BTreeMap<(usize, u64), Vec<(u64, Placed)>>;
+pub(crate) type ByFunction = BTreeMap<(usize, u64), Vec<(u64, PlacedRelocation)>>;
 
 /// Enters a relocation after those of its function.
-fn enter(alloc: Global, lists: &mut ByFunction, placed: Placed) -> Result<(), AllocError>
+fn enter(alloc: Global, lists: &mut ByFunction, placed: PlacedRelocation) -> Result<(), AllocError>
     ensures { OnOk result
         ((key : ℕ × ℕ)
         → listed_at lists.new key
@@ -31,7 +31,7 @@ fn enter(alloc: Global, lists: &mut ByFunction, placed: Placed) -> Result<(), Al
 }
 
 /// The lists of some relocations.
-pub(crate) fn by_function(alloc: Global, all: &[Placed]) -> Result<ByFunction, AllocError>
+pub(crate) fn by_function(alloc: Global, all: &[PlacedRelocation]) -> Result<ByFunction, AllocError>
     ensures { IfOk result (AreListed all.now) }
 {
     let mut lists = BTreeMap::new(alloc);

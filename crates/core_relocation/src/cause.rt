@@ -5,7 +5,7 @@ ghost use Rattle.core_relocation.specs.Faults.{OfAccess, OfMatch, OfWrite};
 ghost use Rattle.relocation_errors.specs.declared.type_relocations.BtfRelocationCause.TheVariants.{OutOfMemory};
 
 use crate::conflicting::matches_of;
-use crate::placed::PlacedFault;
+use crate::placed_relocation::RelocationFault;
 use crate::texts::{kind_name, name_or_empty, text_at, type_name};
 use btf_records::BtfError;
 use btf_tables::Btf;
@@ -18,11 +18,11 @@ use std::alloc::{AllocError, Global};
 
 /// A relocation to tell of: where it stands, what it asks for, and among which types.
 #[derive(Drop)]
-pub(crate) struct Told<'r, 'l, 't> {
+pub(crate) struct FailedRelocation<'r, 'l, 't> {
     pub(crate) alloc: Global,
     pub(crate) local: &'r Btf<'l>,
     pub(crate) targets: &'r [Btf<'t>],
-    /// Its place in its group.
+    /// Its place in its section info.
     pub(crate) number: usize,
     /// The instruction's offset in the section, in bytes.
     pub(crate) offset: u64,
@@ -31,30 +31,30 @@ pub(crate) struct Told<'r, 'l, 't> {
 
 /// An access that has no place, or no value, in a type of a table. The path began with a type.
 fn of_access(
-    told: &Told<'_, '_, '_>,
+    failed: &FailedRelocation<'_, '_, '_>,
     table: &Btf<'_>,
     root: u32,
     error: AccessError,
 ) -> Result<BtfRelocationCause, AllocError>
     ensures { IfOk result (λ c. c ≢ OutOfMemory → OfAccess error c) }
 {
-    let alloc = told.alloc;
-    let access_str_off = told.asked.access_str_off;
+    let alloc = failed.alloc;
+    let access_str_off = failed.asked.access_str_off;
     let cause = match error {
         AccessError::InvalidAccessString => BtfRelocationCause::InvalidAccessString {
-            access_str: text_at(alloc, told.local, access_str_off)?,
+            access_str: text_at(alloc, failed.local, access_str_off)?,
         },
         AccessError::InvalidAccessIndex { place, len } => BtfRelocationCause::InvalidAccessIndex {
             access_path: name_or_empty(alloc, table, place.type_id)?,
-            spec: text_at(alloc, told.local, access_str_off)?,
+            spec: text_at(alloc, failed.local, access_str_off)?,
             index: place.index as usize,
             len,
             error: String::from_str(alloc, "it has only")?,
         },
         AccessError::InvalidRelocationKindForType { type_id } => {
             BtfRelocationCause::InvalidRelocationKindForType {
-                relocation_number: told.number,
-                relocation_kind: format!(in alloc; "{:?}", told.asked.kind)?,
+                relocation_number: failed.number,
+                relocation_kind: format!(in alloc; "{:?}", failed.asked.kind)?,
                 type_kind: kind_name(alloc, table, type_id)?,
                 error: String::from_str(alloc, "it doesn't go with a type of kind")?,
             }
@@ -68,12 +68,12 @@ fn of_access(
 }
 
 /// The names of the kernel's types that conflict with the first.
-fn conflict_names(told: &Told<'_, '_, '_>) -> Result<Vec<String>, AllocError> {
-    let mut names = Vec::new(told.alloc);
-    let matches = matches_of(told.alloc, told.local, told.targets, told.asked)?;
-    for found in conflicts(told.alloc, matches.as_slice())?.as_slice() {
-        if let Some(target) = told.targets.get(found.table) {
-            names.push(name_or_empty(told.alloc, target, found.type_id)?)?;
+fn conflict_names(failed: &FailedRelocation<'_, '_, '_>) -> Result<Vec<String>, AllocError> {
+    let mut names = Vec::new(failed.alloc);
+    let matches = matches_of(failed.alloc, failed.local, failed.targets, failed.asked)?;
+    for found in conflicts(failed.alloc, matches.as_slice())?.as_slice() {
+        if let Some(target) = failed.targets.get(found.table) {
+            names.push(name_or_empty(failed.alloc, target, found.type_id)?)?;
         }
     }
     Ok(names)
@@ -81,18 +81,18 @@ fn conflict_names(told: &Told<'_, '_, '_>) -> Result<Vec<String>, AllocError> {
 
 /// A relocation that comes to nothing in the kernel's types.
 fn of_match(
-    told: &Told<'_, '_, '_>,
+    failed: &FailedRelocation<'_, '_, '_>,
     error: TypeRelocationError,
 ) -> Result<BtfRelocationCause, AllocError>
     ensures { IfOk result (λ c. c ≢ OutOfMemory → OfMatch error c) }
 {
     match error {
         TypeRelocationError::Local(error) => {
-            of_access(told, told.local, told.asked.type_id, error)
+            of_access(failed, failed.local, failed.asked.type_id, error)
         }
-        TypeRelocationError::Kernel { place, error } => match told.targets.get(place.table) {
-            Some(target) => of_access(told, target, place.type_id, error),
-            None => of_access(told, told.local, told.asked.type_id, error),
+        TypeRelocationError::Kernel { place, error } => match failed.targets.get(place.table) {
+            Some(target) => of_access(failed, target, place.type_id, error),
+            None => of_access(failed, failed.local, failed.asked.type_id, error),
         },
         TypeRelocationError::UnreadableName { place: _, offset } => {
             Ok(BtfRelocationCause::BtfError(BtfError::InvalidStringOffset {
@@ -101,15 +101,15 @@ fn of_match(
         }
         TypeRelocationError::ConflictingCandidates => {
             Ok(BtfRelocationCause::ConflictingCandidates {
-                type_name: name_or_empty(told.alloc, told.local, told.asked.type_id)?,
-                candidates: conflict_names(told)?,
+                type_name: name_or_empty(failed.alloc, failed.local, failed.asked.type_id)?,
+                candidates: conflict_names(failed)?,
             })
         }
         TypeRelocationError::MissingTargetDefinition => {
             Ok(BtfRelocationCause::MissingTargetDefinition {
-                kind: told.asked.kind,
-                type_id: told.asked.type_id,
-                ins_index: (told.offset / SLOT_SIZE) as usize,
+                kind: failed.asked.kind,
+                type_id: failed.asked.type_id,
+                ins_index: (failed.offset / SLOT_SIZE) as usize,
             })
         }
         TypeRelocationError::OutOfMemory => Ok(BtfRelocationCause::OutOfMemory),
@@ -118,12 +118,12 @@ fn of_match(
 
 /// The cause of a relocation that comes to nothing in the kernel's types.
 pub(crate) fn cause_of_match(
-    told: &Told<'_, '_, '_>,
+    failed: &FailedRelocation<'_, '_, '_>,
     error: TypeRelocationError,
 ) -> BtfRelocationCause
     ensures { result ≢ OutOfMemory → OfMatch error result }
 {
-    match of_match(told, error) {
+    match of_match(failed, error) {
         Ok(cause) => cause,
         Err(error) => BtfRelocationCause::from(error),
     }
@@ -141,7 +141,7 @@ fn reason_of(fault: WriteFault) -> &'static str {
 }
 
 /// A value that doesn't fit its instruction.
-fn of_write(alloc: Global, placed: PlacedFault) -> Result<BtfRelocationCause, AllocError>
+fn of_write(alloc: Global, placed: RelocationFault) -> Result<BtfRelocationCause, AllocError>
     ensures { IfOk result (λ c. c ≢ OutOfMemory → OfWrite placed.fault c) }
 {
     let next = placed.index.saturating_add(1);
@@ -165,7 +165,7 @@ fn of_write(alloc: Global, placed: PlacedFault) -> Result<BtfRelocationCause, Al
 }
 
 /// The cause of a value that doesn't fit its instruction.
-pub(crate) fn cause_of_write(alloc: Global, placed: PlacedFault) -> BtfRelocationCause
+pub(crate) fn cause_of_write(alloc: Global, placed: RelocationFault) -> BtfRelocationCause
     ensures { result ≢ OutOfMemory → OfWrite placed.fault result }
 {
     match of_write(alloc, placed) {

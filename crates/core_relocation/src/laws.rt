@@ -2,7 +2,7 @@
 
 ghost use Rattle.core_relocation.specs.Laws.{RelocationsRest, TypesAreWritten};
 
-use crate::placed::{Placed, PlacedFault};
+use crate::placed_relocation::{PlacedRelocation, RelocationFault};
 use core_resolve::outcomes_rest;
 use slot_relocation::{lengths_remain, one_writes, unwritten_stay};
 
@@ -12,14 +12,14 @@ use slot_relocation::{lengths_remain, one_writes, unwritten_stay};
 pub fn types_are_written()
     ensures { TypesAreWritten }
 {
-    one_writes::<Placed, PlacedFault>();
-    unwritten_stay::<Placed, PlacedFault>();
-    lengths_remain::<Placed, PlacedFault>();
+    one_writes::<PlacedRelocation, RelocationFault>();
+    unwritten_stay::<PlacedRelocation, RelocationFault>();
+    lengths_remain::<PlacedRelocation, RelocationFault>();
 }
 
 /// What type relocations come to, write and are refused for rests, of the object's own types, on
 /// the records that are reached from their types, on the texts there, on their access strings and
-/// on the names of their groups' sections.
+/// on the names of their section infos' sections.
 pub fn relocations_rest()
     ensures { RelocationsRest }
 {

@@ -8,16 +8,16 @@
 mod by_function;
 mod cause;
 mod conflicting;
-mod groups;
 mod laws;
+mod lookup;
 mod pass;
 mod place;
-mod placed;
-mod placement;
+mod placed_relocation;
 mod relocation;
+mod section_infos;
 mod texts;
 
 pub use core_patch::{Patch, Width, WriteFault};
 pub use laws::{relocations_rest, types_are_written};
-pub use placed::{Placed, PlacedFault, Position};
+pub use placed_relocation::{PlacedRelocation, Position, RelocationFault};
 pub use relocation::relocate_types;

@@ -4,7 +4,7 @@ ghost use Rattle.std.specs.Prelude.{◌≡◌, map, IfOk, OnOk};
 ghost use Rattle.core_relocation.specs.Writes.{at_position, inside_of, placed_at, precedes, type_rule, with_match, with_matches, with_tables_of};
 
 use crate::by_function::{ByFunction, by_function};
-use crate::placed::{Placed, PlacedFault, Position};
+use crate::placed_relocation::{PlacedRelocation, Position, RelocationFault};
 use core_patch::{WriteFault, patched};
 use ebpf_items::Slots;
 use object_parts::{Function, MatchedTables, SLOT_SIZE};
@@ -15,16 +15,16 @@ use std::marker::Model;
 /// Type relocations at their places.
 #[derive(Drop)]
 pub(crate) struct TypePass {
-    all: Vec<Placed>,
+    all: Vec<PlacedRelocation>,
     by_function: ByFunction,
 }
 
 impl Model for TypePass {
     ghost use Rattle.std.specs.Prelude.{List};
     ghost use Rattle.core_relocation.specs.Walks.{AreListed};
-    ghost use Rattle.core_relocation.specs.declared.placed.Placed.{Placed};
+    ghost use Rattle.core_relocation.specs.declared.placed_relocation.PlacedRelocation.{PlacedRelocation};
 
-    ghost Value = { List Placed };
+    ghost Value = { List PlacedRelocation };
 
     ghost view = { λ p. p.all.items };
 
@@ -38,13 +38,13 @@ fn at_position(
     index: usize,
     num_instructions: usize,
     outcome: Outcome<WriteFault>,
-) -> Outcome<PlacedFault>
+) -> Outcome<RelocationFault>
     ensures { result ≡ at_position position index num_instructions outcome }
 {
     match outcome {
         Outcome::Skipped => Outcome::Skipped,
         Outcome::Written(write) => Outcome::Written(write),
-        Outcome::Refused(fault) => Outcome::Refused(PlacedFault {
+        Outcome::Refused(fault) => Outcome::Refused(RelocationFault {
             position,
             index,
             num_instructions,
@@ -54,7 +54,7 @@ fn at_position(
 }
 
 /// Enters the table in which a relocation has its first match, if it has one.
-fn enter_match(tables: &mut MatchedTables, placed: Placed) -> Result<(), AllocError>
+fn enter_match(tables: &mut MatchedTables, placed: PlacedRelocation) -> Result<(), AllocError>
     ensures { OnOk result (tables.new ≡ with_match tables.old placed) }
 {
     match placed.table {
@@ -66,7 +66,7 @@ fn enter_match(tables: &mut MatchedTables, placed: Placed) -> Result<(), AllocEr
 /// Enters the tables in which relocations have their first matches.
 fn enter_matches(
     tables: &mut MatchedTables,
-    relocations: &[(u64, Placed)],
+    relocations: &[(u64, PlacedRelocation)],
 ) -> Result<(), AllocError>
     ensures { OnOk result (tables.new ≡ with_tables_of relocations.now tables.old) }
 {
@@ -77,7 +77,7 @@ fn enter_matches(
 }
 
 impl TypePass {
-    pub(crate) fn new(alloc: Global, all: Vec<Placed>) -> Result<TypePass, AllocError>
+    pub(crate) fn new(alloc: Global, all: Vec<PlacedRelocation>) -> Result<TypePass, AllocError>
         ensures { IfOk result (λ p. p ≡ all.items) }
     {
         let by_function = by_function(alloc, all.as_slice())?;
@@ -85,7 +85,7 @@ impl TypePass {
     }
 
     /// The relocations of the function of a key, with their offsets.
-    fn relocations_at(&self, key: (usize, u64)) -> &[(u64, Placed)]
+    fn relocations_at(&self, key: (usize, u64)) -> &[(u64, PlacedRelocation)]
         ensures { result.now ≡ placed_at self.now key }
     {
         match self.by_function.get(&key) {
@@ -123,10 +123,15 @@ impl TypePass {
     }
 }
 
-impl Rule<Placed, PlacedFault> for TypePass {
+impl Rule<PlacedRelocation, RelocationFault> for TypePass {
     ghost rule = { λ _. type_rule };
 
-    fn outcome(&self, slots: &Slots<'_>, distance: u64, placed: &Placed) -> Outcome<PlacedFault> {
+    fn outcome(
+        &self,
+        slots: &Slots<'_>,
+        distance: u64,
+        placed: &PlacedRelocation,
+    ) -> Outcome<RelocationFault> {
         let place = (distance / SLOT_SIZE) as usize;
         match slots.get(place) {
             Some(slot) => {
@@ -138,23 +143,30 @@ impl Rule<Placed, PlacedFault> for TypePass {
     }
 }
 
-/// Whether a relocation stands before another: by group, and then by number.
+/// Whether a relocation stands before another: by section info, and then by number.
 fn precedes(one: Position, other: Position) -> bool
     ensures { result ≡ precedes one other }
 {
-    (one.group, one.number) < (other.group, other.number)
+    (one.section_info, one.number) < (other.section_info, other.number)
 }
 
-impl Pass<Placed, PlacedFault> for TypePass {
+impl Pass<PlacedRelocation, RelocationFault> for TypePass {
     ghost before = { λ _ one other. precedes one.fault.position other.fault.position };
 
     ghost inside = { λ p. inside_of p };
 
-    fn is_before(&self, one: &FaultAt<'_, PlacedFault>, other: &FaultAt<'_, PlacedFault>) -> bool {
+    fn is_before(
+        &self,
+        one: &FaultAt<'_, RelocationFault>,
+        other: &FaultAt<'_, RelocationFault>,
+    ) -> bool {
         precedes(one.fault.position, other.fault.position)
     }
 
-    fn slots_after<'f>(&self, function: &Function<'f>) -> Result<Slots<'f>, Refusal<PlacedFault>> {
+    fn slots_after<'f>(
+        &self,
+        function: &Function<'f>,
+    ) -> Result<Slots<'f>, Refusal<RelocationFault>> {
         match self.by_function.get(&function.key()) {
             Some(list) => relocate_list(self, function, list.as_slice()),
             None => Ok(function.instructions.try_clone()?),

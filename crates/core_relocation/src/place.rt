@@ -1,7 +1,7 @@
 //! Where type relocations stand, for messages.
 
 use crate::conflicting::matches_of;
-use crate::placement::function_holding;
+use crate::lookup::function_holding;
 use btf_ext::bpf_core_relo;
 use btf_tables::Btf;
 use core_resolve::{Match, TypeRelocation};

@@ -5,18 +5,18 @@ ghost use Rattle.std.specs.Map.{values_of};
 ghost use Rattle.object_parts.specs.Content.{AreKeyed};
 ghost use Rattle.object_parts.specs.Installed.{AreChanged};
 ghost use Rattle.slot_relocation.specs.Writes.{AreFaultless};
-ghost use Rattle.core_relocation.specs.Faults.{CanBeRelocated, GroupsFault, HasTypesFault, WritesFault};
+ghost use Rattle.core_relocation.specs.Faults.{CanBeRelocated, SectionInfosFault, HasTypesFault, WritesFault};
 ghost use Rattle.core_relocation.specs.Relocations.{all_placed, types_given};
 ghost use Rattle.core_relocation.specs.Walks.{IsCauseFor, IsFront, StandsNone};
 ghost use Rattle.core_relocation.specs.Writes.{AreRelocated, after_types, inside_of, type_rule};
 ghost use Rattle.relocation_errors.specs.declared.type_relocations.BtfRelocationCause.TheVariants.{OutOfMemory};
 
 use crate::cause::cause_of_write;
-use crate::groups::{RelocationGroup, asked_by, groups_of};
+use crate::lookup::Lookup;
 use crate::pass::TypePass;
 use crate::place::{asked_text, place_in_section};
-use crate::placed::{Placed, PlacedFault};
-use crate::placement::Lookup;
+use crate::placed_relocation::{PlacedRelocation, RelocationFault};
+use crate::section_infos::{RelocationSectionInfo, asked_by, section_infos_of};
 use crate::texts::section_name;
 use btf_ext::BtfExt;
 use btf_tables::Btf;
@@ -29,36 +29,36 @@ use std::alloc::{AllocError, Global};
 
 /// Relocations in their functions, up to the first that can't be placed, and why that can't.
 #[derive(Drop)]
-struct Placement {
-    all: Vec<Placed>,
+struct PlacedRelocations {
+    all: Vec<PlacedRelocation>,
     stopped: Option<BtfRelocationError>,
 }
 
-/// Places the relocations of groups, with a matcher for these tables.
-fn placement_by(
+/// Places the relocations of section infos, with a matcher for these tables.
+fn place_by(
     alloc: Global,
     file: &ObjectFile<'_>,
     functions: &Functions<'_>,
     local: &Btf<'_>,
     targets: &[Btf<'_>],
     matcher: &mut TypeMatcher<'_>,
-    groups: &[RelocationGroup],
-) -> Result<Placement, AllocError>
+    section_infos: &[RelocationSectionInfo],
+) -> Result<PlacedRelocations, AllocError>
     requires few { length targets.now ≤ 2 ^ 32 }
     requires matcher { matcher.old ≡ record { local = local.now; targets = targets.now } }
     ensures front { IfOk result (λ p.
         IsFront p.all.items
-        (all_placed (types_given file.now functions.now local.now targets.now) groups.now)) }
+        (all_placed (types_given file.now functions.now local.now targets.now) section_infos.now)) }
     ensures whole { IfOk result (λ p.
         p.stopped ≡ None
         → (p.all.items
-        ≡ all_placed (types_given file.now functions.now local.now targets.now) groups.now)
+        ≡ all_placed (types_given file.now functions.now local.now targets.now) section_infos.now)
         × StandsNone
-        (GroupsFault (types_given file.now functions.now local.now targets.now) groups.now)) }
+        (SectionInfosFault (types_given file.now functions.now local.now targets.now) section_infos.now)) }
     ensures stopped { IfOk result (λ p.
         IfSome p.stopped (λ e.
         e.error ≢ OutOfMemory
-        → GroupsFault (types_given file.now functions.now local.now targets.now) groups.now
+        → SectionInfosFault (types_given file.now functions.now local.now targets.now) section_infos.now
         e.error)) }
 {
     let sections = section_indexes(alloc, file)?;
@@ -71,43 +71,51 @@ fn placement_by(
         targets,
     };
     let mut all = Vec::new(alloc);
-    match lookup.place_groups(matcher, groups, &mut all) {
-        Ok(()) => Ok(Placement { all, stopped: None }),
-        Err(error) => Ok(Placement {
+    match lookup.place_section_infos(matcher, section_infos, &mut all) {
+        Ok(()) => Ok(PlacedRelocations { all, stopped: None }),
+        Err(error) => Ok(PlacedRelocations {
             all,
             stopped: Some(error),
         }),
     }
 }
 
-/// Places the relocations of groups. Each table is gone over once for all of them.
-fn placement_of<'t>(
+/// Places the relocations of section infos. Each table is gone over once for all of them.
+fn place_all<'t>(
     alloc: Global,
     file: &ObjectFile<'_>,
     functions: &Functions<'_>,
     local: &'t Btf<'t>,
     targets: &'t [Btf<'t>],
-    groups: &[RelocationGroup],
-) -> Result<Placement, AllocError>
+    section_infos: &[RelocationSectionInfo],
+) -> Result<PlacedRelocations, AllocError>
     requires { length targets.now ≤ 2 ^ 32 }
     ensures front { IfOk result (λ p.
         IsFront p.all.items
-        (all_placed (types_given file.now functions.now local.now targets.now) groups.now)) }
+        (all_placed (types_given file.now functions.now local.now targets.now) section_infos.now)) }
     ensures whole { IfOk result (λ p.
         p.stopped ≡ None
         → (p.all.items
-        ≡ all_placed (types_given file.now functions.now local.now targets.now) groups.now)
+        ≡ all_placed (types_given file.now functions.now local.now targets.now) section_infos.now)
         × StandsNone
-        (GroupsFault (types_given file.now functions.now local.now targets.now) groups.now)) }
+        (SectionInfosFault (types_given file.now functions.now local.now targets.now) section_infos.now)) }
     ensures stopped { IfOk result (λ p.
         IfSome p.stopped (λ e.
         e.error ≢ OutOfMemory
-        → GroupsFault (types_given file.now functions.now local.now targets.now) groups.now
+        → SectionInfosFault (types_given file.now functions.now local.now targets.now) section_infos.now
         e.error)) }
 {
-    let asked = asked_by(alloc, groups)?;
+    let asked = asked_by(alloc, section_infos)?;
     let mut matcher = TypeMatcher::collect(local, asked.as_slice(), targets)?;
-    placement_by(alloc, file, functions, local, targets, &mut matcher, groups)
+    place_by(
+        alloc,
+        file,
+        functions,
+        local,
+        targets,
+        &mut matcher,
+        section_infos,
+    )
 }
 
 /// Where a relocation stands at which a value doesn't fit.
@@ -115,15 +123,15 @@ fn place_of_fault(
     alloc: Global,
     local: &Btf<'_>,
     functions: &Functions<'_>,
-    groups: &[RelocationGroup],
-    at: &FaultAt<'_, PlacedFault>,
+    section_infos: &[RelocationSectionInfo],
+    at: &FaultAt<'_, RelocationFault>,
 ) -> Result<RelocationPlace, AllocError> {
     let position = at.fault.position;
-    let Some(group) = groups.get(position.group) else {
-        return Ok(RelocationPlace::Group);
+    let Some(section_info) = section_infos.get(position.section_info) else {
+        return Ok(RelocationPlace::SectionInfo);
     };
-    let Some(record) = group.record(position.number) else {
-        return Ok(RelocationPlace::Group);
+    let Some(record) = section_info.record(position.number) else {
+        return Ok(RelocationPlace::SectionInfo);
     };
     let asked = asked_text(alloc, local, record)?;
     place_in_section(alloc, functions, at.section_index, record, asked)
@@ -134,15 +142,15 @@ fn error_for(
     alloc: Global,
     local: &Btf<'_>,
     functions: &Functions<'_>,
-    groups: &[RelocationGroup],
-    stop: Stop<'_, PlacedFault>,
+    section_infos: &[RelocationSectionInfo],
+    stop: Stop<'_, RelocationFault>,
 ) -> BtfRelocationError
     ensures { result.error ≢ OutOfMemory → IsCauseFor stop.entry result.error }
 {
     match stop {
         Stop::Fault(at) => {
             let section = section_name(alloc, local, at.fault.position.name_offset);
-            let place = place_of_fault(alloc, local, functions, groups, &at);
+            let place = place_of_fault(alloc, local, functions, section_infos, &at);
             BtfRelocationError::new(section, place, cause_of_write(alloc, at.fault))
         }
         Stop::OutOfMemory => BtfRelocationError::from(AllocError),
@@ -153,8 +161,8 @@ fn error_for(
 fn written<'f>(
     alloc: Global,
     local: &Btf<'_>,
-    groups: &[RelocationGroup],
-    all: Vec<Placed>,
+    section_infos: &[RelocationSectionInfo],
+    all: Vec<PlacedRelocation>,
     functions: &Functions<'f>,
 ) -> Result<Vec<Function<'f>>, BtfRelocationError>
     ensures value { IfOk result (λ list.
@@ -170,7 +178,7 @@ fn written<'f>(
             let list = pass.all_with_matches(alloc, list)?;
             Ok(list)
         }
-        Err(stop) => Err(error_for(alloc, local, functions, groups, stop)),
+        Err(stop) => Err(error_for(alloc, local, functions, section_infos, stop)),
     }
 }
 
@@ -179,8 +187,8 @@ fn written<'f>(
 fn write_all<'f>(
     alloc: Global,
     local: &Btf<'_>,
-    groups: &[RelocationGroup],
-    all: Vec<Placed>,
+    section_infos: &[RelocationSectionInfo],
+    all: Vec<PlacedRelocation>,
     functions: &mut Functions<'f>,
 ) -> Result<(), BtfRelocationError>
     ensures relocated { OnOk result
@@ -191,7 +199,7 @@ fn write_all<'f>(
     ensures unchanged { OnErr result (functions.new ≡ functions.old) }
 {
     changes_are_installed();
-    let list = written(alloc, local, groups, all, functions)?;
+    let list = written(alloc, local, section_infos, all, functions)?;
     functions.install(list);
     Ok(())
 }
@@ -201,8 +209,8 @@ fn write_all<'f>(
 fn first_error(
     alloc: Global,
     local: &Btf<'_>,
-    groups: &[RelocationGroup],
-    all: Vec<Placed>,
+    section_infos: &[RelocationSectionInfo],
+    all: Vec<PlacedRelocation>,
     stopped: BtfRelocationError,
     functions: &Functions<'_>,
 ) -> BtfRelocationError
@@ -216,12 +224,12 @@ fn first_error(
     };
     match relocated_functions(alloc, &pass, functions) {
         Ok(_) => stopped,
-        Err(stop) => error_for(alloc, local, functions, groups, stop),
+        Err(stop) => error_for(alloc, local, functions, section_infos, stop),
     }
 }
 
 /// Writes what type relocations come to in a kernel's tables into the instructions of an object's
-/// functions. The groups, in order, name sections by the strings of `local`, the object's types; a
+/// functions. The section infos, in order, name sections by the strings of `local`, the object's types; a
 /// relocation is made in the first function of its section, by key, whose bytes hold its offset, at
 /// the slot in which that lies, and by the slots after those before it. What it comes to is said by
 /// [`core_resolve::relocation_outcome`].
@@ -235,12 +243,12 @@ fn first_error(
 ///
 /// # Errors
 ///
-/// With the name of the group's section: `BtfError` and `SectionNotFound` for a group whose
+/// With the name of the section info's section: `BtfError` and `SectionNotFound` for a section info whose
 /// section's name can't be read or isn't there; `FunctionNotFound` for a relocation that no
 /// function holds; those of [`core_resolve::relocation_outcome`]; `InvalidInstruction` for arithmetic
 /// with a register, an offset past 32,767, a load or a store of another width that it can't get,
 /// and an instruction of another class; `InvalidInstructionIndex` for a load of 64 bits without a
-/// second slot; and `OutOfMemory`. Of several faults the first by group and relocation is answered.
+/// second slot; and `OutOfMemory`. Of several faults the first by section info and relocation is answered.
 /// The functions then stay as they are.
 pub fn relocate_types<'f>(
     alloc: Global,
@@ -263,11 +271,25 @@ pub fn relocate_types<'f>(
         extension.now.relocations e.error) }
     ensures unchanged { OnErr result (functions.new ≡ functions.old) }
 {
-    let groups = groups_of(alloc, extension)?;
-    let placement = placement_of(alloc, file, functions, local, targets, groups.as_slice())?;
-    let Placement { all, stopped } = placement;
+    let section_infos = section_infos_of(alloc, extension)?;
+    let relocations = place_all(
+        alloc,
+        file,
+        functions,
+        local,
+        targets,
+        section_infos.as_slice(),
+    )?;
+    let PlacedRelocations { all, stopped } = relocations;
     match stopped {
-        None => write_all(alloc, local, groups.as_slice(), all, functions),
-        Some(stopped) => Err(first_error(alloc, local, groups.as_slice(), all, stopped, functions)),
+        None => write_all(alloc, local, section_infos.as_slice(), all, functions),
+        Some(stopped) => Err(first_error(
+            alloc,
+            local,
+            section_infos.as_slice(),
+            all,
+            stopped,
+            functions,
+        )),
     }
 }

@@ -1,4 +1,4 @@
--- An object without types, or without groups of type relocations, has no type relocations.
+-- An object without types, or without section infos of type relocations, has no type relocations.
 use Rattle.std.proofs.Common.{◌≡◌, ◌==◌, ℕ, Bool, false, List, [], ◌∷◌, ◌++◌, length, Option, Some, None, refl, inl, inr, sym, subst, arith}
 use Rattle.std.proofs.lemmas.Grind.{common_steps}
 use Rattle.std.specs.Option.{option_map, option_map_or}
@@ -6,10 +6,10 @@ use Rattle.std.specs.Prelude.{not}
 use Rattle.btf_ext.specs.Extensions.{Extension}
 use Rattle.btf_tables.specs.Tables.{Table}
 use Rattle.object_whole.specs.ParsedObject.{ObjectContent}
-use Rattle.ebpf_object.specs.TypeRelocations.{groups_beside, type_groups, types_of}
+use Rattle.ebpf_object.specs.TypeRelocations.{section_infos_beside, type_section_infos, types_of}
 use Rattle.object_parts.specs.Content.{FunctionContent, function_at}
 use Rattle.core_relocation.specs.Faults.{CanBeRelocated, HasTypesFault, WritesFault}
-use Rattle.core_relocation.specs.Relocations.{Groups, TypesGiven}
+use Rattle.core_relocation.specs.Relocations.{SectionInfos, TypesGiven}
 use Rattle.core_relocation.specs.Writes.{AreRelocated, types_inside, with_types}
 use Rattle.relocation_errors.specs.declared.type_relocations.BtfRelocationCause.{BtfRelocationCause}
 
@@ -39,58 +39,58 @@ no_fault g c (inr stands) = no_writes_fault g g.functions c stands
 pub none_refused : (g : TypesGiven) → CanBeRelocated g []
 none_refused g = record { none = no_fault g }
 
--- whether groups stand beside an object's types
-abbrev pub has_groups : Option Extension → Bool
-has_groups extension = option_map_or (λ x. not (length x.relocations == 0)) extension false
+-- whether section infos stand beside an object's types
+abbrev pub has_section_infos : Option Extension → Bool
+has_section_infos extension = option_map_or (λ x. not (length x.relocations == 0)) extension false
 
-no_group : (groups : Groups) → not (length groups == 0) ≡ false → groups ≡ []
-no_group [] h = refl
-no_group (x ∷ xs) h = grind (arith, common_steps)
+no_section_info : (section_infos : SectionInfos) → not (length section_infos == 0) ≡ false → section_infos ≡ []
+no_section_info [] h = refl
+no_section_info (x ∷ xs) h = grind (arith, common_steps)
 
-none_beside : (types : Option Table) (extension : Option Extension) → has_groups extension ≡ false → groups_beside types extension ≡ []
+none_beside : (types : Option Table) (extension : Option Extension) → has_section_infos extension ≡ false → section_infos_beside types extension ≡ []
 none_beside None None h = refl
 none_beside None (Some x) h = refl
 none_beside (Some t) None h = refl
-none_beside (Some t) (Some x) h = no_group x.relocations h
+none_beside (Some t) (Some x) h = no_section_info x.relocations h
 
-pub unasked_written : (o : ObjectContent) (targets : List Table) → has_groups o.extension ≡ false → AreRelocated (types_of o targets) (type_groups o) o.functions
+pub unasked_written : (o : ObjectContent) (targets : List Table) → has_section_infos o.extension ≡ false → AreRelocated (types_of o targets) (type_section_infos o) o.functions
 unasked_written o targets h =
     let g = types_of o targets in
     subst (λ gs. AreRelocated g gs g.functions) (sym (none_beside o.types o.extension h)) (none_written g)
 
-pub unasked_refused : (o : ObjectContent) (targets : List Table) → has_groups o.extension ≡ false → CanBeRelocated (types_of o targets) (type_groups o)
+pub unasked_refused : (o : ObjectContent) (targets : List Table) → has_section_infos o.extension ≡ false → CanBeRelocated (types_of o targets) (type_section_infos o)
 unasked_refused o targets h =
     let g = types_of o targets in
     subst (λ gs. CanBeRelocated g gs) (sym (none_beside o.types o.extension h)) (none_refused g)
 
 -- so it is where the types aren't there, whatever the functions are
-typeless : (types : Option Table) (extension : Option Extension) → None ≡ types → groups_beside types extension ≡ []
+typeless : (types : Option Table) (extension : Option Extension) → None ≡ types → section_infos_beside types extension ≡ []
 typeless None None h = refl
 typeless None (Some x) h = refl
 typeless (Some t) extension h = absurd cc
 
-pub typeless_written : (o : ObjectContent) (functions : Keyed) (targets : List Table) → None ≡ o.types → AreRelocated (types_of (record o { functions = functions }) targets) (type_groups o) functions
+pub typeless_written : (o : ObjectContent) (functions : Keyed) (targets : List Table) → None ≡ o.types → AreRelocated (types_of (record o { functions = functions }) targets) (type_section_infos o) functions
 typeless_written o functions targets h =
     let g = types_of (record o { functions = functions }) targets in
     subst (λ gs. AreRelocated g gs functions) (sym (typeless o.types o.extension h)) (none_written g)
 
-pub typeless_refused : (o : ObjectContent) (functions : Keyed) (targets : List Table) → None ≡ o.types → CanBeRelocated (types_of (record o { functions = functions }) targets) (type_groups o)
+pub typeless_refused : (o : ObjectContent) (functions : Keyed) (targets : List Table) → None ≡ o.types → CanBeRelocated (types_of (record o { functions = functions }) targets) (type_section_infos o)
 typeless_refused o functions targets h =
     let g = types_of (record o { functions = functions }) targets in
     subst (λ gs. CanBeRelocated g gs) (sym (typeless o.types o.extension h)) (none_refused g)
 
 -- and where nothing stands beside them
-bare : (types : Option Table) (extension : Option Extension) → None ≡ extension → groups_beside types extension ≡ []
+bare : (types : Option Table) (extension : Option Extension) → None ≡ extension → section_infos_beside types extension ≡ []
 bare None None h = refl
 bare (Some t) None h = refl
 bare types (Some x) h = absurd cc
 
-pub bare_written : (o : ObjectContent) (functions : Keyed) (targets : List Table) → None ≡ o.extension → AreRelocated (types_of (record o { functions = functions }) targets) (type_groups o) functions
+pub bare_written : (o : ObjectContent) (functions : Keyed) (targets : List Table) → None ≡ o.extension → AreRelocated (types_of (record o { functions = functions }) targets) (type_section_infos o) functions
 bare_written o functions targets h =
     let g = types_of (record o { functions = functions }) targets in
     subst (λ gs. AreRelocated g gs functions) (sym (bare o.types o.extension h)) (none_written g)
 
-pub bare_refused : (o : ObjectContent) (functions : Keyed) (targets : List Table) → None ≡ o.extension → CanBeRelocated (types_of (record o { functions = functions }) targets) (type_groups o)
+pub bare_refused : (o : ObjectContent) (functions : Keyed) (targets : List Table) → None ≡ o.extension → CanBeRelocated (types_of (record o { functions = functions }) targets) (type_section_infos o)
 bare_refused o functions targets h =
     let g = types_of (record o { functions = functions }) targets in
     subst (λ gs. CanBeRelocated g gs) (sym (bare o.types o.extension h)) (none_refused g)

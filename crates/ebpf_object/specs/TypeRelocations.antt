@@ -2,16 +2,16 @@
 use Rattle.std.specs.Prelude.{List, [], Option, Some, unwrap_or}
 use Rattle.btf_ext.specs.Extensions.{Extension}
 use Rattle.btf_tables.specs.Tables.{Table, new_table}
-use Rattle.core_relocation.specs.Relocations.{Groups, TypesGiven, types_given}
+use Rattle.core_relocation.specs.Relocations.{SectionInfos, TypesGiven, types_given}
 use Rattle.object_whole.specs.ParsedObject.{ObjectContent}
 
--- the groups that stand beside an object's types; without types there are none
-abbrev pub groups_beside : Option Table → Option Extension → Groups
-groups_beside (Some table) (Some extension) = extension.relocations
-groups_beside _ _ = []
+-- the section infos that stand beside an object's types; without types there are none
+abbrev pub section_infos_beside : Option Table → Option Extension → SectionInfos
+section_infos_beside (Some table) (Some extension) = extension.relocations
+section_infos_beside _ _ = []
 
-abbrev pub type_groups : ObjectContent → Groups
-type_groups o = groups_beside o.types o.extension
+abbrev pub type_section_infos : ObjectContent → SectionInfos
+type_section_infos o = section_infos_beside o.types o.extension
 
 -- what they rest on, beside the tables of a kernel: the types as they stand
 abbrev pub types_of : ObjectContent → List Table → TypesGiven

@@ -3,7 +3,7 @@
 ghost use Rattle.std.specs.Prelude.{◌≡◌, ◌≢◌, ◌≤◌, ◌^◌, length, IfErr, OnErr, OnOk};
 ghost use Rattle.core_relocation.specs.Faults.{CanBeRelocated, HasTypesFault};
 ghost use Rattle.core_relocation.specs.Writes.{AreRelocated};
-ghost use Rattle.ebpf_object.specs.TypeRelocations.{type_groups, types_of};
+ghost use Rattle.ebpf_object.specs.TypeRelocations.{type_section_infos, types_of};
 ghost use Rattle.relocation_errors.specs.declared.type_relocations.BtfRelocationCause.TheVariants.{OutOfMemory};
 
 use btf_tables::Btf;
@@ -35,16 +35,16 @@ fn relocate_functions<'a>(
     ensures relocated { OnOk result
         (AreRelocated
         (types_of (record object.now { functions = functions.old }) kernel_types.now)
-        (type_groups object.now) functions.new) }
+        (type_section_infos object.now) functions.new) }
     ensures sound { OnOk result
         (CanBeRelocated
         (types_of (record object.now { functions = functions.old }) kernel_types.now)
-        (type_groups object.now)) }
+        (type_section_infos object.now)) }
     ensures fault { IfErr result (λ e.
         e.error ≢ OutOfMemory
         → HasTypesFault
         (types_of (record object.now { functions = functions.old }) kernel_types.now)
-        (type_groups object.now) e.error) }
+        (type_section_infos object.now) e.error) }
     ensures unchanged { OnErr result (functions.new ≡ functions.old) }
 {
     let Some(local) = object.btf() else {
@@ -68,14 +68,14 @@ impl<'a> RelocateBtf for Object<'a> {
     fn relocate_btf(&mut self, kernel_types: &[Btf<'_>]) -> Result<(), BtfRelocationError>
         requires { length kernel_types.now ≤ 2 ^ 32 }
         ensures relocated { OnOk result
-            (AreRelocated (types_of self.old kernel_types.now) (type_groups self.old)
+            (AreRelocated (types_of self.old kernel_types.now) (type_section_infos self.old)
             self.new.functions) }
         ensures sound { OnOk result
-            (CanBeRelocated (types_of self.old kernel_types.now) (type_groups self.old)) }
+            (CanBeRelocated (types_of self.old kernel_types.now) (type_section_infos self.old)) }
         ensures others { self.new ≡ record self.old { functions = self.new.functions } }
         ensures fault { IfErr result (λ e.
             e.error ≢ OutOfMemory
-            → HasTypesFault (types_of self.old kernel_types.now) (type_groups self.old) e.error) }
+            → HasTypesFault (types_of self.old kernel_types.now) (type_section_infos self.old) e.error) }
         ensures unchanged { OnErr result (self.new ≡ self.old) }
     {
         if !self.has_btf_relocations() {

@@ -99,19 +99,19 @@ fn copied_extension(alloc: Global, section: &[u8]) -> Result<BtfExt<'_>, BtfErro
 
 /// How many bytes the records of functions are, in a copy.
 fn function_bytes(alloc: Global, extension: &BtfExt<'_>) -> Result<usize, BtfError> {
-    let Some(group) = extension.func_info().get("") else {
+    let Some(section_info) = extension.func_info().get("") else {
         return Ok(0);
     };
-    let copy = group.try_clone()?;
+    let copy = section_info.try_clone()?;
     Ok(copy.func_info_bytes(alloc)?.len())
 }
 
 /// How many bytes the records of lines are, in a copy.
 fn line_bytes(alloc: Global, extension: &BtfExt<'_>) -> Result<usize, BtfError> {
-    let Some(group) = extension.line_info("") else {
+    let Some(section_info) = extension.line_info("") else {
         return Ok(0);
     };
-    let copy = group.try_clone()?;
+    let copy = section_info.try_clone()?;
     Ok(copy.line_info_bytes(alloc)?.len())
 }
 

@@ -25,7 +25,7 @@ pub enum KsymsError {
     FunctionNotFound {
         name: String,
     },
-    /// The kernel's function of this name has another signature.
+    /// The kernel's function of this name has another prototype.
     #[error("the signature of kernel function {name:?} isn't compatible")]
     IncompatibleFunctionSignature {
         name: String,

@@ -36,24 +36,32 @@ fn write_relocation<W: Write>(
     )
 }
 
-fn write_group<W: Write>(table: &Btf<'_>, group: &SecInfo<'_>, out: &mut W) -> io::Result<()> {
-    let section = text_at(table, group.name_offset());
-    writeln!(out, "type-relocations {section} {}", group.num_info())?;
+fn write_section_info<W: Write>(
+    table: &Btf<'_>,
+    section_info: &SecInfo<'_>,
+    out: &mut W,
+) -> io::Result<()> {
+    let section = text_at(table, section_info.name_offset());
+    writeln!(
+        out,
+        "type-relocations {section} {}",
+        section_info.num_info()
+    )?;
     let mut index = 0;
-    while let Some(relocation) = group.get(index) {
+    while let Some(relocation) = section_info.get(index) {
         write_relocation(table, relocation, out)?;
         index += 1;
     }
     Ok(())
 }
 
-/// Writes the type relocations, group by group: each group is of the section of a name.
+/// Writes the type relocations, section info by section info: each section info is of the section of a name.
 pub fn write_type_relocations<W: Write>(object: &Object<'_>, out: &mut W) -> io::Result<()> {
     let (Some(table), Some(extension)) = (object.btf(), object.btf_ext()) else {
         return Ok(());
     };
-    for group in extension.relocations() {
-        write_group(table, &group, out)?;
+    for section_info in extension.relocations() {
+        write_section_info(table, &section_info, out)?;
     }
     Ok(())
 }

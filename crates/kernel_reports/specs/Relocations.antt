@@ -2,11 +2,11 @@
 use Rattle.std.specs.Prelude.{ℕ, ◌+◌, List, map, Option, option_and_then, slice_get}
 use Rattle.std.specs.List.{flat_map}
 use Rattle.std.specs.Option.{option_map}
-use Rattle.btf_ext.specs.Groups.{Group}
+use Rattle.btf_ext.specs.SectionInfos.{SectionInfo}
 use Rattle.btf_ext.specs.declared.record.bpf_core_relo.{bpf_core_relo}
 use Rattle.object_parts.specs.Content.{FunctionContent, key_of}
 use Rattle.slot_relocation.specs.Writes.{index_of_slot}
-use Rattle.core_relocation.specs.Relocations.{Groups, TypesGiven, function_holding, section_at}
+use Rattle.core_relocation.specs.Relocations.{SectionInfos, TypesGiven, function_holding, section_at}
 use Rattle.kernel_reports.specs.declared.relocations.Place.{Place}
 use Rattle.kernel_reports.specs.declared.relocations.RelocationAt.{RelocationAt}
 
@@ -27,7 +27,7 @@ place_at g section r =
     option_and_then (λ s. option_and_then (place_in r) (function_holding g.functions s r.insn_off))
     section
 
--- a relocation of a group whose section's name stands at an offset
+-- a relocation of a section info whose section's name stands at an offset
 abbrev pub relocation_at : TypesGiven → ℕ → Option ℕ → bpf_core_relo → RelocationAt
 relocation_at g name section r = record {
   name_offset = name;
@@ -35,9 +35,9 @@ relocation_at g name section r = record {
   place = place_at g section r;
 }
 
-abbrev pub relocations_in : TypesGiven → Group bpf_core_relo → List RelocationAt
+abbrev pub relocations_in : TypesGiven → SectionInfo bpf_core_relo → List RelocationAt
 relocations_in g x = map (relocation_at g x.name_offset (section_at g x.name_offset)) x.records
 
--- those of groups, one group after the other
-abbrev pub relocations_of : TypesGiven → Groups → List RelocationAt
-relocations_of g groups = flat_map (relocations_in g) groups
+-- those of section infos, one section info after the other
+abbrev pub relocations_of : TypesGiven → SectionInfos → List RelocationAt
+relocations_of g section_infos = flat_map (relocations_in g) section_infos

@@ -1,7 +1,7 @@
 -- What is reported of an object and a kernel.
 use Rattle.std.specs.Prelude.{◌≡◌, ℕ, List, [], Bool, slice_get}
 use Rattle.object_whole.specs.ParsedObject.{ObjectContent}
-use Rattle.ebpf_object.specs.TypeRelocations.{type_groups, types_of}
+use Rattle.ebpf_object.specs.TypeRelocations.{type_section_infos, types_of}
 use Rattle.load_plan.specs.Inputs.{SettingsContent, Table}
 use Rattle.kernel_reports.specs.Answers.{answers_to}
 use Rattle.kernel_reports.specs.Relocations.{relocations_of}
@@ -12,7 +12,7 @@ use Rattle.kernel_reports.specs.declared.report.KernelReport.{KernelReport}
 
 -- the type relocations that stand beside an object's own types
 abbrev pub relocations_in : ObjectContent → List RelocationAt
-relocations_in o = relocations_of (types_of o []) (type_groups o)
+relocations_in o = relocations_of (types_of o []) (type_section_infos o)
 
 -- whether the object of a file gets a plan, what each of some relocations of it comes to, and
 -- whether the kernel has its externs

@@ -29,7 +29,7 @@ pub struct Place {
 /// A type relocation of an object.
 #[derive(Clone, Copy, Debug)]
 pub struct RelocationAt {
-    /// Where the name of its group's section stands among the strings of the object's types.
+    /// Where the name of its section info's section stands among the strings of the object's types.
     pub name_offset: u32,
     /// What it asks for.
     pub asked: bpf_core_relo,
@@ -37,13 +37,13 @@ pub struct RelocationAt {
     pub place: Option<Place>,
 }
 
-/// The records of a group.
-fn records_of(alloc: Global, group: &SecInfo<'_>) -> Result<Vec<bpf_core_relo>, AllocError>
-    ensures { IfOk result (λ records. records.items ≡ group.now.records) }
+/// The records of a section info.
+fn records_of(alloc: Global, section_info: &SecInfo<'_>) -> Result<Vec<bpf_core_relo>, AllocError>
+    ensures { IfOk result (λ records. records.items ≡ section_info.now.records) }
 {
     let mut records = Vec::new(alloc);
-    for number in 0..group.num_info() {
-        if let Some(asked) = group.get(number as usize) {
+    for number in 0..section_info.num_info() {
+        if let Some(asked) = section_info.get(number as usize) {
             records.push(asked)?;
         }
     }
@@ -162,18 +162,18 @@ impl<'r, 'o, 'f, 't> Found<'r, 'o, 'f, 't> {
         }
     }
 
-    /// Adds the relocations of a group.
-    fn add_group(
+    /// Adds the relocations of a section info.
+    fn add_section_info(
         &self,
         alloc: Global,
-        group: &SecInfo<'_>,
+        section_info: &SecInfo<'_>,
         list: &mut Vec<RelocationAt>,
     ) -> Result<(), AllocError>
         ensures { OnOk result
-            (list.new.items ≡ list.old.items ++ relocations_in self.now group.now) }
+            (list.new.items ≡ list.old.items ++ relocations_in self.now section_info.now) }
     {
-        let records = records_of(alloc, group)?;
-        let name_offset = group.name_offset();
+        let records = records_of(alloc, section_info)?;
+        let name_offset = section_info.name_offset();
         let section = self.section(name_offset);
         for asked in &records {
             list.push(self.relocation_at(name_offset, section, *asked))?;
@@ -181,20 +181,20 @@ impl<'r, 'o, 'f, 't> Found<'r, 'o, 'f, 't> {
         Ok(())
     }
 
-    /// The relocations of all groups.
+    /// The relocations of all section infos.
     fn all(&self, alloc: Global, extension: &BtfExt<'_>) -> Result<Vec<RelocationAt>, AllocError>
         ensures { IfOk result (λ list.
             list.items ≡ relocations_of self.now extension.now.relocations) }
     {
         let mut list = Vec::new(alloc);
-        for group in extension.relocations() {
-            self.add_group(alloc, &group, &mut list)?;
+        for section_info in extension.relocations() {
+            self.add_section_info(alloc, &section_info, &mut list)?;
         }
         Ok(list)
     }
 }
 
-/// The type relocations of an object, group by group, by its file, its functions, its own types and
+/// The type relocations of an object, section info by section info, by its file, its functions, its own types and
 /// what stands beside these.
 pub fn relocations_of(
     alloc: Global,

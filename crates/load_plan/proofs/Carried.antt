@@ -2,7 +2,7 @@
 use Rattle.std.proofs.Common.{◌≡◌, ◌⊎◌, ℕ, zero, suc, ◌+◌, ◌<◌, ◌==◌, List, [], ◌∷◌, map, length, Bool, true, false, Option, Some, None, refl, sym, ap, ◌∙◌, subst, inl, inr, arith}
 use Rattle.std.proofs.lemmas.Bool.Decides.{nat_tests}
 use Rattle.std.specs.Prelude.{ℤ, pos, ◌&&◌, if◌then◌else◌, is_some, slice_get, unwrap_or}
-use Rattle.ebpf_object.specs.TypeRelocations.{type_groups, types_of}
+use Rattle.ebpf_object.specs.TypeRelocations.{type_section_infos, types_of}
 use Rattle.ebpf_items.specs.Instruction.{calls_newer_helper, dst_reg_of, is_helper_call, older_helper, src_reg_of, with_older_helper}
 use Rattle.ebpf_items.specs.declared.instruction.bpf_insn.{bpf_insn}
 use Rattle.elf64.specs.Relocations.{Relocation}
@@ -137,7 +137,7 @@ record Stages (i : Inputs) (relocating typed mapped patched : State) (key : Key)
   before : function_at typed.functions key ≡ Some f
   between : function_at mapped.functions key ≡ Some h
   after : function_at patched.functions key ≡ Some k
-  types : types.HasTypes (types_of relocating i.kernel_types) (type_groups relocating) e f
+  types : types.HasTypes (types_of relocating i.kernel_types) (type_section_infos relocating) e f
   numbers : maps.HasNumbers (maps_given i.settings typed) f h
   externs : externs.HasExterns mapped.file mapped.externs.by_name h k
 
@@ -170,7 +170,7 @@ module _ (i : Inputs) (has_helpers : Bool) (relocating typed mapped patched : St
   types_alone no_map no_extern y puts =
       let g = puts.0 in
       let same = same_function g e (function_at relocating.functions key) puts.1 stages.first in
-      let p = subst (λ (z : FunctionContent). types.PutsAt (types_of relocating i.kernel_types) (type_groups relocating) z place y) same puts.2 in
+      let p = subst (λ (z : FunctionContent). types.PutsAt (types_of relocating i.kernel_types) (type_section_infos relocating) z place y) same puts.2 in
       ap (for_helpers has_helpers) (same_some x y (slice_get k.instructions place) now
       (past_numbers no_map no_extern ∙ stages.types.alone place y p (is_there e.instructions place s at)))
 
@@ -283,7 +283,7 @@ has_become i u object patched made whole key place s x is =
 -- what the laws say of all functions
 pub record Stands (i : Inputs) (object relocating typed mapped patched : State) : Type 0 where
   pub same : relocating.functions ≡ object.functions
-  pub types : types.HaveTypes (types_of relocating i.kernel_types) (type_groups relocating) typed.functions
+  pub types : types.HaveTypes (types_of relocating i.kernel_types) (type_section_infos relocating) typed.functions
   pub numbers : maps.HaveNumbers (maps_given i.settings typed) typed.functions mapped.functions
   pub externs : externs.HaveExterns mapped.file mapped.externs.by_name mapped.functions patched.functions
 

@@ -5,7 +5,7 @@ use Rattle.btf_sanitize.specs.Answers.{Answers}
 use Rattle.btf_tables.specs.Tables.{Table}
 use Rattle.object_whole.specs.Helpers.{IsSanitized, IsSanitizedIf, for_kernel}
 use Rattle.object_whole.specs.Rewriting.{IsRewritten}
-use Rattle.ebpf_object.specs.TypeRelocations.{type_groups, types_of}
+use Rattle.ebpf_object.specs.TypeRelocations.{type_section_infos, types_of}
 use Rattle.function_layout.specs.Layout.{Key}
 use Rattle.function_types.specs.Named.{all_named}
 use Rattle.object_parts.specs.Content.{FunctionContent, has_newer_helper}
@@ -26,7 +26,7 @@ relocating_in RewriteFirst resolved middle = middle
 -- what the two passes over types make of an object, in either order
 pub record TypePasses (i : Inputs) (u : Under) (resolved typed relocating : State) : Type 0 where
   pub before : relocating.functions ≡ resolved.functions
-  pub written : types.AreRelocated (types_of relocating i.kernel_types) (type_groups relocating) typed.functions
+  pub written : types.AreRelocated (types_of relocating i.kernel_types) (type_section_infos relocating) typed.functions
   pub rewritten : IsRewritten u.answers resolved.file resolved.externs.ksyms resolved.types typed.types
   pub others : typed ≡ record resolved { functions = typed.functions; types = typed.types }
 
@@ -35,7 +35,7 @@ type_passes RelocateFirst i u resolved middle typed a b =
     let functions = ap (λ (o : State). o.functions) b.others in
     record {
       before = refl;
-      written = subst (λ (fs : Keyed). types.AreRelocated (types_of resolved i.kernel_types) (type_groups resolved) fs) (sym functions) a.functions;
+      written = subst (λ (fs : Keyed). types.AreRelocated (types_of resolved i.kernel_types) (type_section_infos resolved) fs) (sym functions) a.functions;
       rewritten = subst (λ (m : State). IsRewritten u.answers m.file m.externs.ksyms m.types typed.types) a.others b.types;
       others = b.others ∙ ap (λ (m : State). record m { types = typed.types }) a.others ∙ ap (λ (fs : Keyed). record resolved { functions = fs; types = typed.types }) (sym functions);
     }

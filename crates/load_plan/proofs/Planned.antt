@@ -9,7 +9,7 @@ use Rattle.elf64.specs.Relocations.{Relocation}
 use Rattle.object_whole.specs.TextSections.{text_sections}
 use Rattle.object_whole.specs.Helpers.{for_kernel}
 use Rattle.object_whole.specs.Rewriting.{IsRewritten, IsRewrittenIf}
-use Rattle.ebpf_object.specs.TypeRelocations.{type_groups, types_of}
+use Rattle.ebpf_object.specs.TypeRelocations.{type_section_infos, types_of}
 use Rattle.slot_relocation.specs.ExternLaws.{ExternsAreWritten}
 use Rattle.extern_resolution.specs.Resolution.{AreResolved}
 use Rattle.object_externs.specs.Externs.{ExternsContent}
@@ -79,7 +79,7 @@ module _ (i : Inputs) (u : Under) (s t resolved typed mapped relocating : State)
   stands_of : Laws → Stands i s relocating typed mapped t
   stands_of laws = record {
     same = same_functions;
-    types = laws.types.each (types_of relocating i.kernel_types) (type_groups relocating) typed.functions c.types.written;
+    types = laws.types.each (types_of relocating i.kernel_types) (type_section_infos relocating) typed.functions c.types.written;
     numbers = laws.written.each (maps_given i.settings typed) typed.functions mapped.functions c.numbers.functions;
     externs = laws.externs.each mapped.file mapped.externs.by_name mapped.functions t.functions c.slots.functions;
   }
@@ -88,7 +88,7 @@ module _ (i : Inputs) (u : Under) (s t resolved typed mapped relocating : State)
   same_records_of =
       subst (λ (fs : Keyed). HaveRecordsOf fs t.functions) same_functions
       (records_through relocating.functions typed.functions t.functions
-      (records_of (with_types (types_of relocating i.kernel_types) (type_groups relocating)) relocating.functions typed.functions (λ f. refl) c.types.written)
+      (records_of (with_types (types_of relocating i.kernel_types) (type_section_infos relocating)) relocating.functions typed.functions (λ f. refl) c.types.written)
       (records_through typed.functions mapped.functions t.functions
       (records_of (relocated (map_rule (maps_given i.settings typed)) typed.file) typed.functions mapped.functions (λ f. refl) c.numbers.functions)
       (records_of (relocated (rule_of_externs mapped) mapped.file) mapped.functions t.functions (λ f. refl) c.slots.functions)))

@@ -10,7 +10,7 @@ use Rattle.ebpf_items.specs.declared.error.ParseError.{ParseError}
 use Rattle.object_whole.specs.TextSections.{text_sections}
 use Rattle.object_whole.specs.Helpers.{for_kernel}
 use Rattle.object_whole.specs.Rewriting.{CannotRewrite, IsRewritten}
-use Rattle.ebpf_object.specs.TypeRelocations.{type_groups, types_of}
+use Rattle.ebpf_object.specs.TypeRelocations.{type_section_infos, types_of}
 use Rattle.slot_relocation.specs.Externs.{extern_rule}
 use Rattle.extern_resolution.specs.Resolution.{AreResolved}
 use Rattle.extern_resolution.specs.Resolution as resolution
@@ -81,7 +81,7 @@ unlinked_of s = unlinked s.file (text_sections s.functions) s.functions
 abbrev pub KeepsNamed : State → State → Type 0
 KeepsNamed s t = (all_named s.types s.functions ≡ true) × (t ≡ s)
 
--- whether there is a group of type relocations, one without records too
+-- whether there is a section info of type relocations, one without records too
 abbrev pub has_type_relocations : Option Extension → Bool
 has_type_relocations extension =
     option_map_or (λ x. not (length x.relocations == 0)) extension false
@@ -107,8 +107,8 @@ pub record ResolvesExterns (kernel : Option Table) (symbols : Symbols) (s t : St
   pub others : t ≡ record s { externs = t.externs }
 
 pub record RelocatesTypes (kernel : List Table) (s t : State) : Type 0 where
-  pub functions : types.AreRelocated (types_of s kernel) (type_groups s) t.functions
-  pub sound : faults.CanBeRelocated (types_of s kernel) (type_groups s)
+  pub functions : types.AreRelocated (types_of s kernel) (type_section_infos s) t.functions
+  pub sound : faults.CanBeRelocated (types_of s kernel) (type_section_infos s)
   pub others : t ≡ record s { functions = t.functions }
 
 pub record RewritesTypes (answers : Answers) (s t : State) : Type 0 where
@@ -193,7 +193,7 @@ CannotResolve kernel symbols s e =
     resolution.CannotResolve table kernel symbols.bytes symbols.failed s.externs e)
 
 abbrev pub CannotRelocateTypes : List Table → State → BtfRelocationCause → Type 0
-CannotRelocateTypes kernel s c = faults.HasTypesFault (types_of s kernel) (type_groups s) c
+CannotRelocateTypes kernel s c = faults.HasTypesFault (types_of s kernel) (type_section_infos s) c
 
 abbrev pub CannotWriteNumbers : SettingsContent → State → EbpfRelocationError → Type 0
 CannotWriteNumbers settings s e =

@@ -5,7 +5,7 @@ use Rattle.btf_ext.specs.declared.record.bpf_line_info.{bpf_line_info}
 use Rattle.btf_sanitize.specs.Answers.{Answers}
 use Rattle.ebpf_items.specs.Instruction.{with_older_helper}
 use Rattle.ebpf_items.specs.declared.instruction.bpf_insn.{bpf_insn}
-use Rattle.ebpf_object.specs.TypeRelocations.{type_groups, types_of}
+use Rattle.ebpf_object.specs.TypeRelocations.{type_section_infos, types_of}
 use Rattle.elf64.specs.Relocations.{Relocation}
 use Rattle.function_layout.specs.Copies.{IsCopy}
 use Rattle.function_layout.specs.Layout.{IsLayout, Key, Table, linked, ref_at}
@@ -75,7 +75,7 @@ OfFunction s key Holds = (f : FunctionContent) × (function_at s.functions key �
 -- it
 abbrev pub WritesSlot : Pass → Inputs → State → Key → ℕ → Type 0
 WritesSlot TypeSlots i s key place =
-    OfFunction s key (λ f. types.WritesAt (types_of s i.kernel_types) (type_groups s) f place)
+    OfFunction s key (λ f. types.WritesAt (types_of s i.kernel_types) (type_section_infos s) f place)
 WritesSlot MapSlots i s key place =
     OfFunction s key (λ f. maps.WritesAt (maps_given i.settings s) f place)
 WritesSlot ExternSlots i s key place =
@@ -85,7 +85,7 @@ WritesSlot _ i s key place = ⊥
 -- one alone does, and puts this into it
 abbrev pub PutsSlot : Pass → Inputs → State → Key → ℕ → bpf_insn → Type 0
 PutsSlot TypeSlots i s key place y =
-    OfFunction s key (λ f. types.PutsAt (types_of s i.kernel_types) (type_groups s) f place y)
+    OfFunction s key (λ f. types.PutsAt (types_of s i.kernel_types) (type_section_infos s) f place y)
 PutsSlot MapSlots i s key place y =
     OfFunction s key (λ f. maps.PutsAt (maps_given i.settings s) f place y)
 PutsSlot ExternSlots i s key place y =

@@ -155,7 +155,7 @@ impl<'e> SectionRecords<'e> {
         SectionRecords::of_records(alloc, functions, lines)
     }
 
-    /// What an extension says of the section of a name; nothing, where no group is of its name.
+    /// What an extension says of the section of a name; nothing, where no section info is of its name.
     pub fn new(
         alloc: Global,
         extension: &'e BtfExt<'e>,

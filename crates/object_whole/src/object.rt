@@ -238,7 +238,7 @@ impl<'a> Object<'a> {
         self.externs.has_strong_typed()
     }
 
-    /// Whether the object has a group of type relocations.
+    /// Whether the object has a section info of type relocations.
     pub fn has_btf_relocations(&self) -> bool
         ensures { result
             ≡ option_map_or (λ x. not (length x.relocations == 0)) self.now.extension false }

@@ -10,7 +10,7 @@ use Rattle.btf_tables.specs.GrownTables.{TextsStay}
 use Rattle.btf_tables.specs.Holdings.{held_names}
 use Rattle.btf_tables.specs.Tables.{Table, type_by_id}
 use Rattle.object_whole.specs.Rewriting.{IsRewritten, IsRewrittenIf}
-use Rattle.ebpf_object.specs.TypeRelocations.{groups_beside, type_groups, types_of}
+use Rattle.ebpf_object.specs.TypeRelocations.{section_infos_beside, type_section_infos, types_of}
 use Rattle.extern_resolution.specs.Resolution.{AreResolved}
 use Rattle.load_plan.specs.Inputs.{Inputs, State, Symbols, Under}
 use Rattle.load_plan.specs.Passes.{Externs, FunctionRecords, GlobalValues, KernelTypes, Makes, MapNumbers, RelocatesTypes, RewritesTypes, first_table}
@@ -21,7 +21,7 @@ use Rattle.plan_text.specs.Content.{PlanContent}
 use Rattle.string_table.specs.Texts.{text_at}
 use Rattle.core_relocation.specs.Faults.{CanBeRelocated, HasTypesFault}
 use Rattle.core_relocation.specs.Laws.{AgreeOnReach, RelocationsRest}
-use Rattle.core_relocation.specs.Relocations.{Groups, types_given}
+use Rattle.core_relocation.specs.Relocations.{SectionInfos, types_given}
 use Rattle.core_relocation.specs.Writes.{AreRelocated}
 use Rattle.relocation_errors.specs.declared.type_relocations.BtfRelocationCause.{BtfRelocationCause}
 use Rattle.plan_laws.specs.Orders.{IsMadePlan, IsOrderFree, IsReach, IsReadable, OrdersAgree, StaysReached, in_order}
@@ -43,8 +43,8 @@ text-same table new stays offset there = by (text_at table.strings offset) refl 
   by None e h = cc
   by (Some text) e h = stays.stay offset text e
 
-alike : (reached : ℕ → Bool) (table new : Table) (groups : Groups) → IsReach reached table groups → IsReadable reached table groups → StaysReached reached table new → TextsStay table new → AreAlike reached table new
-alike reached table new groups reach readable stays texts = record {
+alike : (reached : ℕ → Bool) (table new : Table) (section_infos : SectionInfos) → IsReach reached table section_infos → IsReadable reached table section_infos → StaysReached reached table new → TextsStay table new → AreAlike reached table new
+alike reached table new section_infos reach readable stays texts = record {
   records = record { same = stays.same; closed = reach.closed };
   texts = record { same = λ id here. by id here (type_by_id table id) refl };
 } where
@@ -52,12 +52,12 @@ alike reached table new groups reach readable stays texts = record {
   by id here None e = tt
   by id here (Some t) e = all-map _ _ (held_names t) (text-same table new texts) (readable.names id t here e)
 
-agree : (reached : ℕ → Bool) (table new : Table) (groups : Groups) → IsReach reached table groups → IsReadable reached table groups → StaysReached reached table new → TextsStay table new → AgreeOnReach reached table new groups
-agree reached table new groups reach readable stays texts = record {
-  alike = alike reached table new groups reach readable stays texts;
+agree : (reached : ℕ → Bool) (table new : Table) (section_infos : SectionInfos) → IsReach reached table section_infos → IsReadable reached table section_infos → StaysReached reached table new → TextsStay table new → AgreeOnReach reached table new section_infos
+agree reached table new section_infos reach readable stays texts = record {
+  alike = alike reached table new section_infos reach readable stays texts;
   types = reach.types;
-  accesses = all-map _ _ groups (λ x. all-map _ _ x.records (λ r. text-same table new texts r.access_str_off)) readable.accesses;
-  sections = all-map _ _ groups (λ x. text-same table new texts x.name_offset) readable.sections;
+  accesses = all-map _ _ section_infos (λ x. all-map _ _ x.records (λ r. text-same table new texts r.access_str_off)) readable.accesses;
+  sections = all-map _ _ section_infos (λ x. text-same table new texts x.name_offset) readable.sections;
 }
 
 -- ---- type relocations before a rewriting and after it
@@ -65,39 +65,39 @@ agree reached table new groups reach readable stays texts = record {
 -- the tables of an object, before and after, agree on what its type relocations reach
 abbrev Agree : (ℕ → Bool) → Answers → State → Type 0
 Agree reached answers s =
-    (table new : Table) → s.types ≡ Some table → IsRewritten answers s.file s.externs.ksyms (Some table) (Some new) → AgreeOnReach reached table new (type_groups s)
+    (table new : Table) → s.types ≡ Some table → IsRewritten answers s.file s.externs.ksyms (Some table) (Some new) → AgreeOnReach reached table new (type_section_infos s)
 
 -- an object with other types
 abbrev retyped : State → Option Table → State
 retyped s types = record s { types = types }
 
 relocated-by : (law : RelocationsRest) (reached : ℕ → Bool) (file : List ℕ) (functions : List ((ℕ × ℕ) × FunctionContent)) (table new : Table) (targets : List Table) (o : Option Extension)
-    → AgreeOnReach reached table new (groups_beside (Some table) o) → (to : List ((ℕ × ℕ) × FunctionContent))
-    → (AreRelocated (types_given file functions table targets) (groups_beside (Some table) o) to → AreRelocated (types_given file functions new targets) (groups_beside (Some new) o) to)
-    × (AreRelocated (types_given file functions new targets) (groups_beside (Some new) o) to → AreRelocated (types_given file functions table targets) (groups_beside (Some table) o) to)
+    → AgreeOnReach reached table new (section_infos_beside (Some table) o) → (to : List ((ℕ × ℕ) × FunctionContent))
+    → (AreRelocated (types_given file functions table targets) (section_infos_beside (Some table) o) to → AreRelocated (types_given file functions new targets) (section_infos_beside (Some new) o) to)
+    × (AreRelocated (types_given file functions new targets) (section_infos_beside (Some new) o) to → AreRelocated (types_given file functions table targets) (section_infos_beside (Some table) o) to)
 relocated-by law reached file functions table new targets None a to = law.relocated reached (types_given file functions table targets) new _ a to
 relocated-by law reached file functions table new targets (Some x) a to = law.relocated reached (types_given file functions table targets) new x.relocations a to
 
 refused-by : (law : RelocationsRest) (reached : ℕ → Bool) (file : List ℕ) (functions : List ((ℕ × ℕ) × FunctionContent)) (table new : Table) (targets : List Table) (o : Option Extension)
-    → AgreeOnReach reached table new (groups_beside (Some table) o) → (c : BtfRelocationCause)
-    → (HasTypesFault (types_given file functions table targets) (groups_beside (Some table) o) c → HasTypesFault (types_given file functions new targets) (groups_beside (Some new) o) c)
-    × (HasTypesFault (types_given file functions new targets) (groups_beside (Some new) o) c → HasTypesFault (types_given file functions table targets) (groups_beside (Some table) o) c)
+    → AgreeOnReach reached table new (section_infos_beside (Some table) o) → (c : BtfRelocationCause)
+    → (HasTypesFault (types_given file functions table targets) (section_infos_beside (Some table) o) c → HasTypesFault (types_given file functions new targets) (section_infos_beside (Some new) o) c)
+    × (HasTypesFault (types_given file functions new targets) (section_infos_beside (Some new) o) c → HasTypesFault (types_given file functions table targets) (section_infos_beside (Some table) o) c)
 refused-by law reached file functions table new targets None a c = law.refused reached (types_given file functions table targets) new _ a c
 refused-by law reached file functions table new targets (Some x) a c = law.refused reached (types_given file functions table targets) new x.relocations a c
 
 -- what type relocations need of an object's types
 record Moves (k : List Table) (s : State) (types : Option Table) : Type 0 where
-  relocated : (to : List ((ℕ × ℕ) × FunctionContent)) → AreRelocated (types_of s k) (type_groups s) to → AreRelocated (types_of (retyped s types) k) (type_groups (retyped s types)) to
-  back : (to : List ((ℕ × ℕ) × FunctionContent)) → AreRelocated (types_of (retyped s types) k) (type_groups (retyped s types)) to → AreRelocated (types_of s k) (type_groups s) to
-  refused : (c : BtfRelocationCause) → HasTypesFault (types_of s k) (type_groups s) c → HasTypesFault (types_of (retyped s types) k) (type_groups (retyped s types)) c
-  refused-back : (c : BtfRelocationCause) → HasTypesFault (types_of (retyped s types) k) (type_groups (retyped s types)) c → HasTypesFault (types_of s k) (type_groups s) c
+  relocated : (to : List ((ℕ × ℕ) × FunctionContent)) → AreRelocated (types_of s k) (type_section_infos s) to → AreRelocated (types_of (retyped s types) k) (type_section_infos (retyped s types)) to
+  back : (to : List ((ℕ × ℕ) × FunctionContent)) → AreRelocated (types_of (retyped s types) k) (type_section_infos (retyped s types)) to → AreRelocated (types_of s k) (type_section_infos s) to
+  refused : (c : BtfRelocationCause) → HasTypesFault (types_of s k) (type_section_infos s) c → HasTypesFault (types_of (retyped s types) k) (type_section_infos (retyped s types)) c
+  refused-back : (c : BtfRelocationCause) → HasTypesFault (types_of (retyped s types) k) (type_section_infos (retyped s types)) c → HasTypesFault (types_of s k) (type_section_infos s) c
 
 moves : (law : RelocationsRest) (reached : ℕ → Bool) (answers : Answers) (k : List Table) (s : State) (types : Option Table) → Agree reached answers s → IsRewritten answers s.file s.externs.ksyms s.types types → Moves k s types
 moves law reached answers k s types agree rewritten = by s.types types refl rewritten where
   by : (o types : Option Table) → s.types ≡ o → IsRewritten answers s.file s.externs.ksyms o types → Moves k (retyped s o) types
   by None None e h = record { relocated = λ to r. r; back = λ to r. r; refused = λ c r. r; refused-back = λ c r. r }
   by (Some table) (Some new) e h =
-      let a : AgreeOnReach reached table new (groups_beside (Some table) s.extension) = subst (λ (o : Option Table). AgreeOnReach reached table new (groups_beside o s.extension)) e (agree table new e h) in
+      let a : AgreeOnReach reached table new (section_infos_beside (Some table) s.extension) = subst (λ (o : Option Table). AgreeOnReach reached table new (section_infos_beside o s.extension)) e (agree table new e h) in
       record {
         relocated = λ to. (relocated-by law reached s.file s.functions table new k s.extension a to).0;
         back = λ to. (relocated-by law reached s.file s.functions table new k s.extension a to).1;
@@ -119,7 +119,7 @@ exchange law reached answers k s m t agree first second =
       retyped s t.types,
       record { types = rewritten; others = refl },
       record {
-        functions = subst (AreRelocated (types_of (retyped s t.types) k) (type_groups (retyped s t.types))) (sym functions) (moved.relocated m.functions first.functions);
+        functions = subst (AreRelocated (types_of (retyped s t.types) k) (type_section_infos (retyped s t.types))) (sym functions) (moved.relocated m.functions first.functions);
         sound = record { none = λ c h. first.sound.none c (moved.refused-back c h) };
         others =
             second.others ∙ ap (λ (x : State). record x { types = t.types }) first.others
@@ -132,8 +132,8 @@ exchange-back : (law : RelocationsRest) (reached : ℕ → Bool) (answers : Answ
 exchange-back law reached answers k s n t agree first second =
     let moved = moves law reached answers k s n.types agree first.types in
     let types : t.types ≡ n.types = ap (λ (x : State). x.types) second.others in
-    let relocated = subst (λ (x : State). AreRelocated (types_of x k) (type_groups x) t.functions) first.others second.functions in
-    let sound : CanBeRelocated (types_of (retyped s n.types) k) (type_groups (retyped s n.types)) = subst (λ (x : State). CanBeRelocated (types_of x k) (type_groups x)) first.others second.sound in (
+    let relocated = subst (λ (x : State). AreRelocated (types_of x k) (type_section_infos x) t.functions) first.others second.functions in
+    let sound : CanBeRelocated (types_of (retyped s n.types) k) (type_section_infos (retyped s n.types)) = subst (λ (x : State). CanBeRelocated (types_of x k) (type_section_infos x)) first.others second.sound in (
       record s { functions = t.functions },
       record {
         functions = moved.back t.functions relocated;
@@ -176,9 +176,9 @@ agree-after reached answers object s free left table new e rewritten =
     let known : object.types ≡ Some table = sym left.types ∙ e in
     let in-file = subst (λ file. IsRewritten answers file s.externs.ksyms (Some table) (Some new)) left.file rewritten in
     let there = subst (λ ksyms. IsRewritten answers object.file ksyms (Some table) (Some new)) left.ksyms in-file in
-    let groups : type_groups s ≡ type_groups object = ap (λ (o : Option Table). groups_beside o s.extension) left.types ∙ ap (groups_beside object.types) left.extension in
-    subst (AgreeOnReach reached table new) (sym groups)
-    (agree reached table new (type_groups object) (free.reach table known) (free.readable table known) (free.stays table new known there)
+    let section_infos : type_section_infos s ≡ type_section_infos object = ap (λ (o : Option Table). section_infos_beside o s.extension) left.types ∙ ap (section_infos_beside object.types) left.extension in
+    subst (AgreeOnReach reached table new) (sym section_infos)
+    (agree reached table new (type_section_infos object) (free.reach table known) (free.readable table known) (free.stays table new known there)
     (texts-stay answers object.file object.externs.ksyms table new (length table.types == 0) there))
 
 pub to-rewrite-first : (law : RelocationsRest) (i : Inputs) (u : Under) (object : State) (reached : ℕ → Bool) → IsOrderFree reached u.answers object → (plan : PlanContent)

@@ -6,7 +6,7 @@ use Rattle.btf_sanitize.specs.Answers.{Answers}
 use Rattle.btf_tables.specs.Holdings.{held_ids, held_names}
 use Rattle.btf_tables.specs.Tables.{Table, type_by_id}
 use Rattle.object_whole.specs.Rewriting.{IsRewritten}
-use Rattle.ebpf_object.specs.TypeRelocations.{type_groups}
+use Rattle.ebpf_object.specs.TypeRelocations.{type_section_infos}
 use Rattle.load_plan.specs.Inputs.{Inputs, State, Under}
 use Rattle.load_plan.specs.Known.{GoByFeature, IsPlanFor, IsRefusalFor}
 use Rattle.load_plan.specs.Passes.{Made, linking, patching}
@@ -19,7 +19,7 @@ use Rattle.plan_laws.specs.Determined.{IsKnown, IsPlanUnder, IsRefusalUnder}
 use Rattle.plan_contents.specs.PlanMaps.{plan_map}
 use Rattle.plan_text.specs.Content.{PlanContent}
 use Rattle.string_table.specs.Texts.{text_at}
-use Rattle.core_relocation.specs.Relocations.{Groups}
+use Rattle.core_relocation.specs.Relocations.{SectionInfos}
 
 -- the same inputs, with the passes on types in an order
 abbrev pub in_order : Order → Inputs → Inputs
@@ -34,19 +34,19 @@ pub record IsMadePlan (i : Inputs) (u : Under) (object : State) (plan : PlanCont
   pub is : plan ≡ plan_of u.answers (map (plan_map i.settings) final.maps) final
 
 -- what type relocations reach: their own types, and with a type all that its record holds
-pub record IsReach (reached : ℕ → Bool) (table : Table) (groups : Groups) : Type 0 where
-  pub types : All (λ x. All (λ r. reached r.type_id ≡ true) x.records) groups
+pub record IsReach (reached : ℕ → Bool) (table : Table) (section_infos : SectionInfos) : Type 0 where
+  pub types : All (λ x. All (λ r. reached r.type_id ≡ true) x.records) section_infos
   pub closed : (id : ℕ) → reached id ≡ true
       → IfSome (type_by_id table id) (λ t. All (λ next. reached next ≡ true) (held_ids t))
 
--- the names that the records hold, the access strings and the names of the groups' sections can be
+-- the names that the records hold, the access strings and the names of the section infos' sections can be
 -- read
-pub record IsReadable (reached : ℕ → Bool) (table : Table) (groups : Groups) : Type 0 where
+pub record IsReadable (reached : ℕ → Bool) (table : Table) (section_infos : SectionInfos) : Type 0 where
   pub names : (id : ℕ) (t : BtfType) → reached id ≡ true → type_by_id table id ≡ Some t
       → All (λ offset. is_some (text_at table.strings offset) ≡ true) (held_names t)
   pub accesses : All (λ x.
-      All (λ r. is_some (text_at table.strings r.access_str_off) ≡ true) x.records) groups
-  pub sections : All (λ x. is_some (text_at table.strings x.name_offset) ≡ true) groups
+      All (λ r. is_some (text_at table.strings r.access_str_off) ≡ true) x.records) section_infos
+  pub sections : All (λ x. is_some (text_at table.strings x.name_offset) ≡ true) section_infos
 
 -- the records are the same in another table
 pub record StaysReached (reached : ℕ → Bool) (table new : Table) : Type 0 where
@@ -56,10 +56,10 @@ pub record StaysReached (reached : ℕ → Bool) (table new : Table) : Type 0 wh
 pub record IsOrderFree (reached : ℕ → Bool) (answers : Answers) (object : State) : Type 0 where
   pub reach : (table : Table)
       → object.types ≡ Some table
-      → IsReach reached table (type_groups object)
+      → IsReach reached table (type_section_infos object)
   pub readable : (table : Table)
       → object.types ≡ Some table
-      → IsReadable reached table (type_groups object)
+      → IsReadable reached table (type_section_infos object)
   pub stays : (table new : Table) → object.types ≡ Some table
       → IsRewritten answers object.file object.externs.ksyms (Some table) (Some new)
       → StaysReached reached table new

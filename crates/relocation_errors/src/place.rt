@@ -5,9 +5,9 @@ use std::fmt;
 /// What a fault of type relocations belongs to.
 #[derive(Debug, Drop)]
 pub enum RelocationPlace {
-    /// A group as a whole.
-    Group,
-    /// A relocation of the group.
+    /// A section info as a whole.
+    SectionInfo,
+    /// A relocation of the section info.
     Relocation {
         /// The name of the function that holds the instruction, if there is one.
         function: Option<String>,
@@ -22,7 +22,7 @@ pub enum RelocationPlace {
 impl fmt::Display for RelocationPlace {
     fn fmt<W: fmt::Write>(&self, f: &mut fmt::Formatter<W>) -> fmt::Result {
         match self {
-            RelocationPlace::Group => Ok(()),
+            RelocationPlace::SectionInfo => Ok(()),
             RelocationPlace::Relocation {
                 function: Some(function),
                 instruction,

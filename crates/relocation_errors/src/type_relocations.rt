@@ -4,7 +4,7 @@ ghost use Rattle.std.specs.Prelude.{◌≡◌, ◌≢◌, None, Some, [], unwrap
 ghost use Rattle.std.specs.Option.{option_map};
 ghost use Rattle.std.specs.String.{string_bytes};
 ghost use Rattle.relocation_errors.specs.declared.type_relocations.BtfRelocationCause.TheVariants.{BtfError as TypeError, OutOfMemory};
-ghost use Rattle.relocation_errors.specs.declared.place.RelocationPlace.TheVariants.{Group};
+ghost use Rattle.relocation_errors.specs.declared.place.RelocationPlace.TheVariants.{SectionInfo};
 
 use crate::place::RelocationPlace;
 use btf_records::BtfError;
@@ -12,11 +12,11 @@ use ebpf_items::RelocationKind;
 use std::alloc::{AllocError, AllocFailed};
 use thiserror::Error;
 
-/// Why a type relocation, or a group of them, can't be made. Relocations are counted from 0 in
-/// their group.
+/// Why a type relocation, or a section info of them, can't be made. Relocations are counted from 0 in
+/// their section info.
 #[derive(Debug, Drop, Error)]
 pub enum BtfRelocationCause {
-    /// The object has no section of the group's name.
+    /// The object has no section of the section info's name.
     #[error("no section of this name")]
     SectionNotFound,
     /// No function of the section holds the instruction.
@@ -108,7 +108,7 @@ impl<T: Drop> From<AllocFailed<T>> for BtfRelocationCause {
     }
 }
 
-/// Why the type relocations of an object can't be made, with the name of the group's section and
+/// Why the type relocations of an object can't be made, with the name of the section info's section and
 /// the relocation at which it stands.
 #[derive(Debug, Drop, Error)]
 #[error("error relocating section {:?}{place}: {error}", section.as_deref().unwrap_or(""))]
@@ -119,7 +119,7 @@ pub struct BtfRelocationError {
 }
 
 impl BtfRelocationError {
-    /// A fault at a place of a group. It is out of memory where name or place couldn't be kept.
+    /// A fault at a place of a section info. It is out of memory where name or place couldn't be kept.
     pub fn new(
         section: Result<String, AllocError>,
         place: Result<RelocationPlace, AllocError>,
@@ -137,7 +137,7 @@ impl BtfRelocationError {
         }
     }
 
-    /// The name of the group's section, or `section@` and its offset where it can't be read; empty
+    /// The name of the section info's section, or `section@` and its offset where it can't be read; empty
     /// where memory ran out before it was known.
     pub fn section(&self) -> &str
         ensures { result.now ≡ unwrap_or (option_map string_bytes self.now.section) [] }
@@ -148,7 +148,7 @@ impl BtfRelocationError {
         }
     }
 
-    /// The relocation at which the fault stands, if it isn't one of the group.
+    /// The relocation at which the fault stands, if it isn't one of the section info.
     pub fn place(&self) -> &RelocationPlace
         ensures { result.now ≡ self.now.place }
     {
@@ -164,19 +164,19 @@ impl BtfRelocationError {
 }
 
 impl From<AllocError> for BtfRelocationError {
-    ghost from_gives = { λ _ e. e ≡ record { section = None; place = Group; error = OutOfMemory } };
+    ghost from_gives = { λ _ e. e ≡ record { section = None; place = SectionInfo; error = OutOfMemory } };
 
     fn from(_error: AllocError) -> BtfRelocationError {
         BtfRelocationError {
             section: None,
-            place: RelocationPlace::Group,
+            place: RelocationPlace::SectionInfo,
             error: BtfRelocationCause::OutOfMemory,
         }
     }
 }
 
 impl<T: Drop> From<AllocFailed<T>> for BtfRelocationError {
-    ghost from_gives = { λ _ e. e ≡ record { section = None; place = Group; error = OutOfMemory } };
+    ghost from_gives = { λ _ e. e ≡ record { section = None; place = SectionInfo; error = OutOfMemory } };
 
     fn from(_error: AllocFailed<T>) -> BtfRelocationError {
         BtfRelocationError::from(AllocError)

@@ -12,7 +12,7 @@ use test_table_samples::{ORDERS, section};
 /// `f`, `v`, `.ksyms` and `p` at 1, 3, 5 and 12.
 const STRINGS: [u8; 14] = *b"\0f\0v\0.ksyms\0p\0";
 
-/// Three integers, the second and third of 4 bytes; a signature, an extern function and an extern
+/// Three integers, the second and third of 4 bytes; a function prototype, an extern function and an extern
 /// variable; the placeholder of id 7, and the section of id 8.
 const EXTERNS: [u32; 35] = [
     0, INT, 8, 0x40, 0, INT, 4, 0x20, 0, INT, 4, 0x20, 0, PROTO, 0, 1, EXTERN, 4, 3, VAR, 0, 2, 12,

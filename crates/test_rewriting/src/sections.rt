@@ -12,7 +12,7 @@ pub(crate) const GLOBAL: u32 = 0x0c00_0001;
 
 pub(crate) const EXTERN: u32 = 0x0c00_0002;
 
-/// Of signatures.
+/// Of function prototypes.
 pub(crate) const PROTO: u32 = 0x0d00_0000;
 
 pub(crate) const VAR: u32 = 0x0e00_0000;

@@ -1,4 +1,4 @@
-//! Compatible and incompatible types: by kind, through pointers and signatures, and by name.
+//! Compatible and incompatible types: by kind, through pointers and function prototypes, and by name.
 
 use crate::answer::{Answer, Question, yes_or_no};
 use crate::asking::{Case, ask_case};
@@ -34,7 +34,7 @@ static CASES: [Case<'static>; 6] = [
             (Question::Types(1, 8), Answer::UnknownBtfType(8)),
         ],
     },
-    // an INT, a PTR to it, signatures of two INTs, of both, of none, and of none that returns an
+    // an INT, a PTR to it, function prototypes of two INTs, of both, of none, and of none that returns an
     // INT
     Case {
         title: "signatures, part by part",
@@ -50,7 +50,7 @@ static CASES: [Case<'static>; 6] = [
             (Question::Types(5, 6), Answer::No),
         ],
     },
-    // a PTR and a CONST to themselves, an INT; a signature whose first parameter is the INT and
+    // a PTR and a CONST to themselves, an INT; a function prototype whose first parameter is the INT and
     // whose second is itself, and one whose first parameter is the PTR
     Case {
         title: "a pair inside itself is too deep",
@@ -66,7 +66,7 @@ static CASES: [Case<'static>; 6] = [
             (Question::Types(4, 4), Answer::MaximumTypeDepthReached(4)),
         ],
     },
-    // rings of three PTRs and of two, an INT, three PTRs that lead to it; rings of three signatures
+    // rings of three PTRs and of two, an INT, three PTRs that lead to it; rings of three function prototypes
     // and of two that each take the INT and return the next, and one that takes a PTR
     Case {
         title: "two rings are too deep",
@@ -127,7 +127,7 @@ fn types_are_compared(rt: HostRuntime) {
     }
 }
 
-/// 40 signatures, each of which takes the next twice, and then a PTR to this type.
+/// 40 function prototypes, each of which takes the next twice, and then a PTR to this type.
 fn lattice(rt: &impl Abort, alloc: Global, last: u32) -> Vec<u32> {
     let mut words = Vec::new(alloc);
     for next in 2..42 {

@@ -259,7 +259,7 @@ fn made_records_are_written(rt: HostRuntime) {
     }
 }
 
-/// The offsets of a struct's members and the types of a signature's parameters, place by place.
+/// The offsets of a struct's members and the types of a function prototype's parameters, place by place.
 const PLACES: [(Option<u32>, Option<u32>); 4] = [
     (Some(0), Some(2)),
     (Some(64), Some(0)),

@@ -20,7 +20,7 @@ type Func = (u32, u32);
 type Four = (u32, u32, u32, u32);
 
 /// A section's words after magic, version and flags; the sizes of its records of functions and of
-/// lines; and, of groups by name, or by the name's offset, the records, where there is a group.
+/// lines; and, of section infos by name, or by the name's offset, the records, where there is a section info.
 struct Row {
     words: &'static [u32],
     sizes: (usize, usize),
@@ -29,8 +29,8 @@ struct Row {
     relocations: &'static [(u32, Option<&'static [Four]>)],
 }
 
-/// Functions of records of 12 bytes, of two groups of `.text`; lines; and relocations, of which a
-/// group's name isn't in the strings.
+/// Functions of records of 12 bytes, of two section infos of `.text`; lines; and relocations, of which a
+/// section info's name isn't in the strings.
 const WHOLE: &[u32] = &[
     32, 0, 76, 76, 44, 120, 68, 12, 1, 2, 0, 5, 99, 24, 6, 99, 7, 1, 8, 7, 99, 11, 1, 16, 9, 99,
     16, 7, 2, 0, 1, 7, 1025, 9, 2, 3, 4, 16, 1, 2, 8, 3, 7, 0, 16, 4, 1, 11, 500, 1, 0, 1, 2, 3,
@@ -58,7 +58,7 @@ static ROWS: [Row; 5] = [
             (7, None),
         ],
     },
-    // A rest of eight bytes is no group, but a group without records before another one is.
+    // A rest of eight bytes is no section info, but a section info without records before another one is.
     Row {
         words: &[32, 0, 28, 28, 0, 28, 0, 8, 0, 1, 16, 42, 7, 0],
         sizes: (8, 0),
@@ -83,65 +83,71 @@ static ROWS: [Row; 5] = [
     },
 ];
 
-/// Whether a group has these records, and their length.
-fn are_funcs(group: &FuncSecInfo<'_>, wanted: &[Func]) -> bool {
+/// Whether a section info has these records, and their length.
+fn are_funcs(section_info: &FuncSecInfo<'_>, wanted: &[Func]) -> bool {
     for (index, record) in wanted.iter().enumerate() {
-        let found = group.get(index).map(|r| (r.insn_off, r.type_id));
+        let found = section_info.get(index).map(|r| (r.insn_off, r.type_id));
         if found != Some(*record) {
             return false;
         }
     }
     let count = wanted.len();
-    let len = group.len();
-    group.num_info() as usize == count && len == count.wrapping_mul(8) && group.get(count).is_none()
+    let len = section_info.len();
+    section_info.num_info() as usize == count
+        && len == count.wrapping_mul(8)
+        && section_info.get(count).is_none()
 }
 
-fn are_lines(group: &LineSecInfo<'_>, wanted: &[Four]) -> bool {
+fn are_lines(section_info: &LineSecInfo<'_>, wanted: &[Four]) -> bool {
     for (index, record) in wanted.iter().enumerate() {
-        let found = group.get(index);
+        let found = section_info.get(index);
         let found = found.map(|r| (r.insn_off, r.file_name_off, r.line_off, r.line_col));
         if found != Some(*record) {
             return false;
         }
     }
     let count = wanted.len();
-    let len = group.len();
-    group.num_info() as usize == count
+    let len = section_info.len();
+    section_info.num_info() as usize == count
         && len == count.wrapping_mul(16)
-        && group.get(count).is_none()
+        && section_info.get(count).is_none()
 }
 
-fn are_relocations(group: &SecInfo<'_>, wanted: &[Four]) -> bool {
+fn are_relocations(section_info: &SecInfo<'_>, wanted: &[Four]) -> bool {
     for (index, record) in wanted.iter().enumerate() {
-        let found = group.get(index);
+        let found = section_info.get(index);
         let found = found.map(|r| (r.insn_off, r.type_id, r.access_str_off, r.kind));
         if found != Some(*record) {
             return false;
         }
     }
     let count = wanted.len();
-    group.num_info() as usize == count && group.get(count).is_none()
+    section_info.num_info() as usize == count && section_info.get(count).is_none()
 }
 
 fn check_funcs(rt: &impl Abort, extension: &BtfExt<'_>, name: &str, wanted: Option<&[Func]>) {
     match extension.func_info().get(name) {
-        Some(group) => assert!(rt; are_funcs(&group, wanted.expect(rt, "no group"))),
+        Some(section_info) => assert!(rt;
+            are_funcs(&section_info, wanted.expect(rt, "no section_info"))
+        ),
         None => assert!(rt; wanted.is_none()),
     }
 }
 
 fn check_lines(rt: &impl Abort, extension: &BtfExt<'_>, name: &str, wanted: Option<&[Four]>) {
     match extension.line_info(name) {
-        Some(group) => assert!(rt; are_lines(&group, wanted.expect(rt, "no group"))),
+        Some(section_info) => assert!(rt;
+            are_lines(&section_info, wanted.expect(rt, "no section_info"))
+        ),
         None => assert!(rt; wanted.is_none()),
     }
 }
 
-/// The group of relocations whose name stands at an offset.
+/// The section info of relocations whose name stands at an offset.
 fn relocations_at<'e>(extension: &'e BtfExt<'_>, name_offset: u32) -> Option<SecInfo<'e>> {
-    for group in extension.relocations() {
-        if group.name_offset() == name_offset {
-            return Some(group);
+    for section_info in extension.relocations() {
+        if section_info.name_offset() == name_offset {
+            return Some(section_info);
         }
     }
     None
@@ -149,12 +155,14 @@ fn relocations_at<'e>(extension: &'e BtfExt<'_>, name_offset: u32) -> Option<Sec
 
 fn check_relocations(rt: &impl Abort, extension: &BtfExt<'_>, name: u32, wanted: Option<&[Four]>) {
     match relocations_at(extension, name) {
-        Some(group) => assert!(rt; are_relocations(&group, wanted.expect(rt, "no group"))),
+        Some(section_info) => assert!(rt;
+            are_relocations(&section_info, wanted.expect(rt, "no section_info"))
+        ),
         None => assert!(rt; wanted.is_none()),
     }
 }
 
-fn check_groups(rt: &impl Abort, extension: &BtfExt<'_>, row: &Row) {
+fn check_section_infos(rt: &impl Abort, extension: &BtfExt<'_>, row: &Row) {
     let sizes = (
         extension.func_info_rec_size(),
         extension.line_info_rec_size(),
@@ -173,7 +181,7 @@ fn check_groups(rt: &impl Abort, extension: &BtfExt<'_>, row: &Row) {
 
 fn check_copy(rt: &impl Abort, extension: &BtfExt<'_>, row: &Row) {
     let copy = extension.try_clone().expect(rt, "a copy");
-    check_groups(rt, &copy, row);
+    check_section_infos(rt, &copy, row);
 }
 
 /// The section of these words.
@@ -196,7 +204,7 @@ fn extension<'a>(rt: &impl Abort, alloc: Global, order: Endianness, bytes: &'a [
 fn check_row(rt: &impl Abort, alloc: Global, order: Endianness, row: &Row) {
     let bytes = section(alloc, order, row.words).expect(rt, "a section");
     let extension = extension(rt, alloc, order, bytes.as_slice());
-    check_groups(rt, &extension, row);
+    check_section_infos(rt, &extension, row);
     check_copy(rt, &extension, row);
 }
 
@@ -239,14 +247,14 @@ const LINE_BYTES: [u8; 32] = [
 
 fn writes_funcs(alloc: Global, extension: &BtfExt<'_>) -> bool {
     match extension.func_info().get("xdp") {
-        Some(group) => funcs_are(alloc, &group, &FUNC_BYTES),
+        Some(section_info) => funcs_are(alloc, &section_info, &FUNC_BYTES),
         None => false,
     }
 }
 
 fn writes_lines(alloc: Global, extension: &BtfExt<'_>) -> bool {
     match extension.line_info("xdp") {
-        Some(group) => lines_are(alloc, &group, &LINE_BYTES),
+        Some(section_info) => lines_are(alloc, &section_info, &LINE_BYTES),
         None => false,
     }
 }

@@ -34,7 +34,7 @@ pub(crate) const FUNC: u32 = 0x0c00_0000;
 
 pub(crate) const VAR: u32 = 0x0e00_0000;
 
-/// Of signatures, and of those with one and two parameters.
+/// Of function prototypes, and of those with one and two parameters.
 pub(crate) const PROTO: u32 = 0x0d00_0000;
 
 pub(crate) const PROTO_1: u32 = 0x0d00_0001;

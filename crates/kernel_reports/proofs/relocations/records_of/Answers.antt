@@ -5,7 +5,7 @@ use Rattle.kernel_reports.proofs.relocations.records_of.Goals.{in-Some+in_ok-pus
 
 pub loop-number-preserved : goal.loop-number-preserved
 loop-number-preserved c =
-    let xs = c.args.group.now.records in
+    let xs = c.args.section_info.now.records in
     let i = c.loop-number.number in
     let lt : i < length xs = subst (λ n. i < n) c.num_info-number-end.ensures c.loop-number-test.true in
     elim c.match-get.branch [

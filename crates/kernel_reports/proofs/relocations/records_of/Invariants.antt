@@ -2,4 +2,4 @@ use Rattle.std.proofs.Common.{◌≡◌, take}
 use Rattle.kernel_reports.proofs.relocations.records_of.Given as goal
 
 abbrev pub invariant-loop-number : goal.invariant-loop-number
-invariant-loop-number l = l.records.items ≡ take l.number l.group.records
+invariant-loop-number l = l.records.items ≡ take l.number l.section_info.records

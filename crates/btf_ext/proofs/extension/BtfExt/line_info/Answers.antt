@@ -11,7 +11,7 @@ returns-in-Some c =
     let s = c.self.inside in
     let g = s.lines in
     let named = named_records line_in s.strings c.args.name.now g (Some c.in-Some.place) (sym c.last_named-place.ensures.value ∙ c.in-Some.is) in
-    let read = c.of_group.ensures ∙ same_records line_in g c.in-Some.place c.records.result c.records.ensures.value in
+    let read = c.of_section_info.ensures ∙ same_records line_in g c.in-Some.place c.records.result c.records.ensures.value in
     ap (λ (rs : List bpf_line_info). Some rs) read ∙ (sym named ∙ ap (λ (x : Extension). records_of x.strings c.args.name.now x.lines) c.self.view_is)
 
 pub returns-in-None : goal.returns-in-None

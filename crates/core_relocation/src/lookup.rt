@@ -1,0 +1,314 @@
+//! Type relocations, looked up in functions and among a kernel's types.
+
+ghost use Rattle.std.specs.Prelude.{◌≡◌, ◌≢◌, ◌<◌, ◌≤◌, ◌^◌, ℕ, ◌++◌, length, Ok, Err, Some, IfOk, IfErr, IfSome, OnOk};
+ghost use Rattle.std.specs.Option.{option_copied};
+ghost use Rattle.object_file.specs.Named.{AreIndexes};
+ghost use Rattle.object_file.specs.Reading.{read_sections};
+ghost use Rattle.core_relocation.specs.Faults.{FaultOfSectionInfo, SectionInfosFault, LacksOutcome, RecordsFault};
+ghost use Rattle.core_relocation.specs.Relocations.{all_placed, function_holding, record_outcome, placed, placed_from, placed_section_info, section_at};
+ghost use Rattle.core_relocation.specs.Walks.{SectionInfoFault, IsFront, RecordFault, StandsNone, matched};
+ghost use Rattle.relocation_errors.specs.declared.type_relocations.BtfRelocationCause.TheVariants.{OutOfMemory};
+ghost use Rattle.core_resolve.specs.RelocationOutcomes.{IsTableOf};
+
+use crate::cause::{FailedRelocation, cause_of_match};
+use crate::place::{asked_text, asked_with_matches, place_in_section};
+use crate::placed_relocation::{PlacedRelocation, Position};
+use crate::section_infos::RelocationSectionInfo;
+use crate::texts::section_name;
+use btf_ext::bpf_core_relo;
+use btf_records::BtfError;
+use btf_tables::Btf;
+use core_patch::patch_of;
+use core_resolve::{RelocationOutcome, TypeMatcher, TypeRelocation};
+use ebpf_items::RelocationKind;
+use object_file::ObjectFile;
+use object_parts::{Function, Functions};
+use relocation_errors::{BtfRelocationCause, BtfRelocationError, RelocationPlace};
+use std::alloc::{AllocError, Global};
+use std::marker::Model;
+use string_map::TextMap;
+
+/// What type relocations are looked up in.
+#[derive(Drop)]
+pub(crate) struct Lookup<'r, 'o, 'f, 't, 'k> {
+    pub(crate) alloc: Global,
+    pub(crate) file: &'r ObjectFile<'o>,
+    /// The indexes of the file's sections, by name.
+    pub(crate) sections: &'r TextMap<'o, u64>,
+    pub(crate) functions: &'r Functions<'f>,
+    pub(crate) local: &'r Btf<'t>,
+    pub(crate) targets: &'r [Btf<'k>],
+}
+
+impl<'r, 'o, 'f, 't, 'k> Model for Lookup<'r, 'o, 'f, 't, 'k> {
+    ghost use Rattle.std.specs.Prelude.{◌≡◌};
+    ghost use Rattle.object_file.specs.Reading.{read_sections};
+    ghost use Rattle.object_file.specs.Named.{AreIndexes};
+    ghost use Rattle.core_relocation.specs.Relocations.{TypesGiven};
+
+    ghost Value = { TypesGiven };
+
+    ghost view = { λ l.
+        record {
+          file = l.file.now;
+          functions = l.functions.now;
+          local = l.local.now;
+          targets = l.targets.now;
+        } };
+
+    ghost invariant = { λ l. AreIndexes (read_sections l.file.now) l.sections.now };
+}
+
+/// The first function, by key, of those of a section whose bytes hold an offset.
+pub(crate) fn function_holding<'g, 'f>(
+    functions: &'g Functions<'f>,
+    section_index: usize,
+    offset: u64,
+) -> Option<&'g Function<'f>>
+    ensures { option_copied result ≡ function_holding functions.entry.now section_index offset }
+{
+    for (_, function) in functions.iter() {
+        if function.section_index == section_index && function.is_inside(offset) {
+            return Some(function);
+        }
+    }
+    None
+}
+
+/// The place of a table of which no more than 2^32 are there.
+fn table_place(table: Option<usize>) -> Option<u32>
+    requires { IfSome table (λ place. place < 2 ^ 32) }
+    ensures { result ≡ table }
+{
+    match table {
+        Some(place) => Some(place as u32),
+        None => None,
+    }
+}
+
+impl<'r, 'o, 'f, 't, 'k> Lookup<'r, 'o, 'f, 't, 'k> {
+    /// The section whose name stands at an offset of the strings.
+    fn section(&self, name_offset: u32) -> Result<usize, BtfRelocationCause>
+        ensures value { IfOk result (λ s. section_at self.now name_offset ≡ Some s) }
+        ensures accepted { OnOk result (StandsNone (FaultOfSectionInfo self.now name_offset)) }
+        ensures refused { IfErr result (FaultOfSectionInfo self.now name_offset) }
+    {
+        let Ok(name) = self.local.string_at(name_offset) else {
+            return Err(BtfRelocationCause::BtfError(BtfError::InvalidStringOffset {
+                offset: name_offset as usize,
+            }));
+        };
+        match self.sections.get(name) {
+            Some(index) => Ok(*index as usize),
+            None => Err(BtfRelocationCause::SectionNotFound),
+        }
+    }
+
+    /// What a relocation of a number in its section info comes to in the kernel's types.
+    fn record_outcome(
+        &self,
+        matcher: &mut TypeMatcher<'_>,
+        number: usize,
+        relocation: bpf_core_relo,
+    ) -> Result<RelocationOutcome, BtfRelocationCause>
+        requires { matcher.old ≡ matched self.now }
+        ensures value { IfOk result (λ o. record_outcome self.now relocation ≡ Ok o) }
+        ensures table { IfOk result (λ o. IsTableOf self.now.targets o.table) }
+        ensures accepted { OnOk result (StandsNone (LacksOutcome self.now relocation)) }
+        ensures refused { IfErr result (λ c. c ≢ OutOfMemory → LacksOutcome self.now relocation c) }
+        ensures same { matcher.new ≡ matcher.old }
+    {
+        let kind = match RelocationKind::try_from(relocation.kind) {
+            Ok(kind) => kind,
+            Err(error) => return Err(BtfRelocationCause::BtfError(error)),
+        };
+        let asked = TypeRelocation {
+            kind,
+            type_id: relocation.type_id,
+            access_str_off: relocation.access_str_off,
+        };
+        match matcher.relocation_outcome(asked) {
+            Ok(outcome) => Ok(outcome),
+            Err(error) => {
+                let failed = FailedRelocation {
+                    alloc: self.alloc,
+                    local: self.local,
+                    targets: self.targets,
+                    number,
+                    offset: u64::from(relocation.insn_off),
+                    asked,
+                };
+                Err(cause_of_match(&failed, error))
+            }
+        }
+    }
+
+    /// A relocation of a section's section info, in its function and with what it gives.
+    fn place(
+        &self,
+        matcher: &mut TypeMatcher<'_>,
+        section_index: usize,
+        position: Position,
+        relocation: bpf_core_relo,
+    ) -> Result<PlacedRelocation, BtfRelocationCause>
+        requires few { length self.now.targets ≤ 2 ^ 32 }
+        requires same { matcher.old ≡ matched self.now }
+        ensures value { IfOk result (λ p.
+            placed self.now position (Some section_index) relocation ≡ Some p) }
+        ensures accepted { OnOk result
+            (StandsNone (RecordFault self.now (Some section_index) relocation)) }
+        ensures refused { IfErr result (λ c.
+            c ≢ OutOfMemory → RecordFault self.now (Some section_index) relocation c) }
+        ensures same { matcher.new ≡ matcher.old }
+    {
+        let offset = u64::from(relocation.insn_off);
+        let Some(function) = function_holding(self.functions, section_index, offset) else {
+            return Err(BtfRelocationCause::FunctionNotFound);
+        };
+        let outcome = self.record_outcome(matcher, position.number, relocation)?;
+        Ok(PlacedRelocation {
+            key: function.key(),
+            offset,
+            position,
+            patch: patch_of(self.local, self.targets, outcome),
+            table: table_place(outcome.table),
+        })
+    }
+
+    /// Places the relocations of a section's section info one after the other, up to the first that can't
+    /// be placed.
+    fn place_records(
+        &self,
+        matcher: &mut TypeMatcher<'_>,
+        section_index: usize,
+        first: Position,
+        records: &[bpf_core_relo],
+        list: &mut Vec<PlacedRelocation>,
+    ) -> Result<(), BtfRelocationCause>
+        requires few { length self.now.targets ≤ 2 ^ 32 }
+        requires same { matcher.old ≡ matched self.now }
+        ensures ok { OnOk result
+            (list.new.items
+            ≡ list.old.items
+            ++ placed_from self.now first.section_info first.name_offset (Some section_index) 0
+            records.now) }
+        ensures front { IsFront list.new.items
+            (list.old.items
+            ++ placed_from self.now first.section_info first.name_offset (Some section_index) 0
+            records.now) }
+        ensures accepted { OnOk result
+            (StandsNone (RecordsFault self.now (Some section_index) records.now)) }
+        ensures refused { IfErr result (λ c.
+            c ≢ OutOfMemory → RecordsFault self.now (Some section_index) records.now c) }
+        ensures same { matcher.new ≡ matcher.old }
+    {
+        for (number, relocation) in records.iter().enumerate() {
+            let position = Position { number, ..first };
+            let placed = self.place(matcher, section_index, position, *relocation)?;
+            list.push(placed)?;
+        }
+        Ok(())
+    }
+
+    /// Places the relocations of a section info, up to the first that can't be placed.
+    fn place_section_info(
+        &self,
+        matcher: &mut TypeMatcher<'_>,
+        number: usize,
+        section_info: &RelocationSectionInfo,
+        list: &mut Vec<PlacedRelocation>,
+    ) -> Result<(), BtfRelocationCause>
+        requires few { length self.now.targets ≤ 2 ^ 32 }
+        requires same { matcher.old ≡ matched self.now }
+        ensures ok { OnOk result
+            (list.new.items ≡ list.old.items ++ placed_section_info self.now number section_info.now) }
+        ensures front { IsFront list.new.items
+            (list.old.items ++ placed_section_info self.now number section_info.now) }
+        ensures accepted { OnOk result (StandsNone (SectionInfoFault self.now section_info.now)) }
+        ensures refused { IfErr result (λ c. c ≢ OutOfMemory → SectionInfoFault self.now section_info.now c) }
+        ensures same { matcher.new ≡ matcher.old }
+    {
+        let section_index = self.section(section_info.name_offset)?;
+        let first = Position {
+            section_info: number,
+            name_offset: section_info.name_offset,
+            number: 0,
+        };
+        self.place_records(
+            matcher,
+            section_index,
+            first,
+            section_info.records.as_slice(),
+            list,
+        )
+    }
+
+    /// What a relocation with a fault asks for; where types of the kernel's conflict, with these.
+    fn asked(&self, relo: bpf_core_relo, cause: &BtfRelocationCause) -> Result<String, AllocError> {
+        if let BtfRelocationCause::ConflictingCandidates { .. } = cause {
+            return asked_with_matches(self.alloc, self.local, self.targets, relo);
+        }
+        asked_text(self.alloc, self.local, relo)
+    }
+
+    /// Where a relocation of a section info stands, by its number; of a number that none has it is the
+    /// section info.
+    fn place_of_relocation(
+        &self,
+        section_info: &RelocationSectionInfo,
+        number: usize,
+        cause: &BtfRelocationCause,
+    ) -> Result<RelocationPlace, AllocError> {
+        let Some(record) = section_info.record(number) else {
+            return Ok(RelocationPlace::SectionInfo);
+        };
+        let Ok(section_index) = self.section(section_info.name_offset) else {
+            return Ok(RelocationPlace::SectionInfo);
+        };
+        let asked = self.asked(record, cause)?;
+        place_in_section(self.alloc, self.functions, section_index, record, asked)
+    }
+
+    /// The error for a cause that stands at a relocation of a section info.
+    fn error_at(
+        &self,
+        section_info: &RelocationSectionInfo,
+        number: usize,
+        cause: BtfRelocationCause,
+    ) -> BtfRelocationError
+        ensures { result.error ≢ OutOfMemory → result.error ≡ cause }
+    {
+        let section = section_name(self.alloc, self.local, section_info.name_offset);
+        let place = self.place_of_relocation(section_info, number, &cause);
+        BtfRelocationError::new(section, place, cause)
+    }
+
+    /// Places the relocations of all section infos, up to the first that can't be placed.
+    pub(crate) fn place_section_infos(
+        &self,
+        matcher: &mut TypeMatcher<'_>,
+        section_infos: &[RelocationSectionInfo],
+        list: &mut Vec<PlacedRelocation>,
+    ) -> Result<(), BtfRelocationError>
+        requires few { length self.now.targets ≤ 2 ^ 32 }
+        requires same { matcher.old ≡ matched self.now }
+        ensures ok { OnOk result
+            (list.new.items ≡ list.old.items ++ all_placed self.now section_infos.now) }
+        ensures front { IsFront list.new.items (list.old.items ++ all_placed self.now section_infos.now) }
+        ensures accepted { OnOk result (StandsNone (SectionInfosFault self.now section_infos.now)) }
+        ensures refused { IfErr result (λ e.
+            e.error ≢ OutOfMemory → SectionInfosFault self.now section_infos.now e.error) }
+    {
+        for (number, section_info) in section_infos.iter().enumerate() {
+            let before = list.len();
+            match self.place_section_info(matcher, number, section_info, list) {
+                Ok(()) => {}
+                Err(cause) => {
+                    let placed = list.len().saturating_sub(before);
+                    return Err(self.error_at(section_info, placed, cause));
+                }
+            }
+        }
+        Ok(())
+    }
+}

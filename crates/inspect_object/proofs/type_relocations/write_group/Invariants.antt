@@ -1,8 +1,0 @@
-use Rattle.std.proofs.Common.{◌-◌, ◌≤◌, length}
-use Rattle.inspect_object.proofs.type_relocations.write_group.Given as goal
-
-abbrev pub invariant-loop-relocation : goal.invariant-loop-relocation
-invariant-loop-relocation g l = l.index ≤ length l.group.records
-
-abbrev pub decreases-loop-relocation : goal.decreases-loop-relocation
-decreases-loop-relocation g l = length l.group.records - l.index
