@@ -19,15 +19,6 @@ by_id table id isnt =
     let test : (id == 0) ≡ false = grind (arith, nat_tests, isnt) in
     rw test refl
 
-pub void_kind : (table : Table) (id : ℕ) → id ≡ 0 → Some kinds.Unknown ≡ option_map kind_of_type (type_by_id table id)
-void_kind table id is = rw is refl
-
-pub part_is : (A : Type 0) (part : BtfType → A) (table : Table) (id : ℕ) → id ≢ 0 → slice_get (map part table.types) (id - 1) ≡ option_map part (type_by_id table id)
-part_is A part table id isnt = slice_get-map part table.types (id - 1) ∙ ap (option_map part) (sym (by_id table id isnt))
-
-pub kind_is : (table : Table) (headers : Headers) (id : ℕ) → id ≢ 0 → AreHeadersOf table headers → slice_get headers.kinds (id - 1) ≡ option_map kind_of_type (type_by_id table id)
-kind_is table headers id isnt are = ap (λ (ks : List BtfKind). slice_get ks (id - 1)) are.kinds ∙ part_is BtfKind kind_of_type table id isnt
-
 text_otherwise : (strings : List ℕ) (marks : PrefixMarks) (offset : ℕ) (text : Option (List ℕ)) → text_at strings offset ≡ text → is_some text ≡ true → ((other : List ℕ) → text_at strings offset ≡ Some other → MayBegin marks other → ⊥) → IsSomeAnd text (λ t. MayBegin marks t → ⊥)
 text_otherwise strings marks offset None is some isnt = absurd cc
 text_otherwise strings marks offset (Some text) is some isnt = isnt text is

@@ -73,8 +73,23 @@ pub found_on : (search : Searched) (table : Table) (n id : ℕ) (old new all : L
 found_on search table n id old new all lt before put =
     rw put (append_assoc old (found_among search table (id ∷ [])) (found_among search table (left n (id + 1))) ∙ (ap (λ (xs : List Found). old ++ xs) (sym (one_by search table id (left n (id + 1)) (is_so (is_wanted search) table id) refl)) ∙ (rw (this_id n id lt) at before)))
 
+pub found_first : (search : Searched) (table : Table) (new : List Found) → new ≡ [] ++ found_among search table (0 ∷ []) → new ++ found_among search table (left (length table.types + 1) 1) ≡ found_in search table
+found_first search table new put = found_on search table (length table.types + 1) 0 [] new (found_in search table) (omega (arith)) (rw (all_left (length table.types + 1) (length table.types) refl) refl) put
+
+pub found_past : (search : Searched) (table : Table) (n id : ℕ) (old all : List Found) → id < n → old ++ found_among search table (left n id) ≡ all → is_so (is_wanted search) table id ≡ false → old ++ found_among search table (left n (id + 1)) ≡ all
+found_past search table n id old all lt before isnt = found_on search table n id old old all lt before (nothing_added search table id old isnt)
+
 pub found_all : (search : Searched) (table : Table) (n id : ℕ) (old all : List Found) → n ≤ id → old ++ found_among search table (left n id) ≡ all → old ≡ all
 found_all search table n id old all le before = sym (append-nil old) ∙ (rw (none_left n id le) at before)
+
+-- ---- types of other kinds
+
+kind_at : (table : Table) (kinds : List BtfKind) (index : ℕ) → kinds ≡ map kind_of_type table.types → index < length kinds → Some (get_or kinds index Unknown) ≡ option_map kind_of_type (type_by_id table (index + 1))
+kind_at table kinds index are lt =
+    sym (slice_get-get_or kinds index Unknown lt) ∙ (ap (λ (ks : List BtfKind). slice_get ks index) are ∙ (slice_get-map kind_of_type table.types index ∙ ap (option_map kind_of_type) (by_next table index)))
+  where
+    by_next : (table : Table) (index : ℕ) → slice_get table.types index ≡ type_by_id table (index + 1)
+    by_next table index = rw add-one refl
 
 -- ---- the ids of found types
 

@@ -40,12 +40,6 @@ more_beginnings old new name value before marks are begin put = record {
 
 -- ---- types that aren't wanted
 
-pub not_there : (search : Searched) (table : Table) (id : ℕ) → None ≡ option_map kind_of_type (type_by_id table id) → is_so (is_wanted search) table id ≡ false
-not_there search table id is = by (type_by_id table id) is where
-  by : (t : Option BtfType) → None ≡ option_map kind_of_type t → option_map_or (λ t. is_wanted search (kind_of_type t) (name_of table t)) t false ≡ false
-  by None is = refl
-  by (Some t) is = absurd cc
-
 and_false : (one other : Bool) → one ≡ false → (one && other) ≡ false
 and_false true other is = absurd cc
 and_false false other is = refl

@@ -1,4 +1,4 @@
--- Kinds and names of a table's types.
+-- Names of a table's types.
 use Rattle.std.specs.Prelude.{◌≡◌, ℕ, ◌-◌, ◌<◌, Bool, true, List, drop, length, map, slice_get, Some}
 use Rattle.std.specs.Option.{IsSomeAnd}
 use Rattle.btf_records.specs.Fields.{kind_of_type, name_offset_of}
@@ -9,14 +9,12 @@ use Rattle.string_table.specs.Texts.{text_at}
 use Rattle.btf_search.specs.Prefixes.{PrefixMarks, MayBegin}
 
 pub record Headers : Type 0 where
-  pub kinds : List BtfKind
   pub name_offsets : List ℕ
   pub strings : List ℕ
   pub are_texts : Bool
 
 -- those of the types from id 1 on
 pub record AreHeadersOf (table : Table) (headers : Headers) : Type 0 where
-  pub kinds : headers.kinds ≡ map kind_of_type table.types
   pub names : headers.name_offsets ≡ map name_offset_of table.types
   pub strings : headers.strings ≡ table.strings
   pub texts : headers.are_texts ≡ true → AreTexts headers.strings

@@ -1,4 +1,4 @@
-//! Kinds and names of a table's types.
+//! The names of a table's types.
 
 ghost use Rattle.std.specs.Prelude.{◌≡◌, ◌<◌, drop, false, length, true, IfSome};
 ghost use Rattle.std.specs.Option.{option_map};
@@ -7,7 +7,6 @@ ghost use Rattle.btf_tables.specs.Tables.{Table, type_by_id};
 ghost use Rattle.btf_search.specs.Headers.{AreHeadersOf, BeginsOtherwise, IsNameOf};
 
 use crate::prefixes::PrefixFilter;
-use btf_records::BtfKind;
 use btf_tables::Btf;
 use std::marker::Model;
 
@@ -22,11 +21,9 @@ fn bytes_from(bytes: &[u8], index: usize) -> Option<&[u8]>
     Some(&bytes[index..])
 }
 
-/// The kinds of a table's types, and where their names begin.
+/// Where the names of a table's types begin.
 #[derive(Debug, Drop)]
 pub(crate) struct TypeHeaders<'t> {
-    /// The kinds from id 1 on.
-    pub(crate) kinds: &'t [BtfKind],
     /// The offsets of names from id 1 on.
     pub(crate) name_offsets: &'t [u32],
     pub(crate) strings: &'t [u8],
@@ -41,7 +38,6 @@ impl<'t> Model for TypeHeaders<'t> {
 
     ghost view = { λ h.
         record {
-          kinds = h.kinds.now;
           name_offsets = h.name_offsets.now;
           strings = h.strings.now;
           are_texts = h.are_texts;
@@ -54,24 +50,10 @@ impl<'t> TypeHeaders<'t> {
         ensures { AreHeadersOf table.now result }
     {
         TypeHeaders {
-            kinds: table.kinds(),
             name_offsets: table.name_offsets(),
             strings: table.strings().as_slice(),
             are_texts: table.strings().are_texts(),
         }
-    }
-
-    /// The kind of the type of an id; that of id 0 is void.
-    #[tactic(auto, using(crate::proofs::HeadersOf::void_kind, crate::proofs::HeadersOf::kind_is))]
-    pub(crate) fn kind(&self, id: usize) -> Option<BtfKind>
-        ensures { (table : Table)
-            → AreHeadersOf table self.now
-            → result ≡ option_map kind_of_type (type_by_id table id) }
-    {
-        if id == 0 {
-            return Some(BtfKind::Unknown);
-        }
-        self.kinds.get(id - 1).copied()
     }
 
     /// The strings from the name of the type of an id on. None of void, or where no name begins.

@@ -72,8 +72,8 @@ fn add_found<'t>(
     Ok(())
 }
 
-/// The wanted types of a table.
-#[tactic(auto, using(crate::proofs::Walks::all_left, crate::proofs::Walks::found_all))]
+/// The wanted types of a table. Those of other kinds are passed by their kinds alone.
+#[tactic(auto, using(crate::proofs::Walks::found_first, crate::proofs::Walks::found_all))]
 fn found_in<'t>(
     alloc: Global,
     search: &Search<'_>,
@@ -83,9 +83,12 @@ fn found_in<'t>(
 {
     let headers = TypeHeaders::new(table);
     let mut found = FoundTypes::new(alloc);
-    let count = table.len() + 1;
-    for id in 0..count {
-        add_found(search, table, &headers, id, &mut found)?;
+    add_found(search, table, &headers, 0, &mut found)?;
+    let kinds = table.kinds();
+    for index in 0..kinds.len() {
+        if search.has_kind(kinds[index]) {
+            add_found(search, table, &headers, index + 1, &mut found)?;
+        }
     }
     Ok(found)
 }
@@ -159,6 +162,13 @@ fn ids_in(
 }
 
 impl<'t, 'n> NamedTypes<'t, 'n> {
+    /// The tables.
+    pub fn tables(&self) -> &'t [Btf<'t>]
+        ensures { result.now ≡ self.now }
+    {
+        self.tables
+    }
+
     /// The types of these tables. Each question goes over a table.
     #[tactic(auto, using(crate::proofs::Walks::none_found))]
     pub fn new(alloc: Global, tables: &'t [Btf<'t>]) -> NamedTypes<'t, 'n>

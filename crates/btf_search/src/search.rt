@@ -103,7 +103,7 @@ impl<'n> Search<'n> {
     }
 
     /// Whether a kind is among those that are looked for.
-    fn has_kind(&self, kind: BtfKind) -> bool
+    pub(crate) fn has_kind(&self, kind: BtfKind) -> bool
         ensures { result ≡ is_marked self.now.kinds (number_of kind) }
     {
         self.kinds.contains(kind as u8)
@@ -143,21 +143,14 @@ impl<'n> Search<'n> {
         }
     }
 
-    /// Whether the type of an id may be one of these, as its kind and the beginning of its name
-    /// tell.
-    #[tactic(auto, using(crate::proofs::Wanted::not_there, crate::proofs::Wanted::of_another_kind, crate::proofs::Wanted::is_filtered))]
+    /// Whether the type of an id may be one of these, as the beginning of its name tells.
+    #[tactic(auto, using(crate::proofs::Wanted::is_filtered))]
     pub(crate) fn may_want(&self, headers: &TypeHeaders<'_>, id: usize) -> bool
         ensures { (table : Table)
             → AreHeadersOf table headers.now
             → result ≡ false
             → is_so (is_wanted self.now) table id ≡ false }
     {
-        let Some(kind) = headers.kind(id) else {
-            return false;
-        };
-        if !self.has_kind(kind) {
-            return false;
-        }
         !headers.is_filtered(id, &self.prefixes)
     }
 }

@@ -19,29 +19,23 @@ use std::marker::Model;
 /// The types of a kernel's tables, by kind and name.
 #[derive(Debug)]
 pub struct Candidates<'t, 'l> {
-    targets: &'t [Btf<'t>],
     types: NamedTypes<'t, 'l>,
 }
 
 impl<'t, 'l> Drop for Candidates<'t, 'l> {
     // One call wherever it is dropped, in place of one for each part.
     fn drop(self) {
-        let Candidates {
-            targets: _,
-            types: _types,
-        } = self;
+        let Candidates { types: _types } = self;
     }
 }
 
 impl<'t, 'l> Model for Candidates<'t, 'l> {
-    ghost use Rattle.std.specs.Prelude.{◌≡◌, List};
+    ghost use Rattle.std.specs.Prelude.{List};
     ghost use Rattle.btf_tables.specs.Tables.{Table};
 
     ghost Value = { List Table };
 
-    ghost view = { λ c. c.targets.now };
-
-    ghost invariant = { λ c. c.types ≡ c.targets.now };
+    ghost view = { λ c. c.types };
 }
 
 /// Kinds and names that are looked for among a kernel's types.
@@ -247,7 +241,6 @@ impl<'t, 'l> Candidates<'t, 'l> {
         ensures { result ≡ targets.now }
     {
         Candidates {
-            targets,
             types: NamedTypes::new(alloc, targets),
         }
     }
@@ -268,7 +261,7 @@ impl<'t, 'l> Candidates<'t, 'l> {
             wanted.names.as_slice(),
             targets,
         )?;
-        Ok(Candidates { targets, types })
+        Ok(Candidates { types })
     }
 
     /// The types of the tables that may be taken for a local one, table by table, and in each by
@@ -285,7 +278,7 @@ impl<'t, 'l> Candidates<'t, 'l> {
         ensures refused { IfErr result (λ e.
             e ≢ OutOfMemory → candidates wanted.now self.now ≡ Err e) }
     {
-        candidates_in(alloc, &self.types, wanted, self.targets)
+        candidates_in(alloc, &self.types, wanted, self.types.tables())
     }
 
     /// The same types of the first table alone.
@@ -302,6 +295,6 @@ impl<'t, 'l> Candidates<'t, 'l> {
         ensures refused { IfErr result (λ e.
             e ≢ OutOfMemory → candidates wanted.now (take 1 self.now) ≡ Err e) }
     {
-        candidates_in(alloc, &self.types, wanted, first_table(self.targets))
+        candidates_in(alloc, &self.types, wanted, first_table(self.types.tables()))
     }
 }

@@ -1,7 +1,7 @@
 //! Why the program prints no plan.
 
 ghost use Rattle.std.specs.Prelude.{◌≡◌};
-ghost use Rattle.bpf_prepare.specs.Program.{status_of};
+ghost use Rattle.prepare_program.specs.Program.{status_of};
 
 use command_line::WordError;
 use diagnostics::Refusal;

@@ -1,7 +1,7 @@
 -- The status that the program ends with.
 use Rattle.std.specs.Prelude.{ℕ}
-use Rattle.bpf_prepare.specs.declared.error.ProgramError.{ProgramError}
-use Rattle.bpf_prepare.specs.declared.error.ProgramError.TheVariants.{Refused}
+use Rattle.prepare_program.specs.declared.error.ProgramError.{ProgramError}
+use Rattle.prepare_program.specs.declared.error.ProgramError.TheVariants.{Refused}
 
 -- 1 where the object is refused, else 2
 abbrev pub status_of : ProgramError → ℕ

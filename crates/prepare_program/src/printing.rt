@@ -1,0 +1,197 @@
+//! What the program prints: a plan, its help or its version.
+
+use crate::error::ProgramError;
+use crate::settings_text::fault_text;
+use command_line::{Arguments, LineError, arguments};
+use diagnostics::{KernelFiles, Refusal, prepare_text};
+use lints::notes;
+use load_plan::{Order, PrepareError, Watched};
+use plan_run::{RunError, run};
+use program_io::{Kept, Unwritten, kernel_tables, open, print_text, read, read_all, words_of};
+use run_settings::{RunSettings, SettingsError};
+use std::alloc::{AllocError, Global};
+use std::io;
+use std::io::{BufRead, BufWriter, IsTerminal, Write};
+
+/// The settings of a file's text, of nothing where there is no file, and over them those of the
+/// line.
+fn settings_of(
+    alloc: Global,
+    line: &Arguments<'_>,
+    file: Option<&[u8]>,
+) -> Result<RunSettings, ProgramError> {
+    let mut settings = match (line.settings, file) {
+        (Some(name), Some(bytes)) => file_settings(alloc, name, bytes)?,
+        _ => RunSettings::new(alloc),
+    };
+    line.set_over(alloc, &mut settings)?;
+    Ok(settings)
+}
+
+/// The settings of a file's text.
+fn file_settings(alloc: Global, name: &str, bytes: &[u8]) -> Result<RunSettings, ProgramError> {
+    let Ok(text) = std::str::from_utf8(bytes) else {
+        return Err(ProgramError::Settings {
+            name: String::from_str(alloc, name)?,
+            fault: String::from_str(alloc, "the text isn't UTF-8")?,
+        });
+    };
+    match RunSettings::from_toml(alloc, text) {
+        Ok(settings) => Ok(settings),
+        Err(SettingsError::OutOfMemory) => Err(ProgramError::OutOfMemory(AllocError)),
+        Err(SettingsError::Invalid) => Err(ProgramError::Settings {
+            name: String::from_str(alloc, name)?,
+            fault: fault_text(alloc, text)?,
+        }),
+    }
+}
+
+/// What a run is made of, beside its symbols and its output.
+#[derive(Drop)]
+struct Given<'g, 'w> {
+    line: &'g Arguments<'w>,
+    object: &'g [u8],
+    settings: &'g RunSettings,
+    types: &'g [Vec<u8>],
+}
+
+/// The order of the passes over types.
+fn order_of(line: &Arguments<'_>) -> Order {
+    if line.rewrite_first {
+        Order::RewriteFirst
+    } else {
+        Order::RelocateFirst
+    }
+}
+
+/// What becomes of a refusal.
+fn refused(alloc: Global, given: &Given<'_, '_>, error: PrepareError) -> ProgramError {
+    let settings = given.settings;
+    let files = KernelFiles {
+        types: given.line.types.as_slice(),
+        symbols: given.line.symbols,
+    };
+    let text = prepare_text(alloc, given.object, &settings.settings, &files, &error);
+    ProgramError::Refused(Refusal::new(text, error))
+}
+
+/// Prints the plan of an object.
+fn print_plan<R: BufRead>(
+    rt: &HostRuntime,
+    given: &Given<'_, '_>,
+    symbols: &mut Watched<R>,
+) -> Result<(), ProgramError> {
+    let line = given.line;
+    let types = kernel_tables(rt.alloc(), &line.types, given.types, line.types_order)?;
+    let Ok(writer) = BufWriter::new(rt.alloc(), Kept::new(io::writer(rt))) else {
+        return Err(ProgramError::OutOfMemory(AllocError));
+    };
+    let mut out = Watched::new(writer);
+    let written = run(
+        rt.alloc(),
+        given.object,
+        &types,
+        symbols,
+        given.settings,
+        order_of(line),
+        &mut out,
+    );
+    let mut writer = out.into_inner();
+    match written {
+        Ok(()) => match writer.flush() {
+            Ok(()) => Ok(()),
+            Err(error) => Err(ProgramError::PlanUnwritten(Unwritten::because(error))),
+        },
+        Err(RunError::Output) => Err(ProgramError::PlanUnwritten(writer.get_ref().unwritten())),
+        Err(RunError::Refused(error)) => Err(refused(rt.alloc(), given, error)),
+    }
+}
+
+/// Prints the notes on an object, as far as memory and standard error allow.
+fn print_notes(rt: &HostRuntime, object: &[u8], settings: &RunSettings) {
+    let Ok(notes) = notes(rt.alloc(), object, &settings.settings) else {
+        return;
+    };
+    for note in &notes {
+        let _ = eprintln!(rt; "bpf_prepare: note: {note}");
+    }
+}
+
+/// Prints the plan of an object for a kernel with these symbols, with the settings of a file's text
+/// and of the line.
+fn print_with_symbols<R: BufRead>(
+    rt: &HostRuntime,
+    line: &Arguments<'_>,
+    object: &[u8],
+    file: Option<&[u8]>,
+    types: &[Vec<u8>],
+    symbols: &mut Watched<R>,
+) -> Result<(), ProgramError> {
+    let settings = settings_of(rt.alloc(), line, file)?;
+    if line.notes || rt.stderr().is_terminal() {
+        print_notes(rt, object, &settings);
+    }
+    let given = Given {
+        line,
+        object,
+        settings: &settings,
+        types,
+    };
+    print_plan(rt, &given, symbols)
+}
+
+/// The same, with the symbols of the file that the line names, if it names one.
+fn print_with_types(
+    rt: &HostRuntime,
+    line: &Arguments<'_>,
+    object: &[u8],
+    file: Option<&[u8]>,
+    types: &[Vec<u8>],
+) -> Result<(), ProgramError> {
+    match line.symbols {
+        Some(name) => {
+            let mut symbols = Watched::new(open(rt, name)?);
+            print_with_symbols(rt, line, object, file, types, &mut symbols)
+        }
+        None => {
+            let mut symbols = Watched::new(io::empty());
+            print_with_symbols(rt, line, object, file, types, &mut symbols)
+        }
+    }
+}
+
+/// Reads the other files that a line names, and prints the plan of its object.
+fn print_object(rt: &HostRuntime, line: &Arguments<'_>, object: &[u8]) -> Result<(), ProgramError> {
+    let file = match line.settings {
+        Some(name) => Some(read(rt, name)?),
+        None => None,
+    };
+    let types = read_all(rt, &line.types)?;
+    print_with_types(rt, line, object, file.as_deref(), &types)
+}
+
+/// Reads the files that a line names, and prints the plan of its object.
+fn print_named(rt: &HostRuntime, line: &Arguments<'_>) -> Result<(), ProgramError> {
+    // Faults of the line come first.
+    settings_of(rt.alloc(), line, None)?;
+    let object = read(rt, line.object)?;
+    print_object(rt, line, &object)
+}
+
+/// Prints what the words of the program's line ask for: a plan, the program's help or its version.
+///
+/// # Errors
+///
+/// [`ProgramError`], where nothing is printed, or standard output can't be written.
+pub fn print_asked(rt: &HostRuntime) -> Result<(), ProgramError> {
+    let words = words_of(rt)?;
+    match arguments(rt.alloc(), &words) {
+        Ok(line) => print_named(rt, &line),
+        Err(LineError::OutOfMemory) => Err(ProgramError::OutOfMemory(AllocError)),
+        Err(LineError::Fault { text }) => Err(ProgramError::Line { text }),
+        Err(LineError::Asked { text }) => match print_text(rt, &text) {
+            Ok(()) => Ok(()),
+            Err(error) => Err(ProgramError::TextUnwritten(error)),
+        },
+    }
+}
