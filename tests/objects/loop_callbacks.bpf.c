@@ -1,4 +1,5 @@
-/* Functions that a helper calls: a load names each. One is named twice, and calls another; one is global. */
+/* Functions that a helper calls: a load names each. One is named twice, and calls another. The
+ * kernel takes static functions alone for this. */
 #include "helpers.h"
 
 static NOINLINE u64 doubled(u64 number)
@@ -12,7 +13,7 @@ static int add_index(u32 index, void *context)
     return 0;
 }
 
-int stop_at_once(u32 index, void *context)
+static int stop_at_once(u32 index, void *context)
 {
     return 1;
 }

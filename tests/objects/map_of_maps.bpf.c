@@ -12,7 +12,6 @@ struct {
     WORD(type, HASH_OF_MAPS);
     WORD(max_entries, 32);
     WORD(key_size, 4);
-    WORD(map_extra, 7);
     HELD(values, struct inner);
 } outer SEC(".maps");
 
