@@ -220,10 +220,13 @@ class Loader:
                 0),
             said)
 
-    def add_program(self, name, *parts):
-        """Loads a program, or says that it can't be loaded."""
+    def add_program(self, name, kind, *parts):
+        """Loads a program, or says why it isn't loaded."""
+        if kind in TARGETS and not self.is_dry and name.decode() not in self.targets:
+            self.is_whole = False
+            return note(f"program {name.decode()} isn't loaded: its attach target isn't known")
         try:
-            self.load_program(name, *parts)
+            self.load_program(name, kind, *parts)
             if not self.is_dry:
                 print(f"loaded {label(name).decode()}")
         except Refused as error:
