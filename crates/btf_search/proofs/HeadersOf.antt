@@ -1,12 +1,10 @@
 -- What headers tell of a table.
-use Rattle.std.proofs.Common.{◌≡◌, ◌≢◌, ℕ, ◌-◌, ◌<◌, ◌==◌, Bool, true, false, not, List, map, Option, None, Some, drop, length, refl, ap, sym, ◌∙◌, subst, arith}
+use Rattle.std.proofs.Common.{◌≡◌, ◌≢◌, ℕ, ◌-◌, ◌<◌, ◌==◌, Bool, true, false, not, List, Option, None, Some, drop, length, refl, ap, sym, ◌∙◌, subst, arith}
 use Rattle.std.specs.Prelude.{is_some, slice_get}
 use Rattle.std.proofs.lemmas.Bool.Decides.{nat_tests}
 use Rattle.std.proofs.lemmas.Option.{slice_get-map}
 use Rattle.std.specs.Option.{IsSomeAnd, option_map}
-use Rattle.btf_records.specs.Fields.{kind_of_type, name_offset_of}
-use Rattle.btf_records.specs.declared.kind.BtfKind.{BtfKind}
-use Rattle.btf_records.specs.declared.kind.BtfKind.TheVariants as kinds
+use Rattle.btf_records.specs.Fields.{name_offset_of}
 use Rattle.btf_records.specs.declared.types.BtfType.{BtfType}
 use Rattle.btf_tables.specs.Tables.{Table, type_by_id}
 use Rattle.string_table.specs.FirstBytes.{AreTexts}
@@ -14,7 +12,7 @@ use Rattle.string_table.specs.Texts.{text_at}
 use Rattle.btf_search.specs.Prefixes.{PrefixMarks, MayBegin}
 use Rattle.btf_search.specs.Headers.{AreHeadersOf, BeginsOtherwise, Headers, IsNameOf}
 
-by_id : (table : Table) (id : ℕ) → id ≢ 0 → type_by_id table id ≡ slice_get table.types (id - 1)
+pub by_id : (table : Table) (id : ℕ) → id ≢ 0 → type_by_id table id ≡ slice_get table.types (id - 1)
 by_id table id isnt =
     let test : (id == 0) ≡ false = grind (arith, nat_tests, isnt) in
     rw test refl

@@ -1,11 +1,12 @@
 -- Types found in one walk over each table.
-use Rattle.std.proofs.Common.{◌≡◌, ℕ, suc, ◌+◌, ◌-◌, ◌<◌, ◌≤◌, Bool, true, false, cond, List, [], ◌∷◌, ◌++◌, drop, filter, get_or, map, length, Option, None, Some, ◌⊎◌, inl, inr, refl, sym, ap, ◌∙◌, subst, arith, add-one, append_assoc, append-nil, drop-cons}
+use Rattle.std.proofs.Common.{◌≡◌, ℕ, suc, ◌+◌, ◌-◌, ◌<◌, ◌≤◌, Bool, true, false, List, [], ◌∷◌, ◌++◌, drop, filter, get_or, map, length, Option, None, Some, inl, inr, refl, sym, ap, ◌∙◌, arith, add-one, append_assoc, append-nil, drop-cons}
 use Rattle.std.proofs.lemmas.Bool.Decides.{nat_tests}
 use Rattle.std.proofs.lemmas.Grind.{common_steps}
+use Rattle.std.proofs.lemmas.List.{length-map}
 use Rattle.std.proofs.lemmas.Option.{slice_get-get_or, slice_get-map}
-use Rattle.std.specs.Prelude.{slice_get, ◌&&◌, ◌||◌, ◌==◌, nat_eq, is_some}
+use Rattle.std.specs.Prelude.{slice_get, ◌&&◌, ◌||◌, ◌==◌, nat_eq}
 use Rattle.std.specs.Cmp.Lexicographic.{pointwise, same_text}
-use Rattle.std.specs.List.{list_all, list_any, range_with_len}
+use Rattle.std.specs.List.{list_all, range_with_len}
 use Rattle.std.specs.Option.{option_map, option_map_or}
 use Rattle.btf_records.specs.Fields.{kind_of_type}
 use Rattle.btf_records.specs.Kinds.{number_of}
@@ -13,9 +14,10 @@ use Rattle.btf_records.specs.declared.kind.BtfKind.{BtfKind}
 use Rattle.btf_records.specs.declared.kind.BtfKind.TheVariants.{Unknown}
 use Rattle.btf_records.specs.declared.types.BtfType.{BtfType}
 use Rattle.btf_tables.specs.Tables.{Table, type_by_id}
-use Rattle.string_map.specs.Orders.{value_of}
 use Rattle.string_table.specs.FirstBytes.{is_marked}
-use Rattle.btf_search.specs.NamedTypes.{has_kind, ids_of, is_asked, is_so, name_of, named_ids, named_ids_at}
+use Rattle.btf_search.specs.NamedTypes.{has_kind, ids_of, is_asked, is_so, name_of, named_ids_at}
+use Rattle.btf_search.proofs.HeadersOf.{by_id}
+use Rattle.btf_search.proofs.Wanted.{of_another_kind}
 use Rattle.btf_search.specs.Searches.{AreFound, Found, IsFoundAt, Searched, covers, found_among, found_at, found_in, has_name, is_wanted}
 
 -- ---- the type of an id
@@ -84,12 +86,18 @@ found_all search table n id old all le before = sym (append-nil old) ∙ (rw (no
 
 -- ---- types of other kinds
 
+by_next : (table : Table) (index : ℕ) → slice_get table.types index ≡ type_by_id table (index + 1)
+by_next table index =
+    let same : index + 1 - 1 ≡ index = omega arith in
+    ap (slice_get table.types) (sym same) ∙ sym (by_id table (index + 1) (λ e. omega (arith, e)))
+
 kind_at : (table : Table) (kinds : List BtfKind) (index : ℕ) → kinds ≡ map kind_of_type table.types → index < length kinds → Some (get_or kinds index Unknown) ≡ option_map kind_of_type (type_by_id table (index + 1))
 kind_at table kinds index are lt =
     sym (slice_get-get_or kinds index Unknown lt) ∙ (ap (λ (ks : List BtfKind). slice_get ks index) are ∙ (slice_get-map kind_of_type table.types index ∙ ap (option_map kind_of_type) (by_next table index)))
-  where
-    by_next : (table : Table) (index : ℕ) → slice_get table.types index ≡ type_by_id table (index + 1)
-    by_next table index = rw add-one refl
+
+pub found_past_kind : (search : Searched) (table : Table) (kinds : List BtfKind) (index : ℕ) (old all : List Found) → kinds ≡ map kind_of_type table.types → index < length kinds → is_marked search.kinds (number_of (get_or kinds index Unknown)) ≡ false → old ++ found_among search table (left (length table.types + 1) (index + 1)) ≡ all → old ++ found_among search table (left (length table.types + 1) (index + 1 + 1)) ≡ all
+found_past_kind search table kinds index old all are lt other before =
+    found_past search table (length table.types + 1) (index + 1) old all (let same : length kinds ≡ length table.types = rw are (length-map table.types kind_of_type) in omega (arith, same, lt)) before (of_another_kind search table (index + 1) (get_or kinds index Unknown) (kind_at table kinds index are lt) other)
 
 -- ---- the ids of found types
 

@@ -1,5 +1,5 @@
 -- Types that aren't wanted, as their kinds and the beginnings of their names tell.
-use Rattle.std.proofs.Common.{◌≡◌, ℕ, Bool, true, false, cond, not, List, [], Option, None, Some, refl, sym, ap, ◌∙◌, subst, inr}
+use Rattle.std.proofs.Common.{◌≡◌, ℕ, Bool, true, false, cond, List, [], Option, None, Some, refl, sym, ap, ◌∙◌, subst, inr}
 use Rattle.std.specs.Prelude.{IfSome, ◌&&◌, is_some}
 use Rattle.std.specs.Cmp.Lexicographic.{same_text}
 use Rattle.std.specs.Option.{IsSomeAnd, option_map, option_map_or}

@@ -1,8 +1,7 @@
 -- Names of a table's types.
 use Rattle.std.specs.Prelude.{◌≡◌, ℕ, ◌-◌, ◌<◌, Bool, true, List, drop, length, map, slice_get, Some}
 use Rattle.std.specs.Option.{IsSomeAnd}
-use Rattle.btf_records.specs.Fields.{kind_of_type, name_offset_of}
-use Rattle.btf_records.specs.declared.kind.BtfKind.{BtfKind}
+use Rattle.btf_records.specs.Fields.{name_offset_of}
 use Rattle.btf_tables.specs.Tables.{Table, type_by_id}
 use Rattle.string_table.specs.FirstBytes.{AreTexts}
 use Rattle.string_table.specs.Texts.{text_at}

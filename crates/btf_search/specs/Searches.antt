@@ -1,5 +1,5 @@
 -- Types that are found in one walk over each table.
-use Rattle.std.specs.Prelude.{◌≡◌, ℕ, Bool, true, false, ◌&&◌, ◌⊎◌, is_some, List, [], filter, map, IfSome, Option}
+use Rattle.std.specs.Prelude.{◌≡◌, ℕ, Bool, true, ◌&&◌, ◌⊎◌, is_some, List, [], filter, map, IfSome, Option}
 use Rattle.std.specs.List.{list_all}
 use Rattle.std.specs.Option.{option_and_then, option_map_or}
 use Rattle.btf_records.specs.Fields.{kind_of_type}

@@ -85,7 +85,7 @@ fn found_in<'t>(
     let mut found = FoundTypes::new(alloc);
     add_found(search, table, &headers, 0, &mut found)?;
     let kinds = table.kinds();
-    for index in 0..kinds.len() {
+    for index in 0..table.len() {
         if search.has_kind(kinds[index]) {
             add_found(search, table, &headers, index + 1, &mut found)?;
         }
