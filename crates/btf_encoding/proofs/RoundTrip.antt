@@ -9,7 +9,7 @@ use Rattle.btf_records.specs.Encodings.{number_of_var_linkage, var_linkage_of}
 use Rattle.btf_records.specs.Fields.{kind_of_type, name_offset_of}
 use Rattle.btf_encoding.specs.Items.{array_in, array_words, entry_in, entry_words, enum64_in, enum64_words, items_in, member_in, member_words, param_in, param_words, variant_in, variant_words}
 use Rattle.btf_records.specs.Kinds.{kind_of, number_of}
-use Rattle.btf_encoding.specs.Records.{HasRecord, IsInRange, ReadsBack, Spells, bits_of, count_at, count_of, kind_at, kind_number_at, len_after, record_bytes, record_len, type_as, type_in, without_fallback, words_of}
+use Rattle.btf_encoding.specs.Records.{HasRecord, IsInRange, ReadsBack, Spells, bits_of, count_at, count_of, kind_at, kind_number_at, len_after, record_bytes, record_len, type_as, type_in, without_fallback, words_after, words_of}
 use Rattle.btf_records.specs.Words.{word_at, word_bytes, words_bytes}
 use Rattle.btf_encoding.proofs.ManyTypes.{follows}
 use Rattle.btf_encoding.proofs.WhateverFollows.{reads_same}
@@ -157,7 +157,7 @@ number_of-small kinds.DeclTag = omega arith
 number_of-small kinds.TypeTag = omega arith
 number_of-small kinds.Enum64 = omega arith
 
--- the third word of a record, and the words after it
+-- the third word of a record
 abbrev third_of : BtfType → ℕ
 third_of types.Unknown = 0
 third_of (types.Int t) = t.size
@@ -179,28 +179,6 @@ third_of (types.Float t) = t.size
 third_of (types.DeclTag t) = t.btf_type
 third_of (types.TypeTag t) = t.btf_type
 third_of (types.Enum64 t) = t.size
-
-abbrev words_after : BtfType → List ℕ
-words_after types.Unknown = []
-words_after (types.Int t) = t.int_word ∷ []
-words_after (types.Ptr t) = []
-words_after (types.Array t) = array_words t.array
-words_after (types.Struct t) = flat_map member_words t.members
-words_after (types.Union t) = flat_map member_words t.members
-words_after (types.Enum t) = flat_map variant_words t.variants
-words_after (types.Fwd t) = []
-words_after (types.Typedef t) = []
-words_after (types.Volatile t) = []
-words_after (types.Const t) = []
-words_after (types.Restrict t) = []
-words_after (types.Func t) = []
-words_after (types.FuncProto t) = flat_map param_words t.params
-words_after (types.Var t) = number_of_var_linkage t.linkage ∷ []
-words_after (types.DataSec t) = flat_map entry_words t.entries
-words_after (types.Float t) = []
-words_after (types.DeclTag t) = t.index_word ∷ []
-words_after (types.TypeTag t) = []
-words_after (types.Enum64 t) = flat_map enum64_words t.variants
 
 words_parts : (t : BtfType) → words_of t ≡ name_offset_of t ∷ info_of (number_of (kind_of_type t)) (count_of t) (bits_of t) ∷ third_of t ∷ words_after t
 unfolding info_of

@@ -269,6 +269,29 @@ words_of (types.Enum64 t) =
     t.name_offset ∷ info_of 19 (length t.variants) t.info ∷ t.size
     ∷ flat_map enum64_words t.variants
 
+-- those after the first three
+abbrev pub words_after : BtfType → List ℕ
+words_after types.Unknown = []
+words_after (types.Int t) = t.int_word ∷ []
+words_after (types.Ptr t) = []
+words_after (types.Array t) = array_words t.array
+words_after (types.Struct t) = flat_map member_words t.members
+words_after (types.Union t) = flat_map member_words t.members
+words_after (types.Enum t) = flat_map variant_words t.variants
+words_after (types.Fwd t) = []
+words_after (types.Typedef t) = []
+words_after (types.Volatile t) = []
+words_after (types.Const t) = []
+words_after (types.Restrict t) = []
+words_after (types.Func t) = []
+words_after (types.FuncProto t) = flat_map param_words t.params
+words_after (types.Var t) = number_of_var_linkage t.linkage ∷ []
+words_after (types.DataSec t) = flat_map entry_words t.entries
+words_after (types.Float t) = []
+words_after (types.DeclTag t) = t.index_word ∷ []
+words_after (types.TypeTag t) = []
+words_after (types.Enum64 t) = flat_map enum64_words t.variants
+
 -- its bytes
 unfoldable pub record_bytes : Endianness → BtfType → List ℕ
 record_bytes order t = words_bytes order (words_of t)

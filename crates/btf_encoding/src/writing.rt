@@ -3,10 +3,10 @@
 ghost use Rattle.std.specs.Prelude.{◌≡◌, ◌++◌, ◌<◌, ◌^◌, All, length, take, OnOk, OnErr, IfOk};
 ghost use Rattle.std.specs.List.{flat_map};
 ghost use Rattle.btf_records.specs.Words.{words_bytes};
-ghost use Rattle.btf_encoding.specs.Records.{IsInRange, ReadsBack, bits_of, count_of, record_bytes, words_of};
+ghost use Rattle.btf_encoding.specs.Records.{IsInRange, ReadsBack, bits_of, count_of, record_bytes, words_after, words_of};
 
 use crate::item::Item;
-use btf_records::{BtfKind, BtfType, Endianness, push_word};
+use btf_records::{BtfType, Endianness, Items, push_word};
 use std::alloc::AllocError;
 
 /// Writes words after what is there.
@@ -34,6 +34,70 @@ fn push_items<T: Item>(out: &mut Vec<u8>, order: Endianness, items: &[T]) -> Res
     Ok(())
 }
 
+/// The count of a list, which fits its word.
+fn count<T: Copy>(items: &Items<T>) -> u16
+    ensures value { result ≡ length items.now }
+    ensures bounded { length items.now < 65536 }
+{
+    items.len() as u16
+}
+
+/// The first three words of a record.
+fn head_words(t: &BtfType) -> [u32; 3]
+    ensures words { words_of t.now ≡ result ++ words_after t.now }
+    ensures count { count_of t.now < 65536 }
+    ensures bits { (bits_of t.now).bits_16_to_23 < 256 }
+{
+    let kind = t.kind();
+    match t {
+        BtfType::Unknown => [0, 0, 0],
+        BtfType::Int(t) => [t.name_offset, t.info.word(kind, t.vlen), t.size],
+        BtfType::Ptr(t) => [t.name_offset, t.info.word(kind, t.vlen), t.btf_type],
+        BtfType::Array(t) => [t.name_offset, t.info.word(kind, t.vlen), 0],
+        BtfType::Struct(t) => [t.name_offset, t.info.word(kind, count(&t.members)), t.size],
+        BtfType::Union(t) => [t.name_offset, t.info.word(kind, count(&t.members)), t.size],
+        BtfType::Enum(t) => [t.name_offset, t.info.word(kind, count(&t.variants)), t.size],
+        BtfType::Fwd(t) => [t.name_offset, t.info.word(kind, t.vlen), 0],
+        BtfType::Typedef(t) => [t.name_offset, t.info.word(kind, t.vlen), t.btf_type],
+        BtfType::Volatile(t) => [t.name_offset, t.info.word(kind, t.vlen), t.btf_type],
+        BtfType::Const(t) => [t.name_offset, t.info.word(kind, t.vlen), t.btf_type],
+        BtfType::Restrict(t) => [t.name_offset, t.info.word(kind, t.vlen), t.btf_type],
+        BtfType::Func(t) => [t.name_offset, t.info.word(kind, t.vlen), t.btf_type],
+        BtfType::FuncProto(t) => [
+            t.name_offset,
+            t.info.word(kind, count(&t.params)),
+            t.return_type,
+        ],
+        BtfType::Var(t) => [t.name_offset, t.info.word(kind, t.vlen), t.btf_type],
+        BtfType::DataSec(t) => [t.name_offset, t.info.word(kind, count(&t.entries)), t.size],
+        BtfType::Float(t) => [t.name_offset, t.info.word(kind, t.vlen), t.size],
+        BtfType::DeclTag(t) => [t.name_offset, t.info.word(kind, t.vlen), t.btf_type],
+        BtfType::TypeTag(t) => [t.name_offset, t.info.word(kind, t.vlen), t.btf_type],
+        BtfType::Enum64(t) => [t.name_offset, t.info.word(kind, count(&t.variants)), t.size],
+    }
+}
+
+/// Writes the words of a record after its first three.
+fn push_tail(out: &mut Vec<u8>, order: Endianness, t: &BtfType) -> Result<(), AllocError>
+    ensures ok { OnOk result (out.new.items ≡ out.old.items ++ words_bytes order (words_after t.now)) }
+    ensures err { OnErr result (take (length out.old.items) out.new.items ≡ out.old.items) }
+    ensures fits { OnOk result (All (λ w. w < 2 ^ 32) (words_after t.now)) }
+{
+    match t {
+        BtfType::Int(t) => push_words(out, order, &[t.int_word]),
+        BtfType::Array(t) => t.array.write(order, out),
+        BtfType::Struct(t) => push_items(out, order, t.members.as_slice()),
+        BtfType::Union(t) => push_items(out, order, t.members.as_slice()),
+        BtfType::Enum(t) => push_items(out, order, t.variants.as_slice()),
+        BtfType::FuncProto(t) => push_items(out, order, t.params.as_slice()),
+        BtfType::Var(t) => push_words(out, order, &[t.linkage.number()]),
+        BtfType::DataSec(t) => push_items(out, order, t.entries.as_slice()),
+        BtfType::DeclTag(t) => push_words(out, order, &[t.index_word]),
+        BtfType::Enum64(t) => push_items(out, order, t.variants.as_slice()),
+        _ => Ok(()),
+    }
+}
+
 /// Writes a record's words after what is there, as far as memory reaches.
 #[tactic(auto, unfolding(crate::specs::Records::record_bytes))]
 fn push_fields(out: &mut Vec<u8>, order: Endianness, t: &BtfType) -> Result<(), AllocError>
@@ -43,96 +107,9 @@ fn push_fields(out: &mut Vec<u8>, order: Endianness, t: &BtfType) -> Result<(), 
     ensures count { count_of t.now < 65536 }
     ensures bits { (bits_of t.now).bits_16_to_23 < 256 }
 {
-    match t {
-        BtfType::Unknown => push_words(out, order, &[0, 0, 0]),
-        BtfType::Int(t) => {
-            let info = t.info.word(BtfKind::Int, t.vlen);
-            push_words(out, order, &[t.name_offset, info, t.size, t.int_word])
-        }
-        BtfType::Ptr(t) => {
-            let info = t.info.word(BtfKind::Ptr, t.vlen);
-            push_words(out, order, &[t.name_offset, info, t.btf_type])
-        }
-        BtfType::Array(t) => {
-            let info = t.info.word(BtfKind::Array, t.vlen);
-            push_words(out, order, &[t.name_offset, info, 0])?;
-            t.array.write(order, out)
-        }
-        BtfType::Struct(t) => {
-            let info = t.info.word(BtfKind::Struct, t.members.len() as u16);
-            push_words(out, order, &[t.name_offset, info, t.size])?;
-            push_items(out, order, t.members.as_slice())
-        }
-        BtfType::Union(t) => {
-            let info = t.info.word(BtfKind::Union, t.members.len() as u16);
-            push_words(out, order, &[t.name_offset, info, t.size])?;
-            push_items(out, order, t.members.as_slice())
-        }
-        BtfType::Enum(t) => {
-            let info = t.info.word(BtfKind::Enum, t.variants.len() as u16);
-            push_words(out, order, &[t.name_offset, info, t.size])?;
-            push_items(out, order, t.variants.as_slice())
-        }
-        BtfType::Fwd(t) => {
-            let info = t.info.word(BtfKind::Fwd, t.vlen);
-            push_words(out, order, &[t.name_offset, info, 0])
-        }
-        BtfType::Typedef(t) => {
-            let info = t.info.word(BtfKind::Typedef, t.vlen);
-            push_words(out, order, &[t.name_offset, info, t.btf_type])
-        }
-        BtfType::Volatile(t) => {
-            let info = t.info.word(BtfKind::Volatile, t.vlen);
-            push_words(out, order, &[t.name_offset, info, t.btf_type])
-        }
-        BtfType::Const(t) => {
-            let info = t.info.word(BtfKind::Const, t.vlen);
-            push_words(out, order, &[t.name_offset, info, t.btf_type])
-        }
-        BtfType::Restrict(t) => {
-            let info = t.info.word(BtfKind::Restrict, t.vlen);
-            push_words(out, order, &[t.name_offset, info, t.btf_type])
-        }
-        BtfType::Func(t) => {
-            let info = t.info.word(BtfKind::Func, t.vlen);
-            push_words(out, order, &[t.name_offset, info, t.btf_type])
-        }
-        BtfType::FuncProto(t) => {
-            let info = t.info.word(BtfKind::FuncProto, t.params.len() as u16);
-            push_words(out, order, &[t.name_offset, info, t.return_type])?;
-            push_items(out, order, t.params.as_slice())
-        }
-        BtfType::Var(t) => {
-            let info = t.info.word(BtfKind::Var, t.vlen);
-            push_words(
-                out,
-                order,
-                &[t.name_offset, info, t.btf_type, t.linkage.number()],
-            )
-        }
-        BtfType::DataSec(t) => {
-            let info = t.info.word(BtfKind::DataSec, t.entries.len() as u16);
-            push_words(out, order, &[t.name_offset, info, t.size])?;
-            push_items(out, order, t.entries.as_slice())
-        }
-        BtfType::Float(t) => {
-            let info = t.info.word(BtfKind::Float, t.vlen);
-            push_words(out, order, &[t.name_offset, info, t.size])
-        }
-        BtfType::DeclTag(t) => {
-            let info = t.info.word(BtfKind::DeclTag, t.vlen);
-            push_words(out, order, &[t.name_offset, info, t.btf_type, t.index_word])
-        }
-        BtfType::TypeTag(t) => {
-            let info = t.info.word(BtfKind::TypeTag, t.vlen);
-            push_words(out, order, &[t.name_offset, info, t.btf_type])
-        }
-        BtfType::Enum64(t) => {
-            let info = t.info.word(BtfKind::Enum64, t.variants.len() as u16);
-            push_words(out, order, &[t.name_offset, info, t.size])?;
-            push_items(out, order, t.variants.as_slice())
-        }
-    }
+    let head = head_words(t);
+    push_words(out, order, &head)?;
+    push_tail(out, order, t)
 }
 
 /// Writes a record's bytes after what is there: the third word of `BTF_KIND_FWD` and
