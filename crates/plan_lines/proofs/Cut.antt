@@ -1,11 +1,11 @@
 -- Pieces between spaces.
-use Rattle.std.proofs.Common.{◌≡◌, ℕ, zero, suc, ◌+◌, ◌-◌, ◌<◌, cond, true, false, ◌⊎◌, inl, inr, Bool, List, [], ◌∷◌, ◌++◌, length, take, drop, refl, ap, sym, ◌∙◌, arith, Option, None, Some, append_assoc, add-one}
+use Rattle.std.proofs.Common.{◌≡◌, ℕ, zero, suc, ◌+◌, ◌-◌, ◌<◌, cond, true, false, ◌⊎◌, inl, inr, Bool, List, [], ◌∷◌, ◌++◌, length, take, drop, refl, ap, sym, ◌∙◌, arith, Option, None, Some, add-one}
 use Rattle.std.specs.Prelude.{◌==◌, slice_index}
 use Rattle.std.proofs.Math.Seq.{drop-cons}
 use Rattle.std.proofs.lemmas.Bool.Decides.{nat_tests}
 use Rattle.std.proofs.lemmas.List.{take-append-drop, take_rest}
 use Rattle.plan_lines.specs.LineReading.{only_word}
-use Rattle.plan_lines.specs.WordReading.{Lacks, pieces_of, onto_first, onto}
+use Rattle.plan_lines.specs.WordReading.{Lacks, pieces_of, onto_first}
 
 pub bool_cases : (b : Bool) → (b ≡ true) ⊎ (b ≡ false)
 bool_cases true = inl refl
@@ -18,10 +18,6 @@ not_eq m n h = grind (arith, nat_tests)
 abbrev pub before : List ℕ → Option (List ℕ) → Option (List ℕ)
 before front None = None
 before front (Some xs) = Some (front ++ xs)
-
-pub before-more : (front : List ℕ) (x : ℕ) (o : Option (List ℕ)) → before (front ++ x ∷ []) o ≡ before front (onto (Some x) o)
-before-more front x None = refl
-before-more front x (Some xs) = ap Some (append_assoc front (x ∷ []) xs)
 
 -- no byte before place n is b
 pub lacks_before : (b : ℕ) (xs : List ℕ) (n : ℕ) → ((k : ℕ) → k < n → (slice_index xs k == b) ≡ true → ⊥) → Lacks b (take n xs)
