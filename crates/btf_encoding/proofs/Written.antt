@@ -27,17 +27,6 @@ flat_map-take_more words xs i x lt is =
 abbrev pub Fit : List ℕ → Type 0
 Fit ws = All (λ w. w < 2 ^ 32) ws
 
-pub fit_same : {X E : Type 0} (r : Result X E) (xs ys : List ℕ) → ys ≡ xs → OnOk r (Fit xs) → OnOk r (Fit ys)
-fit_same r xs ys e h = subst (λ (zs : List ℕ). OnOk r (Fit zs)) (sym e) h
-
-pub fit_after : {X E : Type 0} (r : Result X E) (front ws ys : List ℕ) → ys ≡ front ++ ws → Fit front → OnOk r (Fit ws) → OnOk r (Fit ys)
-fit_after (Ok x) front ws ys e h g = subst (λ (zs : List ℕ). Fit zs) (sym e) (All-append (λ (w : ℕ). w < 2 ^ 32) front ws h g)
-fit_after (Err e) front ws ys is h g = tt
-
-pub on_ok : {X E : Type 0} (r : Result X E) (P : Type 0) → P → OnOk r P
-on_ok (Ok x) P p = p
-on_ok (Err e) P p = tt
-
 -- one more word
 whichever : (ws : List ℕ) (i d e : ℕ) → i < length ws → get_or ws i d ≡ get_or ws i e
 whichever [] i d e lt = absurd (omega (arith, lt))

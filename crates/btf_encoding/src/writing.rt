@@ -6,7 +6,7 @@ ghost use Rattle.btf_records.specs.Words.{words_bytes};
 ghost use Rattle.btf_encoding.specs.Records.{IsInRange, ReadsBack, bits_of, count_of, record_bytes, words_after, words_of};
 
 use crate::item::Item;
-use btf_records::{BtfKind, BtfType, Endianness, push_word};
+use btf_records::{BtfType, Endianness, Items, push_word};
 use std::alloc::AllocError;
 
 /// Writes words after what is there.
@@ -34,12 +34,24 @@ fn push_items<T: Item>(out: &mut Vec<u8>, order: Endianness, items: &[T]) -> Res
     Ok(())
 }
 
+<<<<<<< HEAD
+=======
+/// The count of a list, which fits its word.
+fn count<T: Copy>(items: &Items<T>) -> u16
+    ensures value { result ≡ length items.now }
+    ensures bounded { length items.now < 65536 }
+{
+    items.len() as u16
+}
+
+>>>>>>> h2-open
 /// The first three words of a record.
 fn head_words(t: &BtfType) -> [u32; 3]
     ensures words { words_of t.now ≡ result ++ words_after t.now }
     ensures count { count_of t.now < 65536 }
     ensures bits { (bits_of t.now).bits_16_to_23 < 256 }
 {
+<<<<<<< HEAD
     match t {
         BtfType::Unknown => [0, 0, 0],
         BtfType::Int(t) => [t.name_offset, t.info.word(BtfKind::Int, t.vlen), t.size],
@@ -111,6 +123,34 @@ fn head_words(t: &BtfType) -> [u32; 3]
             let count = t.variants.len() as u16;
             [t.name_offset, t.info.word(BtfKind::Enum64, count), t.size]
         }
+=======
+    let kind = t.kind();
+    match t {
+        BtfType::Unknown => [0, 0, 0],
+        BtfType::Int(t) => [t.name_offset, t.info.word(kind, t.vlen), t.size],
+        BtfType::Ptr(t) => [t.name_offset, t.info.word(kind, t.vlen), t.btf_type],
+        BtfType::Array(t) => [t.name_offset, t.info.word(kind, t.vlen), 0],
+        BtfType::Struct(t) => [t.name_offset, t.info.word(kind, count(&t.members)), t.size],
+        BtfType::Union(t) => [t.name_offset, t.info.word(kind, count(&t.members)), t.size],
+        BtfType::Enum(t) => [t.name_offset, t.info.word(kind, count(&t.variants)), t.size],
+        BtfType::Fwd(t) => [t.name_offset, t.info.word(kind, t.vlen), 0],
+        BtfType::Typedef(t) => [t.name_offset, t.info.word(kind, t.vlen), t.btf_type],
+        BtfType::Volatile(t) => [t.name_offset, t.info.word(kind, t.vlen), t.btf_type],
+        BtfType::Const(t) => [t.name_offset, t.info.word(kind, t.vlen), t.btf_type],
+        BtfType::Restrict(t) => [t.name_offset, t.info.word(kind, t.vlen), t.btf_type],
+        BtfType::Func(t) => [t.name_offset, t.info.word(kind, t.vlen), t.btf_type],
+        BtfType::FuncProto(t) => [
+            t.name_offset,
+            t.info.word(kind, count(&t.params)),
+            t.return_type,
+        ],
+        BtfType::Var(t) => [t.name_offset, t.info.word(kind, t.vlen), t.btf_type],
+        BtfType::DataSec(t) => [t.name_offset, t.info.word(kind, count(&t.entries)), t.size],
+        BtfType::Float(t) => [t.name_offset, t.info.word(kind, t.vlen), t.size],
+        BtfType::DeclTag(t) => [t.name_offset, t.info.word(kind, t.vlen), t.btf_type],
+        BtfType::TypeTag(t) => [t.name_offset, t.info.word(kind, t.vlen), t.btf_type],
+        BtfType::Enum64(t) => [t.name_offset, t.info.word(kind, count(&t.variants)), t.size],
+>>>>>>> h2-open
     }
 }
 

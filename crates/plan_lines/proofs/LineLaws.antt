@@ -6,13 +6,12 @@ use Rattle.std.specs.Option.{option_map}
 use Rattle.std.specs.Prelude.{◌==◌, ◌&&◌, option_and_then, slice_index}
 use Rattle.std.specs.Str.{bytes_eq, is_utf8}
 use Rattle.std.proofs.lemmas.Bool.Decides.{nat_tests}
-use Rattle.std.proofs.lemmas.Slice.Eq.{bytes_eq-Decides}
 use Rattle.btf_records.specs.declared.feature.BtfFeature.{BtfFeature}
 use Rattle.btf_records.specs.declared.feature.BtfFeature.TheVariants as feature
 use Rattle.plan_lines.proofs.KindLaws.{kind_is, section_again, section_takes}
 use Rattle.plan_lines.proofs.NumberLists.{AreFew, Rise, first_again, first_takes, limits_few, map_some, map_words_again, map_words_take, numbers_again, numbers_take, places_again, places_take, rise_tables, some_is, tables_rise, then_again, then_takes}
 use Rattle.plan_lines.proofs.Pieces.{ArePlain, joined_pieces, pieces_joined, unbroken_joined}
-use Rattle.plan_lines.proofs.WordTexts.{IsPlain, bind_some, both_true, eq_is, eq_less, first_digit, guard_none, guard_some, hex_first, hex_of_hex, hex_of_is, number_upto_decimal, number_upto_is, plain_decimal, plain_hex}
+use Rattle.plan_lines.proofs.WordTexts.{IsPlain, bind_some, both_true, bytes_are, eq_is, eq_less, eq_more, first_digit, guard_none, guard_some, hex_first, hex_of_hex, hex_of_is, not_same, number_upto_decimal, number_upto_is, plain_decimal, plain_hex}
 use Rattle.plan_lines.specs.Kinds.{section_by}
 use Rattle.plan_lines.specs.LineReading.{all_features, all_keywords, answer_by, are_words_of, arguments_by, feature_by, form_by, header_by, keyword_by, license_by, license_in, line_by, line_in, map_by, map_words_by, name_by, numbers_by, places_by, section_words_by, slots_by, slots_in, some_tables, tables_by, text_in, then_by, types_by, types_in, version_by, version_in, whole}
 use Rattle.plan_lines.specs.LineReads.{line_text}
@@ -32,16 +31,6 @@ use Rattle.program_kinds.specs.declared.program_section.ProgramSection.{ProgramS
 chosen : {A : Type 0} (b : Bool) (x y z : A) → cond b x y ≡ z → ((b ≡ true) × (x ≡ z)) ⊎ ((b ≡ false) × (y ≡ z))
 chosen true x y z h = inl (refl, h)
 chosen false x y z h = inr (refl, h)
-
-bytes_are : (w v : List ℕ) → bytes_eq w v ≡ true → w ≡ v
-bytes_are w v h = grind (arith, bytes_eq-Decides)
-
--- two words whose first bytes differ
-not_same : (w v : List ℕ) (x y : ℕ) (xs ys : List ℕ) → w ≡ x ∷ xs → v ≡ y ∷ ys → (x == y) ≡ false → bytes_eq w v ≡ false
-not_same w v x y xs ys e f h = ap (λ z. bytes_eq z v) e ∙ (ap (bytes_eq (x ∷ xs)) f ∙ rw h refl)
-
-eq_more : (m n : ℕ) → n < m → (m == n) ≡ false
-eq_more m n h = grind (arith, nat_tests)
 
 not_equal : (m n : ℕ) → m ≢ n → (m == n) ≡ false
 not_equal m n h = grind (arith, nat_tests)

@@ -1,25 +1,27 @@
 -- Words and what they say.
-use Rattle.std.proofs.Common.{◌≡◌, ℕ, zero, suc, ◌+◌, ◌-◌, ◌*◌, ◌/◌, ◌%◌, ◌^◌, ◌<◌, ◌≤◌, Bool, true, false, cond, nat_lt, nat_le, List, [], ◌∷◌, length, get_or, refl, ap, sym, ◌∙◌, subst, arith, Option, None, Some, inl, inr, ◌⊎◌}
-use Rattle.std.specs.Prelude.{◌==◌, ◌&&◌, option_and_then, slice_index}
+use Rattle.std.proofs.Common.{◌≡◌, ℕ, zero, suc, ◌^◌, ◌<◌, ◌≤◌, Bool, true, false, cond, nat_lt, nat_le, List, [], ◌∷◌, length, refl, ap, sym, ◌∙◌, subst, arith, Option, None, Some, Result, Ok, Err}
+use Rattle.std.specs.Prelude.{◌==◌, ◌&&◌, option_and_then, codes}
 use Rattle.std.specs.Fmt.{decimal}
-use Rattle.std.specs.Str.Parse.{digits_value, digits_value_after, AllDigits}
-use Rattle.std.specs.Char.{digit_value}
-use Rattle.std.proofs.lemmas.Fmt.{decimal-digits_value, decimal_is_IsNumeral, first_decimal, decimal_digit}
-use Rattle.std.proofs.lemmas.Str.Parse.{IsNumeralModel, numerals_by_value, tells_digits, digit_from_value}
-use Rattle.std.proofs.lemmas.Str.{digit_value_digit}
+use Rattle.std.specs.List.{AllPass}
+use Rattle.std.specs.Result.{result_ok}
+use Rattle.std.specs.Str.{bytes_eq}
+use Rattle.std.specs.Str.Parse.{digits_value, AllDigits, ParsesUnsigned}
+use Rattle.std.proofs.lemmas.Fmt.{decimal_is_IsNumeral}
+use Rattle.std.proofs.lemmas.Str.Parse.{digit_from_value, numerals_by_value, parse_gives, tells_digits}
 use Rattle.std.proofs.lemmas.Bool.Decides.{nat_tests}
-use Rattle.std.proofs.lemmas.List.Elements.{All-cons, All-head, All-nil, All-tail}
-use Rattle.hex.specs.Hex.{encode_lower, encode_with, lower_digits}
+use Rattle.std.proofs.lemmas.List.Elements.{All-from_get_or, All-head, All-nil, All-tail}
+use Rattle.std.proofs.lemmas.Slice.Eq.{bytes_eq-Decides}
+use Rattle.hex.proofs.HexLemmas.{decode_of-encode_lower, decode_of-ok, length-encode_with}
+use Rattle.hex.specs.Hex.{IsBytes, decode_of, encode_lower, is_hex_digit, lower_digits}
+use Rattle.hex.specs.declared.error.FromHexError.{FromHexError}
+use Rattle.plan_lines.proofs.Written.{hex_word-some}
 use Rattle.plan_lines.specs.Words.{AreBytes, hex_word}
-use Rattle.plan_lines.specs.WordReading.{digit_of, number_after, number_upto, nibble_of, byte_of, onto, bytes_in, hex_of}
+use Rattle.plan_lines.specs.WordReading.{hex_of, is_hex_of, is_number_upto, number_upto}
 
 -- neither a space nor a line feed
 abbrev pub IsPlain : List ℕ → Type 0
 IsPlain [] = Unit {0}
 IsPlain (b ∷ bs) = (32 < b) × IsPlain bs
-
-own : IsNumeralModel (AllDigits 10) (digits_value 10)
-own = numerals_by_value (AllDigits 10) tells_digits
 
 pub guard_some : {A : Type 0} (b : Bool) (r : Option A) (y : A) → cond b r None ≡ Some y → (b ≡ true) × (r ≡ Some y)
 guard_some true r y h = (refl, h)
@@ -50,264 +52,64 @@ lt_true m n h = grind (arith, nat_tests)
 pub le_true : (m n : ℕ) → m ≤ n → nat_le m n ≡ true
 le_true m n h = grind (arith, nat_tests)
 
-le_false : (m n : ℕ) → n < m → nat_le m n ≡ false
-le_false m n h = grind (arith, nat_tests)
-
-lt_false : (m n : ℕ) → n ≤ m → nat_lt m n ≡ false
-lt_false m n h = grind (arith, nat_tests)
-
-and_false : (a : Bool) → (a && false) ≡ false
-and_false true = refl
-and_false false = refl
-
 pub eq_is : (m n : ℕ) → (m == n) ≡ true → m ≡ n
 eq_is m n h = grind (arith, nat_tests)
-
-eq_false : (m n : ℕ) → n < m → (m == n) ≡ false
-eq_false m n h = grind (arith, nat_tests)
 
 pub eq_less : (m n : ℕ) → m < n → (m == n) ≡ false
 eq_less m n h = grind (arith, nat_tests)
 
+pub eq_more : (m n : ℕ) → n < m → (m == n) ≡ false
+eq_more m n h = grind (arith, nat_tests)
+
 pub not_space : (x : ℕ) → 32 < x → (x == 32) ≡ false
 not_space x h = grind (arith, nat_tests)
 
+pub bytes_are : (w v : List ℕ) → bytes_eq w v ≡ true → w ≡ v
+bytes_are w v h = grind (arith, bytes_eq-Decides)
+
+bytes_same : (w v : List ℕ) → w ≡ v → bytes_eq w v ≡ true
+bytes_same w v h = grind (arith, bytes_eq-Decides)
+
 -- ---- decimal numbers
 
--- a digit is what its byte says
-digit_of_is : (b d : ℕ) → digit_of b ≡ Some d → (b ≡ 48 + d) × (d < 10)
-digit_of_is b d h =
-    let p = guard_some (nat_le 48 b && nat_le b 57) (Some (b - 48)) d h in
-    let q = both_true (nat_le 48 b) (nat_le b 57) p.0 in
-    let low : 48 ≤ b = le_is 48 b q.0 in
-    let high : b ≤ 57 = le_is b 57 q.1 in
-    let e : b - 48 ≡ d = cc (p.1) in
-    (omega arith, omega arith)
+-- a number of which a word has the digits is the value of the digits
+pub number_is : (max : ℕ) → max < 2 ^ 64 → (word : List ℕ) (n : ℕ) → is_number_upto max word n ≡ true → (n ≤ max) × (word ≡ decimal n) × (digits_value 10 word ≡ n)
+number_is max few word n h =
+    let p = both_true (nat_le n max) (bytes_eq (decimal n) word) h in
+    let within = le_is n max p.0 in
+    let is = sym (bytes_are (decimal n) word p.1) in
+    (within, is, ap (digits_value 10) is ∙ (decimal_is_IsNumeral n (omega arith)).1)
 
-digit_value_is : (d : ℕ) → d < 10 → digit_value (48 + d) ≡ d
-digit_value_is d h = let k = digit_value_digit (48 + d) (omega arith, omega arith) in omega arith
+pub number_found : (max : ℕ) → max < 2 ^ 64 → (word : List ℕ) (n : ℕ) → is_number_upto max word n ≡ true → number_upto max word ≡ Some n
+number_found max few word n h = rw ((number_is max few word n h).2, h) refl
 
-number_takes : (max m n : ℕ) (w : List ℕ) → number_after max m w ≡ Some n → m ≤ max → AllDigits 10 w × (digits_value_after 10 m w ≡ n) × (n ≤ max)
-number_takes max m n [] h k = let e : m ≡ n = cc in (tt, e, rw (← e) k)
-number_takes max m n (b ∷ bs) h k =
-    let p = bind_some (λ d. cond (nat_le (m * 10 + d) max) (number_after max (m * 10 + d) bs) None) (digit_of b) n h in
-    let d = digit_of_is b p.0 p.1 in
-    let q = guard_some (nat_le (m * 10 + p.0) max) (number_after max (m * 10 + p.0) bs) n p.2 in
-    let v : digit_value b ≡ p.0 = ap digit_value d.0 ∙ digit_value_is p.0 d.1 in
-    let r = number_takes max (m * 10 + p.0) n bs q.1 (le_is (m * 10 + p.0) max q.0) in
-    ((subst (λ x. x < 10) (sym v) d.1, r.0), ap (λ x. digits_value_after 10 (m * 10 + x) bs) v ∙ r.1, r.2)
+pub no_number : (max : ℕ) → (word : List ℕ) → ((n : ℕ) → is_number_upto max word n ≡ true → ⊥) → number_upto max word ≡ None
+no_number max word none = by_test (is_number_upto max word (digits_value 10 word)) refl
+  where
+    by_test : (b : Bool) → is_number_upto max word (digits_value 10 word) ≡ b → number_upto max word ≡ None
+    by_test true e = absurd (none (digits_value 10 word) e)
+    by_test false e = rw e refl
 
-value_grows : (m : ℕ) (w : List ℕ) → m ≤ digits_value_after 10 m w
-value_grows m [] = omega arith
-value_grows m (b ∷ bs) = omega (arith, value_grows (m * 10 + digit_value b) bs)
-
-digit_of_digit : (b : ℕ) → digit_value b < 10 → digit_of b ≡ Some (digit_value b)
-digit_of_digit b h =
-    let r = digit_from_value b h in
-    let v = digit_value_digit b r in
-    let low : 48 ≤ b = r.0 in
-    let high : b ≤ 57 = r.1 in
-    let e : b - 48 ≡ digit_value b = omega arith in
-    rw (le_true 48 b low, le_true b 57 high) (ap Some e)
-
-number_again : (max m : ℕ) (w : List ℕ) → AllDigits 10 w → digits_value_after 10 m w ≤ max → number_after max m w ≡ Some (digits_value_after 10 m w)
-number_again max m [] a h = refl
-number_again max m (b ∷ bs) a h =
-    let small : m * 10 + digit_value b ≤ max = omega (arith, value_grows (m * 10 + digit_value b) bs) in
-    ap (option_and_then (λ d. cond (nat_le (m * 10 + d) max) (number_after max (m * 10 + d) bs) None)) (digit_of_digit b a.0)
-    ∙ rw (le_true (m * 10 + digit_value b) max small) (number_again max (m * 10 + digit_value b) bs a.1 h)
+-- what parses a text reads the digits of a number
+pub parsed_again : {E : Type 0} (text : List ℕ) (r : Result ℕ E) (n : ℕ) → ParsesUnsigned 64 10 text r → n < 2 ^ 64 → text ≡ decimal n → result_ok r ≡ Some n
+parsed_again text r n p few is =
+    let d = decimal_is_IsNumeral n few in
+    let value : digits_value 10 text ≡ n = ap (digits_value 10) is ∙ d.1 in
+    ap result_ok (parse_gives (numerals_by_value (AllDigits 10) tells_digits) 64 text r p (subst (AllDigits 10) (sym is) d.0.1) (subst (λ w. 0 < length w) (sym is) d.0.0) (omega (arith, value, few)))
+    ∙ ap Some value
 
 -- what is read as a number is written so
 pub number_upto_is : (max : ℕ) → max < 2 ^ 64 → (w : List ℕ) (n : ℕ) → number_upto max w ≡ Some n → (w ≡ decimal n) × (n ≤ max)
-number_upto_is max few [] n h = cc
-number_upto_is max few (b ∷ bs) n h =
-    let p = guard_none ((b == 48) && nat_lt 0 (length bs)) (number_after max 0 (b ∷ bs)) n h in
-    let q = number_takes max 0 n (b ∷ bs) p.1 (omega arith) in
-    let small : digits_value 10 (b ∷ bs) < 2 ^ 64 = omega arith in
-    (sym (decimal-digits_value own (b ∷ bs) q.0 (omega arith) (λ e. one_digit b bs p.0 e) small) ∙ ap decimal q.1, q.2)
-  where
-    one_digit : (b : ℕ) (bs : List ℕ) → ((b == 48) && nat_lt 0 (length bs)) ≡ false → b ≡ 48 → suc (length bs) ≡ 1
-    one_digit b [] h e = refl
-    one_digit b (c ∷ cs) h e =
-        let k : (true && nat_lt 0 (suc (length cs))) ≡ false = subst (λ x. ((x == 48) && nat_lt 0 (suc (length cs))) ≡ false) e h in
-        let t = lt_true 0 (suc (length cs)) (omega arith) in cc
+number_upto_is max few w n h =
+    let g = guard_some (is_number_upto max w (digits_value 10 w)) (Some (digits_value 10 w)) n h in
+    let e : digits_value 10 w ≡ n = cc (g.1) in
+    let k = number_is max few w n (subst (λ m. is_number_upto max w m ≡ true) e g.0) in
+    (k.1, k.0)
 
 -- what is written is read so
 pub number_upto_decimal : (max : ℕ) → max < 2 ^ 64 → (n : ℕ) → n ≤ max → number_upto max (decimal n) ≡ Some n
 number_upto_decimal max few n h =
-    let d = decimal_is_IsNumeral n (omega arith) in
-    again (decimal n) n d.0.0 d.0.1 d.1 h (λ z. first_decimal n z (omega arith)) (λ e. ap decimal e)
-  where
-    again : (w : List ℕ) (n : ℕ) → 0 < length w → AllDigits 10 w → digits_value 10 w ≡ n → n ≤ max → (0 < n → 48 < get_or w 0 0) → (n ≡ 0 → w ≡ decimal 0) → number_upto max w ≡ Some n
-    again [] n z a v h f o = absurd (omega arith)
-    again (b ∷ []) n z a v h f o = rw (and_false (b == 48)) (number_again max 0 (b ∷ []) a (subst (λ x. x ≤ max) (sym v) h) ∙ ap Some v)
-    again (b ∷ c ∷ cs) zero z a v h f o = let e : b ∷ c ∷ cs ≡ 48 ∷ [] = o refl ∙ decimal_digit 0 (omega arith) in cc
-    again (b ∷ c ∷ cs) (suc n) z a v h f o =
-        let big : 48 < b = f (omega arith) in
-        rw (eq_false b 48 big) (number_again max 0 (b ∷ c ∷ cs) a (subst (λ x. x ≤ max) (sym v) h) ∙ ap Some v)
-
--- ---- hexadecimal digits
-
--- a digit in lower case
-hex_digit : ℕ → ℕ
-hex_digit n = cond (nat_lt n 10) (48 + n) (87 + n)
-
-abbrev agrees : ℕ → Bool
-agrees d = slice_index lower_digits d == cond (nat_lt d 10) (48 + d) (87 + d)
-
--- the digits at the first n places are these
-abbrev all_agree : ℕ → Bool
-all_agree zero = true
-all_agree (suc n) = agrees n && all_agree n
-
-agree_at : (n k : ℕ) → all_agree n ≡ true → k < n → agrees k ≡ true
-agree_at zero k h lt = absurd (omega arith)
-agree_at (suc n) k h lt = elim (lower_or_last k n (omega arith)) [
-  | inl below ↦ agree_at n k (both_true (agrees n) (all_agree n) h).1 below
-  | inr last ↦ rw last (both_true (agrees n) (all_agree n) h).0
-]
-  where
-    lower_or_last : (k n : ℕ) → k ≤ n → (k < n) ⊎ (k ≡ n)
-    lower_or_last k n h = elim (bool (nat_lt k n)) [
-      | inl e ↦ inl (lt_is k n e)
-      | inr e ↦ inr (not_lower k n h e)
-    ]
-      where
-        bool : (b : Bool) → (b ≡ true) ⊎ (b ≡ false)
-        bool true = inl refl
-        bool false = inr refl
-
-        not_lower : (k n : ℕ) → k ≤ n → nat_lt k n ≡ false → k ≡ n
-        not_lower k n h e = grind (arith, nat_tests)
-
-digit_is : (d : ℕ) → d < 16 → slice_index lower_digits d ≡ hex_digit d
-unfolding hex_digit
-digit_is d h = eq_is (slice_index lower_digits d) (cond (nat_lt d 10) (48 + d) (87 + d)) (agree_at 16 d refl h)
-
--- a nibble and its digit
-nibble_of_is : (b d : ℕ) → nibble_of b ≡ Some d → (b ≡ hex_digit d) × (d < 16)
-unfolding hex_digit
-nibble_of_is b d h = nibble_by (nat_le 48 b && nat_le b 57) (nat_le 97 b && nat_le b 102) b d (λ e. both_true (nat_le 48 b) (nat_le b 57) e) (λ e. both_true (nat_le 97 b) (nat_le b 102) e) h
-  where
-    nibble_by : (s t : Bool) (b d : ℕ) → (s ≡ true → (nat_le 48 b ≡ true) × (nat_le b 57 ≡ true)) → (t ≡ true → (nat_le 97 b ≡ true) × (nat_le b 102 ≡ true)) → cond s (Some (b - 48)) (cond t (Some (b - 87)) None) ≡ Some d → (b ≡ cond (nat_lt d 10) (48 + d) (87 + d)) × (d < 16)
-    nibble_by true t b d f g h =
-        let low : 48 ≤ b = le_is 48 b (f refl).0 in
-        let high : b ≤ 57 = le_is b 57 (f refl).1 in
-        let e : b - 48 ≡ d = cc in
-        let small : d < 10 = omega arith in
-        (rw (lt_true d 10 small) (let k : b ≡ 48 + d = omega arith in k), omega arith)
-    nibble_by false true b d f g h =
-        let low : 97 ≤ b = le_is 97 b (g refl).0 in
-        let high : b ≤ 102 = le_is b 102 (g refl).1 in
-        let e : b - 87 ≡ d = cc in
-        let big : 10 ≤ d = omega arith in
-        (rw (lt_false d 10 big) (let k : b ≡ 87 + d = omega arith in k), omega arith)
-    nibble_by false false b d f g h = cc
-
-nibble_of_digit : (d : ℕ) → d < 16 → nibble_of (hex_digit d) ≡ Some d
-unfolding hex_digit
-nibble_of_digit d h = by_size (nat_lt d 10) refl
-  where
-    by_size : (t : Bool) → nat_lt d 10 ≡ t → nibble_of (cond (nat_lt d 10) (48 + d) (87 + d)) ≡ Some d
-    by_size true e =
-        let small : d < 10 = lt_is d 10 e in
-        rw (e, le_true 48 (48 + d) (omega arith), le_true (48 + d) 57 (omega arith)) (let k : 48 + d - 48 ≡ d = omega arith in ap Some k)
-    by_size false e =
-        let big : 10 ≤ d = grind (arith, nat_tests) in
-        rw (e, le_true 48 (87 + d) (omega arith), le_false (87 + d) 57 (omega arith), le_true 97 (87 + d) (omega arith), le_true (87 + d) 102 (omega arith)) (let k : 87 + d - 87 ≡ d = omega arith in ap Some k)
-
-onto_some : (a : Option ℕ) (b : Option (List ℕ)) (v : List ℕ) → onto a b ≡ Some v → (x : ℕ) × (xs : List ℕ) × (a ≡ Some x) × (b ≡ Some xs) × (v ≡ x ∷ xs)
-onto_some (Some x) (Some xs) v h = (x, xs, refl, refl, cc)
-onto_some None b v h = cc
-onto_some (Some x) None v h = cc
-
--- two digits and their byte
-byte_of_is : (a b x : ℕ) → byte_of a b ≡ Some x → (a ≡ hex_digit (x / 16)) × (b ≡ hex_digit (x % 16)) × (x < 256)
-byte_of_is a b x h =
-    let p = bind_some (λ m. option_and_then (λ n. Some (16 * m + n)) (nibble_of b)) (nibble_of a) x h in
-    let q = bind_some (λ n. Some (16 * p.0 + n)) (nibble_of b) x p.2 in
-    let m = nibble_of_is a p.0 p.1 in
-    let n = nibble_of_is b q.0 q.1 in
-    let e : 16 * p.0 + q.0 ≡ x = cc (q.2) in
-    let high : x / 16 ≡ p.0 = omega arith in
-    let low : x % 16 ≡ q.0 = omega arith in
-    (m.0 ∙ ap hex_digit (sym high), n.0 ∙ ap hex_digit (sym low), omega arith)
-
-byte_of_digits : (x : ℕ) → x < 256 → byte_of (hex_digit (x / 16)) (hex_digit (x % 16)) ≡ Some x
-byte_of_digits x h =
-    let e : 16 * (x / 16) + x % 16 ≡ x = omega arith in
-    ap (option_and_then (λ m. option_and_then (λ n. Some (16 * m + n)) (nibble_of (hex_digit (x % 16))))) (nibble_of_digit (x / 16) (omega arith))
-    ∙ (ap (option_and_then (λ n. Some (16 * (x / 16) + n))) (nibble_of_digit (x % 16) (omega arith)) ∙ ap Some e)
-
-hex_digits : List ℕ → List ℕ
-hex_digits [] = []
-hex_digits (b ∷ bs) = hex_digit (b / 16) ∷ hex_digit (b % 16) ∷ hex_digits bs
-
-digits_are : (v : List ℕ) → AreBytes v → encode_lower v ≡ hex_digits v
-unfolding encode_with hex_digits
-digits_are [] a = refl
-digits_are (b ∷ bs) a =
-    let small : b < 256 = All-head (λ x. x < 256) b bs a in
-    let high : b / 16 < 16 = omega arith in
-    ap (λ x. x ∷ slice_index lower_digits (b % 16) ∷ encode_with lower_digits bs) (digit_is (b / 16) high)
-    ∙ (ap (λ x. hex_digit (b / 16) ∷ x ∷ encode_with lower_digits bs) (digit_is (b % 16) (omega arith))
-    ∙ ap (λ xs. hex_digit (b / 16) ∷ hex_digit (b % 16) ∷ xs) (digits_are bs (All-tail (λ x. x < 256) b bs a)))
-
-bytes_takes : (w v : List ℕ) → bytes_in w ≡ Some v → (w ≡ hex_digits v) × AreBytes v
-unfolding hex_digits
-bytes_takes [] v h = let e : [] ≡ v = cc in (ap hex_digits e, subst AreBytes e (All-nil (λ x. x < 256)))
-bytes_takes (a ∷ []) v h = cc
-bytes_takes (a ∷ b ∷ more) v h =
-    let p = onto_some (byte_of a b) (bytes_in more) v h in
-    let q = byte_of_is a b p.0 p.2 in
-    let r = bytes_takes more p.1 p.3 in (
-      ap (λ x. x ∷ b ∷ more) q.0 ∙ (ap (λ x. hex_digit (p.0 / 16) ∷ x ∷ more) q.1 ∙ (ap (λ x. hex_digit (p.0 / 16) ∷ hex_digit (p.0 % 16) ∷ x) r.0 ∙ ap hex_digits (sym p.4))),
-      subst AreBytes (sym p.4) (All-cons (λ x. x < 256) p.0 p.1 q.2 r.1),
-    )
-
-bytes_again : (v : List ℕ) → AreBytes v → bytes_in (hex_digits v) ≡ Some v
-unfolding hex_digits
-bytes_again [] a = refl
-bytes_again (x ∷ xs) a =
-    ap (λ o. onto o (bytes_in (hex_digits xs))) (byte_of_digits x (All-head (λ y. y < 256) x xs a))
-    ∙ ap (onto (Some x)) (bytes_again xs (All-tail (λ y. y < 256) x xs a))
-
-pub hex_of_is : (w v : List ℕ) → hex_of w ≡ Some v → (w ≡ hex_word v) × AreBytes v
-unfolding encode_with
-hex_of_is [] v h = cc
-hex_of_is (a ∷ []) v h =
-    let p = guard_some (a == 45) (Some []) v h in
-    let e : [] ≡ v = cc (p.1) in
-    let k : a ≡ 45 = eq_is a 45 p.0 in
-    (ap (λ x. x ∷ []) k ∙ ap hex_word e, subst AreBytes e (All-nil (λ x. x < 256)))
-hex_of_is (a ∷ b ∷ more) v h =
-    let p = bytes_takes (a ∷ b ∷ more) v h in (hex_from v (a ∷ b ∷ more) a (b ∷ more) refl (p.0 ∙ sym (digits_are v p.1)), p.1)
-  where
-    hex_from : (v w : List ℕ) (a : ℕ) (more : List ℕ) → w ≡ a ∷ more → w ≡ encode_lower v → w ≡ hex_word v
-    hex_from [] w a more e f = let k : a ∷ more ≡ [] = sym e ∙ f in cc
-    hex_from (x ∷ xs) w a more e f = f
-
-pub hex_of_hex : (v : List ℕ) → AreBytes v → hex_of (hex_word v) ≡ Some v
-unfolding hex_digits
-hex_of_hex [] a = refl
-hex_of_hex (x ∷ xs) a = ap hex_of (digits_are (x ∷ xs) a) ∙ bytes_again (x ∷ xs) a
-
-plain_hex_digit : (d : ℕ) → 32 < hex_digit d
-unfolding hex_digit
-plain_hex_digit d = by_size (nat_lt d 10)
-  where
-    by_size : (t : Bool) → 32 < cond t (48 + d) (87 + d)
-    by_size true = omega arith
-    by_size false = omega arith
-
-plain_digits : (v : List ℕ) → IsPlain (hex_digits v)
-unfolding hex_digits
-plain_digits [] = tt
-plain_digits (x ∷ xs) = (plain_hex_digit (x / 16), (plain_hex_digit (x % 16), plain_digits xs))
-
-pub plain_hex : (v : List ℕ) → AreBytes v → IsPlain (hex_word v)
-plain_hex [] a = (omega arith, tt)
-plain_hex (x ∷ xs) a = subst IsPlain (sym (digits_are (x ∷ xs) a)) (plain_digits (x ∷ xs))
+    number_found max few (decimal n) n (rw (le_true n max h, bytes_same (decimal n) (decimal n) refl) refl)
 
 plain_all : (w : List ℕ) → AllDigits 10 w → IsPlain w
 plain_all [] a = tt
@@ -324,18 +126,74 @@ first_digit n h = let d = decimal_is_IsNumeral n h in from (decimal n) d.0.0 d.0
     from [] z a = absurd (omega arith)
     from (b ∷ bs) z a = let r = digit_from_value b a.0 in (b, bs, refl, r.0, r.1)
 
-digit_low : (d : ℕ) → d < 16 → hex_digit d < 110
-unfolding hex_digit
-digit_low d h = by_size (nat_lt d 10) refl
-  where
-    by_size : (t : Bool) → nat_lt d 10 ≡ t → cond t (48 + d) (87 + d) < 110
-    by_size true e = omega (arith, lt_is d 10 e)
-    by_size false e = omega arith
+-- ---- hexadecimal digits
+
+-- two words whose first bytes differ
+pub not_same : (w v : List ℕ) (x y : ℕ) (xs ys : List ℕ) → w ≡ x ∷ xs → v ≡ y ∷ ys → (x == y) ≡ false → bytes_eq w v ≡ false
+not_same w v x y xs ys e f h = ap (λ z. bytes_eq z v) e ∙ (ap (bytes_eq (x ∷ xs)) f ∙ rw h refl)
+
+-- a digit comes after a dash, and before `n`
+digit_between : (c : ℕ) → is_hex_digit c ≡ true → (45 < c) × (c < 110)
+digit_between c h = (grind arith, grind arith)
+
+bytes_within : (v : List ℕ) → AreBytes v → IsBytes v
+bytes_within [] a i = omega arith
+bytes_within (x ∷ xs) a zero = All-head (λ b. b < 256) x xs a
+bytes_within (x ∷ xs) a (suc i) = bytes_within xs (All-tail (λ b. b < 256) x xs a) i
+
+digits_pass : (v : List ℕ) → AreBytes v → AllPass is_hex_digit (encode_lower v)
+digits_pass v a = (decode_of-ok (encode_lower v) v (decode_of-encode_lower v (bytes_within v a))).1
+
+digits_first : (w : List ℕ) → AllPass is_hex_digit w → 0 < length w → (b : ℕ) × (bs : List ℕ) × (w ≡ b ∷ bs) × (45 < b) × (b < 110)
+digits_first [] all some = absurd (omega (arith, some))
+digits_first (b ∷ bs) all some =
+    let d = digit_between b (All-head (λ c. is_hex_digit c ≡ true) b bs all) in (b, bs, refl, d.0, d.1)
+
+bytes_first : (x : ℕ) (xs : List ℕ) → AreBytes (x ∷ xs) → (b : ℕ) × (bs : List ℕ) × (encode_lower (x ∷ xs) ≡ b ∷ bs) × (45 < b) × (b < 110)
+bytes_first x xs a =
+    digits_first (encode_lower (x ∷ xs)) (digits_pass (x ∷ xs) a) (omega (arith, length-encode_with lower_digits (x ∷ xs)))
 
 -- how the word of bytes begins
 pub hex_first : (v : List ℕ) → AreBytes v → (b : ℕ) × (bs : List ℕ) × (hex_word v ≡ b ∷ bs) × (b < 110)
-unfolding hex_digits
 hex_first [] a = (45, [], refl, omega arith)
-hex_first (x ∷ xs) a =
-    let small : x < 256 = All-head (λ y. y < 256) x xs a in
-    (hex_digit (x / 16), hex_digit (x % 16) ∷ hex_digits xs, digits_are (x ∷ xs) a, digit_low (x / 16) (omega arith))
+hex_first (x ∷ xs) a = let f = bytes_first x xs a in (f.0, f.1, f.2, f.4)
+
+ok_is : (r : Result (List ℕ) FromHexError) (bytes : List ℕ) → result_ok r ≡ Some bytes → r ≡ Ok bytes
+ok_is (Ok read) bytes h = cc
+ok_is (Err e) bytes h = cc
+
+pub hex_of_is : (w v : List ℕ) → hex_of w ≡ Some v → (w ≡ hex_word v) × AreBytes v
+hex_of_is w v h = by_test (bytes_eq w (codes "-")) refl h
+  where
+    by_test : (b : Bool) → bytes_eq w (codes "-") ≡ b → cond b (Some []) (option_and_then (λ bytes. cond (is_hex_of w bytes) (Some bytes) None) (result_ok (decode_of w))) ≡ Some v → (w ≡ hex_word v) × AreBytes v
+    by_test true e h =
+        let none : [] ≡ v = cc (h) in
+        (bytes_are w (codes "-") e ∙ ap hex_word none, subst AreBytes none (All-nil (λ b. b < 256)))
+    by_test false e h =
+        let p = bind_some (λ bytes. cond (is_hex_of w bytes) (Some bytes) None) (result_ok (decode_of w)) v h in
+        let g = guard_some (is_hex_of w p.0) (Some p.0) v p.2 in
+        let same : p.0 ≡ v = cc (g.1) in
+        let t = both_true (nat_lt 0 (length p.0)) (bytes_eq (encode_lower p.0) w) g.0 in
+        let read = decode_of-ok w p.0 (ok_is (decode_of w) p.0 p.1) in
+        let P : List ℕ → Type 0 = λ u. (w ≡ hex_word u) × AreBytes u in
+        subst P same
+        (sym (bytes_are (encode_lower p.0) w t.1) ∙ sym (hex_word-some p.0 (lt_is 0 (length p.0) t.0)), All-from_get_or (λ b. b < 256) p.0 0 (λ i h. read.3 i))
+
+pub hex_of_hex : (v : List ℕ) → AreBytes v → hex_of (hex_word v) ≡ Some v
+hex_of_hex [] a = refl
+hex_of_hex (x ∷ xs) a =
+    let w = encode_lower (x ∷ xs) in
+    let f = bytes_first x xs a in
+    rw (not_same w (codes "-") f.0 45 f.1 [] f.2 refl (eq_more f.0 45 f.3))
+    (ap (λ r. option_and_then (λ bytes. cond (is_hex_of w bytes) (Some bytes) None) (result_ok r)) (decode_of-encode_lower (x ∷ xs) (bytes_within (x ∷ xs) a))
+    ∙ rw (lt_true 0 (length (x ∷ xs)) (omega arith), bytes_same w w refl) refl)
+
+plain_digits : (w : List ℕ) → AllPass is_hex_digit w → IsPlain w
+plain_digits [] all = tt
+plain_digits (b ∷ bs) all =
+    let digit = (digit_between b (All-head (λ c. is_hex_digit c ≡ true) b bs all)).0 in
+    (omega (arith, digit), plain_digits bs (All-tail (λ c. is_hex_digit c ≡ true) b bs all))
+
+pub plain_hex : (v : List ℕ) → AreBytes v → IsPlain (hex_word v)
+plain_hex [] a = (omega arith, tt)
+plain_hex (x ∷ xs) a = plain_digits (encode_lower (x ∷ xs)) (digits_pass (x ∷ xs) a)

@@ -1,58 +1,44 @@
 -- What words say.
-use Rattle.std.specs.Prelude.{◌≢◌, ℕ, ◌+◌, ◌-◌, ◌*◌, ◌&&◌, ◌==◌, nat_lt, nat_le, if◌then◌else◌, List, [], ◌∷◌, length, Option, Some, None, option_and_then}
+use Rattle.std.specs.Prelude.{◌≢◌, ℕ, ◌&&◌, ◌==◌, nat_lt, nat_le, Bool, if◌then◌else◌, List, [], ◌∷◌, length, codes, Option, Some, None, option_and_then}
+use Rattle.std.specs.Fmt.{decimal}
 use Rattle.std.specs.Option.{option_map}
+use Rattle.std.specs.Result.{result_ok}
+use Rattle.std.specs.Str.{bytes_eq}
+use Rattle.std.specs.Str.Parse.{digits_value}
 use Rattle.std.specs.Borrow.{Bor}
+use Rattle.hex.specs.Hex.{decode_of, encode_lower}
 
 -- ---- numbers
 
--- a decimal digit
-abbrev pub digit_of : ℕ → Option ℕ
-digit_of b = if nat_le 48 b && nat_le b 57 then Some (b - 48) else None
+-- whether a number is at most max, and these are its decimal digits
+abbrev pub is_number_upto : ℕ → List ℕ → ℕ → Bool
+is_number_upto max word n = nat_le n max && bytes_eq (decimal n) word
 
--- the number that n and then more digits write, as far as it is at most max
-abbrev pub number_after : ℕ → ℕ → List ℕ → Option ℕ
-number_after max n [] = Some n
-number_after max n (b ∷ bs) =
-    option_and_then
-    (λ d. if nat_le (n * 10 + d) max then number_after max (n * 10 + d) bs else None) (digit_of b)
-
--- the number, at most max, that digits without leading zeros write
+-- the number, at most max, of which a word has the decimal digits
 abbrev pub number_upto : ℕ → List ℕ → Option ℕ
-number_upto max [] = None
-number_upto max (b ∷ bs) =
-    if (b == 48) && nat_lt 0 (length bs) then None else number_after max 0 (b ∷ bs)
+number_upto max word =
+    if is_number_upto max word (digits_value 10 word) then Some (digits_value 10 word) else None
 
 -- ---- bytes
 
--- a hexadecimal digit in lower case
-abbrev pub nibble_of : ℕ → Option ℕ
-nibble_of b =
-    if nat_le 48 b && nat_le b 57 then Some (b - 48)
-    else if nat_le 97 b && nat_le b 102 then Some (b - 87) else None
+-- whether a word has the lower case digits of some bytes
+abbrev pub is_hex_of : List ℕ → List ℕ → Bool
+is_hex_of word bytes = nat_lt 0 (length bytes) && bytes_eq (encode_lower bytes) word
 
--- the byte of two digits
-abbrev pub byte_of : ℕ → ℕ → Option ℕ
-byte_of high low =
-    option_and_then (λ h. option_and_then (λ l. Some (16 * h + l)) (nibble_of low)) (nibble_of high)
+-- the bytes of a word, of which a dash has none
+abbrev pub hex_of : List ℕ → Option (List ℕ)
+hex_of word =
+    if bytes_eq word (codes "-")
+    then Some []
+    else option_and_then (λ bytes. if is_hex_of word bytes then Some bytes else None)
+    (result_ok (decode_of word))
+
+-- ---- words of a line
 
 -- one more before what was read
 abbrev pub onto : Option ℕ → Option (List ℕ) → Option (List ℕ)
 onto (Some x) (Some xs) = Some (x ∷ xs)
 onto _ _ = None
-
--- the bytes of pairs of digits
-abbrev pub bytes_in : List ℕ → Option (List ℕ)
-bytes_in [] = Some []
-bytes_in (high ∷ []) = None
-bytes_in (high ∷ low ∷ more) = onto (byte_of high low) (bytes_in more)
-
--- the bytes of a word, of which a dash has none
-abbrev pub hex_of : List ℕ → Option (List ℕ)
-hex_of [] = None
-hex_of (b ∷ []) = if b == 45 then Some [] else None
-hex_of (high ∷ low ∷ more) = bytes_in (high ∷ low ∷ more)
-
--- ---- words of a line
 
 abbrev pub onto_first : ℕ → List (List ℕ) → List (List ℕ)
 onto_first x [] = (x ∷ []) ∷ []
@@ -76,7 +62,11 @@ abbrev pub first_by : {A : Type 0}
 first_by read [] = None
 first_by read (word ∷ words) = option_map (λ a. (a, words)) (read word)
 
+-- none is this byte
+abbrev pub Lacks : ℕ → List ℕ → Type 0
+Lacks byte [] = Unit {0}
+Lacks byte (x ∷ xs) = (x ≢ byte) × Lacks byte xs
+
 -- no line feed
 abbrev pub IsUnbroken : List ℕ → Type 0
-IsUnbroken [] = Unit {0}
-IsUnbroken (x ∷ xs) = (x ≢ 10) × IsUnbroken xs
+IsUnbroken bytes = Lacks 10 bytes

@@ -18,5 +18,9 @@ pub use line::{MapLine, PlanLine, TextVersion};
 pub use line_reading::{lines_are_told_apart, lines_are_unbroken, read_line};
 pub use map_words::{MapWords, numbers_of};
 pub use program_kind::{KindNumbers, kind_numbers};
-pub use values::{are_words_of, feature_word};
-pub use word_writing::{send_bytes, send_decimal, send_numbers, send_slots, send_tables};
+pub use values::{answer_word, are_words_of, feature_word};
+pub use word_writing::{
+    send_bytes, send_decimal, send_form, send_numbers, send_slots, send_tables, send_types,
+    send_version,
+};
+pub use words::cut_at;

@@ -78,8 +78,8 @@ fn slots(alloc: Global, word: &[u8]) -> Result<PlanLine, LineError>
 fn feature_line(words: &mut Words<'_>) -> Result<PlanLine, LineError>
     ensures { Reads line_view (arguments_by keyword.Feature words.old) result words.new }
 {
-    let asked = feature(words)?;
-    let answer = answer(words)?;
+    let asked = feature(words.word()?)?;
+    let answer = answer(words.word()?)?;
     Ok(PlanLine::Feature(asked, answer))
 }
 
@@ -88,7 +88,7 @@ fn map_line(alloc: Global, words: &mut Words<'_>) -> Result<PlanLine, LineError>
 {
     let name = name(alloc, words)?;
     let number = words.number(0x7fff_ffff)?;
-    let is_btf = form(words)?;
+    let is_btf = form(words.word()?)?;
     let map_words = map_words(words)?;
     if !are_words_of(is_btf, map_words) {
         return Err(LineError::Invalid);

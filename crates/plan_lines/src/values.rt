@@ -4,7 +4,7 @@ ghost use Rattle.std.specs.Prelude.{◌≡◌, [], None, OnOk, option_and_then};
 ghost use Rattle.std.specs.Option.{option_map};
 ghost use Rattle.std.specs.String.{string_bytes};
 ghost use Rattle.plan_lines.specs.LineReading.{answer_by, are_words_of, feature_by, form_by, keyword_by, map_words_by, name_by, pinning_of, place_by, places_by, Reads, Says, section_words_by, some_tables, tables_by, text_in, is_above};
-ghost use Rattle.plan_lines.specs.Lines.{feature_word, keyword_word};
+ghost use Rattle.plan_lines.specs.Lines.{answer_word, feature_word, keyword_word};
 ghost use Rattle.plan_lines.specs.WordReading.{first_by};
 
 use crate::error::LineError;
@@ -54,16 +54,23 @@ fn keyword_word(keyword: Keyword) -> &'static [u8]
     }
 }
 
+fn keyword_named(word: &[u8]) -> Option<Keyword>
+    ensures { result ≡ keyword_by word.now }
+{
+    KEYWORDS
+        .iter()
+        .copied()
+        .find(|keyword| keyword_word(*keyword) == word)
+}
+
 /// The keyword that a word is.
 pub(crate) fn keyword(word: &[u8]) -> Result<Keyword, LineError>
     ensures { Says (λ k. k) (keyword_by word.now) result }
 {
-    for keyword in KEYWORDS {
-        if keyword_word(keyword) == word {
-            return Ok(keyword);
-        }
+    match keyword_named(word) {
+        Some(keyword) => Ok(keyword),
+        None => Err(LineError::Invalid),
     }
-    Err(LineError::Invalid)
 }
 
 const FEATURES: [BtfFeature; 8] = [
@@ -93,18 +100,33 @@ pub fn feature_word(feature: BtfFeature) -> &'static [u8]
     }
 }
 
-fn feature_named(word: &[u8]) -> Result<BtfFeature, LineError>
-    ensures { Says (λ f. f) (feature_by word.now) result }
+fn feature_named(word: &[u8]) -> Option<BtfFeature>
+    ensures { result ≡ feature_by word.now }
 {
-    for feature in FEATURES {
-        if feature_word(feature) == word {
-            return Ok(feature);
-        }
-    }
-    Err(LineError::Invalid)
+    FEATURES
+        .iter()
+        .copied()
+        .find(|feature| feature_word(*feature) == word)
 }
 
-fn answer_in(word: &[u8]) -> Result<bool, LineError>
+/// The feature that a word names.
+pub(crate) fn feature(word: &[u8]) -> Result<BtfFeature, LineError>
+    ensures { Says (λ f. f) (feature_by word.now) result }
+{
+    match feature_named(word) {
+        Some(feature) => Ok(feature),
+        None => Err(LineError::Invalid),
+    }
+}
+
+/// The word for an answer about a feature.
+pub fn answer_word(answer: bool) -> &'static [u8]
+    ensures { result.now ≡ answer_word answer }
+{
+    if answer { b"yes" } else { b"no" }
+}
+
+pub(crate) fn answer(word: &[u8]) -> Result<bool, LineError>
     ensures { Says (λ b. b) (answer_by word.now) result }
 {
     if word == b"yes".as_slice() {
@@ -116,7 +138,8 @@ fn answer_in(word: &[u8]) -> Result<bool, LineError>
     Err(LineError::Invalid)
 }
 
-fn form_in(word: &[u8]) -> Result<bool, LineError>
+/// Whether a word says that types define a map.
+pub(crate) fn form(word: &[u8]) -> Result<bool, LineError>
     ensures { Says (λ b. b) (form_by word.now) result }
 {
     if word == b"btf".as_slice() {
@@ -135,28 +158,6 @@ fn text_of(bytes: Vec<u8>) -> Result<String, LineError>
         Ok(text) => Ok(text),
         Err(_error) => Err(LineError::Invalid),
     }
-}
-
-pub(crate) fn feature(words: &mut Words<'_>) -> Result<BtfFeature, LineError>
-    ensures { Reads (λ f. f) (first_by feature_by words.old) result words.new }
-{
-    let word = words.word()?;
-    feature_named(word)
-}
-
-pub(crate) fn answer(words: &mut Words<'_>) -> Result<bool, LineError>
-    ensures { Reads (λ b. b) (first_by answer_by words.old) result words.new }
-{
-    let word = words.word()?;
-    answer_in(word)
-}
-
-/// Whether types define a map.
-pub(crate) fn form(words: &mut Words<'_>) -> Result<bool, LineError>
-    ensures { Reads (λ b. b) (first_by form_by words.old) result words.new }
-{
-    let word = words.word()?;
-    form_in(word)
 }
 
 /// A name, in hexadecimal digits of its UTF-8.

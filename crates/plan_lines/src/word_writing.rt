@@ -1,27 +1,24 @@
 //! The words of a plan's text, written without memory.
 
-ghost use Rattle.std.specs.Prelude.{◌≡◌, [], ◌∷◌, map, Some};
+ghost use Rattle.std.specs.Prelude.{[], ◌∷◌, map};
 ghost use Rattle.std.specs.Fmt.{decimal};
 ghost use Rattle.std.specs.Option.{option_map};
 ghost use Rattle.ebpf_items.specs.Instruction.{bytes_of};
 ghost use Rattle.watched.specs.Watched.{Sends};
 ghost use Rattle.hex.specs.Hex.{encode_lower};
-ghost use Rattle.plan_lines.specs.Lines.{table_words};
+ghost use Rattle.plan_lines.specs.Lines.{form_word, table_words, types_word, version_word};
 ghost use Rattle.plan_lines.specs.Words.{hex_word, slot_bytes, words_onto};
 
 use ebpf_items::{Slots, Watched, bpf_insn};
+use itoa::Buffer;
 use std::io::Write;
 
 /// Sends a number in decimal digits.
 pub fn send_decimal<W: Write>(out: &mut Watched<W>, number: u64)
     ensures { Sends W.contents out.old out.new (decimal number) }
 {
-    if number < 10 {
-        out.send(&[b'0' + number as u8]);
-        return;
-    }
-    send_decimal(out, number / 10);
-    out.send(&[b'0' + (number % 10) as u8]);
+    let mut buffer = Buffer::new();
+    out.send(buffer.format(number).as_bytes());
 }
 
 /// Sends a number, with a space before it.
@@ -105,16 +102,6 @@ fn send_places<W: Write>(out: &mut Watched<W>, places: &[u32])
     }
 }
 
-fn send_known_tables<W: Write>(out: &mut Watched<W>, places: &[u32])
-    ensures { Sends W.contents out.old out.new (words_onto (table_words (Some places.now)) []) }
-{
-    if places.is_empty() {
-        out.send(b" -");
-    } else {
-        send_places(out, places);
-    }
-}
-
 /// Sends places of kernel tables, a space before each: of none a dash, and a question mark where
 /// they aren't known.
 pub fn send_tables<W: Write>(out: &mut Watched<W>, tables: Option<&[u32]>)
@@ -122,7 +109,40 @@ pub fn send_tables<W: Write>(out: &mut Watched<W>, tables: Option<&[u32]>)
         (words_onto (table_words (option_map (λ places. places.now) tables.entry)) []) }
 {
     match tables {
-        Some(places) => send_known_tables(out, places),
+        Some(places) if places.is_empty() => out.send(b" -"),
+        Some(places) => send_places(out, places),
         None => out.send(b" ?"),
+    }
+}
+
+/// Sends whether types define a map.
+pub fn send_form<W: Write>(out: &mut Watched<W>, is_btf: bool)
+    ensures { Sends W.contents out.old out.new (form_word is_btf) }
+{
+    if is_btf {
+        out.send(b"btf");
+    } else {
+        out.send(b"legacy");
+    }
+}
+
+/// Sends a kernel version, of any version a word.
+pub fn send_version<W: Write>(out: &mut Watched<W>, version: Option<u32>)
+    ensures { Sends W.contents out.old out.new (version_word version) }
+{
+    match version {
+        None => out.send(b"any"),
+        Some(version) => send_decimal(out, u64::from(version)),
+    }
+}
+
+/// Sends the bytes of types, where there are any.
+pub fn send_types<W: Write>(out: &mut Watched<W>, type_bytes: Option<&[u8]>)
+    ensures { Sends W.contents out.old out.new
+        (types_word (option_map (λ bytes. bytes.now) type_bytes.entry)) }
+{
+    match type_bytes {
+        None => out.send(b"none"),
+        Some(bytes) => send_bytes(out, bytes),
     }
 }

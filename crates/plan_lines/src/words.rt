@@ -1,39 +1,35 @@
 //! The words of a line, and what they say.
 
-ghost use Rattle.std.specs.Prelude.{◌≡◌, ◌+◌, ◌*◌, ◌<◌, ◌≤◌, ◌↔◌, nat_le, if◌then◌else◌, [], ◌∷◌, Some, None, IfOk, IfSome, IsTrue, MatchOption, MatchResult};
+ghost use Rattle.std.specs.Prelude.{◌≡◌, ◌<◌, ◌≤◌, ◌^◌, ◌↔◌, ◌++◌, ℕ, if◌then◌else◌, [], ◌∷◌, Some, None, IfOk, IsTrue, MatchOption, MatchResult};
+ghost use Rattle.std.specs.Fmt.{decimal};
 ghost use Rattle.std.specs.Option.{option_map};
 ghost use Rattle.plan_lines.specs.LineReading.{only_word, Reads, Says};
 ghost use Rattle.plan_lines.specs.Lines.{max_32};
-ghost use Rattle.plan_lines.specs.WordReading.{byte_of, bytes_in, digit_of, first_by, hex_of, nibble_of, number_upto, pieces_left, pieces_of};
+ghost use Rattle.plan_lines.specs.WordReading.{first_by, hex_of, is_hex_of, is_number_upto, Lacks, number_upto, pieces_left, pieces_of};
 
 use crate::error::LineError;
-use std::alloc::{AllocError, Global};
+use hex::{FromHexError, decode, encode};
+use itoa::Buffer;
+use memchr::memchr;
+use std::alloc::Global;
 use std::marker::Model;
+use std::str;
 
-fn digit(byte: u8) -> Option<u8>
-    ensures value { result ≡ digit_of byte }
-    ensures small { IfSome result (λ digit. digit < 10) }
+/// The number that a word writes, also where a sign or zeros stand before it.
+fn parsed(word: &[u8]) -> Option<u64>
+    ensures { (n : ℕ) → n < 2 ^ 64 → word.now ≡ decimal n → result ≡ Some n }
 {
-    match byte {
-        b'0'..=b'9' => Some(byte - b'0'),
-        _ => None,
+    match str::from_utf8(word) {
+        Ok(text) => text.parse::<u64>().ok(),
+        Err(_error) => None,
     }
 }
 
-fn at_most(value: u64, max: u64) -> Option<u64>
-    ensures value { result ≡ (if nat_le value max then Some value else None) }
-    ensures within { IfSome result (λ n. n ≤ max) }
+fn is_number_upto(max: u64, word: &[u8], number: u64) -> bool
+    ensures { result ≡ is_number_upto max word.now number }
 {
-    if value <= max { Some(value) } else { None }
-}
-
-fn with_digit(value: u64, digit: u8, max: u64) -> Option<u64>
-    ensures value { result
-        ≡ (if nat_le (value * 10 + digit) max then Some (value * 10 + digit) else None) }
-    ensures within { IfSome result (λ n. n ≤ max) }
-{
-    let value = value.checked_mul(10)?.checked_add(u64::from(digit))?;
-    at_most(value, max)
+    let mut buffer = Buffer::new();
+    number <= max && buffer.format(number).as_bytes() == word
 }
 
 /// The number, at most `max`, that decimal digits without leading zeros write.
@@ -41,98 +37,62 @@ pub(crate) fn number_upto(word: &[u8], max: u64) -> Result<u64, LineError>
     ensures value { Says (λ n. n) (number_upto max word.now) result }
     ensures within { IfOk result (λ n. n ≤ max) }
 {
-    match checked_number(word, max) {
-        Some(number) => Ok(number),
-        None => Err(LineError::Invalid),
+    let Some(number) = parsed(word) else {
+        return Err(LineError::Invalid);
+    };
+    if is_number_upto(max, word, number) {
+        Ok(number)
+    } else {
+        Err(LineError::Invalid)
     }
 }
 
-fn checked_number(word: &[u8], max: u64) -> Option<u64>
-    ensures value { result ≡ number_upto max word.now }
-    ensures within { IfSome result (λ n. n ≤ max) }
+/// The bytes that a word was decoded to, where it writes them in lower case.
+fn in_lower_case(alloc: Global, word: &[u8], bytes: Vec<u8>) -> Result<Vec<u8>, LineError>
+    ensures { Says (λ v. v.items)
+        (if is_hex_of word.now bytes.items then Some bytes.items else None) result }
 {
-    if word.is_empty() || word[0] == b'0' && word.len() > 1 {
-        return None;
+    let digits = encode(alloc, bytes.as_slice())?;
+    if !bytes.is_empty() && digits.as_bytes() == word {
+        Ok(bytes)
+    } else {
+        Err(LineError::Invalid)
     }
-    let mut value = 0;
-    for byte in word {
-        value = with_digit(value, digit(*byte)?, max)?;
-    }
-    Some(value)
-}
-
-fn nibble(byte: u8) -> Option<u8>
-    ensures value { result ≡ nibble_of byte }
-    ensures small { IfSome result (λ nibble. nibble < 16) }
-{
-    match byte {
-        b'0'..=b'9' => Some(byte - b'0'),
-        b'a'..=b'f' => Some(byte - b'a' + 10),
-        _ => None,
-    }
-}
-
-fn byte(high: u8, low: u8) -> Option<u8>
-    ensures { result ≡ byte_of high low }
-{
-    let high = nibble(high)?;
-    let low = nibble(low)?;
-    Some(16 * high + low)
-}
-
-fn bytes(alloc: Global, digits: &[u8]) -> Result<Option<Vec<u8>>, AllocError>
-    ensures { IfOk result (λ r. option_map (λ v. v.items) r ≡ bytes_in digits.now) }
-{
-    let mut bytes = Vec::new(alloc);
-    let mut rest = digits;
-    while let [high, low, others @ ..] = rest {
-        let Some(byte) = byte(*high, *low) else {
-            return Ok(None);
-        };
-        bytes.push(byte)?;
-        rest = others;
-    }
-    Ok(if rest.is_empty() { Some(bytes) } else { None })
 }
 
 /// The bytes that a word writes in lower case hexadecimal digits; a dash writes none.
 pub(crate) fn hex(alloc: Global, word: &[u8]) -> Result<Vec<u8>, LineError>
     ensures { Says (λ v. v.items) (hex_of word.now) result }
 {
-    match checked_hex(alloc, word)? {
-        Some(bytes) => Ok(bytes),
-        None => Err(LineError::Invalid),
+    if word == b"-".as_slice() {
+        return Ok(Vec::new(alloc));
+    }
+    match decode(alloc, word) {
+        Ok(bytes) => in_lower_case(alloc, word, bytes),
+        Err(FromHexError::OutOfMemory) => Err(LineError::OutOfMemory),
+        Err(_) => Err(LineError::Invalid),
     }
 }
 
-fn checked_hex(alloc: Global, word: &[u8]) -> Result<Option<Vec<u8>>, AllocError>
-    ensures { IfOk result (λ r. option_map (λ v. v.items) r ≡ hex_of word.now) }
+/// What stands before the first of a byte, and what after it.
+pub fn cut_at(bytes: &[u8], byte: u8) -> Option<(&[u8], &[u8])>
+    ensures { MatchOption result (Lacks byte bytes.now) (λ p.
+        (bytes.now ≡ p.0.now ++ byte ∷ p.1.now) × Lacks byte p.0.now) }
 {
-    if word.is_empty() {
-        return Ok(None);
+    match memchr(byte, bytes) {
+        Some(len) => Some((&bytes[..len], &bytes[len + 1..])),
+        None => None,
     }
-    if word.len() == 1 {
-        return Ok(if word[0] == b'-' {
-            Some(Vec::new(alloc))
-        } else {
-            None
-        });
-    }
-    bytes(alloc, word)
 }
 
 /// The bytes before the first space, and those after it.
 fn cut(line: &[u8]) -> (&[u8], Option<&[u8]>)
     ensures { pieces_of line.now ≡ result.0.now ∷ pieces_left result.1 }
 {
-    let mut len = 0;
-    while len < line.len() {
-        if line[len] == b' ' {
-            return (&line[..len], Some(&line[len + 1..]));
-        }
-        len += 1;
+    match cut_at(line, b' ') {
+        Some((word, rest)) => (word, Some(rest)),
+        None => (line, None),
     }
-    (line, None)
 }
 
 /// The words that are left of a line.

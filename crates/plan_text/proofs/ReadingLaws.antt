@@ -16,7 +16,6 @@ use Rattle.plan_lines.specs.LineViews.{line_view}
 use Rattle.plan_lines.specs.Lines.{AreWithin, End, Header, License, LineContent, Map, Program, Slots, Types, Version, IsSoundLine, max_32, numbers_of, word_limits, words_of_line}
 use Rattle.plan_lines.specs.WordReading.{IsUnbroken}
 use Rattle.plan_lines.specs.Words.{AreBytes, joined, line_onto, slot_bytes, text_of_lines, words_onto}
-use Rattle.plan_lines.specs.declared.error.LineError.TheVariants.{Invalid, OutOfMemory}
 use Rattle.plan_lines.specs.declared.line.PlanLine.{PlanLine}
 use Rattle.plan_lines.specs.declared.line.TextVersion.{TextVersion}
 use Rattle.plan_lines.specs.declared.line.TextVersion.TheVariants.{First, Second}
@@ -453,9 +452,6 @@ took s t bytes read (Ok true) is h = record {
   only = λ other sound text. ap (step s) (sym (is.only other sound text)) ∙ h;
 }
 took s t bytes read (Ok false) is h = record { none = λ other sound text. ap (step s) (sym (is.only other sound text)) ∙ h }
-
-pub not_read : (s : StateContent) (bytes : List ℕ) → IsReadLine bytes (Err Invalid) → RefusedLine s bytes
-not_read s bytes is = record { none = λ line sound text. let e : Invalid ≡ OutOfMemory = is.only line sound text in absurd cc }
 
 -- ---- the whole
 

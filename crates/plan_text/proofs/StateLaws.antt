@@ -537,9 +537,6 @@ eight_again a b c d e f g h fits =
     let imm = ap (to_le_bytes w32) (of_z-to_z w32 (from_le_bytes w32 (e ∷ f ∷ g ∷ h ∷ [])) imm_fits) ∙ le_bytes_4 (e ∷ f ∷ g ∷ h ∷ []) (from_le_bytes w32 (e ∷ f ∷ g ∷ h ∷ [])) refl (fits_four e f g h e_fits f_fits g_fits h_fits) refl in
     ap (λ o. a ∷ b ∷ o) (ap₂ (λ x y. x ++ y) off imm)
 
-tail_bytes : (b : ℕ) (bs : List ℕ) → AreBytes (b ∷ bs) → AreBytes bs
-tail_bytes b bs h = All-tail (λ x. x < 256) b bs h
-
 -- bytes are those of their slots, each of which its bytes encode
 pub record AreSlotsOf (n : ℕ) (bytes : List ℕ) : Type 0 where
   pub bytes_are : slot_bytes (slots_in bytes n) ≡ bytes

@@ -87,11 +87,6 @@ done v q = state AtEnd v q.license q.version q.features q.type_bytes q.maps None
 
 -- ---- features
 
-both_false : (a b : Bool) → (a || b) ≡ false → (a ≡ false) × (b ≡ false)
-both_false false false h = (refl, refl)
-both_false false true h = cc
-both_false true b h = cc
-
 times-append : (f : BtfFeature) (xs ys : List BtfFeature) → times f (xs ++ ys) ≡ times f xs + times f ys
 times-append f [] ys = omega arith
 times-append f (x ∷ xs) ys = omega (arith, times-append f xs ys)

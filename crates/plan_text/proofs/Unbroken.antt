@@ -1,16 +1,8 @@
 -- Lines without line feeds.
-use Rattle.std.proofs.Common.{◌≡◌, ◌≢◌, ℕ, zero, suc, ◌+◌, ◌<◌, true, List, [], ◌∷◌, ◌++◌, length, take, get_or, refl, ap, ◌∙◌, arith, add-one}
+use Rattle.std.proofs.Common.{◌≡◌, ℕ, true, List, [], ◌∷◌, ◌++◌, length, refl, ap, ◌∙◌, arith}
 use Rattle.std.specs.Prelude.{◌==◌}
 use Rattle.std.proofs.lemmas.Bool.Decides.{nat_tests}
 use Rattle.plan_lines.specs.WordReading.{IsUnbroken}
-
-unbroken-more_suc : (xs : List ℕ) (n : ℕ) → IsUnbroken (take n xs) → n < length xs → get_or xs n 0 ≢ 10 → IsUnbroken (take (suc n) xs)
-unbroken-more_suc [] n p h e = absurd (omega arith)
-unbroken-more_suc (x ∷ xs) zero p h e = (e, tt)
-unbroken-more_suc (x ∷ xs) (suc n) p h e = (p.0, unbroken-more_suc xs n p.1 (omega arith) e)
-
-pub unbroken-more : (xs : List ℕ) (n : ℕ) → IsUnbroken (take n xs) → n < length xs → get_or xs n 0 ≢ 10 → IsUnbroken (take (n + 1) xs)
-unbroken-more xs n p h e = rw add-one (unbroken-more_suc xs n p h e)
 
 pub empty_is : (xs : List ℕ) → (length xs == 0) ≡ true → xs ≡ []
 empty_is [] h = refl

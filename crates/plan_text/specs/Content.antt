@@ -26,6 +26,22 @@ pub record MapContent : Type 0 where
   pub contents : List ℕ
   pub inner : Option MapWords
 
+abbrev pub map_content : List ℕ
+    → ℕ
+    → Bool
+    → MapWords
+    → List ℕ
+    → Option MapWords
+    → MapContent
+map_content name number is_btf words contents inner = record {
+  name = name;
+  number = number;
+  is_btf = is_btf;
+  words = words;
+  contents = contents;
+  inner = inner;
+}
+
 -- a program of the plan: its name's bytes, its kind, its slots, the records of its functions and
 -- lines, and the places of the kernel tables that its type relocations matched, where these are
 -- known
@@ -36,6 +52,22 @@ pub record ProgramContent : Type 0 where
   pub func_records : List bpf_func_info
   pub line_records : List bpf_line_info
   pub tables : Option (List ℕ)
+
+abbrev pub program_content : List ℕ
+    → ProgramSection
+    → List bpf_insn
+    → List bpf_func_info
+    → List bpf_line_info
+    → Option (List ℕ)
+    → ProgramContent
+program_content name section slots func_records line_records tables = record {
+  name = name;
+  section = section;
+  slots = slots;
+  func_records = func_records;
+  line_records = line_records;
+  tables = tables;
+}
 
 -- a plan: the license without its NUL, the kernel version (none stands for any), the features that
 -- were asked about, the bytes of the types where there are some, the maps and the programs

@@ -15,7 +15,7 @@ use Rattle.plan_lines.specs.Lines.{IsSoundLine, End, Feature, Func, Header, Inne
 use Rattle.plan_lines.specs.declared.line.TextVersion.{TextVersion}
 use Rattle.plan_lines.specs.declared.line.TextVersion.TheVariants.{First, Second}
 use Rattle.plan_lines.specs.declared.map_words.MapWords.{MapWords}
-use Rattle.plan_text.specs.Content.{MapContent, PlanContent, ProgramContent, plan_content}
+use Rattle.plan_text.specs.Content.{MapContent, PlanContent, ProgramContent, map_content, plan_content, program_content}
 use Rattle.plan_text.specs.declared.reading.Phase.{Phase}
 use Rattle.plan_text.specs.declared.reading.Phase.TheVariants.{AtHeader, AtLicense, AtVersion, AtFeatures, AtMaps, AtSlots, AtTables, AtFuncs, AtLines, AtEnd}
 use Rattle.plan_text.specs.declared.reading.Reader.{Reader}
@@ -71,14 +71,7 @@ after_slots Second = AtTables
 
 -- a program of which no more is read
 abbrev pub bare_program : List ℕ → ProgramSection → ProgramContent
-bare_program name section = record {
-  name = name;
-  section = section;
-  slots = [];
-  func_records = [];
-  line_records = [];
-  tables = None;
-}
+bare_program name section = program_content name section [] [] [] None
 
 -- ---- one line more, at a phase; none where the line may not stand there
 
@@ -204,14 +197,7 @@ source_of slot file row column = record {
 }
 
 abbrev pub map_of : List ℕ → ℕ → Bool → MapWords → List ℕ → MapContent
-map_of name number is_btf words contents = record {
-  name = name;
-  number = number;
-  is_btf = is_btf;
-  words = words;
-  contents = contents;
-  inner = None;
-}
+map_of name number is_btf words contents = map_content name number is_btf words contents None
 
 abbrev pub step : StateContent → LineContent → Option StateContent
 step s (Header text_version) = step_header s.phase s text_version
@@ -231,14 +217,9 @@ step s End = step_end s.phase s
 
 -- the plan of all that was read
 abbrev pub plan_at : StateContent → PlanContent
-plan_at s = record {
-  license = s.license;
-  version = s.version;
-  features = s.features;
-  type_bytes = s.type_bytes;
-  maps = with_last s.maps s.last_map;
-  programs = with_last s.programs s.last_program;
-}
+plan_at s =
+    plan_content s.license s.version s.features s.type_bytes (with_last s.maps s.last_map)
+    (with_last s.programs s.last_program)
 
 -- a line is taken, which leads to a state, or it may not stand there
 abbrev pub Takes : Option StateContent → Bool → StateContent → Type 0

@@ -16,9 +16,8 @@ use plan_lines::{MapWords, bytes_fit, words_fit};
 pub(crate) fn inner_fits(inner: Option<MapWords>)
     ensures { IfSome inner (λ words. AreWithin word_limits (numbers_of words)) }
 {
-    match inner {
-        Some(words) => words_fit(words),
-        None => {}
+    if let Some(words) = inner {
+        words_fit(words);
     }
 }
 
@@ -80,9 +79,8 @@ pub(crate) fn version_fits(version: Option<u32>)
 pub(crate) fn type_bytes_fit(type_bytes: &Option<Vec<u8>>)
     ensures { IfSome (option_map (λ bytes. bytes.items) type_bytes.now) AreBytes }
 {
-    match type_bytes {
-        Some(bytes) => bytes_fit(bytes.as_slice()),
-        None => {}
+    if let Some(bytes) = type_bytes {
+        bytes_fit(bytes.as_slice());
     }
 }
 

@@ -4,22 +4,11 @@ ghost use Rattle.std.specs.Prelude.{[], ◌∷◌, flat_map};
 ghost use Rattle.watched.specs.Watched.{Sends};
 ghost use Rattle.plan_text.specs.PlanGrammar.{inner_line, inner_lines, map_line, map_lines};
 ghost use Rattle.plan_lines.specs.Words.{text_of_lines};
-ghost use Rattle.plan_lines.specs.Lines.{form_word};
 
 use crate::plan::PlanMap;
 use ebpf_items::Watched;
-use plan_lines::{MapWords, numbers_of, send_bytes, send_decimal, send_numbers};
+use plan_lines::{MapWords, numbers_of, send_bytes, send_decimal, send_form, send_numbers};
 use std::io::Write;
-
-fn send_form<W: Write>(out: &mut Watched<W>, is_btf: bool)
-    ensures { Sends W.contents out.old out.new (form_word is_btf) }
-{
-    if is_btf {
-        out.send(b"btf");
-    } else {
-        out.send(b"legacy");
-    }
-}
 
 fn send_map_line<W: Write>(out: &mut Watched<W>, map: &PlanMap<'_>)
     ensures { Sends W.contents out.old out.new (text_of_lines (map_line map.now ∷ [])) }

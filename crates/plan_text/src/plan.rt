@@ -1,13 +1,13 @@
 //! What a plan holds.
 
-ghost use Rattle.std.specs.Prelude.{◌≡◌, Some, None};
+ghost use Rattle.std.specs.Prelude.{◌≡◌, Some};
 ghost use Rattle.std.specs.List.{All};
 ghost use Rattle.std.specs.Option.{option_map};
-ghost use Rattle.std.specs.String.{string_bytes};
+ghost use Rattle.std.specs.Cow.{cow_str_bytes};
 ghost use Rattle.btf_sanitize.specs.Answers as answers;
 ghost use Rattle.object_file.specs.License.{HasNoNul};
 ghost use Rattle.object_file.specs.Version.{IsKnownVersion};
-ghost use Rattle.plan_text.specs.Content.{map_names, plan_content, program_names, AreRising, AreTypeBytes, FitsMap, FitsProgram, IsPlan, IsSoundMap, IsSoundPlan, IsSoundProgram};
+ghost use Rattle.plan_text.specs.Content.{map_content, map_names, plan_content, program_content, program_names, AreRising, AreTypeBytes, FitsMap, FitsProgram, IsPlan, IsSoundMap, IsSoundPlan, IsSoundProgram};
 ghost use Rattle.plan_text.specs.PlanParts.{content_of};
 
 use crate::limits::{
@@ -36,30 +36,14 @@ pub struct PlanMap<'a> {
 
 impl<'a> Model for PlanMap<'a> {
     ghost use Rattle.std.specs.Cow.{cow_str_bytes};
-    ghost use Rattle.plan_text.specs.Content.{FitsMap, MapContent};
+    ghost use Rattle.plan_text.specs.Content.{FitsMap, MapContent, map_content};
 
     ghost Value = { MapContent };
 
-    ghost view = { λ m.
-        record {
-          name = cow_str_bytes m.name;
-          number = m.number;
-          is_btf = m.is_btf;
-          words = m.words;
-          contents = m.contents.items;
-          inner = m.inner;
-        } };
+    ghost view = { λ m. map_content (cow_str_bytes m.name) m.number m.is_btf m.words m.contents.items m.inner };
 
     ghost invariant = { λ m.
-        FitsMap
-        (record {
-          name = cow_str_bytes m.name;
-          number = m.number;
-          is_btf = m.is_btf;
-          words = m.words;
-          contents = m.contents.items;
-          inner = m.inner;
-        }) };
+        FitsMap (map_content (cow_str_bytes m.name) m.number m.is_btf m.words m.contents.items m.inner) };
 }
 
 impl<'a> PlanMap<'a> {
@@ -83,48 +67,38 @@ impl<'a> PlanMap<'a> {
               inner = inner;
             } }
     {
-        name_fits(name);
-        words_fit(words);
-        inner_fits(inner);
-        bytes_fit(contents.as_slice());
-        PlanMap {
-            name: CowStr::Borrowed(name),
+        PlanMap::of(
+            CowStr::Borrowed(name),
             number,
             is_btf,
             words,
             contents,
             inner,
-        }
+        )
     }
 
-    /// A map that owns its name, and holds no maps.
-    pub(crate) fn owned(
-        name: String,
+    /// The same of a name that the map may own.
+    pub(crate) fn of(
+        name: CowStr<'a, Global>,
         number: u32,
         is_btf: bool,
         words: MapWords,
         contents: Vec<u8>,
+        inner: Option<MapWords>,
     ) -> PlanMap<'a>
-        ensures { result
-            ≡ record {
-              name = string_bytes name;
-              number = number;
-              is_btf = is_btf;
-              words = words;
-              contents = contents.items;
-              inner = None;
-            } }
+        ensures { result ≡ map_content (cow_str_bytes name.entry) number is_btf words contents.items inner }
     {
         name_fits(name.as_str());
         words_fit(words);
+        inner_fits(inner);
         bytes_fit(contents.as_slice());
         PlanMap {
-            name: CowStr::Owned(name),
+            name,
             number,
             is_btf,
             words,
             contents,
-            inner: None,
+            inner,
         }
     }
 
@@ -141,12 +115,8 @@ impl<'a> PlanMap<'a> {
     {
         words_fit(words);
         PlanMap {
-            name: self.name,
-            number: self.number,
-            is_btf: self.is_btf,
-            words: self.words,
-            contents: self.contents,
             inner: Some(words),
+            ..self
         }
     }
 
@@ -206,30 +176,18 @@ pub struct PlanProgram<'a> {
 impl<'a> Model for PlanProgram<'a> {
     ghost use Rattle.std.specs.Cow.{cow_str_bytes};
     ghost use Rattle.std.specs.Option.{option_map};
-    ghost use Rattle.plan_text.specs.Content.{FitsProgram, ProgramContent};
+    ghost use Rattle.plan_text.specs.Content.{FitsProgram, ProgramContent, program_content};
 
     ghost Value = { ProgramContent };
 
     ghost view = { λ p.
-        record {
-          name = cow_str_bytes p.name;
-          section = p.section;
-          slots = p.slots;
-          func_records = p.func_records;
-          line_records = p.line_records;
-          tables = option_map (λ places. places.items) p.tables;
-        } };
+        program_content (cow_str_bytes p.name) p.section p.slots p.func_records p.line_records
+        (option_map (λ places. places.items) p.tables) };
 
     ghost invariant = { λ p.
         FitsProgram
-        (record {
-          name = cow_str_bytes p.name;
-          section = p.section;
-          slots = p.slots;
-          func_records = p.func_records;
-          line_records = p.line_records;
-          tables = option_map (λ places. places.items) p.tables;
-        }) };
+        (program_content (cow_str_bytes p.name) p.section p.slots p.func_records p.line_records
+        (option_map (λ places. places.items) p.tables)) };
 }
 
 impl<'a> PlanProgram<'a> {
@@ -253,23 +211,19 @@ impl<'a> PlanProgram<'a> {
               tables = option_map (λ places. places.items) tables;
             } }
     {
-        name_fits(name);
-        slots_fit(&slots);
-        funcs_fit(&func_records);
-        sources_fit(&line_records);
-        PlanProgram {
-            name: CowStr::Borrowed(name),
+        PlanProgram::of(
+            CowStr::Borrowed(name),
             section,
             slots,
             func_records,
             line_records,
             tables,
-        }
+        )
     }
 
-    /// A program that owns its name.
-    pub(crate) fn owned(
-        name: String,
+    /// The same of a name that the program may own.
+    pub(crate) fn of(
+        name: CowStr<'a, Global>,
         section: ProgramSection,
         slots: Slots<'a>,
         func_records: FuncSecInfo<'a>,
@@ -277,21 +231,15 @@ impl<'a> PlanProgram<'a> {
         tables: Option<Vec<u32>>,
     ) -> PlanProgram<'a>
         ensures { result
-            ≡ record {
-              name = string_bytes name;
-              section = section;
-              slots = slots.entry;
-              func_records = func_records.entry;
-              line_records = line_records.entry;
-              tables = option_map (λ places. places.items) tables;
-            } }
+            ≡ program_content (cow_str_bytes name.entry) section slots.entry func_records.entry
+            line_records.entry (option_map (λ places. places.items) tables) }
     {
         name_fits(name.as_str());
         slots_fit(&slots);
         funcs_fit(&func_records);
         sources_fit(&line_records);
         PlanProgram {
-            name: CowStr::Owned(name),
+            name,
             section,
             slots,
             func_records,

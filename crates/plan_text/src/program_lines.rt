@@ -1,6 +1,6 @@
 //! The lines of programs, written without memory.
 
-ghost use Rattle.std.specs.Prelude.{◌≡◌, [], ◌∷◌, flat_map, map};
+ghost use Rattle.std.specs.Prelude.{[], ◌∷◌, flat_map, map};
 ghost use Rattle.std.specs.Option.{option_map};
 ghost use Rattle.watched.specs.Watched.{Sends};
 ghost use Rattle.plan_text.specs.PlanGrammar.{func_line, program_line, program_lines, slots_line, source_line, tables_line};
@@ -13,23 +13,17 @@ use ebpf_items::{Slots, Watched};
 use plan_lines::{KindNumbers, kind_numbers, send_bytes, send_numbers, send_slots, send_tables};
 use std::io::Write;
 
-fn numbers_of_kind(numbers: KindNumbers) -> [u64; 3]
-    ensures { result ≡ numbers.kind ∷ numbers.first ∷ numbers.second ∷ [] }
-{
-    [
-        u64::from(numbers.kind),
-        u64::from(numbers.first),
-        u64::from(numbers.second),
-    ]
-}
-
 fn send_program_line<W: Write>(out: &mut Watched<W>, name: &str, numbers: KindNumbers)
     ensures { Sends W.contents out.old out.new
         (text_of_lines (program_line name.now numbers ∷ [])) }
 {
     out.send(b"program ");
     send_bytes(out, name.as_bytes());
-    let numbers = numbers_of_kind(numbers);
+    let numbers = [
+        u64::from(numbers.kind),
+        u64::from(numbers.first),
+        u64::from(numbers.second),
+    ];
     send_numbers(out, &numbers);
     out.send(b"\n");
 }
@@ -51,17 +45,11 @@ fn send_tables_line<W: Write>(out: &mut Watched<W>, tables: Option<&[u32]>)
     out.send(b"\n");
 }
 
-fn numbers_of_func(info: bpf_func_info) -> [u64; 2]
-    ensures { result ≡ info.insn_off ∷ info.type_id ∷ [] }
-{
-    [u64::from(info.insn_off), u64::from(info.type_id)]
-}
-
 fn send_func_line<W: Write>(out: &mut Watched<W>, info: bpf_func_info)
     ensures { Sends W.contents out.old out.new (text_of_lines (func_line info ∷ [])) }
 {
     out.send(b"func");
-    let numbers = numbers_of_func(info);
+    let numbers = [u64::from(info.insn_off), u64::from(info.type_id)];
     send_numbers(out, &numbers);
     out.send(b"\n");
 }
@@ -76,22 +64,16 @@ fn send_func_lines<W: Write>(out: &mut Watched<W>, records: &FuncSecInfo<'_>)
     }
 }
 
-fn numbers_of_line(info: bpf_line_info) -> [u64; 4]
-    ensures { result ≡ info.insn_off ∷ info.file_name_off ∷ info.line_off ∷ info.line_col ∷ [] }
-{
-    [
-        u64::from(info.insn_off),
-        u64::from(info.file_name_off),
-        u64::from(info.line_off),
-        u64::from(info.line_col),
-    ]
-}
-
 fn send_source_line<W: Write>(out: &mut Watched<W>, info: bpf_line_info)
     ensures { Sends W.contents out.old out.new (text_of_lines (source_line info ∷ [])) }
 {
     out.send(b"line");
-    let numbers = numbers_of_line(info);
+    let numbers = [
+        u64::from(info.insn_off),
+        u64::from(info.file_name_off),
+        u64::from(info.line_off),
+        u64::from(info.line_col),
+    ];
     send_numbers(out, &numbers);
     out.send(b"\n");
 }

@@ -1,14 +1,13 @@
 //! A plan from its text.
 
-ghost use Rattle.std.specs.Prelude.{◌≡◌, ◌<◌, ◌^◌, ◌++◌, ◌∷◌, Some, None, nat_lt, ◌+◌, ◌-◌, length, IfErr, IfOk, IsTrue, MatchOption, OnOk, ◌↔◌};
+ghost use Rattle.std.specs.Prelude.{◌≡◌, ◌<◌, ◌^◌, ◌-◌, length, IfErr, IfOk, IsTrue, OnOk, ◌↔◌};
 ghost use Rattle.std.specs.Option.{option_map};
 ghost use Rattle.std.specs.String.{string_bytes};
 ghost use Rattle.btf_sanitize.specs.Answers.{features, AreDistinct};
 ghost use Rattle.ebpf_items.specs.Instruction.{slots_of};
 ghost use Rattle.plan_lines.specs.LineViews.{line_view};
-ghost use Rattle.plan_lines.specs.WordReading.{IsUnbroken};
 ghost use Rattle.plan_text.specs.Content.{IsPlan, PlanContent};
-ghost use Rattle.plan_text.specs.Machine.{after_slots, at_program, bare_program, begin_program, finished, follows, is_asked, kept_plan, last_map_name, last_program_name, map_of, start, state_view, step, step_end, step_feature, step_func, step_header, step_inner, step_license, step_map, step_program, step_slots, step_source, step_tables, step_types, step_version, with_func, with_last, with_source, Takes, TakesLine};
+ghost use Rattle.plan_text.specs.Machine.{after_slots, bare_program, finished, follows, is_asked, kept_plan, last_map_name, last_program_name, map_of, start, state_view, step, step_end, step_feature, step_func, step_header, step_inner, step_license, step_map, step_program, step_slots, step_source, step_tables, step_types, step_version, with_func, with_last, with_source, Takes, TakesLine};
 ghost use Rattle.plan_text.specs.PlanGrammar.{IsTextOf};
 ghost use Rattle.plan_text.specs.Reading.{IsReadFault, IsReadPlan, ReadsAs};
 ghost use Rattle.plan_text.specs.declared.reading.PlanReadError.TheVariants.{OutOfMemory};
@@ -20,10 +19,11 @@ use btf_records::BtfFeature;
 use btf_sanitize::Answers;
 use ebpf_items::{ProgramSection, Slots, bpf_insn, copy_instructions};
 use plan_lines::{
-    LineError, MapLine, MapWords, PlanLine, TextVersion, are_words_of, lines_are_unbroken,
+    LineError, MapLine, MapWords, PlanLine, TextVersion, are_words_of, cut_at, lines_are_unbroken,
     read_line,
 };
 use std::alloc::{AllocError, Global};
+use std::borrow::CowStr;
 use std::marker::Model;
 use thiserror::Error;
 
@@ -46,6 +46,9 @@ impl From<AllocError> for PlanReadError {
         PlanReadError::OutOfMemory
     }
 }
+
+/// The most records of a program that 32 bits count.
+const MOST_RECORDS: usize = 0xffff_ffff;
 
 /// Which lines may come next.
 #[derive(Clone, Copy, PartialEq, Eq)]
@@ -92,19 +95,13 @@ impl Model for ReadProgram {
     ghost use Rattle.std.specs.Prelude.{◌<◌, ◌^◌, length};
     ghost use Rattle.std.specs.Option.{option_map};
     ghost use Rattle.std.specs.String.{string_bytes};
-    ghost use Rattle.plan_text.specs.Content.{ProgramContent};
+    ghost use Rattle.plan_text.specs.Content.{ProgramContent, program_content};
 
     ghost Value = { ProgramContent };
 
     ghost view = { λ p.
-        record {
-          name = string_bytes p.name;
-          section = p.section;
-          slots = p.slots.items;
-          func_records = p.func_records.items;
-          line_records = p.line_records.items;
-          tables = option_map (λ places. places.items) p.tables;
-        } };
+        program_content (string_bytes p.name) p.section p.slots.items p.func_records.items
+        p.line_records.items (option_map (λ places. places.items) p.tables) };
 
     ghost invariant = { λ p.
         (length p.func_records.items < 2 ^ 32) × (length p.line_records.items < 2 ^ 32) };
@@ -129,7 +126,7 @@ impl ReadProgram {
     fn add_func(&mut self, info: bpf_func_info) -> Result<(), AllocError>
         ensures { OnOk result (self.new ≡ with_func info self.old) }
     {
-        if !has_room(self.func_records.len()) {
+        if self.func_records.len() >= MOST_RECORDS {
             return Err(AllocError);
         }
         self.func_records.push(info)?;
@@ -140,7 +137,7 @@ impl ReadProgram {
     fn add_source(&mut self, info: bpf_line_info) -> Result<(), AllocError>
         ensures { OnOk result (self.new ≡ with_source info self.old) }
     {
-        if !has_room(self.line_records.len()) {
+        if self.line_records.len() >= MOST_RECORDS {
             return Err(AllocError);
         }
         self.line_records.push(info)?;
@@ -150,8 +147,8 @@ impl ReadProgram {
     fn into_program(self) -> PlanProgram<'static>
         ensures { result ≡ self }
     {
-        PlanProgram::owned(
-            self.name,
+        PlanProgram::of(
+            CowStr::Owned(self.name),
             self.section,
             Slots::owned(self.slots),
             FuncSecInfo::from_records(self.func_records),
@@ -291,12 +288,13 @@ impl Reader {
                     return Ok(false);
                 }
                 self.keep_map()?;
-                self.last_map = Some(PlanMap::owned(
-                    map.name,
+                self.last_map = Some(PlanMap::of(
+                    CowStr::Owned(map.name),
                     map.number,
                     map.is_btf,
                     map.words,
                     map.contents,
+                    None,
                 ));
                 Ok(true)
             }
@@ -352,25 +350,6 @@ impl Reader {
         Ok(())
     }
 
-    fn begin_program(
-        &mut self,
-        alloc: Global,
-        name: String,
-        section: ProgramSection,
-    ) -> Result<bool, AllocError>
-        ensures { IfOk result (λ ok.
-            Takes (begin_program (state_view self.old) (bare_program (string_bytes name) section))
-            ok (state_view self.new)) }
-    {
-        if !self.program_follows(name.as_str()) {
-            return Ok(false);
-        }
-        self.keep_program()?;
-        self.last_program = Some(ReadProgram::new(alloc, name, section));
-        self.phase = Phase::AtSlots;
-        Ok(true)
-    }
-
     fn program(
         &mut self,
         alloc: Global,
@@ -383,9 +362,15 @@ impl Reader {
             (bare_program (string_bytes name) section)) ok (state_view self.new)) }
     {
         match self.phase {
-            Phase::AtMaps => self.begin_program(alloc, name, section),
-            Phase::AtFuncs => self.begin_program(alloc, name, section),
-            Phase::AtLines => self.begin_program(alloc, name, section),
+            Phase::AtMaps | Phase::AtFuncs | Phase::AtLines => {
+                if !self.program_follows(name.as_str()) {
+                    return Ok(false);
+                }
+                self.keep_program()?;
+                self.last_program = Some(ReadProgram::new(alloc, name, section));
+                self.phase = Phase::AtSlots;
+                Ok(true)
+            }
             _ => Ok(false),
         }
     }
@@ -443,27 +428,20 @@ impl Reader {
         }
     }
 
-    fn add_source(&mut self, info: bpf_line_info) -> Result<bool, AllocError>
-        ensures { IfOk result (λ ok.
-            Takes (at_program (state_view self.old) Phase.AtLines (with_source info)) ok
-            (state_view self.new)) }
-    {
-        let Some(program) = self.last_program.as_mut() else {
-            return Ok(false);
-        };
-        program.add_source(info)?;
-        self.phase = Phase::AtLines;
-        Ok(true)
-    }
-
     fn source(&mut self, info: bpf_line_info) -> Result<bool, AllocError>
         ensures { IfOk result (λ ok.
             Takes (step_source self.old.phase (state_view self.old) info) ok
             (state_view self.new)) }
     {
         match self.phase {
-            Phase::AtFuncs => self.add_source(info),
-            Phase::AtLines => self.add_source(info),
+            Phase::AtFuncs | Phase::AtLines => {
+                let Some(program) = self.last_program.as_mut() else {
+                    return Ok(false);
+                };
+                program.add_source(info)?;
+                self.phase = Phase::AtLines;
+                Ok(true)
+            }
             _ => Ok(false),
         }
     }
@@ -552,7 +530,7 @@ impl Reader {
         lines_are_unbroken();
         let mut rest = bytes;
         let mut lines = 0;
-        while let Some((line, others)) = cut_line(rest) {
+        while let Some((line, others)) = cut_at(rest, b'\n') {
             lines += 1;
             if !self.take(alloc, line)? {
                 return Err(PlanReadError::Line(lines));
@@ -587,19 +565,7 @@ impl Reader {
 fn is_asked(answers: &[(BtfFeature, bool)], feature: BtfFeature) -> bool
     ensures { result ≡ is_asked answers.now feature }
 {
-    for answer in answers {
-        if answer.0 as u8 == feature as u8 {
-            return true;
-        }
-    }
-    false
-}
-
-/// Whether 32 bits count one record more.
-fn has_room(len: usize) -> bool
-    ensures { result ≡ nat_lt (len + 1) (2 ^ 32) }
-{
-    len < 0xffff_ffff
+    answers.iter().any(|answer| answer.0 as u8 == feature as u8)
 }
 
 fn after_slots(text_version: TextVersion) -> Phase
@@ -619,21 +585,6 @@ fn slots_of(alloc: Global, bytes: &[u8]) -> Result<Vec<bpf_insn>, AllocError>
         Ok(slots) => Ok(slots),
         Err(_error) => Err(AllocError),
     }
-}
-
-/// The bytes before the first line feed, and those after it.
-fn cut_line(bytes: &[u8]) -> Option<(&[u8], &[u8])>
-    ensures { MatchOption result (IsUnbroken bytes.now) (λ p.
-        (bytes.now ≡ p.0.now ++ 10 ∷ p.1.now) × IsUnbroken p.0.now) }
-{
-    let mut len = 0;
-    while len < bytes.len() {
-        if bytes[len] == b'\n' {
-            return Some((&bytes[..len], &bytes[len + 1..]));
-        }
-        len += 1;
-    }
-    None
 }
 
 /// The plan of a text that isn't the longest of all.

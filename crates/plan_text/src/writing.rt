@@ -6,7 +6,6 @@ ghost use Rattle.std.specs.Option.{option_map};
 ghost use Rattle.watched.specs.Watched.{watched_inner, has_failed, AppendsPart, Sends};
 ghost use Rattle.plan_text.specs.PlanGrammar.{feature_line, first_lines, text_of, types_line, IsTextOf};
 ghost use Rattle.plan_lines.specs.Words.{text_of_lines};
-ghost use Rattle.plan_lines.specs.Lines.{answer_word, feature_word, types_word, version_word};
 ghost use Rattle.plan_lines.specs.declared.line.TextVersion.TheVariants.{Second};
 
 use crate::laws::texts_are_read_back;
@@ -15,18 +14,9 @@ use crate::plan::Plan;
 use crate::program_lines::send_programs;
 use btf_records::BtfFeature;
 use ebpf_items::Watched;
-use plan_lines::{feature_word, send_bytes, send_decimal};
+use plan_lines::{answer_word, feature_word, send_bytes, send_types, send_version};
 use std::io;
 use std::io::{ErrorKind, Write};
-
-fn send_version<W: Write>(out: &mut Watched<W>, version: Option<u32>)
-    ensures { Sends W.contents out.old out.new (version_word version) }
-{
-    match version {
-        None => out.send(b"any"),
-        Some(version) => send_decimal(out, u64::from(version)),
-    }
-}
 
 fn send_first_lines<W: Write>(out: &mut Watched<W>, plan: &Plan<'_>)
     ensures { Sends W.contents out.old out.new (text_of_lines (first_lines Second plan.now)) }
@@ -36,12 +26,6 @@ fn send_first_lines<W: Write>(out: &mut Watched<W>, plan: &Plan<'_>)
     out.send(b"\nversion ");
     send_version(out, plan.version());
     out.send(b"\n");
-}
-
-fn answer_word(answer: bool) -> &'static [u8]
-    ensures { result.now ≡ answer_word answer }
-{
-    if answer { b"yes" } else { b"no" }
 }
 
 fn send_feature_line<W: Write>(out: &mut Watched<W>, answer: &(BtfFeature, bool))
@@ -59,16 +43,6 @@ fn send_feature_lines<W: Write>(out: &mut Watched<W>, answers: &[(BtfFeature, bo
 {
     for answer in answers {
         send_feature_line(out, answer);
-    }
-}
-
-fn send_types<W: Write>(out: &mut Watched<W>, type_bytes: Option<&[u8]>)
-    ensures { Sends W.contents out.old out.new
-        (types_word (option_map (λ bytes. bytes.now) type_bytes.entry)) }
-{
-    match type_bytes {
-        None => out.send(b"none"),
-        Some(bytes) => send_bytes(out, bytes),
     }
 }
 

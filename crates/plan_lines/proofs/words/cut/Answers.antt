@@ -1,13 +1,8 @@
-use Rattle.std.proofs.Common.{arith}
-use Rattle.plan_lines.proofs.Cut.{cut_at, whole_plain, no_space-more}
+use Rattle.plan_lines.proofs.Cut.{piece_first, piece_whole}
 use Rattle.plan_lines.proofs.words.cut.Goals as goal
 
-pub returns-then-line-len-eq32 : goal.returns-then-line-len-eq32
-returns-then-line-len-eq32 c = cut_at _ _ c.loop-len.invariant.1 c.loop-len-test.true c.if-line-len-eq32.true
+pub returns-in-Some : goal.returns-in-Some
+returns-in-Some c = piece_first _ _ _ c.in-Some.ensures.0 c.in-Some.ensures.1
 
-pub loop-len-preserved : goal.loop-len-preserved
-loop-len-preserved c =
-    (omega arith, no_space-more _ _ c.loop-len.invariant.1 c.loop-len-test.true c.if-line-len-eq32.false)
-
-pub returns : goal.returns
-returns c = whole_plain _ _ c.loop-len.invariant.1 c.loop-len.invariant.0 c.loop-len-test.false
+pub returns-in-None : goal.returns-in-None
+returns-in-None c = piece_whole _ c.in-None.ensures

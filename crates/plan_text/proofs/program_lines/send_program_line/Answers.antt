@@ -9,4 +9,4 @@ returns g c =
     rw (← c.as_bytes.ensures.value, words_onto-split (map decimal (c.args.numbers.kind ∷ c.args.numbers.first ∷ c.args.numbers.second ∷ [])) (10 ∷ []))
     (Sends-then _ _ _ _ _ _ c.send.ensures
     (Sends-then _ _ _ _ _ _ c.send_bytes.ensures
-    (Sends-then _ _ _ _ _ _ (rw c.numbers_of_kind-numbers.ensures at c.send_numbers.ensures) c.send-2.ensures)))
+    (Sends-then _ _ _ _ _ _ (rw (c.from.ensures, c.from-2.ensures, c.from-3.ensures) at c.send_numbers.ensures) c.send-2.ensures)))

@@ -8,4 +8,4 @@ use Rattle.plan_text.proofs.program_lines.send_source_line.Goals as goal
 pub returns : goal.returns
 returns g c =
     subst (λ t. Sends g.W.Write.contents c.args.out.now c.send-2.new.self t) (sym (line-parts (codes "line") (decimal c.args.info.insn_off ∷ decimal c.args.info.file_name_off ∷ decimal c.args.info.line_off ∷ decimal c.args.info.line_col ∷ [])))
-    (Sends-then _ _ _ _ _ _ c.send.ensures (Sends-then _ _ _ _ _ _ (rw c.numbers_of_line-numbers.ensures at c.send_numbers.ensures) c.send-2.ensures))
+    (Sends-then _ _ _ _ _ _ c.send.ensures (Sends-then _ _ _ _ _ _ (rw (c.from.ensures, c.from-2.ensures, c.from-3.ensures, c.from-4.ensures) at c.send_numbers.ensures) c.send-2.ensures))
