@@ -1,0 +1,45 @@
+"""The processors and the memory that there are for builds."""
+
+import contextlib
+import os
+import re
+
+# The limits of a control group, where there are some: a share of processors, and memory with what is taken of it.
+SHARE = "/sys/fs/cgroup/cpu.max"
+MEMORY = ("/sys/fs/cgroup/memory.max", "/sys/fs/cgroup/memory.current")
+
+
+def numbers_of(path):
+    """The numbers that a file begins with: those of its first line, up to a word that is none."""
+    with contextlib.suppress(OSError), open(path, encoding="ascii") as file:
+        return [int(word) for word in re.match(r"(?:\d+ *)*", file.readline())[0].split()]
+    return []
+
+
+def processors():
+    """How many processors there are to use."""
+    found = len(os.sched_getaffinity(0))
+    share = numbers_of(SHARE)
+    if len(share) == 2 and share[1] > 0:
+        found = min(found, max(1, share[0] // share[1]))
+    return found
+
+
+def free_memory():
+    """How many bytes of memory are free."""
+    with open("/proc/meminfo", encoding="ascii") as file:
+        found = next(int(line.split()[1]) << 10 for line in file if line.startswith("MemAvailable:"))
+    most, taken = map(numbers_of, MEMORY)
+    if most and taken:
+        found = min(found, most[0] - taken[0])
+    return max(found, 0)
+
+
+def counted(number, what):
+    """A number with what it counts."""
+    return f"{number} {what}" if number == 1 else f"{number} {what}s"
+
+
+def told():
+    """The processors and the memory, as a message has them."""
+    return f"{counted(processors(), 'processor')} and up to {round(free_memory() / 1e9)} GB of memory"
