@@ -108,9 +108,12 @@ class Estimate:
         return (1 - trust) + trust * seen
 
     def seconds_left(self):
+        if not self.left:
+            return 0
         begun = self.begun() if self.done else 0
         work = sum(self.left.values()) - begun
-        return self.pace() * self.table_seconds(work, longest_chain(self.left) - begun / self.processors)
+        chain = longest_chain(self.left) - begun / min(self.processors, len(self.left))
+        return self.pace() * self.table_seconds(work, chain)
 
 
 def minutes(seconds):
