@@ -5,6 +5,7 @@ import re
 import resource
 import subprocess
 import sys
+import threading
 import time
 
 from toolkit import processes, repository
@@ -103,12 +104,29 @@ def run_part(total, name, command, note=lambda line: None):
     print(f"{name}: {duration(time.monotonic() - began)}, {duration(spent)} of a processor", flush=True)
 
 
-def end_part(total, name, process, began):
-    """Waits for a part that runs beside others, and counts it; its lines are shown together."""
-    output = processes.finish(process)[0]
-    show(output)
-    total.add(output, process.returncode)
-    print(f"{name}: ended after {duration(time.monotonic() - began)}", flush=True)
+class Beside:
+    """A part that runs beside others; what it writes is shown as it comes."""
+
+    def __init__(self, name, command):
+        self.name = name
+        self.began = time.monotonic()
+        self.process = begin(command)
+        self.output = b""
+        self.reader = threading.Thread(target=self.read, daemon=True)
+        self.reader.start()
+
+    def read(self):
+        for line in self.process.stdout:
+            show(line)
+            self.output += line
+
+    def end(self, total):
+        """Waits for it, and counts it."""
+        self.process.wait()
+        self.reader.join()
+        processes.forget(self.process)
+        total.add(self.output, self.process.returncode)
+        print(f"{self.name}: ended after {duration(time.monotonic() - self.began)}", flush=True)
 
 
 def status_of(command):
