@@ -65,7 +65,7 @@ class Progress:
     def begin(self):
         """Tells at once what there is to do, with what, and about how long it takes."""
         length = estimates.minutes(self.estimate.seconds_left())
-        say(self.name, f"{self.count} crates are to be proved, the program last, on {machine.told()}")
+        say(self.name, f"{self.count} crates are to be proved, the program last, on {machine.told_of_gate()}")
         say(self.name, f"it takes {length} where none of them is kept; a build that was stopped goes on from the crates that it proved")
 
     def note(self, line):

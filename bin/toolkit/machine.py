@@ -7,6 +7,8 @@ import re
 # The limits of a control group, where there are some: a share of processors, and memory with what is taken of it.
 SHARE = "/sys/fs/cgroup/cpu.max"
 MEMORY = ("/sys/fs/cgroup/memory.max", "/sys/fs/cgroup/memory.current")
+# The part of the free memory that the gate takes at most.
+OF_GATE = 0.85
 
 
 def numbers_of(path):
@@ -40,6 +42,11 @@ def counted(number, what):
     return f"{number} {what}" if number == 1 else f"{number} {what}s"
 
 
-def told():
-    """The processors and the memory, as a message has them."""
-    return f"{counted(processors(), 'processor')} and up to {round(free_memory() / 1e9)} GB of memory"
+def told(memory):
+    """The processors and so many bytes of memory, as a message has them."""
+    return f"{counted(processors(), 'processor')} and up to {round(memory / 1e9)} GB of memory"
+
+
+def told_of_gate():
+    """What the gate uses, likewise."""
+    return told(OF_GATE * free_memory())
