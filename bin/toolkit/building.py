@@ -59,7 +59,7 @@ class Progress:
         self.name = name
         self.open = set(needed)
         self.count = len(needed)
-        self.estimate = estimates.Estimate(estimates.parts_of(needed), machine.processors())
+        self.estimate = estimates.Estimate(estimates.parts_of(needed), machine.processors(), machine.slowness())
         self.lines = []
 
     def begin(self):

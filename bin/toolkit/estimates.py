@@ -1,12 +1,13 @@
 """How long proofs take, by the processor seconds that each crate took where they were measured (bench/proof_seconds).
 
-An estimate begins with these seconds, shared out to the processors. The more is proved, the more the time that this took counts.
+An estimate begins with these seconds, shared out to the processors, and with how slow the machine is. The more is proved, the more the
+time that this took counts.
 """
 
 import os
 import time
 
-from toolkit import repository
+from toolkit import machine, repository
 
 TABLE = os.path.join(repository.TOP, "bench", "proof_seconds")
 # What a crate takes that the table hasn't, for each byte of its sources, and at least.
@@ -17,7 +18,7 @@ SECONDS_OF_AN_EDIT = 40
 # How much longer proofs take than their seconds shared out evenly: some wait for those below them.
 WAITING = 1.1
 # The share of the whole that counts as much, once it is proved, as the table does.
-TRUSTED = 0.15
+TRUSTED = 0.05
 
 PROOF, TESTS, EDITS = "proof", "tests", "edits"
 
@@ -69,11 +70,12 @@ def longest_chain(parts):
 
 
 class Estimate:
-    """How long the work on some parts will take on so many processors; `now` gives the seconds of a clock."""
+    """How long the work on some parts will take on so many processors of such a slowness; `now` gives the seconds of a clock."""
 
-    def __init__(self, parts, processors, now=time.monotonic):
+    def __init__(self, parts, processors, slowness=1, now=time.monotonic):
         self.left = dict(parts)
         self.processors = processors
+        self.slowness = slowness
         self.now = now
         self.began = now()
         self.done = 0
@@ -102,10 +104,10 @@ class Estimate:
         """How many times as long as by the table the work takes."""
         done = self.done + self.begun()
         if self.done == 0:
-            return 1
+            return self.slowness
         seen = (self.now() - self.began) / self.table_seconds(done, 0)
         trust = self.done / (self.done + TRUSTED * (self.done + sum(self.left.values())))
-        return (1 - trust) + trust * seen
+        return (1 - trust) * self.slowness + trust * seen
 
     def seconds_left(self):
         if not self.left:
@@ -124,4 +126,4 @@ def minutes(seconds):
 
 def build_seconds(name, processors):
     """How long the first build of a program with its proofs takes."""
-    return Estimate(parts_of(repository.needed_crates(name)), processors).seconds_left()
+    return Estimate(parts_of(repository.needed_crates(name)), processors, machine.slowness()).seconds_left()

@@ -1,14 +1,20 @@
 """The processors and the memory that there are for builds."""
 
 import contextlib
+import functools
 import os
 import re
+import time
 
 # The limits of a control group, where there are some: a share of processors, and memory with what is taken of it.
 SHARE = "/sys/fs/cgroup/cpu.max"
 MEMORY = ("/sys/fs/cgroup/memory.max", "/sys/fs/cgroup/memory.current")
 # The part of the free memory that the gate takes at most.
 OF_GATE = 0.85
+# How many numbers are sorted to see how fast the machine is, how often, and the seconds of a processor that this takes once where
+# the seconds of estimates were measured. A machine is taken for no faster and no slower than these many times.
+SORTED_NUMBERS, SORTED_OFTEN, SORTED_SECONDS = 200_000, 3, 0.055
+FASTEST, SLOWEST = 0.5, 4
 
 
 def numbers_of(path):
@@ -35,6 +41,18 @@ def free_memory():
     if most and taken:
         found = min(found, most[0] - taken[0])
     return max(found, 0)
+
+
+@functools.lru_cache(maxsize=None)
+def slowness():
+    """How many times as long as where the seconds of estimates were measured work takes here, by a short computation."""
+    numbers = [number * 2654435761 % 2**32 for number in range(SORTED_NUMBERS)]
+    found = []
+    for _ in range(SORTED_OFTEN):
+        began = time.process_time()
+        sorted(numbers)
+        found.append(time.process_time() - began)
+    return min(max(min(found) / SORTED_SECONDS, FASTEST), SLOWEST)
 
 
 def counted(number, what):
