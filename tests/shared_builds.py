@@ -17,8 +17,8 @@ COSTS = {
     "inspect_object": Cost(80, 1.0),
     "exercises": Cost(62, 1.2),
 }
-# The most memory that a build takes, in bytes.
-BYTES_OF_A_BUILD = 5 * 10**9
+# The most memory that a build takes while it is made, and while its cases run, in bytes.
+BYTES_TO_BUILD, BYTES_TO_RUN = 5 * 10**9, 2 * 10**9
 # A share of the cases of a program: which of so many it is, and about how long it takes with its build.
 Share = collections.namedtuple("Share", "program number of seconds")
 
@@ -34,9 +34,15 @@ def left_to_proved():
         return [line.strip() for line in file if line.strip() and not line.startswith("#")]
 
 
-def builds_at_once():
-    """How many builds run side by side: one a processor, as many as there is memory for."""
-    return max(1, min(machine.processors(), machine.free_memory() // BYTES_OF_A_BUILD))
+def builds_at_once(processors, memory):
+    """How many builds run side by side: one a processor, as many as there is memory for where one is made and the others run."""
+    return max(1, min(processors, 1 + (memory - BYTES_TO_BUILD) // BYTES_TO_RUN))
+
+
+def has_room(are_made, memory):
+    """Whether there is memory for one more build beside those that run; of each it is told whether it is made."""
+    taken = sum(BYTES_TO_RUN if is_made else BYTES_TO_BUILD for is_made in are_made)
+    return not are_made or taken + BYTES_TO_BUILD <= memory
 
 
 def shares_of(program, cases, builds):
