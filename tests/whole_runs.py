@@ -14,6 +14,11 @@ from toolkit.unproved import Run
 # The seconds that a run may take.
 SECONDS = 60
 
+# The crates that have objects of tests/objects as their data, and the one that has files of rows, each by its suffix.
+WITH_OBJECTS = ("inspect_object", "exercises")
+WITH_ROWS = "exercises"
+ROWS_FILES = {".bin": "object.bin", ".types": "types.bin", ".symbols": "symbols.txt"}
+
 
 def bytes_of(path):
     with open(path, "rb") as file:
@@ -108,6 +113,19 @@ def object_difference(printed, run):
         if line != other:
             return f"line {number}: {shown(line)[:300]}, wanted {shown(other)[:300]}"
     return f"{len(given)} lines, wanted {len(wanted)}"
+
+
+def differing_copies():
+    """The copies that crates have and that aren't the file itself, each with the file."""
+    pairs = []
+    for crate in WITH_OBJECTS:
+        for copy in sorted(glob.glob(os.path.join(TOP, "crates", crate, "data", "*.o"))):
+            pairs.append((copy, os.path.join(TOP, "tests", "objects", os.path.basename(copy))))
+    for copy in sorted(glob.glob(os.path.join(TOP, "crates", WITH_ROWS, "data", "*"))):
+        row, suffix = os.path.splitext(os.path.basename(copy))
+        if suffix in ROWS_FILES:
+            pairs.append((copy, os.path.join(TOP, "tests", "rows", row, ROWS_FILES[suffix])))
+    return [(copy, file) for copy, file in pairs if not os.path.exists(file) or bytes_of(copy) != bytes_of(file)]
 
 
 class Count:

@@ -12,9 +12,8 @@ import re
 import shutil
 import subprocess
 import sys
-import time
 
-from toolkit import processes, repository
+from toolkit import estimates, machine, processes, repository
 
 # What isn't copied of a crate: what was made from it, and the edits.
 LEFT_OUT = ("out", "must-fail")
@@ -27,11 +26,6 @@ SHOWN = 40
 
 def say(name, text):
     print(f"{name}: {text}", file=sys.stderr, flush=True)
-
-
-def work_of(crate):
-    """How much there is to prove in a crate, roughly: the bytes of its sources, and something for being there."""
-    return 20_000 + sum(os.path.getsize(path) for path in repository.source_files(crate))
 
 
 def copy_crate(crate, to):
@@ -63,11 +57,16 @@ class Progress:
 
     def __init__(self, name, needed):
         self.name = name
-        self.work = {crate: work_of(crate) for crate in needed}
+        self.open = set(needed)
         self.count = len(needed)
-        self.began = time.monotonic()
-        self.done = 0
+        self.estimate = estimates.Estimate(estimates.parts_of(needed), machine.processors(), machine.slowness())
         self.lines = []
+
+    def begin(self):
+        """Tells at once what there is to do, with what, and about how long it takes."""
+        length = estimates.minutes(self.estimate.seconds_left())
+        say(self.name, f"{self.count} crates are to be proved, the program last, on {machine.told_of_gate()}")
+        say(self.name, f"it takes {length} where none of them is kept; a build that was stopped goes on from the crates that it proved")
 
     def note(self, line):
         """Notes a line, and tells how far it is; says whether no crate was refused."""
@@ -80,23 +79,18 @@ class Progress:
             say(self.name, f"the crate {refused[1]} could not be proved")
             return False
         proved = PROVED.match(line)
-        if proved and proved[1] in self.work:
+        if proved and proved[1] in self.open:
             self.note_proved(proved[1], proved[2] == "proved")
         return True
 
     def note_proved(self, crate, is_new):
-        work = self.work.pop(crate)
+        self.open.remove(crate)
         if is_new:
-            self.done += work
-        say(self.name, f"{self.count - len(self.work)} of {self.count} crates are proved{self.time_left()}")
-
-    def time_left(self):
-        """About how long it will take, once a crate was proved in this build."""
-        left = sum(self.work.values())
-        if left == 0 or self.done == 0:
-            return ""
-        minutes = max(1, round((time.monotonic() - self.began) * left / self.done / 60))
-        return f", about {minutes} minute{'s' if minutes > 1 else ''} left"
+            self.estimate.end(crate, estimates.PROOF)
+        else:
+            self.estimate.leave_out(crate)
+        left = f", {estimates.minutes(self.estimate.seconds_left())} left" if self.open else ""
+        say(self.name, f"{self.count - len(self.open)} of {self.count} crates are proved{left}")
 
     def show_lines(self):
         for line in self.lines[-SHOWN:]:
@@ -106,6 +100,7 @@ class Progress:
 def pass_gate(name, needed, top):
     """Runs the gate over the copied crates, up to the first that it refuses; says whether they pass."""
     progress = Progress(name, needed)
+    progress.begin()
     how = {"stdout": subprocess.PIPE, "stderr": subprocess.STDOUT, "encoding": "utf-8", "errors": "replace"}
     process = processes.begin(["rt", "ci"], cwd=top, **how)
     for line in process.stdout:
@@ -144,7 +139,6 @@ def has_changed(name, sources):
 def prove_and_build(name):
     sources = repository.sources_checksum(name)
     needed = repository.needed_crates(name)
-    say(name, f"{len(needed)} crates are to be proved, the program last")
     with processes.folder() as folder:
         top = os.path.join(folder, name)
         copy_crates(needed, top)

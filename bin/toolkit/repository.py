@@ -5,10 +5,6 @@ import os
 
 TOP = os.path.dirname(os.path.dirname(os.path.dirname(os.path.realpath(__file__))))
 
-# How long the first proof of bpf_prepare takes, as users are told.
-PROOF_MINUTES = 35
-PROOF_PROCESSORS = 4
-
 # What a check reads of a crate, besides its line in crates.txt.
 SOURCE_FOLDERS = ("src", "specs", "proofs")
 SOURCE_ENDS = (".rt", ".antt")
@@ -74,6 +70,13 @@ def source_files(crate):
         for folder, _folders, names in os.walk(os.path.join(crate_folder(crate), part)):
             found += [os.path.join(folder, name) for name in names if name.endswith(SOURCE_ENDS)]
     return sorted(found)
+
+
+def must_fail_edits(crate):
+    """The edits of a crate that a prover must refuse."""
+    folder = os.path.join(crate_folder(crate), "must-fail")
+    names = os.listdir(folder) if os.path.isdir(folder) else []
+    return sorted(name for name in names if name.endswith(".edit"))
 
 
 def checksum_of(parts):
