@@ -34,8 +34,6 @@ fn push_items<T: Item>(out: &mut Vec<u8>, order: Endianness, items: &[T]) -> Res
     Ok(())
 }
 
-<<<<<<< HEAD
-=======
 /// The count of a list, which fits its word.
 fn count<T: Copy>(items: &Items<T>) -> u16
     ensures value { result ≡ length items.now }
@@ -44,86 +42,12 @@ fn count<T: Copy>(items: &Items<T>) -> u16
     items.len() as u16
 }
 
->>>>>>> h2-open
 /// The first three words of a record.
 fn head_words(t: &BtfType) -> [u32; 3]
     ensures words { words_of t.now ≡ result ++ words_after t.now }
     ensures count { count_of t.now < 65536 }
     ensures bits { (bits_of t.now).bits_16_to_23 < 256 }
 {
-<<<<<<< HEAD
-    match t {
-        BtfType::Unknown => [0, 0, 0],
-        BtfType::Int(t) => [t.name_offset, t.info.word(BtfKind::Int, t.vlen), t.size],
-        BtfType::Ptr(t) => [t.name_offset, t.info.word(BtfKind::Ptr, t.vlen), t.btf_type],
-        BtfType::Array(t) => [t.name_offset, t.info.word(BtfKind::Array, t.vlen), 0],
-        BtfType::Struct(t) => {
-            let count = t.members.len() as u16;
-            [t.name_offset, t.info.word(BtfKind::Struct, count), t.size]
-        }
-        BtfType::Union(t) => {
-            let count = t.members.len() as u16;
-            [t.name_offset, t.info.word(BtfKind::Union, count), t.size]
-        }
-        BtfType::Enum(t) => {
-            let count = t.variants.len() as u16;
-            [t.name_offset, t.info.word(BtfKind::Enum, count), t.size]
-        }
-        BtfType::Fwd(t) => [t.name_offset, t.info.word(BtfKind::Fwd, t.vlen), 0],
-        BtfType::Typedef(t) => [
-            t.name_offset,
-            t.info.word(BtfKind::Typedef, t.vlen),
-            t.btf_type,
-        ],
-        BtfType::Volatile(t) => [
-            t.name_offset,
-            t.info.word(BtfKind::Volatile, t.vlen),
-            t.btf_type,
-        ],
-        BtfType::Const(t) => [
-            t.name_offset,
-            t.info.word(BtfKind::Const, t.vlen),
-            t.btf_type,
-        ],
-        BtfType::Restrict(t) => [
-            t.name_offset,
-            t.info.word(BtfKind::Restrict, t.vlen),
-            t.btf_type,
-        ],
-        BtfType::Func(t) => [
-            t.name_offset,
-            t.info.word(BtfKind::Func, t.vlen),
-            t.btf_type,
-        ],
-        BtfType::FuncProto(t) => {
-            let count = t.params.len() as u16;
-            [
-                t.name_offset,
-                t.info.word(BtfKind::FuncProto, count),
-                t.return_type,
-            ]
-        }
-        BtfType::Var(t) => [t.name_offset, t.info.word(BtfKind::Var, t.vlen), t.btf_type],
-        BtfType::DataSec(t) => {
-            let count = t.entries.len() as u16;
-            [t.name_offset, t.info.word(BtfKind::DataSec, count), t.size]
-        }
-        BtfType::Float(t) => [t.name_offset, t.info.word(BtfKind::Float, t.vlen), t.size],
-        BtfType::DeclTag(t) => [
-            t.name_offset,
-            t.info.word(BtfKind::DeclTag, t.vlen),
-            t.btf_type,
-        ],
-        BtfType::TypeTag(t) => [
-            t.name_offset,
-            t.info.word(BtfKind::TypeTag, t.vlen),
-            t.btf_type,
-        ],
-        BtfType::Enum64(t) => {
-            let count = t.variants.len() as u16;
-            [t.name_offset, t.info.word(BtfKind::Enum64, count), t.size]
-        }
-=======
     let kind = t.kind();
     match t {
         BtfType::Unknown => [0, 0, 0],
@@ -150,7 +74,6 @@ fn head_words(t: &BtfType) -> [u32; 3]
         BtfType::DeclTag(t) => [t.name_offset, t.info.word(kind, t.vlen), t.btf_type],
         BtfType::TypeTag(t) => [t.name_offset, t.info.word(kind, t.vlen), t.btf_type],
         BtfType::Enum64(t) => [t.name_offset, t.info.word(kind, count(&t.variants)), t.size],
->>>>>>> h2-open
     }
 }
 
