@@ -1,0 +1,5 @@
+pub mod Flow
+pub mod Known
+pub mod Reach
+pub mod Visits
+pub mod Work
