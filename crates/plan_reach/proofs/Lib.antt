@@ -1,2 +1,3 @@
 pub mod Within
 pub mod Flows
+pub mod Joining

@@ -1,6 +1,6 @@
 //! What is known of the registers.
 
-ghost use Rattle.std.specs.Prelude.{◌≡◌, slice_set};
+ghost use Rattle.std.specs.Prelude.{◌≡◌, length, slice_set};
 ghost use Rattle.plan_reach.specs.Known.{agreed, meet, value_in, constant_of, wide_constant, writes_destination, is_atomic, after, after_call, nothing};
 ghost use Rattle.plan_reach.specs.Work.{count};
 
@@ -37,7 +37,8 @@ fn agreed(a: Option<u64>, b: Option<u64>) -> Option<u64>
 
 /// What is known where two ways come together.
 pub(crate) fn meet(a: &Known, b: &Known) -> Known
-    ensures { result ≡ meet a.now b.now }
+    ensures value { result ≡ meet a.now b.now }
+    ensures size { length a.now ≡ length b.now }
 {
     let mut met = *a;
     for i in 0..REGISTERS {

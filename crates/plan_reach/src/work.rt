@@ -67,7 +67,10 @@ fn join_at(work: &mut Work, to: i128, known: &Known) -> Result<(), AllocError>
     ensures { OnOk result (Joins (state_of work.old) (state_of work.new)
         (record { to = to; known = known.now } ∷ [])) }
 {
-    if to < 0 || to >= work.facts.len() as i128 {
+    if to < 0 {
+        return Ok(());
+    }
+    if to >= work.facts.len() as i128 {
         return Ok(());
     }
     join(work, to as usize, known)

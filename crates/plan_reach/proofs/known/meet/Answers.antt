@@ -3,8 +3,8 @@ use Rattle.std.proofs.lemmas.Grind.{common_steps}
 use Rattle.plan_reach.proofs.Within.{meet_step}
 use Rattle.plan_reach.proofs.known.meet.Goals as goal
 
-pub returns : goal.returns
-returns c = grind (arith, common_steps)
+pub returns-clause-value : goal.returns-clause-value
+returns-clause-value c = grind (arith, common_steps)
 
 pub loop-i-preserved : goal.loop-i-preserved
 loop-i-preserved c = record {
