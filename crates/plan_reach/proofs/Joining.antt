@@ -155,11 +155,14 @@ module _ (s : State) (n : ℕ) (k m : Known) (o : Fact) (at : slice_get s.facts 
   least_here : (other : Facts) (f : Option Fact) → slice_get other n ≡ f → length other ≡ length s.facts → IsMet f k → IsBelow s.facts other → (there : Known) × (slice_get other n ≡ Some (Some there)) × IsWithin there m
   least_here other None e l a b = absurd (let x = none_too other s.facts n l e in cc)
   least_here other (Some None) e l a b = absurd a
-  least_here other (Some (Some there)) e l a b =
-      (there, e, j.greatest there a (λ old q.
-      let h = b.each n old (at ∙ ap (λ (f : Fact). Some f) q) in
-      let same : h.0 ≡ there = cc (h.1, e) in
-      subst (λ (c : Known). IsWithin c old) same h.2))
+  least_here other (Some (Some there)) e l a b = (
+    there,
+    e,
+    j.greatest there a (λ old q.
+        let h = b.each n old (at ∙ ap (λ (f : Fact). Some f) q) in
+        let same : h.0 ≡ there = cc (h.1, e) in
+        subst (λ (c : Known). IsWithin c old) same h.2),
+  )
 
   least_at : (other : Facts) → length other ≡ length s.facts → IsMet (slice_get other n) k → IsBelow s.facts other → (slot : ℕ) (known : Known) → slice_get new slot ≡ Some (Some known) → (slot ≡ n) ⊎ (slot ≢ n) → (there : Known) × (slice_get other slot ≡ Some (Some there)) × IsWithin there known
   least_at other l a b slot known e (inl same) =

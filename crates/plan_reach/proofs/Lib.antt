@@ -1,3 +1,4 @@
 pub mod Within
 pub mod Flows
 pub mod Joining
+pub mod Following

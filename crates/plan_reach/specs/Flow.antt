@@ -76,9 +76,12 @@ branch s position known decision taken =
     if allows decision taken then moved (move_of s taken) s position known else []
 
 -- a function that a helper is to call is marked by the source register BPF_PSEUDO_FUNC
+abbrev pub is_callback : bpf_insn → Bool
+is_callback s = s.code == 0x18 && src_reg_of s == 4
+
 abbrev pub callback : bpf_insn → ℕ → List Way
 callback s position =
-    if s.code == 0x18 && src_reg_of s == 4
+    if is_callback s
     then record { to = (pos position +ℤ pos 1) +ℤ s.imm; known = nothing } ∷ []
     else []
 

@@ -4,7 +4,7 @@ ghost use Rattle.std.specs.Prelude.{◌≡◌, ◌≢◌, false};
 ghost use Rattle.std.specs.Int.{w32, cast_signed};
 ghost use Rattle.function_layout.specs.Machines.{is_jump, move_of, By};
 ghost use Rattle.ebpf_items.specs.Instruction.{is_pseudo_call};
-ghost use Rattle.plan_reach.specs.Flow.{compared, outcome, source_in, decided, allows};
+ghost use Rattle.plan_reach.specs.Flow.{compared, outcome, source_in, decided, allows, is_callback};
 
 use crate::known::{Known, value_in};
 use ebpf_items::bpf_insn;
@@ -92,6 +92,13 @@ fn is_jump(code: u8) -> bool
     ensures { result ≡ is_jump code }
 {
     code != 0x85 && (code % 8 == 5 || code % 8 == 6)
+}
+
+/// Whether a slot loads a function that a helper is to call.
+pub(crate) fn is_callback(slot: bpf_insn) -> bool
+    ensures { result ≡ is_callback slot }
+{
+    slot.code == 0x18 && slot.src_reg() == 4
 }
 
 /// How far a slot moves that neither leaves nor calls.

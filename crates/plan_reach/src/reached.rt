@@ -5,7 +5,7 @@ ghost use Rattle.plan_reach.specs.Reach.{IsLeast, IsReached, decision_at};
 
 use crate::flow::decided;
 use crate::known::Known;
-use crate::work::{fact_of, least_facts};
+use crate::work::{fact_of, least_facts, slot_at};
 use ebpf_items::bpf_insn;
 use std::alloc::{AllocError, Global};
 use std::marker::Model;
@@ -49,12 +49,12 @@ impl Reach {
     pub fn decision(&self, slot: usize) -> Option<bool>
         ensures { result ≡ decision_at self.now slot }
     {
-        let Some(insn) = self.code.get(slot) else {
+        let Some(insn) = slot_at(&self.code, slot) else {
             return None;
         };
         let Some(known) = fact_of(&self.facts, slot) else {
             return None;
         };
-        decided(*insn, &known)
+        decided(insn, &known)
     }
 }

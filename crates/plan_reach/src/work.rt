@@ -1,13 +1,13 @@
 //! The work list by which the least facts are found.
 
-ghost use Rattle.std.specs.Prelude.{◌≡◌, ◌<◌, pos, [], ◌∷◌, length, OnOk, IfOk, slice_get};
+ghost use Rattle.std.specs.Prelude.{◌≡◌, ◌+◌, ◌<◌, pos, [], ◌∷◌, length, OnOk, IfOk, slice_get};
 ghost use Rattle.function_layout.specs.Layout.{flat_option};
 ghost use Rattle.function_layout.specs.Machines.{Call, move_of};
 ghost use Rattle.plan_reach.specs.Flow.{moved, branch, callback, ways_of};
 ghost use Rattle.plan_reach.specs.Reach.{ways_at, IsLeast};
 ghost use Rattle.plan_reach.specs.Work.{state_of, first_state, raised, Joins, IsUnderway};
 
-use crate::flow::{allows, decided, distance};
+use crate::flow::{allows, decided, distance, is_callback};
 use crate::known::{Known, after, count, meet, nothing};
 use ebpf_items::bpf_insn;
 use std::alloc::{AllocError, Global};
@@ -131,7 +131,7 @@ fn follow_callback(work: &mut Work, slot: bpf_insn, position: usize) -> Result<(
     ensures { OnOk result (Joins (state_of work.old) (state_of work.new)
         (callback slot position)) }
 {
-    if slot.code == 0x18 && slot.src_reg() == 4 {
+    if is_callback(slot) {
         let to = position as i128 + 1 + slot.imm as i128;
         return join_at(work, to, &nothing());
     }
@@ -156,6 +156,21 @@ fn follow(
     follow_callback(work, slot, position)
 }
 
+pub(crate) fn slot_at(code: &[bpf_insn], position: usize) -> Option<bpf_insn>
+    ensures { result ≡ slice_get code.now position }
+{
+    code.get(position).copied()
+}
+
+fn slot_after(code: &[bpf_insn], position: usize) -> Option<bpf_insn>
+    ensures { result ≡ slice_get code.now (position + 1) }
+{
+    if position >= code.len() {
+        return None;
+    }
+    slot_at(code, position + 1)
+}
+
 pub(crate) fn fact_of(facts: &[Option<Known>], position: usize) -> Option<Known>
     ensures { result ≡ flat_option (slice_get facts.now position) }
 {
@@ -167,14 +182,14 @@ fn follow_from(work: &mut Work, code: &[bpf_insn], position: usize) -> Result<()
     ensures { OnOk result (Joins (state_of work.old) (state_of work.new)
         (ways_at code.now work.old.facts.items position)) }
 {
-    let Some(slot) = code.get(position) else {
+    let Some(slot) = slot_at(code, position) else {
         return Ok(());
     };
     let Some(known) = fact_of(&work.facts, position) else {
         return Ok(());
     };
-    let next = code.get(position + 1).copied();
-    follow(work, *slot, next, position, &known)
+    let next = slot_after(code, position);
+    follow(work, slot, next, position, &known)
 }
 
 /// Follows the ways from each position on the list, and from those that come to it.
