@@ -52,7 +52,7 @@ below_trans f g h p q = record {
       (b.0, b.1, within_trans b.0 a.0 known b.2 a.2);
 }
 
-met_after_at : (f g : Facts) (n : ℕ) (k : Known) (o : Option Fact) → slice_get f n ≡ o → length f ≡ length g → IsBelow f g → IsMet o k → IsMet (slice_get g n) k
+pub met_after_at : (f g : Facts) (n : ℕ) (k : Known) (o : Option Fact) → slice_get f n ≡ o → length f ≡ length g → IsBelow f g → IsMet o k → IsMet (slice_get g n) k
 met_after_at f g n k None e l b m = subst (λ (o : Option Fact). IsMet o k) (sym (none_too f g n l e)) tt
 met_after_at f g n k (Some None) e l b m = absurd m
 met_after_at f g n k (Some (Some there)) e l b m =

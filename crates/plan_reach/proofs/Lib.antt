@@ -2,3 +2,4 @@ pub mod Within
 pub mod Flows
 pub mod Joining
 pub mod Following
+pub mod Settling
