@@ -3,3 +3,4 @@ pub mod Flows
 pub mod Joining
 pub mod Following
 pub mod Settling
+pub mod Visiting

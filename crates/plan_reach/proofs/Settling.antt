@@ -106,7 +106,7 @@ not_reached f k (inr e) h = absurd (cc)
 
 first_ways : (code : List bpf_insn) (n slot : ℕ) → AllMet (first_state (suc n)).facts (ways_at code (first_state (suc n)).facts slot) ⊎ Has (first_state (suc n)).pending slot
 first_ways code n zero = inr (inl refl)
-first_ways code n (suc k) = inl (no_ways code _ (suc k) (slice_get code (suc k)) _ (unreached n k))
+first_ways code n (suc k) = inl (no_ways code (first_state (suc n)).facts (suc k) (slice_get code (suc k)) (slice_get (no_facts n) k) (unreached n k))
 
 first_met : (other : Facts) (f : Option (Option Known)) → slice_get other 0 ≡ f → (length other ≢ 0) → IsMet f nothing → (there : Known) × (slice_get other 0 ≡ Some (Some there)) × IsWithin there nothing
 first_met [] None e l m = absurd (l refl)
@@ -130,7 +130,7 @@ underway_from code zero l = record {
   least = λ other c. record { each = λ slot known e. absurd (cc) };
 }
 underway_from code (suc n) l = record {
-  size = omega (arith, length-replicate {A = Option Known});
+  size = omega (arith, l, length-replicate {A = Option Known} n None);
   start = within_refl nothing;
   ways = first_ways code n;
   least = λ other c. record { each = first_least code n other l c };
