@@ -1,12 +1,11 @@
 -- Flow is monotone: with less known every way is there, and no more is known along it.
-use Rattle.std.proofs.Common.{◌≡◌, ℕ, suc, ◌+◌, ◌/◌, ◌%◌, Bool, true, false, cond, List, [], ◌∷◌, ◌++◌, length, Option, Some, None, refl, sym, ap, ◌∙◌, subst, arith, eqb, ℤ, pos, negsuc}
-use Rattle.std.specs.Prelude.{slice_get}
+use Rattle.std.proofs.Common.{◌≡◌, ℕ, ◌/◌, ◌%◌, Bool, true, false, cond, List, [], ◌∷◌, ◌++◌, Option, Some, None, refl, sym, ap, ◌∙◌, subst, eqb}
 use Rattle.ebpf_items.specs.declared.instruction.bpf_insn.{bpf_insn}
 use Rattle.ebpf_items.specs.Instruction.{dst_reg_of, src_reg_of}
 use Rattle.function_layout.specs.Machines.{Move, Leave, Call, By, move_of}
-use Rattle.plan_reach.specs.Known.{Known, nothing, value_in, SaysNoMore, IsWithin, constant_of, writes_destination, is_atomic, after_call, after}
+use Rattle.plan_reach.specs.Known.{Known, nothing, SaysNoMore, IsWithin, constant_of, writes_destination, is_atomic, after_call, after}
 use Rattle.plan_reach.specs.Flow.{Way, outcome, outcome_of, source_in, decided, moved, allows, branch, callback, ways_of}
-use Rattle.plan_reach.specs.Reach.{Facts, IsMet, fact_at, AllMet}
+use Rattle.plan_reach.specs.Reach.{Facts, IsMet, AllMet}
 use Rattle.plan_reach.proofs.Within.{says_refl, within_refl, within_trans, within_set, within_value}
 
 -- what is known after a slot

@@ -1,8 +1,8 @@
 -- Facts that are weakened until they meet some ways.
-use Rattle.std.proofs.Common.{◌≡◌, ◌≢◌, ◌≤◌, ◌<◌, ◌⊎◌, ℕ, zero, suc, ◌+◌, ◌*◌, Bool, true, false, cond, List, [], ◌∷◌, ◌++◌, length, set, Option, Some, None, refl, sym, ap, ◌∙◌, subst, inl, inr, arith, eqb, length-set, length-append, get_or, ℤ, pos, negsuc, ◌≤ℤ◌, ◌<ℤ◌}
+use Rattle.std.proofs.Common.{◌≡◌, ◌≢◌, ◌≤◌, ◌<◌, ◌⊎◌, ℕ, zero, suc, ◌+◌, List, [], ◌∷◌, ◌++◌, length, set, Option, Some, None, refl, sym, ap, ◌∙◌, subst, inl, inr, arith, length-set, length-append, get_or, ℤ, pos, negsuc, ◌≤ℤ◌, ◌<ℤ◌}
 use Rattle.std.proofs.lemmas.Bool.Decides.{eqb_tells}
 use Rattle.std.proofs.lemmas.Int.{ints}
-use Rattle.std.specs.Prelude.{slice_get, sum_by, is_some}
+use Rattle.std.specs.Prelude.{slice_get, is_some}
 use Rattle.std.proofs.lemmas.List.Sums.{sum_by-set, count_by-le-length}
 use Rattle.std.proofs.lemmas.Option.{slice_get_within, slice_get_past, slice_get_read, get_or_from_slice_get}
 use Rattle.plan_reach.specs.Known.{Known, IsWithin, meet}
@@ -10,7 +10,7 @@ use Rattle.plan_reach.specs.Flow.{Way}
 use Rattle.plan_reach.specs.Reach.{Facts, IsMet, fact_at, AllMet, IsBelow}
 use Rattle.plan_reach.specs.Work.{State, raised, Has, count, rank, effort, Joins}
 use Rattle.plan_reach.proofs.Within.{within_refl, within_trans, meet_left, meet_right, meet_greatest, count_le, count_same}
-use Rattle.plan_reach.proofs.Flows.{met_within, all_append, all_front, all_back}
+use Rattle.plan_reach.proofs.Flows.{all_append, all_front, all_back}
 
 -- places in lists
 

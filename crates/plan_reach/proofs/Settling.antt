@@ -1,15 +1,14 @@
 -- The work list from its beginning to its end.
-use Rattle.std.proofs.Common.{◌≡◌, ◌≢◌, ◌≤◌, ◌<◌, ◌⊎◌, ℕ, zero, suc, ◌+◌, ◌*◌, Bool, true, false, cond, List, [], ◌∷◌, ◌++◌, length, set, replicate, Option, Some, None, refl, sym, ap, ◌∙◌, subst, inl, inr, arith, length-append, ℤ, pos}
+use Rattle.std.proofs.Common.{◌≡◌, ◌≢◌, ◌<◌, ◌⊎◌, ℕ, zero, suc, ◌+◌, ◌*◌, List, [], ◌∷◌, ◌++◌, length, replicate, Option, Some, None, refl, sym, ap, ◌∙◌, subst, inl, inr, arith, length-append}
 use Rattle.std.specs.Prelude.{slice_get, sum_by}
 use Rattle.std.proofs.lemmas.List.{length-replicate}
 use Rattle.ebpf_items.specs.declared.instruction.bpf_insn.{bpf_insn}
 use Rattle.plan_reach.specs.Known.{Known, nothing, IsWithin}
-use Rattle.plan_reach.specs.Flow.{Way, ways_of}
 use Rattle.plan_reach.specs.Reach.{Facts, IsMet, AllMet, ways_from, ways_at, IsClosed, IsBelow, IsLeast}
-use Rattle.plan_reach.specs.Work.{State, Has, raised, first_state, effort, rank, Joins, IsUnderway}
+use Rattle.plan_reach.specs.Work.{State, Has, first_state, effort, rank, Joins, IsUnderway}
 use Rattle.plan_reach.proofs.Within.{within_refl}
 use Rattle.plan_reach.proofs.Flows.{ways_within}
-use Rattle.plan_reach.proofs.Joining.{none_too, met_after_at, all_after, has_split}
+use Rattle.plan_reach.proofs.Joining.{met_after_at, all_after, has_split}
 
 -- what closed facts meet, they meet of facts above them
 

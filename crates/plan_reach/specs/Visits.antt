@@ -1,5 +1,5 @@
 -- A run that takes each decided jump as it is decided visits only slots that are reached.
-use Rattle.std.specs.Prelude.{◌≡◌, ℕ, Bool, List, [], ◌∷◌, Option, Some, None, pos}
+use Rattle.std.specs.Prelude.{◌≡◌, Bool, List, [], ◌∷◌, Option, Some, None, pos}
 use Rattle.ebpf_items.specs.declared.instruction.bpf_insn.{bpf_insn}
 use Rattle.function_layout.specs.Layout.{Key, Table}
 use Rattle.function_layout.specs.Machines.{Trace, Ends, Shows, FlatEvent, flat_run}

@@ -1,7 +1,7 @@
 use Rattle.std.proofs.Common.{◌≡◌, ◌≢◌, ◌∙◌, sym, ap}
 use Rattle.std.proofs.lemmas.Result.{on_ok_weaker}
 use Rattle.plan_reach.specs.Known.{Known, meet}
-use Rattle.plan_reach.specs.Work.{State, state_of, raised, count}
+use Rattle.plan_reach.specs.Work.{state_of, raised, count}
 use Rattle.plan_reach.proofs.Joining.{join_first, join_same, join_again}
 use Rattle.plan_reach.proofs.work.join.Goals as goal
 

@@ -1,6 +1,6 @@
-use Rattle.std.proofs.Common.{◌≡◌, refl, [], ◌∷◌, ◌++◌}
+use Rattle.std.proofs.Common.{refl}
 use Rattle.plan_reach.specs.Work.{State, state_of}
-use Rattle.plan_reach.proofs.Settling.{still_underway, effort_falls, least_found}
+use Rattle.plan_reach.proofs.Settling.{still_underway, effort_falls}
 use Rattle.plan_reach.proofs.work.settle.Goals as goal
 
 pub loop-position-preserved : goal.loop-position-preserved
