@@ -5,6 +5,7 @@ use Rattle.std.proofs.lemmas.Int.{ints}
 use Rattle.std.specs.Prelude.{slice_get, is_some}
 use Rattle.std.proofs.lemmas.List.Sums.{sum_by-set, count_by-le-length}
 use Rattle.std.proofs.lemmas.Option.{slice_get_within, slice_get_past, slice_get_read, get_or_from_slice_get}
+use Rattle.function_layout.specs.Layout.{flat_option}
 use Rattle.plan_reach.specs.Known.{Known, IsWithin, meet}
 use Rattle.plan_reach.specs.Flow.{Way}
 use Rattle.plan_reach.specs.Reach.{Facts, IsMet, fact_at, AllMet, IsBelow}
@@ -219,25 +220,29 @@ pub within_same : (there k : Known) → length there ≡ length k → count (mee
 within_same there k l e =
     subst (λ (m : Known). IsWithin m k) (count_same (meet there k) there (meet_left there k l) e) (meet_right there k l)
 
--- a slot is reached with what is known
+-- what stands at a slot of the program
 
-got : (fs : Facts) (n : ℕ) (f : Fact) → n < length fs → f ≡ get_or fs n f → slice_get fs n ≡ Some f
-got fs n f h e = slice_get_read fs (length fs) n f refl h e
+at_none : (fs : Facts) (n : ℕ) (f : Option Fact) → slice_get fs n ≡ f → n < length fs → flat_option f ≡ None → slice_get fs n ≡ Some None
+at_none [] n f g h e = absurd (omega arith)
+at_none (x ∷ xs) zero f g h e = ap (λ (o : Fact). Some o) (ap (λ (o : Option Fact). flat_option o) g ∙ e)
+at_none (x ∷ xs) (suc n) f g h e = at_none xs n f g (omega arith) e
 
-pub join_first : (s later : State) (n : ℕ) (k : Known) (f : Fact) → n < length s.facts → f ≡ get_or s.facts n f → f ≡ None → length k ≡ 11 → later ≡ raised s n k → Joins s later (to_slot n k)
-join_first s later n k f h e i l r =
-    let at : slice_get s.facts n ≡ Some None = got s.facts n f h e ∙ ap (λ (f : Fact). Some f) i in
-    subst (λ (t : State). Joins s t (to_slot n k)) (sym r) (joins_raised s n k k None at (joined_first k l))
+at_some : (f : Option Fact) (k : Known) → flat_option f ≡ Some k → f ≡ Some (Some k)
+at_some None k e = absurd (cc)
+at_some (Some o) k e = ap (λ (x : Fact). Some x) e
 
-pub join_same : (s : State) (n : ℕ) (k there : Known) (f : Fact) → n < length s.facts → f ≡ get_or s.facts n f → f ≡ Some there → length there ≡ length k → count (meet there k) ≡ count there → Joins s s (to_slot n k)
-join_same s n k there f h e i l c =
-    let at : slice_get s.facts n ≡ Some (Some there) = got s.facts n f h e ∙ ap (λ (f : Fact). Some f) i in
-    joins_same s n k there at (within_same there k l c)
+pub join_first : (s later : State) (n : ℕ) (k m : Known) → n < length s.facts → flat_option (slice_get s.facts n) ≡ None → length k ≡ 11 → m ≡ k → later ≡ raised s n m → Joins s later (to_slot n k)
+join_first s later n k m h e l i r =
+    let at : slice_get s.facts n ≡ Some None = at_none s.facts n (slice_get s.facts n) refl h e in
+    subst (λ (t : State). Joins s t (to_slot n k)) (sym (r ∙ ap (λ (x : Known). raised s n x) i)) (joins_raised s n k k None at (joined_first k l))
 
-pub join_again : (s later : State) (n : ℕ) (k there : Known) (f : Fact) → n < length s.facts → f ≡ get_or s.facts n f → f ≡ Some there → length there ≡ length k → count (meet there k) ≢ count there → later ≡ raised s n (meet there k) → Joins s later (to_slot n k)
-join_again s later n k there f h e i l c r =
-    let at : slice_get s.facts n ≡ Some (Some there) = got s.facts n f h e ∙ ap (λ (f : Fact). Some f) i in
-    subst (λ (t : State). Joins s t (to_slot n k)) (sym r) (joins_raised s n k (meet there k) (Some there) at (joined_again there k l c))
+pub join_same : (s : State) (n : ℕ) (k there : Known) → flat_option (slice_get s.facts n) ≡ Some there → length there ≡ length k → count (meet there k) ≡ count there → Joins s s (to_slot n k)
+join_same s n k there e l c = joins_same s n k there (at_some (slice_get s.facts n) there e) (within_same there k l c)
+
+pub join_again : (s later : State) (n : ℕ) (k there m : Known) → flat_option (slice_get s.facts n) ≡ Some there → length there ≡ length k → count (meet there k) ≢ count there → m ≡ meet there k → later ≡ raised s n m → Joins s later (to_slot n k)
+join_again s later n k there m e l c i r =
+    subst (λ (t : State). Joins s t (to_slot n k)) (sym (r ∙ ap (λ (x : Known). raised s n x) i))
+    (joins_raised s n k (meet there k) (Some there) (at_some (slice_get s.facts n) there e) (joined_again there k l c))
 
 outside_low : (fs : Facts) (z : ℤ) → z <ℤ pos 0 → fact_at fs z ≡ None
 outside_low fs (pos n) h = absurd (omega (arith, ints))

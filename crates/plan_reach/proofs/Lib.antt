@@ -4,3 +4,4 @@ pub mod Joining
 pub mod Following
 pub mod Settling
 pub mod Visiting
+pub mod Options

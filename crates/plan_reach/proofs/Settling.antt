@@ -5,7 +5,7 @@ use Rattle.std.proofs.lemmas.List.{length-replicate}
 use Rattle.ebpf_items.specs.declared.instruction.bpf_insn.{bpf_insn}
 use Rattle.plan_reach.specs.Known.{Known, nothing, IsWithin}
 use Rattle.plan_reach.specs.Reach.{Facts, IsMet, AllMet, ways_from, ways_at, IsClosed, IsBelow, IsLeast}
-use Rattle.plan_reach.specs.Work.{State, Has, first_state, effort, rank, Joins, IsUnderway}
+use Rattle.plan_reach.specs.Work.{State, Has, first_state, no_facts, effort, rank, Joins, IsUnderway}
 use Rattle.plan_reach.proofs.Within.{within_refl}
 use Rattle.plan_reach.proofs.Flows.{ways_within}
 use Rattle.plan_reach.proofs.Joining.{met_after_at, all_after, has_split}
@@ -84,9 +84,6 @@ least_found code state e u = record {
 }
 
 -- the beginning
-
-abbrev no_facts : ℕ → Facts
-no_facts n = replicate n None
 
 unreached : (n k : ℕ) → (slice_get (no_facts n) k ≡ None) ⊎ (slice_get (no_facts n) k ≡ Some None)
 unreached zero k = inl refl

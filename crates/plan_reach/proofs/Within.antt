@@ -2,6 +2,7 @@
 use Rattle.std.proofs.Common.{◌≡◌, ℕ, zero, suc, ◌+◌, ◌<◌, ◌≤◌, Bool, true, false, cond, [], ◌∷◌, ◌++◌, length, get_or, set, take, drop, Option, Some, None, refl, sym, ap, ◌∙◌, subst, arith, eqb, eqb-true, eq-eqb, add-one}
 use Rattle.std.specs.Prelude.{is_some}
 use Rattle.std.proofs.lemmas.List.Sums.{sum_by-cons}
+use Rattle.std.proofs.lemmas.Grind.{common_steps}
 use Rattle.plan_reach.specs.Known.{Known, value_in, SaysNoMore, IsWithin, agreed, meet}
 use Rattle.plan_reach.specs.Work.{count}
 
@@ -134,3 +135,9 @@ meet_step a b m i x e h p q f =
     ap (λ (o : Option ℕ). set m i o) f
     ∙ (ap (λ (r : Known). set r i (agreed (get_or r i None) (get_or b i None))) e
     ∙ (meet_next a b i (omega arith) (p ∙ sym q) ∙ ap (λ (k : ℕ). meet (take k a) b ++ drop k a) (sym (add-one i))))
+
+pub meet_done : (a b m : Known) (i : ℕ) → m ≡ meet (take i a) b ++ drop i a → length a ≤ i → m ≡ meet a b
+meet_done a b m i e h = grind (arith, common_steps)
+
+pub agreed_is : (x y x' y' z : Option ℕ) → z ≡ agreed x y → x ≡ x' → y ≡ y' → z ≡ agreed x' y'
+agreed_is x y x' y' z e p q = e ∙ (ap (λ (o : Option ℕ). agreed o y) p ∙ ap (λ (o : Option ℕ). agreed x' o) q)

@@ -11,6 +11,12 @@ use Rattle.function_layout.specs.Layout.{flat_option}
 abbrev pub Known : Type 0
 Known = List (Option ℕ)
 
+-- the values of those that are known
+abbrev pub options : List ℕ → List Bool → Known
+options [] tests = []
+options (value ∷ values) [] = []
+options (value ∷ values) (test ∷ tests) = (if test then Some value else None) ∷ options values tests
+
 abbrev pub nothing : Known
 nothing = replicate 11 None
 

@@ -21,10 +21,13 @@ raised state slot known =
       pending = state.pending ++ slot ∷ [];
     }
 
+abbrev pub no_facts : ℕ → Facts
+no_facts len = replicate len None
+
 -- of so many slots the first is reached with nothing known
 abbrev pub first_state : ℕ → State
 first_state zero = record { facts = []; pending = [] }
-first_state (suc n) = raised (record { facts = replicate (suc n) None; pending = [] }) 0 nothing
+first_state (suc n) = raised (record { facts = no_facts (suc n); pending = [] }) 0 nothing
 
 abbrev pub Has : List ℕ → ℕ → Type 0
 Has [] slot = ⊥

@@ -6,7 +6,7 @@ ghost use Rattle.function_layout.specs.Machines.{is_jump, move_of, By};
 ghost use Rattle.ebpf_items.specs.Instruction.{is_pseudo_call};
 ghost use Rattle.plan_reach.specs.Flow.{compared, outcome, source_in, decided, allows, is_callback};
 
-use crate::known::{Known, value_in};
+use crate::known::Registers;
 use ebpf_items::bpf_insn;
 
 /// Whether a comparison of two numbers holds, by the operation of the jump: `x` and `y` are the
@@ -54,21 +54,21 @@ fn outcome(code: u8, x: u64, y: u64) -> Option<bool>
     None
 }
 
-fn source_in(slot: bpf_insn, known: &Known) -> Option<u64>
+fn source_in(slot: bpf_insn, known: &Registers) -> Option<u64>
     ensures { result ≡ source_in slot known.now }
 {
     if slot.code / 8 % 2 == 1 {
-        value_in(known, slot.src_reg())
+        known.value(slot.src_reg() as usize)
     } else {
         Some(i64::from(slot.imm).cast_unsigned())
     }
 }
 
 /// Whether a conditional jump is taken, where both operands are known.
-pub(crate) fn decided(slot: bpf_insn, known: &Known) -> Option<bool>
+pub(crate) fn decided(slot: bpf_insn, known: &Registers) -> Option<bool>
     ensures { result ≡ decided slot known.now }
 {
-    let Some(x) = value_in(known, slot.dst_reg()) else {
+    let Some(x) = known.value(slot.dst_reg() as usize) else {
         return None;
     };
     let Some(y) = source_in(slot, known) else {

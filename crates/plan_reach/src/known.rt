@@ -1,29 +1,90 @@
 //! What is known of the registers.
 
-ghost use Rattle.std.specs.Prelude.{◌≡◌, length, slice_set};
+ghost use Rattle.std.specs.Prelude.{◌≡◌, length, count_by, slice_set};
 ghost use Rattle.plan_reach.specs.Known.{agreed, meet, value_in, constant_of, wide_constant, writes_destination, is_atomic, after, after_call, nothing};
 ghost use Rattle.plan_reach.specs.Work.{count};
 
 use ebpf_items::bpf_insn;
+use std::marker::Model;
 
 /// The number of registers.
-pub(crate) const REGISTERS: usize = 11;
+const REGISTERS: usize = 11;
 
 /// The number that each register holds, where it is known.
-pub(crate) type Known = [Option<u64>; 11];
-
-/// Nothing is known.
-pub(crate) fn nothing() -> Known
-    ensures { result ≡ nothing }
-{
-    [None; REGISTERS]
+#[derive(Debug, Drop)]
+pub(crate) struct Registers {
+    values: [u64; REGISTERS],
+    // Beside the values, in place of an `Option` for each, these take an eighth of the memory.
+    is_known: [bool; REGISTERS],
 }
 
-/// What is known of a register.
-pub(crate) fn value_in(known: &Known, register: u8) -> Option<u64>
-    ensures { result ≡ value_in known.now register }
+impl Model for Registers {
+    ghost use Rattle.std.specs.Prelude.{ℕ, List, Option};
+    ghost use Rattle.plan_reach.specs.Known.{options};
+
+    ghost Value = { List (Option ℕ) };
+
+    ghost view = { λ r. options r.values r.is_known };
+}
+
+impl Registers {
+    /// Nothing is known.
+    pub(crate) fn unknown() -> Registers
+        ensures { result ≡ nothing }
+    {
+        Registers {
+            values: [0; REGISTERS],
+            is_known: [false; REGISTERS],
+        }
+    }
+
+    /// What is known of a register.
+    pub(crate) fn value(&self, register: usize) -> Option<u64>
+        ensures value { result ≡ value_in self.now register }
+        ensures size { length self.now ≡ 11 }
+    {
+        let is_known = &self.is_known;
+        if register >= REGISTERS {
+            return None;
+        }
+        if is_known[register] {
+            return Some(self.values[register]);
+        }
+        None
+    }
+
+    fn set(&mut self, register: usize, value: Option<u64>)
+        ensures { self.new ≡ slice_set self.old register value }
+    {
+        if register < REGISTERS {
+            self.values[register] = value.unwrap_or(0);
+            self.is_known[register] = value.is_some();
+        }
+    }
+
+    /// The same again.
+    pub(crate) fn copy(&self) -> Registers
+        ensures value { result ≡ self.now }
+        ensures size { length self.now ≡ 11 }
+    {
+        Registers {
+            values: self.values,
+            is_known: self.is_known,
+        }
+    }
+
+    /// How many registers are known.
+    pub(crate) fn count(&self) -> usize
+        ensures { result ≡ count self.now }
+    {
+        count_true(&self.is_known)
+    }
+}
+
+fn count_true(tests: &[bool]) -> usize
+    ensures { result ≡ count_by (λ test. test) tests.now }
 {
-    known.get(register as usize).copied().flatten()
+    tests.iter().filter(|test| **test).count()
 }
 
 fn agreed(a: Option<u64>, b: Option<u64>) -> Option<u64>
@@ -36,31 +97,26 @@ fn agreed(a: Option<u64>, b: Option<u64>) -> Option<u64>
 }
 
 /// What is known where two ways come together.
-pub(crate) fn meet(a: &Known, b: &Known) -> Known
+pub(crate) fn meet(a: &Registers, b: &Registers) -> Registers
     ensures value { result ≡ meet a.now b.now }
-    ensures size { length a.now ≡ length b.now }
+    ensures left { length a.now ≡ 11 }
+    ensures right { length b.now ≡ 11 }
 {
-    let mut met = *a;
+    let mut met = a.copy();
+    // A look at a field tells the proof how many registers there are.
+    let _ = &b.values;
     for i in 0..REGISTERS {
-        met[i] = agreed(met[i], b[i]);
+        let value = agreed(met.value(i), b.value(i));
+        met.set(i, value);
     }
     met
 }
 
-/// How many registers are known.
-pub(crate) fn count(known: &Known) -> usize
-    ensures { result ≡ count known.now }
-{
-    known.iter().filter(|value| value.is_some()).count()
-}
-
-fn set(known: &Known, register: u8, value: Option<u64>) -> Known
+fn with_value(known: &Registers, register: usize, value: Option<u64>) -> Registers
     ensures { result ≡ slice_set known.now register value }
 {
-    let mut new = *known;
-    if (register as usize) < REGISTERS {
-        new[register as usize] = value;
-    }
+    let mut new = known.copy();
+    new.set(register, value);
     new
 }
 
@@ -104,34 +160,36 @@ fn is_atomic(code: u8) -> bool
     code % 8 == 3 && code / 32 == 6
 }
 
-fn after_call(known: &Known) -> Known
+fn after_call(known: &Registers) -> Registers
     ensures { result ≡ after_call known.now }
 {
-    let mut new = *known;
-    new[0] = None;
-    new[1] = None;
-    new[2] = None;
-    new[3] = None;
-    new[4] = None;
-    new[5] = None;
+    let mut new = known.copy();
+    new.set(0, None);
+    new.set(1, None);
+    new.set(2, None);
+    new.set(3, None);
+    new.set(4, None);
+    new.set(5, None);
     new
 }
 
 /// What is known after a slot; `next` is the slot that follows it.
-pub(crate) fn after(slot: bpf_insn, next: Option<bpf_insn>, known: &Known) -> Known
+pub(crate) fn after(slot: bpf_insn, next: Option<bpf_insn>, known: &Registers) -> Registers
     ensures { result ≡ after slot next known.now }
 {
     if slot.code == 0x85 {
         return after_call(known);
     }
     if writes_destination(slot.code) {
-        return set(known, slot.dst_reg(), constant_of(slot, next));
+        return with_value(known, slot.dst_reg() as usize, constant_of(slot, next));
     }
     if slot.code % 8 == 0 {
-        return nothing();
+        return Registers::unknown();
     }
     if is_atomic(slot.code) {
-        return set(&set(known, slot.src_reg(), None), 0, None);
+        let mut new = with_value(known, slot.src_reg() as usize, None);
+        new.set(0, None);
+        return new;
     }
-    *known
+    known.copy()
 }

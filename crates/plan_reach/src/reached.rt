@@ -4,7 +4,7 @@ ghost use Rattle.std.specs.Prelude.{◌≡◌, ◌↔◌, IfOk, IsTrue};
 ghost use Rattle.plan_reach.specs.Reach.{IsLeast, IsReached, decision_at};
 
 use crate::flow::decided;
-use crate::known::Known;
+use crate::known::Registers;
 use crate::work::{fact_of, least_facts, slot_at};
 use ebpf_items::bpf_insn;
 use std::alloc::{AllocError, Global};
@@ -14,7 +14,7 @@ use std::marker::Model;
 #[derive(Debug, Drop)]
 pub struct Reach {
     code: Vec<bpf_insn>,
-    facts: Vec<Option<Known>>,
+    facts: Vec<Option<Registers>>,
 }
 
 impl Model for Reach {

@@ -5,37 +5,46 @@ ghost use Rattle.function_layout.specs.Layout.{flat_option};
 ghost use Rattle.function_layout.specs.Machines.{Call, move_of};
 ghost use Rattle.plan_reach.specs.Flow.{moved, branch, callback, ways_of};
 ghost use Rattle.plan_reach.specs.Reach.{ways_at, IsLeast};
-ghost use Rattle.plan_reach.specs.Work.{state_of, first_state, raised, Joins, IsUnderway};
+ghost use Rattle.plan_reach.specs.Work.{state_of, first_state, no_facts, raised, Joins, IsUnderway};
 
 use crate::flow::{allows, decided, distance, is_callback};
-use crate::known::{Known, after, count, meet, nothing};
+use crate::known::{Registers, after, meet};
 use ebpf_items::bpf_insn;
 use std::alloc::{AllocError, Global};
 
 /// What is known at each slot so far, and the slots whose ways are still to be followed.
 #[derive(Debug, Drop)]
 pub(crate) struct Work {
-    facts: Vec<Option<Known>>,
+    facts: Vec<Option<Registers>>,
     pending: Vec<usize>,
+}
+
+fn unreached(alloc: Global, len: usize) -> Result<Vec<Option<Registers>>, AllocError>
+    ensures { IfOk result (λ facts. facts.items ≡ no_facts len) }
+{
+    let mut facts = Vec::with_capacity(alloc, len)?;
+    while facts.len() < len {
+        facts.push(None)?;
+    }
+    Ok(facts)
 }
 
 /// The first slot is reached with nothing known.
 fn started(alloc: Global, len: usize) -> Result<Work, AllocError>
     ensures { IfOk result (λ work. state_of work ≡ first_state len) }
 {
-    let facts: Vec<Option<Known>> = vec![in alloc; None; len]?;
     let mut work = Work {
-        facts,
+        facts: unreached(alloc, len)?,
         pending: Vec::new(alloc),
     };
     if len > 0 {
-        raise(&mut work, 0, nothing())?;
+        raise(&mut work, 0, Registers::unknown())?;
     }
     Ok(work)
 }
 
 /// Writes what is known at a slot, and puts the slot on the list.
-fn raise(work: &mut Work, slot: usize, known: Known) -> Result<(), AllocError>
+fn raise(work: &mut Work, slot: usize, known: Registers) -> Result<(), AllocError>
     requires { slot < length work.old.facts.items }
     ensures { OnOk result (state_of work.new ≡ raised (state_of work.old) slot known) }
 {
@@ -45,16 +54,16 @@ fn raise(work: &mut Work, slot: usize, known: Known) -> Result<(), AllocError>
 }
 
 /// A slot is reached with what is known, or with less where it was reached before.
-fn join(work: &mut Work, slot: usize, known: &Known) -> Result<(), AllocError>
+fn join(work: &mut Work, slot: usize, known: &Registers) -> Result<(), AllocError>
     requires { slot < length work.old.facts.items }
     ensures { OnOk result (Joins (state_of work.old) (state_of work.new)
         (record { to = pos slot; known = known.now } ∷ [])) }
 {
-    match work.facts[slot] {
-        None => raise(work, slot, *known),
+    match fact_of(&work.facts, slot) {
+        None => raise(work, slot, known.copy()),
         Some(there) => {
             let met = meet(&there, known);
-            if count(&met) == count(&there) {
+            if met.count() == there.count() {
                 return Ok(());
             }
             raise(work, slot, met)
@@ -63,7 +72,7 @@ fn join(work: &mut Work, slot: usize, known: &Known) -> Result<(), AllocError>
 }
 
 /// The same at a place that may be outside.
-fn join_at(work: &mut Work, to: i128, known: &Known) -> Result<(), AllocError>
+fn join_at(work: &mut Work, to: i128, known: &Registers) -> Result<(), AllocError>
     ensures { OnOk result (Joins (state_of work.old) (state_of work.new)
         (record { to = to; known = known.now } ∷ [])) }
 {
@@ -80,13 +89,13 @@ fn follow_call(
     work: &mut Work,
     slot: bpf_insn,
     position: usize,
-    known: &Known,
+    known: &Registers,
 ) -> Result<(), AllocError>
     ensures { OnOk result (Joins (state_of work.old) (state_of work.new)
         (moved Call slot position known.now)) }
 {
     let next = position as i128 + 1;
-    join_at(work, next + slot.imm as i128, &nothing())?;
+    join_at(work, next + slot.imm as i128, &Registers::unknown())?;
     join_at(work, next, known)
 }
 
@@ -94,7 +103,7 @@ fn follow_move(
     work: &mut Work,
     slot: bpf_insn,
     position: usize,
-    known: &Known,
+    known: &Registers,
     taken: bool,
 ) -> Result<(), AllocError>
     ensures { OnOk result (Joins (state_of work.old) (state_of work.new)
@@ -114,7 +123,7 @@ fn follow_branch(
     work: &mut Work,
     slot: bpf_insn,
     position: usize,
-    known: &Known,
+    known: &Registers,
     decision: Option<bool>,
     taken: bool,
 ) -> Result<(), AllocError>
@@ -133,7 +142,7 @@ fn follow_callback(work: &mut Work, slot: bpf_insn, position: usize) -> Result<(
 {
     if is_callback(slot) {
         let to = position as i128 + 1 + slot.imm as i128;
-        return join_at(work, to, &nothing());
+        return join_at(work, to, &Registers::unknown());
     }
     Ok(())
 }
@@ -144,7 +153,7 @@ fn follow(
     slot: bpf_insn,
     next: Option<bpf_insn>,
     position: usize,
-    known: &Known,
+    known: &Registers,
 ) -> Result<(), AllocError>
     ensures { OnOk result (Joins (state_of work.old) (state_of work.new)
         (ways_of slot next position known.now)) }
@@ -171,10 +180,13 @@ fn slot_after(code: &[bpf_insn], position: usize) -> Option<bpf_insn>
     slot_at(code, position + 1)
 }
 
-pub(crate) fn fact_of(facts: &[Option<Known>], position: usize) -> Option<Known>
+pub(crate) fn fact_of(facts: &[Option<Registers>], position: usize) -> Option<Registers>
     ensures { result ≡ flat_option (slice_get facts.now position) }
 {
-    facts.get(position).copied().flatten()
+    match facts.get(position) {
+        Some(Some(known)) => Some(known.copy()),
+        _ => None,
+    }
 }
 
 /// Follows each way from a position, if it is reached.
@@ -207,7 +219,7 @@ fn settle(work: &mut Work, code: &[bpf_insn]) -> Result<(), AllocError>
 pub(crate) fn least_facts(
     alloc: Global,
     code: &[bpf_insn],
-) -> Result<Vec<Option<Known>>, AllocError>
+) -> Result<Vec<Option<Registers>>, AllocError>
     ensures { IfOk result (λ facts. IsLeast code.now facts.items) }
 {
     let mut work = started(alloc, code.len())?;

@@ -3,7 +3,4 @@ use Rattle.plan_reach.specs.Known.{meet}
 use Rattle.plan_reach.proofs.known.meet.Given as goal
 
 abbrev pub invariant-loop-i : goal.invariant-loop-i
-invariant-loop-i l = record {
-  so_far : l.met ≡ meet (take l.i l.a) l.b ++ drop l.i l.a;
-  size : length l.met ≡ 11;
-}
+invariant-loop-i l = l.met ≡ meet (take l.i l.a) l.b ++ drop l.i l.a

@@ -9,5 +9,5 @@ use Rattle.plan_reach.proofs.work.follow_call.Goals as goal
 pub returns : goal.returns
 returns c =
     on_ok_weaker c.join_at-2.result
-    (λ j. join_pair (state_of c.args.work.now) (state_of c.join_at.new.work) (state_of c.join_at-2.new.work) _ _ _ _ c.nothing.result nothing c.args.known.now (omega (arith, ints)) (omega (arith, ints)) c.nothing.ensures c.in_ok-join_at.ensures j)
+    (λ j. join_pair (state_of c.args.work.now) (state_of c.join_at.new.work) (state_of c.join_at-2.new.work) _ _ _ _ c.unknown.result nothing c.args.known.now (omega (arith, ints)) (omega (arith, ints)) c.unknown.ensures c.in_ok-join_at.ensures j)
     c.join_at-2.ensures
