@@ -14,7 +14,7 @@ const REGISTERS: usize = 11;
 #[derive(Debug, Drop)]
 pub(crate) struct Registers {
     values: [u64; REGISTERS],
-    // Beside the values, in place of an `Option` for each, these take an eighth of the memory.
+    // Marks beside the values take less memory than an `Option` for each.
     is_known: [bool; REGISTERS],
 }
 

@@ -1,4 +1,4 @@
-use Rattle.std.proofs.Common.{◌≡◌, ◌≤◌, length, sym, ap, ◌∙◌, arith}
+use Rattle.std.proofs.Common.{◌≡◌, ◌≤◌, length, ◌∙◌, arith}
 use Rattle.plan_reach.proofs.Within.{agreed_is, meet_step, meet_done}
 use Rattle.plan_reach.proofs.Options.{options_size, value_get}
 use Rattle.plan_reach.proofs.known.meet.Goals as goal

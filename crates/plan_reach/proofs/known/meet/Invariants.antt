@@ -1,4 +1,4 @@
-use Rattle.std.proofs.Common.{◌≡◌, ◌++◌, take, drop, length}
+use Rattle.std.proofs.Common.{◌≡◌, ◌++◌, take, drop}
 use Rattle.plan_reach.specs.Known.{meet}
 use Rattle.plan_reach.proofs.known.meet.Given as goal
 

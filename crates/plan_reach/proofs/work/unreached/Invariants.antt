@@ -1,4 +1,4 @@
-use Rattle.std.proofs.Common.{◌≡◌, ◌≤◌, ◌-◌, length, vec_len}
+use Rattle.std.proofs.Common.{◌≡◌, ◌≤◌, ◌-◌, vec_len}
 use Rattle.plan_reach.specs.Work.{no_facts}
 use Rattle.plan_reach.proofs.work.unreached.Given as goal
 
