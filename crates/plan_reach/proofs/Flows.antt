@@ -6,7 +6,7 @@ use Rattle.function_layout.specs.Machines.{Move, Leave, Call, By, move_of}
 use Rattle.plan_reach.specs.Known.{Known, nothing, SaysNoMore, IsWithin, constant_of, writes_destination, is_atomic, after_call, after}
 use Rattle.plan_reach.specs.Flow.{Way, outcome, outcome_of, source_in, decided, moved, allows, branch, callback, ways_of}
 use Rattle.plan_reach.specs.Reach.{Facts, IsMet, AllMet}
-use Rattle.plan_reach.proofs.Within.{says_refl, within_refl, within_trans, within_set, within_value}
+use Rattle.plan_reach.proofs.Within.{says_refl, within_drop, within_refl, within_trans, within_set, within_value}
 
 -- what is known after a slot
 
@@ -15,8 +15,7 @@ within_cond true a b c d p q = p
 within_cond false a b c d p q = q
 
 within_after_call : (a b : Known) → IsWithin a b → IsWithin (after_call a) (after_call b)
-within_after_call a b p =
-    within_set _ _ 5 None None (within_set _ _ 4 None None (within_set _ _ 3 None None (within_set _ _ 2 None None (within_set _ _ 1 None None (within_set a b 0 None None p tt) tt) tt) tt) tt) tt
+within_after_call a b p = (tt, (tt, (tt, (tt, (tt, (tt, within_drop a b 6 p))))))
 
 pub within_after : (s : bpf_insn) (next : Option bpf_insn) (a b : Known) → IsWithin a b → IsWithin (after s next a) (after s next b)
 within_after s next a b p =

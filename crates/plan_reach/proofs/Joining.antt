@@ -6,7 +6,8 @@ use Rattle.std.specs.Prelude.{slice_get, is_some}
 use Rattle.std.proofs.lemmas.List.Sums.{sum_by-set, count_by-le-length}
 use Rattle.std.proofs.lemmas.Option.{slice_get_within, slice_get_past, get_or_from_slice_get}
 use Rattle.function_layout.specs.Layout.{flat_option}
-use Rattle.plan_reach.specs.Known.{Known, IsWithin, meet}
+use Rattle.plan_reach.specs.Known.{Known, IsWithin}
+use Rattle.plan_reach.specs.Registers.{meet}
 use Rattle.plan_reach.specs.Flow.{Way}
 use Rattle.plan_reach.specs.Reach.{Facts, IsMet, fact_at, AllMet, IsBelow}
 use Rattle.plan_reach.specs.Work.{State, raised, Has, count, rank, effort, Joins}

@@ -1,10 +1,11 @@
 -- The known values of registers, by values and tests beside each other.
-use Rattle.std.proofs.Common.{◌≡◌, ℕ, zero, suc, ◌+◌, ◌<◌, ◌≤◌, Bool, true, false, cond, List, [], ◌∷◌, length, get_or, set, Option, Some, None, refl, sym, ap, ◌∙◌, arith}
+use Rattle.std.proofs.Common.{◌≡◌, ◌++◌, drop, replicate, ℕ, zero, suc, ◌+◌, ◌<◌, ◌≤◌, Bool, true, false, cond, List, [], ◌∷◌, length, get_or, set, Option, Some, None, refl, sym, ap, ◌∙◌, arith}
 use Rattle.std.specs.Prelude.{is_some, unwrap_or, count_by}
 use Rattle.std.proofs.lemmas.List.Sums.{sum_by-cons}
 use Rattle.std.proofs.lemmas.Option.{slice_get_past}
 use Rattle.function_layout.specs.Layout.{flat_option}
-use Rattle.plan_reach.specs.Known.{Known, options, value_in}
+use Rattle.plan_reach.specs.Known.{Known, value_in}
+use Rattle.plan_reach.specs.Registers.{options}
 use Rattle.plan_reach.specs.Work.{count}
 
 tails : {A B : Type 0} → (x : A) (y : B) (xs : List A) (ys : List B) → length (x ∷ xs) ≡ length (y ∷ ys) → length xs ≡ length ys
@@ -83,3 +84,12 @@ pub value_get : (k : Known) (r : ℕ) → value_in k r ≡ get_or k r None
 value_get [] r = refl
 value_get (x ∷ xs) zero = refl
 value_get (x ∷ xs) (suc r) = value_get xs r
+
+pub forgets : (k : Known) → length k ≡ 11 → set (set (set (set (set (set k 0 None) 1 None) 2 None) 3 None) 4 None) 5 None ≡ replicate 6 None ++ drop 6 k
+forgets [] e = absurd (omega arith)
+forgets (a ∷ []) e = absurd (omega arith)
+forgets (a ∷ b ∷ []) e = absurd (omega arith)
+forgets (a ∷ b ∷ c ∷ []) e = absurd (omega arith)
+forgets (a ∷ b ∷ c ∷ d ∷ []) e = absurd (omega arith)
+forgets (a ∷ b ∷ c ∷ d ∷ f ∷ []) e = absurd (omega arith)
+forgets (a ∷ b ∷ c ∷ d ∷ f ∷ g ∷ ks) e = refl

@@ -3,7 +3,8 @@ use Rattle.std.proofs.Common.{◌≡◌, ℕ, zero, suc, ◌+◌, ◌<◌, ◌�
 use Rattle.std.specs.Prelude.{is_some}
 use Rattle.std.proofs.lemmas.List.Sums.{sum_by-cons}
 use Rattle.std.proofs.lemmas.Grind.{common_steps}
-use Rattle.plan_reach.specs.Known.{Known, value_in, SaysNoMore, IsWithin, agreed, meet}
+use Rattle.plan_reach.specs.Known.{Known, value_in, SaysNoMore, IsWithin}
+use Rattle.plan_reach.specs.Registers.{agreed, meet}
 use Rattle.plan_reach.specs.Work.{count}
 
 -- the order
@@ -33,6 +34,13 @@ within_set [] (t ∷ ts) i x y p q = absurd p
 within_set (s ∷ ss) [] i x y p q = absurd p
 within_set (s ∷ ss) (t ∷ ts) zero x y p q = (q, p.1)
 within_set (s ∷ ss) (t ∷ ts) (suc i) x y p q = (p.0, within_set ss ts i x y p.1 q)
+
+pub within_drop : (a b : Known) (n : ℕ) → IsWithin a b → IsWithin (drop n a) (drop n b)
+within_drop a b zero p = p
+within_drop [] [] (suc n) p = tt
+within_drop [] (t ∷ ts) (suc n) p = absurd p
+within_drop (s ∷ ss) [] (suc n) p = absurd p
+within_drop (s ∷ ss) (t ∷ ts) (suc n) p = within_drop ss ts n p.1
 
 pub within_value : (a b : Known) (r : ℕ) → IsWithin a b → SaysNoMore (value_in a r) (value_in b r)
 within_value [] [] r p = tt

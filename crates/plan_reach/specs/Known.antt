@@ -1,6 +1,6 @@
 -- What is known of the registers before a slot runs, and after it (kernel documentation,
 -- instruction-set.rst, Arithmetic instructions and 64-bit immediate instructions).
-use Rattle.std.specs.Prelude.{◌≡◌, ℕ, ◌+◌, ◌*◌, ◌/◌, ◌%◌, ◌^◌, ◌==◌, ◌&&◌, ◌||◌, Bool, if◌then◌else◌, List, [], ◌∷◌, Option, Some, None, slice_get, slice_set, replicate, ℤ}
+use Rattle.std.specs.Prelude.{◌≡◌, ℕ, ◌+◌, ◌*◌, ◌/◌, ◌%◌, ◌^◌, ◌==◌, ◌&&◌, ◌||◌, Bool, if◌then◌else◌, List, [], ◌∷◌, Option, Some, None, slice_get, slice_set, replicate, drop, ◌++◌, ℤ}
 use Rattle.std.specs.Int.{w32, w64, cast_unsigned}
 use Rattle.ebpf_items.specs.declared.instruction.bpf_insn.{bpf_insn}
 use Rattle.ebpf_items.specs.Instruction.{dst_reg_of, src_reg_of}
@@ -10,12 +10,6 @@ use Rattle.function_layout.specs.Layout.{flat_option}
 -- known
 abbrev pub Known : Type 0
 Known = List (Option ℕ)
-
--- the values of those that are known
-abbrev pub options : List ℕ → List Bool → Known
-options [] tests = []
-options (value ∷ values) [] = []
-options (value ∷ values) (test ∷ tests) = (if test then Some value else None) ∷ options values tests
 
 abbrev pub nothing : Known
 nothing = replicate 11 None
@@ -34,17 +28,6 @@ IsWithin [] [] = Unit {0}
 IsWithin [] (b ∷ ns) = ⊥
 IsWithin (a ∷ ms) [] = ⊥
 IsWithin (a ∷ ms) (b ∷ ns) = SaysNoMore a b × IsWithin ms ns
-
-abbrev pub agreed : Option ℕ → Option ℕ → Option ℕ
-agreed None b = None
-agreed (Some m) None = None
-agreed (Some m) (Some n) = if m == n then Some m else None
-
--- what is known where two ways come together
-abbrev pub meet : Known → Known → Known
-meet [] ns = []
-meet (a ∷ ms) [] = []
-meet (a ∷ ms) (b ∷ ns) = agreed a b ∷ meet ms ns
 
 abbrev pub wide_constant : ℤ → Option bpf_insn → Option ℕ
 wide_constant imm None = None
@@ -68,14 +51,7 @@ is_atomic code = (code % 8 == 3) && (code / 32 == 6)
 
 -- a call keeps the registers from 6 on
 abbrev pub after_call : Known → Known
-after_call known =
-    slice_set
-    (slice_set
-    (slice_set (slice_set (slice_set (slice_set known 0 None) 1 None) 2 None) 3 None)
-    4
-    None)
-    5
-    None
+after_call known = replicate 6 None ++ drop 6 known
 
 -- what is known after a slot: an atomic may write its source register and register 0, and a packet
 -- access of the class LD any

@@ -1,7 +1,8 @@
 //! What is known of the registers.
 
 ghost use Rattle.std.specs.Prelude.{◌≡◌, length, count_by, slice_set};
-ghost use Rattle.plan_reach.specs.Known.{agreed, meet, value_in, constant_of, wide_constant, writes_destination, is_atomic, after, after_call, nothing};
+ghost use Rattle.plan_reach.specs.Known.{value_in, constant_of, wide_constant, writes_destination, is_atomic, after, after_call, nothing};
+ghost use Rattle.plan_reach.specs.Registers.{agreed, meet};
 ghost use Rattle.plan_reach.specs.Work.{count};
 
 use ebpf_items::bpf_insn;
@@ -20,7 +21,7 @@ pub(crate) struct Registers {
 
 impl Model for Registers {
     ghost use Rattle.std.specs.Prelude.{ℕ, List, Option};
-    ghost use Rattle.plan_reach.specs.Known.{options};
+    ghost use Rattle.plan_reach.specs.Registers.{options};
 
     ghost Value = { List (Option ℕ) };
 

@@ -13,7 +13,7 @@ use ebpf_items::bpf_insn;
 use std::alloc::{AllocError, Global};
 
 /// What is known at each slot so far, and the slots whose ways are still to be followed.
-#[derive(Debug, Drop)]
+#[derive(Drop)]
 pub(crate) struct Work {
     facts: Vec<Option<Registers>>,
     pending: Vec<usize>,

@@ -1,5 +1,5 @@
 use Rattle.std.proofs.Common.{◌≡◌, ◌++◌, take, drop}
-use Rattle.plan_reach.specs.Known.{meet}
+use Rattle.plan_reach.specs.Registers.{meet}
 use Rattle.plan_reach.proofs.known.meet.Given as goal
 
 abbrev pub invariant-loop-i : goal.invariant-loop-i
