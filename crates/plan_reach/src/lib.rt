@@ -2,8 +2,8 @@
 //!
 //! A compiler leaves of a question about the kernel's types a constant in a register and a jump
 //! that tests it, and the verifier prunes the side that the constant rules out. Constants are
-//! followed from slot to slot here, through moves of immediates and 64-bit immediates alone, so
-//! that a slot which isn't reached is one that no run visits.
+//! followed from slot to slot here, through moves of immediates and 64-bit immediates alone. A slot
+//! that isn't reached is one that no run visits which takes each jump as the constants decide it.
 #![tactic(auto)]
 
 ghost use Rattle.plan_reach.specs.Visits.{VisitsReached};
