@@ -1,0 +1,64 @@
+-- What is known of the registers before a slot runs, and after it (kernel documentation,
+-- instruction-set.rst, Arithmetic instructions and 64-bit immediate instructions).
+use Rattle.std.specs.Prelude.{◌≡◌, ℕ, ◌+◌, ◌*◌, ◌/◌, ◌%◌, ◌^◌, ◌==◌, ◌&&◌, ◌||◌, Bool, if◌then◌else◌, List, [], ◌∷◌, Option, Some, None, slice_get, slice_set, replicate, drop, ◌++◌, ℤ}
+use Rattle.std.specs.Int.{w32, w64, cast_unsigned}
+use Rattle.ebpf_items.specs.declared.instruction.bpf_insn.{bpf_insn}
+use Rattle.ebpf_items.specs.Instruction.{dst_reg_of, src_reg_of}
+use Rattle.function_layout.specs.Layout.{flat_option}
+
+-- of each of the registers 0 to 10 the unsigned number of 64 bits that it holds, where that is
+-- known
+abbrev pub Known : Type 0
+Known = List (Option ℕ)
+
+abbrev pub nothing : Known
+nothing = replicate 11 None
+
+abbrev pub value_in : Known → ℕ → Option ℕ
+value_in known register = flat_option (slice_get known register)
+
+-- a constant is known only where the same one is
+abbrev pub SaysNoMore : Option ℕ → Option ℕ → Type 0
+SaysNoMore None b = Unit {0}
+SaysNoMore (Some n) b = b ≡ Some n
+
+-- the first says no more of any register than the second
+abbrev pub IsWithin : Known → Known → Type 0
+IsWithin [] [] = Unit {0}
+IsWithin [] (b ∷ ns) = ⊥
+IsWithin (a ∷ ms) [] = ⊥
+IsWithin (a ∷ ms) (b ∷ ns) = SaysNoMore a b × IsWithin ms ns
+
+abbrev pub wide_constant : ℤ → Option bpf_insn → Option ℕ
+wide_constant imm None = None
+wide_constant imm (Some next) = Some (cast_unsigned w32 imm + 2 ^ 32 * cast_unsigned w32 next.imm)
+
+-- the constant that a slot leaves in its destination register: a move of an immediate of 64 or of
+-- 32 bits, or a load of both immediates
+abbrev pub constant_of : bpf_insn → Option bpf_insn → Option ℕ
+constant_of s next =
+    if s.code == 0xb7 then Some (cast_unsigned w64 s.imm)
+    else (if s.code == 0xb4 then Some (cast_unsigned w32 s.imm)
+    else (if s.code == 0x18 && src_reg_of s == 0 then wide_constant s.imm next
+    else None))
+
+-- the classes LDX, ALU and ALU64, and the load of a 64-bit immediate
+abbrev pub writes_destination : ℕ → Bool
+writes_destination code = (code == 0x18) || (code % 8 == 1) || (code % 8 == 4) || (code % 8 == 7)
+
+abbrev pub is_atomic : ℕ → Bool
+is_atomic code = (code % 8 == 3) && (code / 32 == 6)
+
+-- a call keeps the registers from 6 on
+abbrev pub after_call : Known → Known
+after_call known = replicate 6 None ++ drop 6 known
+
+-- what is known after a slot: an atomic may write its source register and register 0, and a packet
+-- access of the class LD any
+abbrev pub after : bpf_insn → Option bpf_insn → Known → Known
+after s next known =
+    if s.code == 0x85 then after_call known
+    else (if writes_destination s.code then slice_set known (dst_reg_of s) (constant_of s next)
+    else (if s.code % 8 == 0 then nothing
+    else (if is_atomic s.code then slice_set (slice_set known (src_reg_of s) None) 0 None
+    else known)))

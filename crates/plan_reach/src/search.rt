@@ -1,0 +1,19 @@
+//! The search for the slots that a run can come to.
+
+ghost use Rattle.std.specs.Prelude.{◌≡◌, IfOk};
+ghost use Rattle.plan_reach.specs.Reach.{IsLeast};
+
+use crate::reached::Reach;
+use ebpf_items::Slots;
+use std::alloc::{AllocError, Global};
+
+/// Finds the slots that a run can come to. A jump whose operands are constants counts as taken or
+/// not, as they say, and any other as both.
+pub fn reach(alloc: Global, slots: &Slots<'_>) -> Result<Reach, AllocError>
+    ensures slots { IfOk result (λ reach. reach.slots ≡ slots.now) }
+    ensures least { IfOk result (λ reach. IsLeast slots.now reach.facts) }
+{
+    let mut code = Vec::new(alloc);
+    slots.append_to(&mut code)?;
+    Reach::of(alloc, code)
+}
