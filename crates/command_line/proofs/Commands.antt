@@ -4,7 +4,7 @@ use Rattle.std.specs.List.{All, slice_index_or}
 use Rattle.std.specs.Str.{bytes_eq}
 use Rattle.std.proofs.lemmas.List.Elements.{All-push, All-nil}
 use Rattle.clap.specs.Built.{AddsArg, IsParsedFrom, IsPlain, IsPlainArg, TakesValue}
-use Rattle.clap.specs.Facts.{args_of, section_infos_of}
+use Rattle.clap.specs.Facts.{args_of, groups_of}
 use Rattle.clap.specs.Matches.{first_value, found_of}
 use Rattle.clap.specs.declared.builder.command.Command.TheViews.{out-Command}
 use Rattle.clap.specs.declared.builder.arg.Arg.{Arg}
@@ -31,11 +31,11 @@ with_option c d a t o added = record {
 }
 
 -- the first argument
-pub with_object : (c d : Command) (a : Arg) → args_of c ≡ [] → section_infos_of c ≡ [] → (out-Command c).has_globals ≡ false
+pub with_object : (c d : Command) (a : Arg) → args_of c ≡ [] → groups_of c ≡ [] → (out-Command c).has_globals ≡ false
     → (out-Command c).subcommand_negates_reqs ≡ false → IsPlainArg a → a.global ≡ false → TakesValue a → a.id.now ≡ codes "OBJECT"
     → AddsArg c a d → TakesObject d
-with_object c d a args section_infos globals negates plain global value id added =
-    let start-plain : IsPlain c = (subst (All IsPlainArg) (sym args) (All-nil IsPlainArg), section_infos) in
+with_object c d a args groups globals negates plain global value id added =
+    let start-plain : IsPlain c = (subst (All IsPlainArg) (sym args) (All-nil IsPlainArg), groups) in
     record {
       plain = added_plain c d a added start-plain plain;
       local = added.globals ∙ (ap (λ b. b || a.global) globals ∙ ap (λ b. false || b) global);

@@ -8,7 +8,7 @@ use Rattle.std.proofs.lemmas.List.Elements.{All-map, All-nil}
 use Rattle.std.proofs.lemmas.Slice.Eq.{bytes_eq-Decides}
 use Rattle.btf_records.specs.declared.feature.BtfFeature.{BtfFeature}
 use Rattle.clap.specs.Built.{IsAuto, IsParsedFrom}
-use Rattle.clap.specs.Facts.{args_of, section_infos_of, parser_of_value, EntryPasses, EntryValuesPass, IsSectionInfoEntry, IsKnownSectionInfo, PassesArg}
+use Rattle.clap.specs.Facts.{args_of, groups_of, parser_of_value, EntryPasses, EntryValuesPass, IsGroupEntry, IsKnownGroup, PassesArg}
 use Rattle.clap.specs.Matches.{found_of, matched_of, raw_values}
 use Rattle.clap.specs.Simple.{App, app_of}
 use Rattle.clap.specs.Values.{Accepts}
@@ -155,17 +155,17 @@ module _ (c : Command) (m : ArgMatches) (p : IsPrepareCommand (app_of c)) (t : T
       let by_case : Accepts false (parser_of_value x.value_parser) w = subst (λ b. Accepts b (parser_of_value x.value_parser) w) (same.ignore_case ∙ exact) passes.4.1 in
       is_accepted p.of_lacks.feature w p.of_lacks.features (subst (λ v. Accepts false (parser_of_value v) w) (same.parser p.of_lacks.feature parser) by_case)
 
-  no_section_info : (key : List ℕ) → key ≡ codes "deny" → IsKnownSectionInfo parsed.built key → ⊥
-  no_section_info key same (inl empty) = (differs key same).0 empty
-  no_section_info key same (inr has) =
-      let none : section_infos_of parsed.built ≡ [] = (parsed.from.plain t.plain).1 in
+  no_group : (key : List ℕ) → key ≡ codes "deny" → IsKnownGroup parsed.built key → ⊥
+  no_group key same (inl empty) = (differs key same).0 empty
+  no_group key same (inr has) =
+      let none : groups_of parsed.built ≡ [] = (parsed.from.plain t.plain).1 in
       let bad : 0 < 0 = rw none at has in
       absurd (omega arith)
 
-  values_pass : (key : Bor (List ℕ)) (a : MatchedArg) → key.now ≡ codes "deny" → IsSectionInfoEntry parsed.built (key, a) → EntryValuesPass parsed.built (key, a)
+  values_pass : (key : Bor (List ℕ)) (a : MatchedArg) → key.now ≡ codes "deny" → IsGroupEntry parsed.built (key, a) → EntryValuesPass parsed.built (key, a)
       → All (λ value. PassesArg parsed.built (codes "deny") value.now) a.vals.items
-  values_pass key a same section_infos (inl section_info) = absurd (no_section_info key.now same (section_infos section_info))
-  values_pass key a same section_infos (inr all) = subst (λ id. All (λ value. PassesArg parsed.built id value.now) a.vals.items) same all
+  values_pass key a same groups (inl group) = absurd (no_group key.now same (groups group))
+  values_pass key a same groups (inr all) = subst (λ id. All (λ value. PassesArg parsed.built id value.now) a.vals.items) same all
 
   found_pass : (a : MatchedArg) → matched_of (found_of m) (codes "deny") ≡ Some a → All (λ value. PassesArg parsed.built (codes "deny") value.now) a.vals.items
   found_pass a e =
