@@ -3,7 +3,7 @@ use Rattle.std.proofs.Common.{◌≡◌, ℕ, ◌/◌, ◌%◌, Bool, true, fals
 use Rattle.ebpf_items.specs.declared.instruction.bpf_insn.{bpf_insn}
 use Rattle.ebpf_items.specs.Instruction.{dst_reg_of, src_reg_of}
 use Rattle.function_layout.specs.Machines.{Move, Leave, Call, By, move_of}
-use Rattle.plan_reach.specs.Known.{Known, nothing, SaysNoMore, IsWithin, constant_of, writes_destination, is_atomic, after_call, after}
+use Rattle.plan_reach.specs.Known.{Known, nothing, SaysNoMore, IsWithin, constant_of, writes_destination, is_atomic, is_call, after_call, after}
 use Rattle.plan_reach.specs.Flow.{Way, outcome, outcome_of, source_in, decided, moved, allows, branch, callback, ways_of}
 use Rattle.plan_reach.specs.Reach.{Facts, IsMet, AllMet}
 use Rattle.plan_reach.proofs.Within.{says_refl, within_drop, within_refl, within_trans, within_set, within_value}
@@ -19,10 +19,10 @@ within_after_call a b p = (tt, (tt, (tt, (tt, (tt, (tt, within_drop a b 6 p)))))
 
 pub within_after : (s : bpf_insn) (next : Option bpf_insn) (a b : Known) → IsWithin a b → IsWithin (after s next a) (after s next b)
 within_after s next a b p =
-    within_cond (eqb s.code 0x85) _ _ _ _ (within_after_call a b p)
+    within_cond (is_call s.code) _ _ _ _ (within_after_call a b p)
     (within_cond (writes_destination s.code) _ _ _ _ (within_set a b (dst_reg_of s) (constant_of s next) (constant_of s next) p (says_refl (constant_of s next)))
     (within_cond (eqb (s.code % 8) 0) _ _ _ _ (within_refl nothing)
-    (within_cond (is_atomic s.code) _ _ a b (within_set _ _ 0 None None (within_set a b (src_reg_of s) None None p tt) tt) p)))
+    (within_cond (is_atomic s.code) _ _ a b (within_set _ _ 0 None None (within_set _ _ (src_reg_of s) None None (within_set a b (dst_reg_of s) None None p tt) tt) tt) p)))
 
 -- a decision
 

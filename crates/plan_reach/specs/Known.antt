@@ -33,7 +33,7 @@ abbrev pub wide_constant : ℤ → Option bpf_insn → Option ℕ
 wide_constant imm None = None
 wide_constant imm (Some next) = Some (cast_unsigned w32 imm + 2 ^ 32 * cast_unsigned w32 next.imm)
 
--- the constant that a slot leaves in its destination register: a move of an immediate of 64 or of
+-- the constant that a slot leaves in its destination register: a move of an immediate to 64 or to
 -- 32 bits, or a load of both immediates
 abbrev pub constant_of : bpf_insn → Option bpf_insn → Option ℕ
 constant_of s next =
@@ -53,12 +53,17 @@ is_atomic code = (code % 8 == 3) && (code / 32 == 6)
 abbrev pub after_call : Known → Known
 after_call known = replicate 6 None ++ drop 6 known
 
--- what is known after a slot: an atomic may write its source register and register 0, and a packet
+-- a call, of a number or by a register
+abbrev pub is_call : ℕ → Bool
+is_call code = (code == 0x85) || (code == 0x8d)
+
+-- what is known after a slot: an atomic may write both of its registers and register 0, and a packet
 -- access of the class LD any
 abbrev pub after : bpf_insn → Option bpf_insn → Known → Known
 after s next known =
-    if s.code == 0x85 then after_call known
+    if is_call s.code then after_call known
     else (if writes_destination s.code then slice_set known (dst_reg_of s) (constant_of s next)
     else (if s.code % 8 == 0 then nothing
-    else (if is_atomic s.code then slice_set (slice_set known (src_reg_of s) None) 0 None
+    else (if is_atomic s.code
+    then slice_set (slice_set (slice_set known (dst_reg_of s) None) (src_reg_of s) None) 0 None
     else known)))

@@ -9,7 +9,8 @@ use Rattle.plan_reach.specs.Flow.{Way, decided, ways_of}
 abbrev pub Facts : Type 0
 Facts = List (Option Known)
 
--- a slot is reached with no more known than comes along; outside the program nothing is
+-- a slot is reached with no more known than comes along; of a place outside the program nothing is
+-- asked
 abbrev pub IsMet : Option (Option Known) → Known → Type 0
 IsMet None known = Unit {0}
 IsMet (Some None) known = ⊥

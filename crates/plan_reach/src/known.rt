@@ -1,7 +1,7 @@
 //! What is known of the registers.
 
 ghost use Rattle.std.specs.Prelude.{◌≡◌, length, count_by, slice_set};
-ghost use Rattle.plan_reach.specs.Known.{value_in, constant_of, wide_constant, writes_destination, is_atomic, after, after_call, nothing};
+ghost use Rattle.plan_reach.specs.Known.{value_in, constant_of, wide_constant, writes_destination, is_atomic, is_call, after, after_call, nothing};
 ghost use Rattle.plan_reach.specs.Registers.{agreed, meet};
 ghost use Rattle.plan_reach.specs.Work.{count};
 
@@ -161,6 +161,12 @@ fn is_atomic(code: u8) -> bool
     code % 8 == 3 && code / 32 == 6
 }
 
+fn is_call(code: u8) -> bool
+    ensures { result ≡ is_call code }
+{
+    code == 0x85 || code == 0x8d
+}
+
 fn after_call(known: &Registers) -> Registers
     ensures { result ≡ after_call known.now }
 {
@@ -178,7 +184,7 @@ fn after_call(known: &Registers) -> Registers
 pub(crate) fn after(slot: bpf_insn, next: Option<bpf_insn>, known: &Registers) -> Registers
     ensures { result ≡ after slot next known.now }
 {
-    if slot.code == 0x85 {
+    if is_call(slot.code) {
         return after_call(known);
     }
     if writes_destination(slot.code) {
@@ -188,7 +194,8 @@ pub(crate) fn after(slot: bpf_insn, next: Option<bpf_insn>, known: &Registers) -
         return Registers::unknown();
     }
     if is_atomic(slot.code) {
-        let mut new = with_value(known, slot.src_reg() as usize, None);
+        let mut new = with_value(known, slot.dst_reg() as usize, None);
+        new.set(slot.src_reg() as usize, None);
         new.set(0, None);
         return new;
     }
