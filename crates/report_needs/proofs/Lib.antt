@@ -1,0 +1,3 @@
+pub mod FirstNamed
+pub mod Joined
+pub mod Variants
