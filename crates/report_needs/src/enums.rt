@@ -3,7 +3,7 @@
 ghost use Rattle.std.specs.Prelude.{◌≡◌};
 ghost use Rattle.std.specs.Int.{w64, cast_unsigned};
 ghost use Rattle.std.specs.Option.{option_copied, option_map};
-ghost use Rattle.report_needs.specs.Enums.{enum_of, ends_enum, func_ids, has_number, helper_name, helper_presence, map_presence, name_at_number, presence_at, presence_in, variant_32, variant_64, widened};
+ghost use Rattle.report_needs.specs.Enums.{enum_of, ends_enum, func_ids, has_number, helper_name, map_presence, name_at_number, presence_at, presence_in, variant_32, variant_64, widened};
 
 use crate::records::first_named;
 use btf_encoding::TypeRef;
@@ -32,7 +32,7 @@ pub(crate) fn enum_of(kernel: &Btf<'_>, enum_name: &str) -> Option<u32>
 
 /// Whether a variant's name begins with two underscores: it marks the end of its enum, as
 /// `__BPF_FUNC_MAX_ID`, and its value is no number that the kernel has.
-fn ends_enum(kernel: &Btf<'_>, name_offset: u32) -> bool
+pub(crate) fn ends_enum(kernel: &Btf<'_>, name_offset: u32) -> bool
     ensures { result ≡ ends_enum kernel.now name_offset }
 {
     match kernel.string_at(name_offset) {
@@ -42,7 +42,7 @@ fn ends_enum(kernel: &Btf<'_>, name_offset: u32) -> bool
 }
 
 /// A value of 32 bits as one of 64.
-fn widened(is_signed: bool, value: u32) -> u64
+pub(crate) fn widened(is_signed: bool, value: u32) -> u64
     ensures { result ≡ widened is_signed value }
 {
     if is_signed {
@@ -127,13 +127,6 @@ pub(crate) fn func_ids(kernel: &Btf<'_>) -> Option<u32>
     ensures { result ≡ func_ids kernel.now }
 {
     enum_of(kernel, "bpf_func_id")
-}
-
-/// Whether the helpers of `enum bpf_func_id`, which has this id, have a number.
-pub(crate) fn helper_presence(kernel: &Btf<'_>, id: Option<u32>, helper: i32) -> Presence
-    ensures { result ≡ helper_presence kernel.now id helper }
-{
-    presence_at(kernel, id, i64::from(helper).cast_unsigned())
 }
 
 /// Whether a kernel has maps of a type, a number of `enum bpf_map_type`.

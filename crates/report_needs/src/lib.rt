@@ -5,6 +5,7 @@
 mod enums;
 mod helpers;
 mod needs;
+mod numbers;
 mod records;
 mod targets;
 

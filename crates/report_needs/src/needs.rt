@@ -2,15 +2,17 @@
 
 ghost use Rattle.std.specs.Prelude.{◌≡◌, IfOk, map};
 ghost use Rattle.report_needs.specs.Enums.{func_ids};
-ghost use Rattle.report_needs.specs.Needs.{AreHelperNeeds, AreNeeds, attach_presence, helper_need, target_need, type_presence};
+ghost use Rattle.report_needs.specs.Needs.{AreHelperNeeds, AreNeeds, attach_presence, helper_need, told_need, target_need, type_presence};
 
-use crate::enums::{Presence, func_ids, helper_presence, presence_in};
+use crate::enums::{Presence, func_ids, presence_in};
 use crate::helpers::helpers_of;
+use crate::numbers::{known_presence, numbers_at};
 use crate::targets::{attach_target, find_target};
 use btf_tables::Btf;
 use ebpf_items::Slots;
 use program_kinds::{ProgramSection, load_attributes};
 use std::alloc::{AllocError, Global};
+use std::collections::BTreeSet;
 
 /// Whether a kernel has what a program is attached to.
 #[derive(Clone, Copy, Debug, PartialEq, Eq)]
@@ -72,17 +74,34 @@ fn attach_presence(kernel: &Btf<'_>, kind: &ProgramSection) -> Option<Presence>
     Some(presence_in(kernel, "bpf_attach_type", u64::from(number)))
 }
 
-/// Whether the kernel, whose helpers are in the enum of this id, has a helper.
-fn helper_need(kernel: &Btf<'_>, id: Option<u32>, number: i32) -> HelperNeed
-    ensures { result ≡ helper_need kernel.now id number }
+/// Whether the kernel has a helper, by the numbers of its enum of helpers, if that is there.
+fn told_need(is_there: bool, known: &BTreeSet<u64>, number: i32) -> HelperNeed
+    ensures { result ≡ told_need is_there known.now number }
 {
+    let wanted = i64::from(number).cast_unsigned();
     HelperNeed {
         number,
-        presence: helper_presence(kernel, id, number),
+        presence: known_presence(is_there, known, wanted),
     }
 }
 
-/// Whether the kernel has each of some helpers, which are looked for in one enum.
+fn told_needs(
+    alloc: Global,
+    is_there: bool,
+    known: &BTreeSet<u64>,
+    numbers: &[i32],
+) -> Result<Vec<HelperNeed>, AllocError>
+    ensures { IfOk result (λ needs.
+        needs.items ≡ map (told_need is_there known.now) numbers.now) }
+{
+    let mut needs = Vec::new(alloc);
+    for number in numbers {
+        needs.push(told_need(is_there, known, *number))?;
+    }
+    Ok(needs)
+}
+
+/// Whether the kernel has each of some helpers.
 fn helper_needs(
     alloc: Global,
     kernel: &Btf<'_>,
@@ -92,10 +111,8 @@ fn helper_needs(
         needs.items ≡ map (helper_need kernel.now (func_ids kernel.now)) numbers.now) }
 {
     let id = func_ids(kernel);
-    let mut needs = Vec::new(alloc);
-    for number in numbers {
-        needs.push(helper_need(kernel, id, *number))?;
-    }
+    let known = numbers_at(alloc, kernel, id)?;
+    let needs = told_needs(alloc, id.is_some(), &known, numbers)?;
     Ok(needs)
 }
 

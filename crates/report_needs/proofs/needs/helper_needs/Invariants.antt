@@ -1,7 +1,0 @@
-use Rattle.std.proofs.Common.{◌≡◌, ◌++◌, drop}
-use Rattle.std.specs.Prelude.{map}
-use Rattle.report_needs.specs.Needs.{helper_need}
-use Rattle.report_needs.proofs.needs.helper_needs.Given as goal
-
-abbrev pub invariant-loop-number : goal.invariant-loop-number
-invariant-loop-number l = l.needs.items ++ map (helper_need l.kernel l.id) (drop l.number-index l.numbers) ≡ map (helper_need l.kernel l.id) l.numbers
