@@ -1,21 +1,14 @@
 -- The numbers of an enum, added to a set variant by variant.
-use Rattle.std.proofs.Common.{◌≡◌, ℕ, zero, suc, ◌+◌, Bool, true, false, List, [], ◌∷◌, drop, Some, refl, arith, find, slice_get}
+use Rattle.std.proofs.Common.{◌≡◌, ℕ, ◌+◌, Bool, true, false, List, ◌∷◌, drop, Some, refl, find, slice_get}
 use Rattle.std.specs.Prelude.{◌||◌, is_some}
 use Rattle.std.specs.BTreeSet.{BTreeSet, contains}
 use Rattle.std.specs.Ordering.{nat_cmp}
+use Rattle.report_needs.proofs.Variants.{left_at}
 
 -- what is in the set, and what comes of the variants from an index on, is what was in it, and what
 -- comes of all
 pub record AreAdded {X : Type 0} (passes : ℕ → X → Bool) (variants left : List X) (old new : BTreeSet ℕ) : Type 0 where
   pub each : (number : ℕ) → (contains nat_cmp new number || is_some (find (passes number) left)) ≡ (contains nat_cmp old number || is_some (find (passes number) variants))
-
-left_at : {X : Type 0} (xs : List X) (i : ℕ) (x : X) → Some x ≡ slice_get xs i → drop i xs ≡ x ∷ drop (i + 1) xs
-left_at [] zero x is = absurd cc
-left_at [] (suc i) x is = absurd cc
-left_at (y ∷ ys) zero x is = cc
-left_at (y ∷ ys) (suc i) x is =
-    let same : suc i + 1 ≡ suc (i + 1) = omega arith in
-    rw same (left_at ys i x is)
 
 moved : {X : Type 0} (passes : X → Bool) (x : X) (rest : List X) (before after all : Bool) → after ≡ (before || passes x) → (before || is_some (find passes (x ∷ rest))) ≡ all → (after || is_some (find passes rest)) ≡ all
 moved passes x rest before after all now is = by before (passes x) refl now is where

@@ -3,7 +3,7 @@ use Rattle.std.proofs.Common.{◌≡◌, ℕ, zero, suc, ◌+◌, Bool, true, fa
 use Rattle.btf_tables.specs.Tables.{Table}
 use Rattle.report_needs.specs.Enums.{has_number}
 
-left_at : {X : Type 0} (xs : List X) (i : ℕ) (x : X) → Some x ≡ slice_get xs i → drop i xs ≡ x ∷ drop (i + 1) xs
+pub left_at : {X : Type 0} (xs : List X) (i : ℕ) (x : X) → Some x ≡ slice_get xs i → drop i xs ≡ x ∷ drop (i + 1) xs
 left_at [] zero x is = absurd cc
 left_at [] (suc i) x is = absurd cc
 left_at (y ∷ ys) zero x is = cc
