@@ -10,12 +10,12 @@ use btf_encoding::TypeRef;
 use btf_records::BtfKind;
 use btf_tables::Btf;
 
-/// Whether a kernel has something.
+/// Whether a kernel has something, by its types.
 #[derive(Clone, Copy, Debug, PartialEq, Eq)]
 pub enum Presence {
     Found,
     Missing,
-    /// The kernel's types don't say so.
+    /// The kernel's types have no enum in which it would stand.
     Unknown,
 }
 
@@ -113,9 +113,13 @@ fn presence_at(kernel: &Btf<'_>, id: Option<u32>, number: u64) -> Presence
     }
 }
 
-/// Whether the kernel's enum of a name has a variant of this value, signed values as their 64 bits.
-/// A variant whose name begins with `__` marks an enum's end and doesn't count. `Unknown` where the
-/// kernel has no enum of the name. Goes over the kernel's types.
+/// Whether the kernel's enum of a name has a variant of this value: `Unknown` where the kernel has no
+/// enum of the name. Its enum is the first `BTF_KIND_ENUM` of the name, or where there is none the
+/// first `BTF_KIND_ENUM64`. Values are compared as numbers of 64 bits, signed ones as their bits. A
+/// variant whose name begins with `__`, as `__BPF_FUNC_MAX_ID`, marks the end of its enum: its value
+/// is the first number that the kernel lacks, and it doesn't count.
+///
+/// Takes no memory, and goes over the kernel's types.
 pub fn presence_in(kernel: &Btf<'_>, enum_name: &str, number: u64) -> Presence
     ensures { result ≡ presence_in kernel.now enum_name.now number }
 {
@@ -129,7 +133,7 @@ pub(crate) fn func_ids(kernel: &Btf<'_>) -> Option<u32>
     enum_of(kernel, "bpf_func_id")
 }
 
-/// Whether a kernel has maps of a type, a number of `enum bpf_map_type`.
+/// Whether a kernel has maps of a type, a number of `enum bpf_map_type`. Takes no memory.
 pub fn map_presence(kernel: &Btf<'_>, map_type: u32) -> Presence
     ensures { result ≡ map_presence kernel.now map_type }
 {
@@ -137,7 +141,8 @@ pub fn map_presence(kernel: &Btf<'_>, map_type: u32) -> Presence
 }
 
 /// The kernel's name of a helper, as `BPF_FUNC_map_lookup_elem`: that of the first variant of
-/// `enum bpf_func_id` that has this number, where there is one and its name can be read.
+/// `enum bpf_func_id` that has this number, where there is one and its name can be read. Takes no
+/// memory.
 pub fn helper_name<'k>(kernel: &'k Btf<'_>, helper: i32) -> Option<&'k str>
     ensures { option_copied result ≡ helper_name kernel.now helper }
 {

@@ -27,7 +27,12 @@ fn numbers_called(alloc: Global, slots: &Slots<'_>) -> Result<Vec<i32>, AllocErr
 }
 
 /// The helpers that slots call, numbers of `enum bpf_func_id`: the immediates of the slots of code
-/// 0x85 with source register 0, each once, in rising order.
+/// 0x85 with source register 0, each once, in rising order. A negative immediate, which no helper
+/// has, stands for itself.
+///
+/// # Errors
+///
+/// `AllocError` where memory runs out.
 pub fn helpers_of(alloc: Global, slots: &Slots<'_>) -> Result<Vec<i32>, AllocError>
     ensures { IfOk result (λ helpers. AreHelpers slots.now helpers.items) }
 {

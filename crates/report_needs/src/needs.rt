@@ -30,6 +30,7 @@ pub enum TargetNeed {
 pub struct HelperNeed {
     /// The number that calls have, of `enum bpf_func_id`.
     pub number: i32,
+    /// Whether that enum has the number.
     pub presence: Presence,
 }
 
@@ -131,7 +132,11 @@ fn called_needs(
 
 /// What a kernel must have for a program of a kind with these slots, and whether it has it: what
 /// the program is attached to by the name of its section, its type and attach type, and the
-/// helpers that it calls.
+/// helpers that it calls. The kernel's types are gone over once for each of these four.
+///
+/// # Errors
+///
+/// `AllocError` where memory runs out.
 pub fn program_needs(
     alloc: Global,
     kernel: &Btf<'_>,
