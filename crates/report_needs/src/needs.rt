@@ -132,7 +132,8 @@ fn called_needs(
 
 /// What a kernel must have for a program of a kind with these slots, and whether it has it: what
 /// the program is attached to by the name of its section, its type and attach type, and the
-/// helpers that it calls. The kernel's types are gone over once for each of these four.
+/// helpers that it calls. The kernel's types are gone over at most twice for each of these four, and
+/// each helper is looked up in a set.
 ///
 /// # Errors
 ///
