@@ -1,0 +1,4 @@
+pub mod Added
+pub mod FirstNamed
+pub mod Joined
+pub mod Variants

@@ -1,0 +1,63 @@
+-- What a kernel must have for a program, and whether it has it.
+use Rattle.std.specs.Prelude.{◌≡◌, ℕ, ℤ, Bool, List, Option, codes, map}
+use Rattle.std.specs.BTreeSet.{BTreeSet}
+use Rattle.std.specs.Int.{w64, cast_unsigned}
+use Rattle.std.specs.Option.{option_map, option_map_or}
+use Rattle.btf_tables.specs.Tables.{Table}
+use Rattle.ebpf_items.specs.declared.instruction.bpf_insn.{bpf_insn}
+use Rattle.program_kinds.specs.Attributes.{attributes_of}
+use Rattle.program_kinds.specs.Bindings.{prog_type_number}
+use Rattle.program_kinds.specs.declared.program_section.ProgramSection.{ProgramSection}
+use Rattle.report_needs.specs.Enums.{func_ids, helper_presence, presence_in}
+use Rattle.report_needs.specs.Helpers.{AreHelpers}
+use Rattle.report_needs.specs.Numbers.{known_presence}
+use Rattle.report_needs.specs.Targets.{attach_target, find_target}
+use Rattle.report_needs.specs.declared.enums.Presence.{Presence}
+use Rattle.report_needs.specs.declared.needs.HelperNeed.{HelperNeed}
+use Rattle.report_needs.specs.declared.needs.ProgramNeeds.{ProgramNeeds}
+use Rattle.report_needs.specs.declared.needs.TargetNeed.{TargetNeed}
+use Rattle.report_needs.specs.declared.needs.TargetNeed.TheVariants.{NotNamed, Found, Missing}
+
+-- what the program is attached to
+abbrev pub target_need : Table → ProgramSection → List ℕ → TargetNeed
+target_need kernel kind section =
+    option_map_or (λ target. option_map_or (λ id. Found id) (find_target kernel target) Missing)
+    (attach_target kind section) NotNamed
+
+-- its type
+abbrev pub type_presence : Table → ProgramSection → Presence
+type_presence kernel kind =
+    presence_in kernel (codes "bpf_prog_type") (prog_type_number (attributes_of kind).prog_type)
+
+-- its attach type, if it has one
+abbrev pub attach_presence : Table → ProgramSection → Option Presence
+attach_presence kernel kind =
+    option_map (presence_in kernel (codes "bpf_attach_type"))
+    (attributes_of kind).expected_attach_type
+
+-- a helper, where the kernel's helpers are in the enum of this id
+abbrev pub helper_need : Table → Option ℕ → ℤ → HelperNeed
+helper_need kernel id number =
+    record { number = number; presence = helper_presence kernel id number }
+
+-- the same by the numbers of that enum, if it is there
+abbrev pub told_need : Bool → BTreeSet ℕ → ℤ → HelperNeed
+told_need is_there known number =
+    record {
+      number = number;
+      presence = known_presence is_there known (cast_unsigned w64 number);
+    }
+
+-- the helpers that the slots call, and whether the kernel has each
+pub record AreHelperNeeds (kernel : Table) (slots : List bpf_insn) (needs : List HelperNeed)
+    : Type 0 where
+  pub numbers : List ℤ
+  pub helpers : AreHelpers slots numbers
+  pub each : needs ≡ map (helper_need kernel (func_ids kernel)) numbers
+
+pub record AreNeeds (kernel : Table) (kind : ProgramSection) (section : List ℕ)
+    (slots : List bpf_insn) (needs : ProgramNeeds) : Type 0 where
+  pub target : needs.target ≡ target_need kernel kind section
+  pub prog_type : needs.prog_type ≡ type_presence kernel kind
+  pub attach_type : needs.attach_type ≡ attach_presence kernel kind
+  pub helpers : AreHelperNeeds kernel slots needs.helpers.items

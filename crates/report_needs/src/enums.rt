@@ -1,0 +1,155 @@
+//! Numbers in the kernel's enums.
+
+ghost use Rattle.std.specs.Prelude.{◌≡◌};
+ghost use Rattle.std.specs.Int.{w64, cast_unsigned};
+ghost use Rattle.std.specs.Option.{option_copied, option_map};
+ghost use Rattle.report_needs.specs.Enums.{enum_of, ends_enum, func_ids, has_number, helper_name, map_presence, name_at_number, presence_at, presence_in, variant_32, variant_64, widened};
+
+use crate::records::first_named;
+use btf_encoding::TypeRef;
+use btf_records::BtfKind;
+use btf_tables::Btf;
+
+/// Whether a kernel has something, by its types.
+#[derive(Clone, Copy, Debug, PartialEq, Eq)]
+pub enum Presence {
+    Found,
+    Missing,
+    /// The kernel's types have no enum in which it would stand.
+    Unknown,
+}
+
+/// The id of the kernel's enum of a name: the first of 32 bits, or where there is none the first
+/// of 64.
+pub(crate) fn enum_of(kernel: &Btf<'_>, enum_name: &str) -> Option<u32>
+    ensures { result ≡ enum_of kernel.now enum_name.now }
+{
+    match first_named(kernel, BtfKind::Enum, "", enum_name) {
+        Some(id) => Some(id),
+        None => first_named(kernel, BtfKind::Enum64, "", enum_name),
+    }
+}
+
+/// Whether a variant's name begins with two underscores: it marks the end of its enum, as
+/// `__BPF_FUNC_MAX_ID`, and its value is no number that the kernel has.
+pub(crate) fn ends_enum(kernel: &Btf<'_>, name_offset: u32) -> bool
+    ensures { result ≡ ends_enum kernel.now name_offset }
+{
+    match kernel.string_at(name_offset) {
+        Ok(text) => text.starts_with("__"),
+        Err(_error) => false,
+    }
+}
+
+/// A value of 32 bits as one of 64.
+pub(crate) fn widened(is_signed: bool, value: u32) -> u64
+    ensures { result ≡ widened is_signed value }
+{
+    if is_signed {
+        i64::from(value.cast_signed()).cast_unsigned()
+    } else {
+        u64::from(value)
+    }
+}
+
+/// Whether a variant has this number.
+fn has_number(kernel: &Btf<'_>, name_offset: u32, value: u64, number: u64) -> bool
+    ensures { result ≡ has_number kernel.now name_offset value number }
+{
+    value == number && !ends_enum(kernel, name_offset)
+}
+
+/// The name's offset of the first variant of 32 bits that has this number.
+fn variant_32(kernel: &Btf<'_>, t: &TypeRef<'_>, number: u64) -> Option<u32>
+    ensures { result ≡ variant_32 kernel.now t.now number }
+{
+    let is_signed = t.flag();
+    for index in 0..t.count() {
+        let variant = t.variant(index)?;
+        let value = widened(is_signed, variant.value);
+        if has_number(kernel, variant.name_offset, value, number) {
+            return Some(variant.name_offset);
+        }
+    }
+    None
+}
+
+/// The name's offset of the first variant of 64 bits that has this number.
+fn variant_64(kernel: &Btf<'_>, t: &TypeRef<'_>, number: u64) -> Option<u32>
+    ensures { result ≡ variant_64 kernel.now t.now number }
+{
+    for index in 0..t.count() {
+        let variant = t.variant64(index)?;
+        if has_number(kernel, variant.name_offset, variant.value(), number) {
+            return Some(variant.name_offset);
+        }
+    }
+    None
+}
+
+/// The name's offset of the first variant of an enum that has this number.
+fn name_at_number(kernel: &Btf<'_>, id: u32, number: u64) -> Option<u32>
+    ensures { result ≡ name_at_number kernel.now id number }
+{
+    let Ok(t) = kernel.type_by_id(id) else {
+        return None;
+    };
+    match variant_32(kernel, &t, number) {
+        Some(offset) => Some(offset),
+        None => variant_64(kernel, &t, number),
+    }
+}
+
+/// Whether the enum of an id has a number.
+fn presence_at(kernel: &Btf<'_>, id: Option<u32>, number: u64) -> Presence
+    ensures { result ≡ presence_at kernel.now id number }
+{
+    let Some(id) = id else {
+        return Presence::Unknown;
+    };
+    match name_at_number(kernel, id, number) {
+        Some(_offset) => Presence::Found,
+        None => Presence::Missing,
+    }
+}
+
+/// Whether the kernel's enum of a name has a variant of this value: `Unknown` where the kernel has no
+/// enum of the name. Its enum is the first `BTF_KIND_ENUM` of the name, or where there is none the
+/// first `BTF_KIND_ENUM64`. Values are compared as numbers of 64 bits, signed ones as their bits. A
+/// variant whose name begins with `__`, as `__BPF_FUNC_MAX_ID`, marks the end of its enum: its value
+/// is the first number that the kernel lacks, and it doesn't count.
+///
+/// Takes no memory, and goes over the kernel's types.
+pub fn presence_in(kernel: &Btf<'_>, enum_name: &str, number: u64) -> Presence
+    ensures { result ≡ presence_in kernel.now enum_name.now number }
+{
+    presence_at(kernel, enum_of(kernel, enum_name), number)
+}
+
+/// The kernel's `enum bpf_func_id`.
+pub(crate) fn func_ids(kernel: &Btf<'_>) -> Option<u32>
+    ensures { result ≡ func_ids kernel.now }
+{
+    enum_of(kernel, "bpf_func_id")
+}
+
+/// Whether a kernel has maps of a type, a number of `enum bpf_map_type`. Takes no memory.
+pub fn map_presence(kernel: &Btf<'_>, map_type: u32) -> Presence
+    ensures { result ≡ map_presence kernel.now map_type }
+{
+    presence_in(kernel, "bpf_map_type", u64::from(map_type))
+}
+
+/// The kernel's name of a helper, as `BPF_FUNC_map_lookup_elem`: that of the first variant of
+/// `enum bpf_func_id` that has this number, where there is one and its name can be read. Takes no
+/// memory.
+pub fn helper_name<'k>(kernel: &'k Btf<'_>, helper: i32) -> Option<&'k str>
+    ensures { option_copied result ≡ helper_name kernel.now helper }
+{
+    let id = func_ids(kernel)?;
+    let offset = name_at_number(kernel, id, i64::from(helper).cast_unsigned())?;
+    match kernel.string_at(offset) {
+        Ok(name) => Some(name),
+        Err(_error) => None,
+    }
+}
