@@ -1,4 +1,5 @@
-//! Tests of how externs are resolved and of what relocations by them write, over these calls alone.
+//! Tests of how externs are resolved, of what relocations by them write, and of what a kernel must have
+//! for a program.
 #![tactic(auto)]
 
 #[cfg(test)]
@@ -7,6 +8,8 @@ mod answers;
 mod declarations;
 #[cfg(test)]
 mod first_faults;
+#[cfg(test)]
+mod kernel_needs;
 #[cfg(test)]
 mod relocations;
 #[cfg(test)]
