@@ -128,7 +128,8 @@ fn type_held_at(kernel: &Btf<'_>, id: u32) -> u32
 }
 
 impl<'k, 'n> KernelRecords<'k, 'n> {
-    /// Those of a kernel's table, which is gone over once for all externs with types.
+    /// Those of a kernel's table, which is gone over once for all externs with types, if there are
+    /// some.
     pub(crate) fn find(
         alloc: Global,
         externs: &Externs<'n>,
@@ -139,7 +140,11 @@ impl<'k, 'n> KernelRecords<'k, 'n> {
         let names = typed_names(alloc, externs)?;
         let tables = slice::from_ref(kernel);
         let kinds = [BtfKind::Func, BtfKind::Var];
-        let types = NamedTypes::find(alloc, &kinds, names.as_slice(), tables)?;
+        let types = if names.is_empty() {
+            NamedTypes::new(alloc, tables)
+        } else {
+            NamedTypes::find(alloc, &kinds, names.as_slice(), tables)?
+        };
         Ok(KernelRecords { kernel, types })
     }
 
