@@ -56,7 +56,8 @@ impl<'t> TypeHeaders<'t> {
         }
     }
 
-    /// The bytes of the strings from the name of a type on. `None` for void, and where no name begins.
+    /// The bytes of the strings from the name of a type on. `None` for void, and where no name
+    /// begins.
     fn name_bytes(&self, id: usize) -> Option<&'t [u8]>
         ensures { IfSome result (λ bytes. IsNameOf self.now id bytes.now) }
     {
