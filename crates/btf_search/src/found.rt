@@ -1,4 +1,4 @@
-//! Types that were found.
+//! Types found by a search.
 
 ghost use Rattle.std.specs.Prelude.{◌≡◌, ◌++◌, ◌∷◌, [], IfNone, IfSome, None, OnOk};
 ghost use Rattle.std.specs.Option.{option_copied};
@@ -12,12 +12,12 @@ use btf_tables::{Btf, essential_name};
 use std::alloc::{AllocError, Global};
 use std::marker::Model;
 
-/// What is kept of a type.
+/// A type found by a search.
 #[derive(Debug, Drop)]
 pub(crate) struct FoundType<'t> {
     type_id: u32,
     kind: BtfKind,
-    /// Without its flavour; none where it can't be read.
+    /// The name without its flavour; `None` if it can't be read.
     name: Option<&'t str>,
 }
 
@@ -82,7 +82,7 @@ impl<'t> FoundType<'t> {
         self.name
     }
 
-    /// Whether it is of one of these kinds and of a name, or its name can't be read.
+    /// Whether the type has one of these kinds, and either this name or one that can't be read.
     pub(crate) fn is_asked(&self, kinds: &[BtfKind], name: &str) -> bool
         ensures { result ≡ is_asked kinds.now name.now self.now.kind self.now.name }
     {
@@ -96,7 +96,7 @@ impl<'t> FoundType<'t> {
     }
 }
 
-/// Types that were found in a table, in order.
+/// The types found in a table, in order of their ids.
 #[derive(Debug, Drop)]
 pub(crate) struct FoundTypes<'t> {
     types: Vec<FoundType<'t>>,

@@ -1,4 +1,4 @@
-//! The names of a table's types.
+//! Kinds and name offsets of the types of a table.
 
 ghost use Rattle.std.specs.Prelude.{◌≡◌, ◌<◌, drop, false, length, true, IfSome};
 ghost use Rattle.std.specs.Option.{option_map};
@@ -10,7 +10,7 @@ use crate::prefixes::PrefixFilter;
 use btf_tables::Btf;
 use std::marker::Model;
 
-/// The bytes from an index on, if there are some.
+/// The bytes from an index on; `None` past the end.
 fn bytes_from(bytes: &[u8], index: usize) -> Option<&[u8]>
     ensures { IfSome result (λ rest.
         (rest.now ≡ drop index bytes.now) × (index < length bytes.now)) }
@@ -21,10 +21,10 @@ fn bytes_from(bytes: &[u8], index: usize) -> Option<&[u8]>
     Some(&bytes[index..])
 }
 
-/// Where the names of a table's types begin.
+/// Where the names of the types of a table begin.
 #[derive(Debug, Drop)]
 pub(crate) struct TypeHeaders<'t> {
-    /// The offsets of names from id 1 on.
+    /// The name offsets of the types, from id 1 on.
     pub(crate) name_offsets: &'t [u32],
     pub(crate) strings: &'t [u8],
     /// Whether each byte of the strings is known to begin a text.
@@ -45,7 +45,7 @@ impl<'t> Model for TypeHeaders<'t> {
 }
 
 impl<'t> TypeHeaders<'t> {
-    /// Those of a table.
+    /// The headers of the types of a table.
     pub(crate) fn new(table: &'t Btf<'_>) -> TypeHeaders<'t>
         ensures { AreHeadersOf table.now result }
     {
@@ -56,7 +56,8 @@ impl<'t> TypeHeaders<'t> {
         }
     }
 
-    /// The strings from the name of the type of an id on. None of void, or where no name begins.
+    /// The bytes of the strings from the name of a type on. `None` for void, and where no name
+    /// begins.
     fn name_bytes(&self, id: usize) -> Option<&'t [u8]>
         ensures { IfSome result (λ bytes. IsNameOf self.now id bytes.now) }
     {
@@ -67,7 +68,7 @@ impl<'t> TypeHeaders<'t> {
         bytes_from(self.strings, offset as usize)
     }
 
-    /// Whether the name of the type of an id can be read, and begins as none of some names does.
+    /// Whether the name of a type can be read and has none of these prefixes.
     #[tactic(auto, using(crate::proofs::HeadersOf::isnt_among))]
     pub(crate) fn is_filtered(&self, id: usize, names: &PrefixFilter) -> bool
         ensures { (table : Table)

@@ -1,6 +1,6 @@
-//! Types of tables by kind and name, flavours aside. What is wanted of large tables is found in one
-//! walk over each, in which nearly all other types are told apart by their kinds and how their
-//! names begin, without a look at their records.
+//! Look-up of types by kind and name, without flavours. A search goes over a table once for many
+//! names. It rules out nearly all other types by their kinds and by the first bytes of their names,
+//! without reading their records.
 #![tactic(auto)]
 
 mod found;

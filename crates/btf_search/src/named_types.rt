@@ -1,4 +1,4 @@
-//! The types of tables by kind and name.
+//! Look-up of types by kind and name.
 
 ghost use Rattle.std.specs.Prelude.{◌≡◌, ◌<◌, ◌^◌, ◌++◌, ◌∷◌, [], filter, map, IfOk, IfSome, OnOk};
 ghost use Rattle.btf_search.specs.Headers.{AreHeadersOf};
@@ -13,13 +13,13 @@ use btf_tables::Btf;
 use std::alloc::{AllocError, Global};
 use std::marker::Model;
 
-/// The types of some tables by kind and name. Its model is these tables: what was looked for in
-/// them decides no answer.
+/// The types of several tables by kind and name. Its model is the tables alone: results don't
+/// depend on what was searched for in advance.
 #[derive(Debug)]
 pub struct NamedTypes<'t, 'n> {
     tables: &'t [Btf<'t>],
     search: Search<'n>,
-    /// What was found in each table; none where nothing was looked for.
+    /// The types found in each table; empty if nothing was searched for.
     found: Vec<FoundTypes<'t>>,
 }
 
@@ -46,7 +46,7 @@ impl<'t, 'n> Model for NamedTypes<'t, 'n> {
     ghost invariant = { λ n. AreFound n.search n.tables.now n.found.items };
 }
 
-/// Adds the type of an id, if it is wanted.
+/// Adds the type with id `id`, if the search wants it.
 #[tactic(auto, using(crate::proofs::Walks::added, crate::proofs::Walks::not_added, crate::proofs::Walks::no_type, crate::proofs::Walks::nothing_added))]
 fn add_found<'t>(
     search: &Search<'_>,
@@ -72,7 +72,8 @@ fn add_found<'t>(
     Ok(())
 }
 
-/// The wanted types of a table. Those of other kinds are passed by their kinds alone.
+/// The types of a table that the search wants. Types of other kinds are skipped by their kind
+/// alone.
 #[tactic(auto, using(crate::proofs::Walks::found_first, crate::proofs::Walks::found_all))]
 fn found_in<'t>(
     alloc: Global,
@@ -93,7 +94,7 @@ fn found_in<'t>(
     Ok(found)
 }
 
-/// The wanted types of each table.
+/// The types of each table that the search wants.
 fn found_in_each<'t>(
     alloc: Global,
     search: &Search<'_>,
@@ -108,8 +109,8 @@ fn found_in_each<'t>(
     Ok(found)
 }
 
-/// The ids of those types that are of one of these kinds and of a name, or with a name that can't
-/// be read.
+/// The ids of those types that have one of these kinds, and either this name or one that can't be
+/// read.
 #[tactic(auto, using(crate::proofs::Walks::picked_on, crate::proofs::Walks::picked_past, crate::proofs::Walks::picked_all))]
 fn ids_among(
     alloc: Global,
@@ -131,7 +132,7 @@ fn ids_among(
     Ok(ids)
 }
 
-/// Whether the type of an id is of one of these kinds and of a name, or its name can't be read.
+/// Whether a type has one of these kinds, and either this name or one that can't be read.
 fn is_asked(table: &Btf<'_>, type_id: u32, kinds: &[BtfKind], name: &str) -> bool
     ensures { result ≡ is_so (is_asked kinds.now name.now) table.now type_id }
 {
@@ -169,7 +170,7 @@ impl<'t, 'n> NamedTypes<'t, 'n> {
         self.tables
     }
 
-    /// The types of these tables. Each question goes over a table.
+    /// The types of these tables. Each call of `ids` searches a table.
     #[tactic(auto, using(crate::proofs::Walks::none_found))]
     pub fn new(alloc: Global, tables: &'t [Btf<'t>]) -> NamedTypes<'t, 'n>
         ensures { result ≡ tables.now }
@@ -181,8 +182,8 @@ impl<'t, 'n> NamedTypes<'t, 'n> {
         }
     }
 
-    /// The types of these tables, each of which is gone over once for all questions about some of
-    /// these kinds and a name of these, which are without flavours.
+    /// The types of these tables. Each table is searched once for the types of these kinds and
+    /// names, if any names are given; the names are without flavours.
     pub fn find(
         alloc: Global,
         kinds: &[BtfKind],
@@ -191,6 +192,9 @@ impl<'t, 'n> NamedTypes<'t, 'n> {
     ) -> Result<NamedTypes<'t, 'n>, AllocError>
         ensures { IfOk result (λ types. types ≡ tables.now) }
     {
+        if names.is_empty() {
+            return Ok(NamedTypes::new(alloc, tables));
+        }
         let search = Search::all_of(alloc, kinds, names)?;
         let found = found_in_each(alloc, &search, tables)?;
         Ok(NamedTypes {
@@ -200,7 +204,7 @@ impl<'t, 'n> NamedTypes<'t, 'n> {
         })
     }
 
-    /// What was found in a table, if what is asked was looked for there.
+    /// The types found in a table, if the search covers these kinds and this name.
     fn found_for(&self, table: usize, kinds: &[BtfKind], name: &str) -> Option<&[FoundType<'t>]>
         ensures { IfSome result (λ found.
             named_ids_at kinds.now name.now self.now table
@@ -216,8 +220,8 @@ impl<'t, 'n> NamedTypes<'t, 'n> {
         }
     }
 
-    /// The ids of the types of a table, by its number, that are of one of these kinds and of a name,
-    /// flavours aside, or whose names can't be read, in order. The name is without a flavour.
+    /// The ids, in order, of the types of the table at index `table` that have one of these kinds,
+    /// and whose name without its flavour is `name` or can't be read. `name` has no flavour.
     pub fn ids(
         &self,
         alloc: Global,

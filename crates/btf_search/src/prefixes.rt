@@ -1,4 +1,4 @@
-//! How names begin.
+//! A filter by the first bytes of names.
 
 ghost use Rattle.std.specs.Prelude.{◌≡◌, ◌&&◌, ℕ, List, Some, drop, false};
 ghost use Rattle.string_table.specs.FirstBytes.{is_marked};
@@ -8,19 +8,18 @@ ghost use Rattle.btf_search.specs.Prefixes.{MarksName, MarksTwoBytes, MayBegin, 
 use std::marker::Model;
 use string_table::MarkedBytes;
 
-/// A number that all texts have which begin with these two bytes, a NUL after the last byte of a
-/// text being one of them. 31 is odd, so that where the second bytes are alike the numbers differ
-/// as the first bytes do.
+/// A hash of the first two bytes of a text and its NUL. 31 is odd, so that two hashes with the same
+/// second byte differ if their first bytes do.
 #[tactic(auto, using(crate::proofs::EmptyTexts::masked))]
 fn beginning_of(first: u8, second: u8) -> u8
     ensures { result ≡ beginning_of first second }
 {
     let number = first.wrapping_mul(31).wrapping_add(second);
-    // Which texts are empty a processor can't guess: they are told without a branch.
+    // Without a branch: a processor can't predict which texts are empty.
     number & 0u8.wrapping_sub(u8::from(first != 0))
 }
 
-/// The number of the text that these bytes begin with, by its first two.
+/// The hash of the first two bytes of the text that these bytes begin with.
 fn beginning(bytes: &[u8]) -> u8
     ensures { result ≡ beginning bytes.now }
 {
@@ -31,14 +30,14 @@ fn beginning(bytes: &[u8]) -> u8
     }
 }
 
-/// The number of some bytes and the next one.
+/// The hash of some bytes and the next one.
 fn next_number(number: u8, byte: u8) -> u8
     ensures { result ≡ next_number number byte }
 {
     number.wrapping_mul(31).wrapping_add(byte)
 }
 
-/// A number that all texts have which begin with these eight bytes, if there are as many.
+/// A hash of the first eight bytes; `None` if there are fewer.
 #[tactic(auto, using(crate::proofs::LongPrefixes::too_few))]
 fn long_beginning(bytes: &[u8]) -> Option<u8>
     ensures { result ≡ long_beginning bytes.now }
@@ -54,8 +53,8 @@ fn long_beginning(bytes: &[u8]) -> Option<u8>
     }
 }
 
-/// Marks how a text of a name can begin: as the name does, a flavour or the NUL following where it
-/// has fewer than two bytes.
+/// Marks the hash of the first two bytes of each text of a name. A name of fewer than two bytes is
+/// followed by a flavour or by NUL.
 #[tactic(auto, using(crate::proofs::MarkedNames::two_bytes, crate::proofs::MarkedNames::one_byte, crate::proofs::MarkedNames::no_byte))]
 fn mark_two_bytes(marks: &mut MarkedBytes, name: &str)
     ensures { MarksTwoBytes name.now marks.old marks.new }
@@ -73,15 +72,14 @@ fn mark_two_bytes(marks: &mut MarkedBytes, name: &str)
     }
 }
 
-/// How some names begin, with flavours or without: all by a number of their first two bytes, which
-/// tells most other texts apart, and by one of the first eight, or again of two where they have
-/// fewer.
+/// The prefixes of names, with or without flavours: a hash of the first two bytes of each, which
+/// rules out most other texts, and a hash of the first eight for names of eight bytes or more.
 #[derive(Debug, Drop)]
 pub(crate) struct PrefixFilter {
     pairs: MarkedBytes,
     short: MarkedBytes,
     long: MarkedBytes,
-    /// Whether a name has fewer than eight bytes.
+    /// Whether some name has fewer than eight bytes.
     has_short: bool,
 }
 
@@ -123,14 +121,14 @@ impl PrefixFilter {
         }
     }
 
-    /// Whether a text of one of the names has the number of the first two of these bytes.
+    /// Whether the hash of the first two of these bytes is that of one of the names.
     fn has_pair(&self, bytes: &[u8]) -> bool
         ensures { result ≡ is_marked self.now.pairs (beginning bytes.now) }
     {
         self.pairs.contains(beginning(bytes))
     }
 
-    /// Whether these bytes may begin with a text of one of the names that have fewer than eight.
+    /// Whether these bytes may begin with a text of one of the names of fewer than eight bytes.
     fn may_be_short(&self, bytes: &[u8]) -> bool
         ensures { result
             ≡ (self.now.has_short && is_marked self.now.short (beginning bytes.now)) }

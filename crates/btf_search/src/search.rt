@@ -1,4 +1,4 @@
-//! What is looked for in one walk over each table.
+//! Kinds and names that a search wants.
 
 ghost use Rattle.std.specs.Prelude.{◌≡◌, ℕ, List, false, is_some, IfOk, OnOk};
 ghost use Rattle.std.specs.List.{list_all};
@@ -18,12 +18,12 @@ use std::marker::Model;
 use string_map::{TextMap, TextMapBuilder};
 use string_table::MarkedBytes;
 
-/// Kinds and names that are looked for.
+/// Kinds and names that a search wants.
 #[derive(Debug)]
 pub(crate) struct Search<'n> {
     kinds: MarkedBytes,
     names: TextMap<'n, bool>,
-    /// How a text of one of the names can begin.
+    /// The prefixes of the names.
     prefixes: PrefixFilter,
 }
 
@@ -63,7 +63,7 @@ fn add_name<'n>(
     Ok(())
 }
 
-/// The numbers of these kinds.
+/// The set of the numbers of these kinds.
 fn marked(kinds: &[BtfKind]) -> MarkedBytes {
     let mut marked = MarkedBytes::new();
     for kind in kinds {
@@ -73,7 +73,7 @@ fn marked(kinds: &[BtfKind]) -> MarkedBytes {
 }
 
 impl<'n> Search<'n> {
-    /// Nothing is looked for.
+    /// A search that wants nothing.
     #[tactic(auto, using(crate::proofs::Wanted::none_begin))]
     pub(crate) fn none(alloc: Global) -> Search<'n> {
         Search {
@@ -83,7 +83,7 @@ impl<'n> Search<'n> {
         }
     }
 
-    /// These kinds and names are looked for.
+    /// A search for types of these kinds and names.
     #[tactic(auto, using(crate::proofs::Wanted::none_begin))]
     pub(crate) fn all_of(
         alloc: Global,
@@ -102,35 +102,35 @@ impl<'n> Search<'n> {
         })
     }
 
-    /// Whether a kind is among those that are looked for.
+    /// Whether the search wants types of this kind.
     pub(crate) fn has_kind(&self, kind: BtfKind) -> bool
         ensures { result ≡ is_marked self.now.kinds (number_of kind) }
     {
         self.kinds.contains(kind as u8)
     }
 
-    /// Whether a name is.
+    /// Whether the search wants types of this name.
     fn has_name(&self, name: &str) -> bool
         ensures { result ≡ has_name self.now name.now }
     {
         self.names.get(name).is_some()
     }
 
-    /// Whether all of these kinds are.
+    /// Whether the search wants types of all of these kinds.
     fn has_kinds(&self, kinds: &[BtfKind]) -> bool
         ensures { result ≡ list_all (λ k. is_marked self.now.kinds (number_of k)) kinds.now }
     {
         kinds.iter().all(|kind| self.has_kind(*kind))
     }
 
-    /// Whether each type that has one of these kinds and a name is.
+    /// Whether the search wants each type of these kinds and this name.
     pub(crate) fn covers(&self, kinds: &[BtfKind], name: &str) -> bool
         ensures { result ≡ covers self.now kinds.now name.now }
     {
         self.has_name(name) && self.has_kinds(kinds)
     }
 
-    /// Whether a type is, or its name can't be read.
+    /// Whether the search wants a type. A type of a wanted kind whose name can't be read is wanted.
     pub(crate) fn is_wanted(&self, found: &FoundType<'_>) -> bool
         ensures { result ≡ is_wanted self.now found.now.kind found.now.name }
     {
@@ -143,7 +143,7 @@ impl<'n> Search<'n> {
         }
     }
 
-    /// Whether the type of an id may be one of these, as the beginning of its name tells.
+    /// Whether the search may want the type with id `id`, judged by the first bytes of its name.
     #[tactic(auto, using(crate::proofs::Wanted::is_filtered))]
     pub(crate) fn may_want(&self, headers: &TypeHeaders<'_>, id: usize) -> bool
         ensures { (table : Table)

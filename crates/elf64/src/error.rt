@@ -1,4 +1,4 @@
-//! Why a file, or a part of it, is refused.
+//! The errors of ELF64 files.
 
 use std::error::Error;
 use std::fmt;

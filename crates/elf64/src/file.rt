@@ -21,7 +21,7 @@ use crate::table::{
 };
 use std::marker::Model;
 
-/// An ELF64 file (ELF-64 object file format, "File Header"), whose bytes stay where they are.
+/// An ELF64 file over borrowed bytes (ELF-64 object file format, "File Header").
 #[derive(Drop, Debug)]
 pub struct ElfFile<'a> {
     bytes: &'a [u8],
@@ -46,9 +46,9 @@ impl<'a> Model for ElfFile<'a> {
 }
 
 impl<'a> ElfFile<'a> {
-    /// Reads a file's headers, and refuses a file that has one of the faults of [`ElfError`],
-    /// [`ElfError::Name`] and [`ElfError::SectionData`] aside. A file without a section header
-    /// table (`e_shoff` 0) has no sections. `e_machine` and `e_type` aren't looked at.
+    /// Reads a file's headers. A file is refused for each fault of [`ElfError`] except
+    /// [`ElfError::Name`] and [`ElfError::SectionData`]. A file without a section header table
+    /// (`e_shoff` 0) has no sections. `e_machine` and `e_type` aren't checked.
     pub fn parse(bytes: &'a [u8]) -> Result<ElfFile<'a>, ElfError>
         ensures value { IfOk result (λ f. f ≡ bytes.entry.now) }
         ensures accepted { IfOk result (λ _. IsFaultless bytes.entry.now) }
@@ -77,7 +77,7 @@ impl<'a> ElfFile<'a> {
         self.header.order
     }
 
-    /// The bytes that hold the sections' names (`e_shstrndx`), where there are such.
+    /// The bytes that hold the sections' names (`e_shstrndx`), if there are any.
     #[tactic(auto, unfolding(crate::specs::Sections::section_names_of))]
     pub fn section_names(&self) -> Option<&'a [u8]>
         ensures { option_copied result ≡ section_names_of self.now }
@@ -108,8 +108,8 @@ impl<'a> ElfFile<'a> {
         Sections::new(self.bytes, self.order(), self.table, self.section_names())
     }
 
-    /// The first section of a name. One whose name can't be read is passed over. Looks at no more
-    /// bytes of each name than the name has that is looked for.
+    /// The first section with this name. Sections whose names can't be read are skipped. At most
+    /// one byte more of each section's name is read than `name` has.
     pub fn section_by_name(&self, name: &str) -> Option<SectionView<'a>>
         ensures { result ≡ section_named self.now name.now }
     {
@@ -153,9 +153,9 @@ impl<'a> ElfFile<'a> {
         }
     }
 
-    /// The relocations of the section of an index, in order of relocation section and then of
-    /// entry: none for an index that no section has. For those of many sections, go over
-    /// [`ElfFile::relocation_sections`] once.
+    /// The relocations of the section at an index, in order of relocation section and then of
+    /// entry; none for an index that no section has. For the relocations of many sections, iterate
+    /// over [`ElfFile::relocation_sections`] once.
     #[tactic(auto, unfolding(crate::specs::Relocations::relocations_of))]
     pub fn relocations(&self, section: usize) -> Relocations<'a>
         ensures { result ≡ relocations_of self.now section }

@@ -116,14 +116,14 @@ pub(crate) fn section_header(order: ByteOrder, table: &[u8], index: usize) -> Se
     }
 }
 
-/// How many section headers there are, with that of index 0.
+/// The number of section headers, including that of index 0.
 pub(crate) fn section_header_count(table: &[u8]) -> usize
     ensures { result ≡ header_count table.now }
 {
     table.len() / SECTION_HEADER_SIZE
 }
 
-/// The section of an index, where there is one.
+/// The header of the section at an index; none for index 0 and past the end.
 pub(crate) fn section_at(order: ByteOrder, table: &[u8], index: usize) -> Option<SectionHeader>
     ensures { result ≡ section_at order table.now index }
 {

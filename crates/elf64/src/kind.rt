@@ -1,6 +1,6 @@
-//! What a symbol stands for.
+//! What a symbol denotes.
 
-/// What a symbol stands for, by its type (ELF-64 object file format, "Symbol Table", `st_info`).
+/// What a symbol denotes, by its type (ELF-64 object file format, "Symbol Table", `st_info`).
 #[derive(Clone, Copy, Debug, PartialEq, Eq)]
 pub enum SymbolKind {
     /// `STT_NOTYPE`, or a type that has no kind here.

@@ -55,7 +55,7 @@ pub(crate) fn u64_at(order: ByteOrder, bytes: &[u8], at: usize) -> u64
     }
 }
 
-/// The bytes from an offset on, where there are as many.
+/// The `len` bytes from the offset `at` on, where there are as many.
 pub(crate) fn bytes_at(bytes: &[u8], at: u64, len: u64) -> Option<&[u8]>
     ensures { option_copied result ≡ bytes_at bytes.now at len }
 {

@@ -33,7 +33,7 @@ pub(crate) fn entry_size(header: &SectionHeader) -> u64
     }
 }
 
-/// Whether a section holds relocations by the symbol table of an index, and has a target.
+/// Whether a section holds relocations that use the symbol table at this index, and has a target.
 pub(crate) fn is_relocation_table(symbol_table: usize, header: &SectionHeader) -> bool
     ensures { result ≡ is_relocation_table symbol_table header.now }
 {
@@ -58,7 +58,7 @@ impl Model for RelocView {
 }
 
 impl RelocView {
-    /// Where in its section the relocation applies, in bytes (`r_offset`).
+    /// The offset in its section that the relocation applies to, in bytes (`r_offset`).
     #[tactic(auto, unfolding(crate::specs::Relocations::relocation_from))]
     pub fn offset(&self) -> u64
         ensures { result ≡ self.now.offset }
@@ -77,8 +77,8 @@ impl RelocView {
         }
     }
 
-    /// How many bits the relocation fills: 64 for `R_BPF_64_64`, 32 for `R_BPF_64_32`, and 0 for
-    /// any other type (`ELF64_R_TYPE`).
+    /// The number of bits that the relocation writes: 64 for `R_BPF_64_64`, 32 for `R_BPF_64_32`,
+    /// and 0 for any other type (`ELF64_R_TYPE`).
     #[tactic(auto, unfolding(crate::specs::Relocations::relocation_from))]
     pub fn width(&self) -> u8
         ensures { result ≡ self.now.width }
@@ -143,7 +143,7 @@ impl<'a> Entries<'a> {
         Entries::new(order, &[], REL_SIZE as usize)
     }
 
-    /// The entries of some bytes.
+    /// The entries in some bytes, of `size` bytes each.
     pub(crate) fn new(order: ByteOrder, bytes: &'a [u8], size: usize) -> Entries<'a>
         requires { 16 ≤ size }
         ensures { result ≡ entries_in order size bytes.now }

@@ -80,7 +80,7 @@ impl<'a> Iterator for RelocationSections<'a> {
 }
 
 impl<'a> RelocationSections<'a> {
-    /// The relocation sections of the symbol table of an index.
+    /// The relocation sections of the symbol table at an index.
     pub(crate) fn new(
         bytes: &'a [u8],
         order: ByteOrder,
@@ -148,7 +148,7 @@ impl<'a> Iterator for Relocations<'a> {
 }
 
 impl<'a> Relocations<'a> {
-    /// The relocations that some relocation sections hold for a target.
+    /// The relocations of a target in some relocation sections.
     pub(crate) fn of_target(sections: RelocationSections<'a>, target: usize) -> Relocations<'a>
         ensures { result ≡ relocations_to target sections.entry }
     {

@@ -19,7 +19,7 @@ const NOBITS: u32 = 8;
 
 const ALLOC_AND_EXECINSTR: u64 = 6;
 
-/// The bytes of a section in the file, where it has some there.
+/// The bytes of a section in the file; none for `SHT_NOBITS`, and where they lie past the end.
 pub(crate) fn file_bytes<'a>(bytes: &'a [u8], header: &SectionHeader) -> Option<&'a [u8]>
     ensures { option_copied result ≡ file_bytes_in bytes.now header.now }
 {
@@ -29,7 +29,7 @@ pub(crate) fn file_bytes<'a>(bytes: &'a [u8], header: &SectionHeader) -> Option<
     bytes_at(bytes, header.offset, header.size)
 }
 
-/// The contents of a section, where they lie in the file.
+/// The contents of a section, which are empty for `SHT_NOBITS`; none where they lie past the end.
 pub(crate) fn contents<'a>(bytes: &'a [u8], header: &SectionHeader) -> Option<&'a [u8]>
     ensures { option_copied result ≡ contents_in bytes.now header.now }
 {
@@ -66,7 +66,7 @@ impl<'a> SectionView<'a> {
         self.index
     }
 
-    /// Where in the bytes of the names the name begins (`sh_name`).
+    /// The offset of the name in the bytes of the sections' names (`sh_name`).
     #[tactic(auto, unfolding(crate::specs::Sections::section_from))]
     pub fn name_offset(&self) -> u32
         ensures { result ≡ self.now.name_offset }
@@ -74,8 +74,8 @@ impl<'a> SectionView<'a> {
         self.header.name
     }
 
-    /// The name: [`ElfError::Name`] where it isn't UTF-8 text that a NUL ends inside the section of
-    /// the names. Looks at each byte of it.
+    /// The name. Returns [`ElfError::Name`] where it isn't UTF-8 text ended by a NUL inside the
+    /// section of the names. Reads each byte of it.
     #[tactic(auto, unfolding(crate::specs::Sections::section_from))]
     pub fn name(&self) -> Result<&'a str, ElfError>
         ensures { MatchResult result (λ s. self.now.name ≡ Some s.now) (λ e.
@@ -87,7 +87,7 @@ impl<'a> SectionView<'a> {
         text_at(names, self.header.name).ok_or(ElfError::Name)
     }
 
-    /// Whether this is the section's name. Looks at no more bytes than it has.
+    /// Whether the section's name is `name`. Reads at most one byte more than `name` has.
     #[tactic(auto, unfolding(crate::specs::Sections::section_from))]
     pub fn has_name(&self, name: &str) -> bool
         ensures { result ≡ has_name name.now self.now }
@@ -98,8 +98,8 @@ impl<'a> SectionView<'a> {
         }
     }
 
-    /// The contents, which are empty for `SHT_NOBITS`: [`ElfError::SectionData`] where they lie
-    /// past the end of the file.
+    /// The contents, which are empty for `SHT_NOBITS`. Returns [`ElfError::SectionData`] where they
+    /// lie past the end of the file.
     #[tactic(auto, unfolding(crate::specs::Sections::section_from))]
     pub fn data(&self) -> Result<&'a [u8], ElfError>
         ensures { MatchResult result (λ b. self.now.contents ≡ Some b.now) (λ e.
@@ -119,7 +119,7 @@ impl<'a> SectionView<'a> {
         self.header.address
     }
 
-    /// The size in bytes (`sh_size`), of `SHT_NOBITS` too.
+    /// The size in bytes (`sh_size`), also for `SHT_NOBITS`.
     #[tactic(auto, unfolding(crate::specs::Sections::section_from))]
     pub fn size(&self) -> u64
         ensures { result ≡ self.now.size }

@@ -13,7 +13,7 @@ use crate::order::ByteOrder;
 use std::marker::Model;
 use string_table::text_at;
 
-/// `SHN_LORESERVE`, from which on section indexes are reserved.
+/// `SHN_LORESERVE`: section indexes from here on are reserved.
 const LORESERVE: u16 = 0xff00;
 
 const LOCAL: u8 = 0;
@@ -60,7 +60,7 @@ fn section_index(entry: &SymbolEntry) -> Option<usize>
     Some(entry.section as usize)
 }
 
-/// What a symbol of a type stands for.
+/// What a symbol of a type denotes.
 fn kind_of(symbol_type: u8) -> SymbolKind
     ensures { result ≡ kind_of symbol_type }
 {
@@ -100,7 +100,7 @@ impl<'a> SymbolView<'a> {
         self.index
     }
 
-    /// Where in the bytes of the names the name begins (`st_name`).
+    /// The offset of the name in the bytes of the symbols' names (`st_name`).
     #[tactic(auto, unfolding(crate::specs::Symbols::symbol_from))]
     pub fn name_offset(&self) -> u32
         ensures { result ≡ self.now.name_offset }
@@ -108,8 +108,8 @@ impl<'a> SymbolView<'a> {
         self.entry.name
     }
 
-    /// The name: [`ElfError::Name`] where it isn't UTF-8 text that a NUL ends inside the symbol
-    /// table's string table. Looks at each byte of it.
+    /// The name. Returns [`ElfError::Name`] where it isn't UTF-8 text ended by a NUL inside the
+    /// symbol table's string table. Reads each byte of it.
     #[tactic(auto, unfolding(crate::specs::Symbols::symbol_from))]
     pub fn name(&self) -> Result<&'a str, ElfError>
         ensures { MatchResult result (λ s. self.now.name ≡ Some s.now) (λ e.
@@ -138,7 +138,7 @@ impl<'a> SymbolView<'a> {
         self.entry.value
     }
 
-    /// The size in bytes (`st_size`), 0 where it has none or it isn't known.
+    /// The size in bytes (`st_size`); 0 where the symbol has no size or it isn't known.
     #[tactic(auto, unfolding(crate::specs::Symbols::symbol_from))]
     pub fn size(&self) -> u64
         ensures { result ≡ self.now.size }
@@ -146,7 +146,7 @@ impl<'a> SymbolView<'a> {
         self.entry.size
     }
 
-    /// What the symbol stands for, by its type.
+    /// What the symbol denotes, by its type.
     #[tactic(auto, unfolding(crate::specs::Symbols::symbol_from))]
     pub fn kind(&self) -> SymbolKind
         ensures { result ≡ self.now.kind }
@@ -155,7 +155,7 @@ impl<'a> SymbolView<'a> {
     }
 
     /// Whether the symbol defines something in a section: a function (`STT_FUNC`), an object
-    /// (`STT_OBJECT`), or what has no type (`STT_NOTYPE`) but a size.
+    /// (`STT_OBJECT`), or a symbol of no type (`STT_NOTYPE`) and of nonzero size.
     #[tactic(auto, unfolding(crate::specs::Symbols::symbol_from))]
     pub fn is_definition(&self) -> bool
         ensures { result ≡ self.now.is_definition }
@@ -170,7 +170,7 @@ impl<'a> SymbolView<'a> {
         }
     }
 
-    /// Whether other files see the symbol: any binding but `STB_LOCAL`.
+    /// Whether the symbol is visible to other files: any binding except `STB_LOCAL`.
     #[tactic(auto, unfolding(crate::specs::Symbols::symbol_from))]
     pub fn is_global(&self) -> bool
         ensures { result ≡ self.now.is_global }

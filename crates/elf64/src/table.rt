@@ -1,4 +1,4 @@
-//! What the section header table says of the symbol table, and what is wrong with a file.
+//! The symbol table of the section header table, and the checks of a file.
 
 ghost use Rattle.std.specs.Prelude.{◌≡◌, ◌≢◌, ◌+◌, ◌*◌, ◌≤◌, ◌<◌, ◌/◌, ℕ, List, [], length, IfOk, IfErr, IfSome, Some, None, option_and_then, MatchResult, IsSomeAnd, IsTrue, ◌↔◌};
 ghost use Rattle.std.specs.Option.{option_copied};
@@ -21,7 +21,7 @@ const SYMTAB: u32 = 2;
 
 const XINDEX: u16 = 0xffff;
 
-/// The section that holds the sections' names, as far as its bytes lie in the file.
+/// The contents of the section that holds the sections' names, if they lie in the file.
 pub(crate) fn section_names<'a>(
     bytes: &'a [u8],
     header: &FileHeader,
@@ -58,7 +58,7 @@ pub(crate) fn symbol_table_index(order: ByteOrder, table: &[u8]) -> Option<usize
     None
 }
 
-/// The file header, of a file that is an ELF64 file of a known byte order.
+/// The file header, where the file is an ELF64 file of a known byte order.
 #[tactic(auto, unfolding(crate::specs::Headers::file_header))]
 pub(crate) fn check_file_header(bytes: &[u8]) -> Result<FileHeader, ElfError>
     ensures value { IfOk result (λ h. header_of bytes.now ≡ Some h) }
@@ -83,7 +83,7 @@ pub(crate) fn check_file_header(bytes: &[u8]) -> Result<FileHeader, ElfError>
     Ok(file_header(bytes, order))
 }
 
-/// The section header table, where it and the section of the names are whole.
+/// The section header table, where it and the section of the names lie in the file.
 pub(crate) fn check_section_table<'a>(
     bytes: &'a [u8],
     header: &FileHeader,
@@ -105,7 +105,7 @@ pub(crate) fn check_section_table<'a>(
     Ok(table)
 }
 
-/// Whether a symbol has a section index that stands elsewhere.
+/// Whether a symbol's section index is in another section (`SHN_XINDEX`).
 fn has_extended_index(order: ByteOrder, entries: &[u8]) -> bool
     ensures { IsTrue result ↔ HasExtendedIndex order entries.now }
 {
@@ -117,7 +117,7 @@ fn has_extended_index(order: ByteOrder, entries: &[u8]) -> bool
     false
 }
 
-/// Refuses a symbol table that isn't whole.
+/// Refuses a malformed symbol table.
 pub(crate) fn check_symbol_table(
     bytes: &[u8],
     order: ByteOrder,
@@ -144,8 +144,8 @@ pub(crate) fn check_symbol_table(
     Ok(())
 }
 
-/// Whether a section is a relocation section of the symbol table, but isn't whole or has no
-/// target.
+/// Whether a section is a malformed relocation section of the symbol table, or one whose target is
+/// missing.
 fn is_bad_relocation_table(
     bytes: &[u8],
     order: ByteOrder,
@@ -164,7 +164,7 @@ fn is_bad_relocation_table(
         || header.size % entry_size(header) != 0
 }
 
-/// Refuses relocation sections of the symbol table that aren't whole.
+/// Refuses malformed relocation sections of the symbol table.
 pub(crate) fn check_relocation_tables(
     bytes: &[u8],
     order: ByteOrder,

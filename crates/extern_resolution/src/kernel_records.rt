@@ -140,11 +140,7 @@ impl<'k, 'n> KernelRecords<'k, 'n> {
         let names = typed_names(alloc, externs)?;
         let tables = slice::from_ref(kernel);
         let kinds = [BtfKind::Func, BtfKind::Var];
-        let types = if names.is_empty() {
-            NamedTypes::new(alloc, tables)
-        } else {
-            NamedTypes::find(alloc, &kinds, names.as_slice(), tables)?
-        };
+        let types = NamedTypes::find(alloc, &kinds, names.as_slice(), tables)?;
         Ok(KernelRecords { kernel, types })
     }
 

@@ -16,7 +16,7 @@ fn hex_digit(byte: u8) -> Option<u8>
     }
 }
 
-/// One more digit, as far as 64 bits hold the number.
+/// The number with one more digit, if it fits in 64 bits.
 fn with_digit(value: u64, digit: u8) -> Option<u64>
     requires { digit < 16 }
     ensures { result ≡ with_digit value digit }
@@ -24,7 +24,7 @@ fn with_digit(value: u64, digit: u8) -> Option<u64>
     value.checked_mul(16)?.checked_add(u64::from(digit))
 }
 
-/// One digit or more.
+/// The value of one hexadecimal digit or more.
 fn hex_number(digits: &[u8]) -> Option<u64>
     ensures { result ≡ hex_number digits.now }
 {
@@ -38,8 +38,7 @@ fn hex_number(digits: &[u8]) -> Option<u64>
     Some(value)
 }
 
-/// The address that a word writes: a number of 64 bits in hexadecimal digits, after an optional
-/// `+`.
+/// The address in a word: a number of 64 bits in hexadecimal digits, after an optional `+`.
 #[tactic(auto, unfolding(crate::specs::Addresses::address_in))]
 pub(crate) fn address_in(word: &[u8]) -> Option<u64>
     ensures { result ≡ address_in word.now }

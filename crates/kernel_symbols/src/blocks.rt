@@ -1,14 +1,14 @@
-//! Bytes of ASCII that are no white space, many at a time.
+//! Blocks of bytes that are ASCII and no white space.
 
 ghost use Rattle.std.specs.Prelude.{◌≡◌, ◌+◌, ◌≤◌, length};
 ghost use Rattle.kernel_symbols.specs.Words.{ArePlain, first_set};
 
 use std::simd::prelude::*;
 
-/// How many bytes are looked at in one step.
+/// The number of bytes that are compared in one step.
 const BLOCK: usize = 16;
 
-/// The place of the lowest bit that is set; 16 where none is.
+/// The index of the lowest bit that is set; 16 where none is.
 #[inline(always)]
 fn first_set(mask: u64) -> usize
     ensures { result ≡ first_set mask }
@@ -20,7 +20,7 @@ fn first_set(mask: u64) -> usize
     }
 }
 
-/// How many bytes of a block stand before the first that is white space or no ASCII.
+/// The number of bytes in a block before the first that is white space or not ASCII.
 #[inline(always)]
 fn plain_in_block(bytes: &[u8], at: usize) -> usize
     requires { at + BLOCK ≤ length bytes.now }
@@ -32,8 +32,8 @@ fn plain_in_block(bytes: &[u8], at: usize) -> usize
     first_set(stops.to_bitmask())
 }
 
-/// How many bytes of the last block and of all before it stand at the front and are plain, where
-/// those of whole blocks are.
+/// The number of plain bytes at the front, by the last 16 bytes. The first `len` bytes, which reach
+/// into these, are plain. For fewer than 16 bytes, `len`.
 #[tactic(auto, using(crate::proofs::WordLemmas::plain_last))]
 fn plain_to_last_block(bytes: &[u8], len: usize) -> usize
     requires within { len ≤ length bytes.now }
@@ -49,8 +49,8 @@ fn plain_to_last_block(bytes: &[u8], len: usize) -> usize
     last + plain_in_block(bytes, last)
 }
 
-/// How many bytes at the front are seen to be plain by going over blocks, the last of which may
-/// begin in the one before it. Fewer bytes than a block has aren't looked at.
+/// The number of plain bytes at the front, found block by block. The last block may overlap the one
+/// before it. For fewer than 16 bytes, 0.
 pub(crate) fn plain_blocks(bytes: &[u8]) -> usize
     ensures within { result ≤ length bytes.now }
     ensures plain { ArePlain bytes.now 0 result }

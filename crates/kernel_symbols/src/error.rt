@@ -1,4 +1,4 @@
-//! Why the addresses of kernel symbols can't be had.
+//! The errors of reading kernel symbols.
 
 ghost use Rattle.std.specs.Prelude.{◌≡◌};
 
@@ -6,7 +6,7 @@ use std::alloc::{AllocError, AllocFailed};
 use std::io;
 use thiserror::Error;
 
-/// Why the addresses of wanted symbols can't be had from a text.
+/// Why the addresses of wanted symbols can't be read from a text.
 #[derive(Debug, Drop, Error)]
 pub enum SymbolsError<'a> {
     /// The reader failed, or a line isn't UTF-8.

@@ -1,4 +1,4 @@
-//! The addresses that a kernel gives its symbols, read from a text as /proc/kallsyms has it.
+//! The addresses of kernel symbols, read from a text in the format of /proc/kallsyms.
 #![tactic(auto)]
 
 mod address;

@@ -1,4 +1,4 @@
-//! What a line says of the wanted symbols.
+//! The address that a line gives a wanted symbol.
 
 ghost use Rattle.std.specs.Prelude.{◌≡◌, true, IfErr, OnOk};
 ghost use Rattle.std.specs.Str.{IsAscii, is_utf8};
@@ -13,7 +13,7 @@ use crate::words::first_and_third;
 use std::io;
 use std::io::ErrorKind;
 
-/// Whether a line is UTF-8. One that is known to be ASCII isn't looked at.
+/// Whether a line is UTF-8. A line that is known to be ASCII isn't checked.
 fn is_text(line: &[u8], is_ascii: bool) -> bool
     requires { is_ascii ≡ true → IsAscii line.now }
     ensures { result ≡ is_utf8 line.now }
@@ -24,7 +24,7 @@ fn is_text(line: &[u8], is_ascii: bool) -> bool
     str::from_utf8(line).is_ok()
 }
 
-/// The address of a wanted symbol after a line whose first word is its address.
+/// The address of a wanted symbol after a line that names it, with the line's first word.
 fn settled<'a>(wanted: &Wanted<'a>, word: &[u8]) -> Result<Option<u64>, SymbolsError<'a>>
     ensures { result ≡ settled wanted.now (address_in word.now) }
 {
@@ -42,7 +42,8 @@ fn settled<'a>(wanted: &Wanted<'a>, word: &[u8]) -> Result<Option<u64>, SymbolsE
     }
 }
 
-/// Takes what a line says of the wanted symbols, which may be known to be ASCII.
+/// Records the address that a line gives a wanted symbol. `is_ascii` may say that the line is
+/// ASCII.
 pub(crate) fn take_line<'a>(
     by_name: &mut WantedByName<'a>,
     line: &[u8],

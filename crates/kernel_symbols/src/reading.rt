@@ -1,4 +1,4 @@
-//! A text of kernel symbols, read as its bytes come.
+//! The incremental reading of a text of kernel symbols.
 
 ghost use Rattle.std.specs.Prelude.{◌≡◌, ◌≢◌, ◌+◌, ◌<◌, ◌++◌, ◌∷◌, ℕ, List, [], length, take, drop, true, false, Some, None, if◌then◌else◌, IfErr, IfOk, MatchOption, OnOk};
 ghost use Rattle.std.specs.Io.KnownBytes.{IsAtEnd};
@@ -17,15 +17,14 @@ use std::alloc::{AllocError, Global};
 use std::io::BufRead;
 use watched::{TakeBytes, Watched};
 
-/// Wanted symbols as far as a text was read, and the beginning of a line whose end is still to
-/// come.
+/// The wanted symbols after a part of a text, and the beginning of a line whose end isn't read yet.
 #[derive(Drop)]
 pub(crate) struct Reading<'a> {
     pub(crate) by_name: WantedByName<'a>,
     pub(crate) partial: Vec<u8>,
 }
 
-/// Where the first NL stands.
+/// The index of the first NL.
 fn line_end(bytes: &[u8]) -> Option<usize>
     ensures { MatchOption result (IsUnbroken bytes.now) (λ at.
         (at < length bytes.now)
@@ -36,7 +35,7 @@ fn line_end(bytes: &[u8]) -> Option<usize>
 }
 
 impl<'a> Reading<'a> {
-    /// Nothing was read.
+    /// The state before anything is read.
     fn new(alloc: Global, names: &[&'a str]) -> Result<Reading<'a>, AllocError>
         ensures wanted { IfOk result (λ reading. AreWanted names.now (entries_of reading)) }
         ensures begun { IfOk result (λ reading. HasRead [] reading) }
@@ -47,7 +46,7 @@ impl<'a> Reading<'a> {
         })
     }
 
-    /// Takes the end of a line, which may be known to be ASCII.
+    /// Reads the end of a line. `is_ascii` may say that it is ASCII.
     fn end_line(&mut self, end: &[u8], is_ascii: bool) -> Result<(), SymbolsError<'a>>
         requires unbroken { IsUnbroken end.now }
         requires ascii { is_ascii ≡ true → IsAscii end.now }
@@ -99,7 +98,7 @@ impl<'a> TakeBytes<SymbolsError<'a>> for Reading<'a> {
     }
 }
 
-/// Reads the bytes that a reader has at hand. `false` is answered at its end.
+/// Reads the bytes that a reader has buffered. Returns `false` at its end.
 fn read_on<'a, R: BufRead>(
     reading: &mut Reading<'a>,
     symbols: &mut Watched<R>,

@@ -6,7 +6,7 @@ ghost use Rattle.kernel_symbols.specs.Reading.{address_under};
 use crate::wanted_names::WantedByName;
 use std::alloc::Global;
 
-/// A wanted symbol, and its address as far as it was found.
+/// A wanted symbol, and its address if it was found.
 #[derive(Clone, Copy, Debug, Drop)]
 pub(crate) struct Wanted<'a> {
     pub(crate) name: &'a str,

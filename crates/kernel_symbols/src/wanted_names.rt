@@ -10,10 +10,10 @@ use std::alloc::{AllocError, Global};
 use std::marker::Model;
 use string_map::{TextMapBuilder, place_of};
 
-/// How many marks there are.
+/// The number of marks.
 const MARKS: usize = 256;
 
-/// The mark of a name: a number by its length and its last byte.
+/// The mark of a name: a hash of its length and its last byte.
 fn mark(name: &[u8]) -> usize
     ensures value { result ≡ mark name.now }
     ensures small { result < MARKS }
@@ -30,8 +30,8 @@ fn mark(name: &[u8]) -> usize
 #[derive(Debug, Drop)]
 pub(crate) struct WantedByName<'a> {
     entries: Vec<(&'a str, Wanted<'a>)>,
-    /// Whether a wanted name has each mark. Most names of a text have a mark that none has, and
-    /// need no look-up.
+    /// For each mark, whether a wanted name has it. Most names of a text have a mark that no wanted
+    /// name has, and need no look-up.
     is_wanted: [bool; MARKS],
 }
 
@@ -53,7 +53,7 @@ impl<'a> Model for WantedByName<'a> {
         × AreMarked (by_bytes w.entries.items) w.is_wanted };
 }
 
-/// Wants a name.
+/// Adds a name to the wanted names.
 fn want<'a>(
     names: &mut TextMapBuilder<'a, Wanted<'a>>,
     is_wanted: &mut [bool; MARKS],
@@ -96,7 +96,7 @@ impl<'a> WantedByName<'a> {
         }
     }
 
-    /// Wanted symbols, which are put in order of their names once.
+    /// Wanted symbols, sorted by name once.
     fn from_names(
         alloc: Global,
         names: TextMapBuilder<'a, Wanted<'a>>,
@@ -125,7 +125,7 @@ impl<'a> WantedByName<'a> {
         WantedByName::from_names(alloc, wanted, is_wanted)
     }
 
-    /// What is known under a name.
+    /// The wanted symbol of a name.
     pub(crate) fn get(&self, name: &[u8]) -> Option<Wanted<'a>>
         ensures { result ≡ under self.now name.now }
     {
@@ -136,7 +136,7 @@ impl<'a> WantedByName<'a> {
         Some(self.entries[place].1)
     }
 
-    /// Puts an address in place under a name.
+    /// Sets the address of the wanted symbol of a name.
     pub(crate) fn put(&mut self, name: &[u8], address: Option<u64>)
         ensures { (other : List ℕ)
             → under self.new other

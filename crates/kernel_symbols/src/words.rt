@@ -5,7 +5,7 @@ ghost use Rattle.kernel_symbols.specs.Words.{ArePlain, EndsWord, IsPlain, ends_g
 
 use crate::blocks::plain_blocks;
 
-/// A byte; 0 past the end.
+/// The byte at an index; 0 past the end.
 fn byte_at(bytes: &[u8], index: usize) -> u8
     ensures { result ≡ slice_index bytes.now index }
 {
@@ -33,14 +33,14 @@ fn ends_general_space(c: u8) -> bool
     (0x80..=0x8a).contains(&c) || c == 0xa8 || c == 0xa9 || c == 0xaf
 }
 
-/// These and U+205F.
+/// The last two bytes of U+2000 to U+200A, U+2028, U+2029, U+202F and U+205F.
 fn is_general_space(b: u8, c: u8) -> bool
     ensures { result ≡ is_general_space b c }
 {
     (b == 0x80 && ends_general_space(c)) || (b == 0x81 && c == 0x9f)
 }
 
-/// U+1680, U+2000 to U+205F and U+3000.
+/// U+1680, the white space of U+2000 to U+205F, and U+3000.
 fn is_wide_space(a: u8, b: u8, c: u8) -> bool
     ensures { result ≡ is_wide_space a b c }
 {
@@ -49,14 +49,14 @@ fn is_wide_space(a: u8, b: u8, c: u8) -> bool
         || (a == 0xe3 && b == 0x80 && c == 0x80)
 }
 
-/// Whether a byte is one of ASCII past SPACE.
+/// Whether a byte is ASCII and greater than SPACE.
 fn is_plain(a: u8) -> bool
     ensures { result ≡ is_plain a }
 {
     b' ' < a && a < 0x80
 }
 
-/// How many bytes the white space character has with which these bytes begin; 0 where they begin
+/// The length in bytes of the white space character that the bytes begin with; 0 where they begin
 /// with none.
 #[tactic(auto, unfolding(crate::specs::Words::space_len))]
 fn space_len(bytes: &[u8]) -> usize
@@ -89,7 +89,7 @@ pub(crate) fn after(bytes: &[u8], count: usize) -> &[u8]
     }
 }
 
-/// The bytes from the first that is no white space.
+/// The bytes after the white space at the front.
 fn skip_spaces(bytes: &[u8]) -> &[u8]
     ensures words { words_of result.now ≡ words_of bytes.now }
     ensures front { 0 < length result.now → space_len result.now ≡ 0 }
@@ -105,7 +105,7 @@ fn skip_spaces(bytes: &[u8]) -> &[u8]
     rest
 }
 
-/// How many bytes of ASCII past SPACE stand at the front.
+/// The number of plain bytes at the front.
 fn plain_len(bytes: &[u8]) -> usize
     ensures within { result ≤ length bytes.now }
     ensures plain { ArePlain bytes.now 0 result }
@@ -117,7 +117,7 @@ fn plain_len(bytes: &[u8]) -> usize
     len
 }
 
-/// How many bytes stand before the first white space.
+/// The number of bytes before the first white space.
 fn word_len(bytes: &[u8]) -> usize
     ensures within { result ≤ length bytes.now }
     ensures plain { IsPlain result bytes.now }
@@ -130,7 +130,7 @@ fn word_len(bytes: &[u8]) -> usize
     len
 }
 
-/// The first word, and what follows it.
+/// The first word, and the bytes after it.
 fn next_word(bytes: &[u8]) -> Option<(&[u8], &[u8])>
     ensures { MatchOption result (words_of bytes.now ≡ []) (λ split.
         words_of bytes.now ≡ split.0.now ∷ words_of split.1.now) }

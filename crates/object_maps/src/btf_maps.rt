@@ -1,4 +1,4 @@
-//! Maps of sections `.maps`, which their types define.
+//! Maps of sections `.maps`, defined by BTF types.
 
 ghost use Rattle.std.specs.Prelude.{◌≡◌, ◌≢◌, [], ◌++◌, Some, flat_map, IfErr, OnOk};
 ghost use Rattle.elf64.specs.Symbols.{symbols_of};
@@ -19,7 +19,7 @@ use object_file::{ObjectFile, ReadSection, SymbolNames};
 use std::alloc::Global;
 
 impl<'a> FoundMaps<'a> {
-    /// Enters the map of a definition, under the symbol of its name.
+    /// Adds the map of a definition, with the symbol of its name.
     #[tactic(auto, unfolding(crate::specs::Found::entered))]
     fn enter_definition(
         &mut self,
@@ -54,7 +54,7 @@ impl<'a> FoundMaps<'a> {
         Ok(())
     }
 
-    /// Enters the maps of these definitions.
+    /// Adds the maps of these definitions.
     #[tactic(auto, using(crate::proofs::Entered::entered_append, crate::proofs::Entered::entered_none))]
     fn enter_definitions(
         &mut self,
@@ -76,7 +76,7 @@ impl<'a> FoundMaps<'a> {
         Ok(())
     }
 
-    /// Enters the maps that the table defines for sections of this one's name.
+    /// Adds the maps that the type table defines for sections of this name.
     fn read_defined(
         &mut self,
         alloc: Global,
@@ -99,7 +99,7 @@ impl<'a> FoundMaps<'a> {
         Ok(())
     }
 
-    /// Enters the maps of a section `.maps` of an object with a type table.
+    /// Adds the maps of a section `.maps` of an object with a type table.
     fn read_typed_maps(
         &mut self,
         alloc: Global,
@@ -131,7 +131,7 @@ impl<'a> FoundMaps<'a> {
         self.read_defined(alloc, types, section, &named)
     }
 
-    /// Enters the maps of a section `.maps`.
+    /// Adds the maps of a section `.maps`.
     #[tactic(auto, using(crate::proofs::Entered::entered_none))]
     pub(crate) fn read_btf_maps(
         &mut self,

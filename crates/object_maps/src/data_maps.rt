@@ -1,4 +1,4 @@
-//! Maps of sections of variables.
+//! Maps of data sections.
 
 ghost use Rattle.std.specs.Prelude.{◌≡◌, ◌≢◌, [], IfErr, IfOk, OnOk};
 ghost use Rattle.ebpf_items.specs.declared.error.ParseError.TheVariants.{OutOfMemory};
@@ -14,7 +14,7 @@ use std::alloc::{AllocError, Global};
 /// `BPF_MAP_TYPE_ARRAY`.
 const ARRAY: u32 = 2;
 
-/// The size of an index, in bytes.
+/// The size of a key, which is an index, in bytes.
 const INDEX_SIZE: u32 = 4;
 
 /// `BPF_F_RDONLY_PROG`: programs can't write it.
@@ -29,7 +29,7 @@ fn flags(kind: EbpfSectionKind) -> u32
     }
 }
 
-/// What the variables of a section hold at first.
+/// The initial bytes of the variables of a section.
 fn contents(alloc: Global, section: &ReadSection<'_>) -> Result<Vec<u8>, AllocError>
     ensures { IfOk result (λ contents. contents.items ≡ data_contents section.now) }
 {
@@ -40,7 +40,7 @@ fn contents(alloc: Global, section: &ReadSection<'_>) -> Result<Vec<u8>, AllocEr
 }
 
 impl<'a> FoundMaps<'a> {
-    /// Enters the map of a section of variables.
+    /// Adds the map of a data section.
     #[tactic(auto, unfolding(crate::specs::Found::entered))]
     pub(crate) fn read_data_map(
         &mut self,

@@ -1,4 +1,4 @@
-//! What the sections of variables of a type table define.
+//! Map definitions in the `BTF_KIND_DATASEC` records of a type table.
 
 ghost use Rattle.std.specs.Prelude.{◌≡◌, ◌≢◌, [], Some, flat_map, IfOk, IfErr, OnOk};
 ghost use Rattle.ebpf_items.specs.declared.error.ParseError.TheVariants.{OutOfMemory};
@@ -18,7 +18,7 @@ use std::alloc::{AllocError, Global};
 use std::collections::BTreeMap;
 use std::marker::Model;
 
-/// Enters what the variable of an entry defines.
+/// Adds the definition of the variable of an entry.
 #[tactic(auto, unfolding(crate::specs::DefinedMaps::defined_after))]
 fn read_entry<'t>(
     alloc: Global,
@@ -39,7 +39,7 @@ fn read_entry<'t>(
     Ok(())
 }
 
-/// Enters what the variables of a section define.
+/// Adds the definitions of the variables of a section.
 #[tactic(auto, using(crate::proofs::Defined::defined_append, crate::proofs::Defined::defined_none))]
 fn read_entries<'t>(
     alloc: Global,
@@ -60,7 +60,7 @@ fn read_entries<'t>(
     Ok(())
 }
 
-/// Enters what the variables of these sections define.
+/// Adds the definitions of the variables of these sections.
 #[tactic(auto, using(crate::proofs::Defined::defined_none))]
 fn read_sections<'t>(
     alloc: Global,
@@ -83,16 +83,16 @@ fn read_sections<'t>(
     Ok(())
 }
 
-/// What the sections of a name define as maps.
+/// The maps that the sections of a name define.
 #[derive(Drop)]
 pub(crate) struct KnownMaps<'a, 't> {
     pub(crate) section: &'a str,
     pub(crate) maps: DefinedMaps<'t>,
 }
 
-/// A type table, and what its sections of variables define as maps, read once for each name that
-/// sections of the object have. These names are told apart by their lengths first:
-/// those that are ends of one long text are costly to compare.
+/// A type table, and the maps that its sections define, read once for each section name of the
+/// object. Names are compared by their lengths first, since suffixes of one long text are costly to
+/// compare.
 pub(crate) struct DataSections<'a, 't, 'b> {
     table: &'t Btf<'b>,
     definitions: MapDefinitions<'t, 'b>,
@@ -137,7 +137,7 @@ impl<'a, 't, 'b> DataSections<'a, 't, 'b> {
         }
     }
 
-    /// Refuses a table in which the name of a section of variables can't be read.
+    /// Refuses a table in which the name of a `BTF_KIND_DATASEC` can't be read.
     pub(crate) fn check_names(&self) -> Result<(), ParseError>
         ensures accepted { OnOk result (name_faults self.now ≡ []) }
         ensures refused { IfErr result (Says (name_faults self.now)) }
@@ -145,7 +145,7 @@ impl<'a, 't, 'b> DataSections<'a, 't, 'b> {
         require_names(self.table)
     }
 
-    /// What the sections of a name define, read anew.
+    /// Reads the maps that the sections of a name define.
     #[tactic(auto, unfolding(crate::specs::DefinedMaps::defined_after))]
     fn read_named(&mut self, alloc: Global, name: &str) -> Result<DefinedMaps<'t>, ParseError>
         ensures value { IfOk result (λ maps. maps ≡ by_name self.old name.now) }
@@ -165,8 +165,7 @@ impl<'a, 't, 'b> DataSections<'a, 't, 'b> {
         Ok(found.into_defined(alloc)?)
     }
 
-    /// What the sections of a name define: what is kept of them, which no longer is then, or else
-    /// read anew.
+    /// Takes the stored maps of the sections of a name, or reads them if none are stored.
     pub(crate) fn take(
         &mut self,
         alloc: Global,
@@ -186,7 +185,7 @@ impl<'a, 't, 'b> DataSections<'a, 't, 'b> {
         self.read_named(alloc, name)
     }
 
-    /// Keeps what the sections of a name define.
+    /// Stores the maps that the sections of a name define.
     pub(crate) fn keep(&mut self, name: &'a str, maps: DefinedMaps<'t>) -> Result<(), AllocError>
         requires { IsDefinedIn self.old name.now maps }
         ensures { self.new ≡ self.old }

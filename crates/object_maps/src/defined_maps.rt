@@ -1,4 +1,4 @@
-//! What sections of a type table define, by the names of maps.
+//! Map definitions by name.
 
 ghost use Rattle.std.specs.Prelude.{◌≡◌, [], IfOk, OnErr, OnOk};
 ghost use Rattle.map_definitions.specs.Definitions.{definition_of};
@@ -10,9 +10,9 @@ use std::collections::VecDeque;
 use std::marker::Model;
 use string_map::in_text_order;
 
-/// Definitions in the order in which they are found. Contracts see them sorted by name, the last of
-/// each name alone; they are sorted once, when all are found, since names with long common prefixes
-/// are costly to compare.
+/// Map definitions in the order in which they are found. Their model is sorted by name and has the
+/// last definition of each name. They are sorted once, by `into_defined`, since names with long
+/// common prefixes are costly to compare.
 #[derive(Drop)]
 pub(crate) struct FoundDefinitions<'t> {
     entries: VecDeque<(&'t str, BtfDefinition)>,
@@ -39,8 +39,7 @@ impl<'t> FoundDefinitions<'t> {
         }
     }
 
-    /// Adds a map's definition under its name, which stands in place of an earlier one of that
-    /// name.
+    /// Adds a definition; it replaces an earlier one of the same name.
     #[tactic(auto, using(crate::proofs::Defined::one_defined))]
     pub(crate) fn push(
         &mut self,
@@ -55,7 +54,7 @@ impl<'t> FoundDefinitions<'t> {
         Ok(())
     }
 
-    /// The definitions in order of names.
+    /// The definitions, sorted by name.
     pub(crate) fn into_defined(self, alloc: Global) -> Result<DefinedMaps<'t>, AllocError>
         ensures { IfOk result (λ defined. defined ≡ self.entry) }
     {
@@ -66,7 +65,7 @@ impl<'t> FoundDefinitions<'t> {
     }
 }
 
-/// What sections of a type table define, sorted by the names of maps.
+/// Map definitions, sorted by name.
 #[derive(Drop)]
 pub(crate) struct DefinedMaps<'t> {
     entries: Vec<(&'t str, BtfDefinition)>,
@@ -83,7 +82,7 @@ impl<'t> Model for DefinedMaps<'t> {
 }
 
 impl<'t> DefinedMaps<'t> {
-    /// The definitions with their names.
+    /// The names and their definitions.
     pub(crate) fn entries(&self) -> &[(&'t str, BtfDefinition)]
         ensures { named_definitions result.now ≡ self.now }
     {

@@ -1,4 +1,4 @@
-//! The entries of a section of variables in order.
+//! The entries of a `BTF_KIND_DATASEC` in order.
 
 ghost use Rattle.std.specs.Prelude.{◌≡◌};
 ghost use Rattle.std.specs.Iterator.{YieldsFirst, item_count};
@@ -8,7 +8,7 @@ use btf_encoding::TypeRef;
 use btf_records::DataSecEntry;
 use std::marker::Model;
 
-/// The entries of a section of variables in order.
+/// The entries of a `BTF_KIND_DATASEC` in order.
 #[derive(Drop)]
 pub(crate) struct Entries<'s, 't> {
     section: &'s TypeRef<'t>,

@@ -1,4 +1,4 @@
-//! Maps as they are found.
+//! Maps in the order in which they are found.
 
 ghost use Rattle.std.specs.Prelude.{◌≡◌, [], map, IfOk, OnOk, OnErr};
 ghost use Rattle.std.specs.Cmp.Lexicographic.{slice_cmp};
@@ -14,8 +14,8 @@ use std::collections::VecDeque;
 use std::marker::Model;
 use string_map::in_text_order;
 
-/// Maps in the order in which they are found. Contracts see them sorted by name, the last of each
-/// name alone; they are sorted once, when all are found, since names with long common prefixes are
+/// Maps in the order in which they are found. Their model is sorted by name and has the last map of
+/// each name. They are sorted once, by `into_maps`, since names with long common prefixes are
 /// costly to compare.
 #[derive(Drop)]
 pub(crate) struct FoundMaps<'a> {
@@ -44,16 +44,16 @@ impl<'a> FoundMaps<'a> {
         }
     }
 
-    /// That the names strictly rise by bytes.
+    /// The names strictly rise by bytes.
     #[tactic(auto, using(crate::proofs::FoundMaps::found_rising))]
     pub(crate) fn rising(&self)
         ensures { IsStrictlySortedBy (slice_cmp nat_cmp) (map (λ e. e.0) self.now) }
     {
-        // For the proof, which knows the list only where it is read.
+        // The proof knows the list only where it is read.
         let _entries = &self.entries;
     }
 
-    /// Adds a map under a name, which stands in place of an earlier one of that name.
+    /// Adds a map; it replaces an earlier one of the same name.
     #[tactic(auto, using(crate::proofs::FoundMaps::one_found))]
     pub(crate) fn push(&mut self, name: &'a str, map: Map) -> Result<(), AllocError>
         ensures ok { OnOk result (self.new ≡ with_map self.old (name.now, map_view map)) }
@@ -63,7 +63,7 @@ impl<'a> FoundMaps<'a> {
         Ok(())
     }
 
-    /// The maps in order of names.
+    /// The maps, sorted by name.
     pub(crate) fn into_maps(self, alloc: Global) -> Result<Maps<'a>, AllocError>
         ensures { IfOk result (λ maps. maps ≡ self.entry) }
     {

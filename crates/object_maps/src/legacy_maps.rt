@@ -18,7 +18,7 @@ use map_definitions::legacy_map_def;
 use object_file::{ObjectFile, ReadSection, ReadSymbol};
 use std::alloc::Global;
 
-/// Whether a symbol of a section `maps` is a map: all but the section's own are.
+/// Whether a symbol of a section `maps` is a map. All but the section's own symbol are.
 fn is_map(symbol: &ReadSymbol<'_>) -> bool
     ensures { result ≡ is_map_symbol symbol.now }
 {
@@ -36,7 +36,7 @@ fn any_map(symbols: &[ReadSymbol<'_>]) -> bool
     false
 }
 
-/// A number of bytes from an offset on, where they are there.
+/// The `size` bytes from an offset on; `None` past the end.
 fn range(bytes: &[u8], offset: u64, len: u64) -> Option<&[u8]>
     ensures { option_copied result ≡ bytes_at bytes.now offset len }
 {
@@ -47,7 +47,7 @@ fn range(bytes: &[u8], offset: u64, len: u64) -> Option<&[u8]>
     Some(&bytes[offset as usize..end as usize])
 }
 
-/// The words of a symbol's map.
+/// The map definition at a symbol.
 fn symbol_def(section: &ReadSection<'_>, symbol: &ReadSymbol<'_>) -> Option<bpf_map_def>
     ensures { option_map legacy_words result ≡ symbol_words section.now symbol.now }
 {
@@ -57,7 +57,7 @@ fn symbol_def(section: &ReadSection<'_>, symbol: &ReadSymbol<'_>) -> Option<bpf_
 }
 
 impl<'a> FoundMaps<'a> {
-    /// Enters the map of a symbol, where it is one.
+    /// Adds the map of a symbol, if it is one.
     #[tactic(auto, unfolding(crate::specs::Found::entered))]
     fn read_legacy_map(
         &mut self,
@@ -91,7 +91,7 @@ impl<'a> FoundMaps<'a> {
         Ok(())
     }
 
-    /// Enters the maps of these symbols of a section.
+    /// Adds the maps of these symbols of a section.
     #[tactic(auto, using(crate::proofs::Entered::entered_none))]
     fn read_symbols(
         &mut self,
@@ -111,7 +111,7 @@ impl<'a> FoundMaps<'a> {
         Ok(())
     }
 
-    /// Enters the maps of a section `maps`.
+    /// Adds the maps of a section `maps`.
     pub(crate) fn read_legacy_maps(
         &mut self,
         alloc: Global,

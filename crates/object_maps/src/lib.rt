@@ -1,5 +1,5 @@
-//! The maps of an object: those of sections `maps`, those that types define, and sections of
-//! variables.
+//! The maps of an object: legacy maps of sections `maps`, maps that BTF types define, and data
+//! sections.
 #![tactic(auto)]
 
 mod btf_maps;

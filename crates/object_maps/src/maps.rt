@@ -17,7 +17,7 @@ use std::alloc::{AllocError, Global};
 use std::marker::Model;
 use string_map::{Iter, place_of};
 
-/// Puts bytes over those of a map, from a place on.
+/// Overwrites the bytes of a map from offset `start` on.
 fn overwrite(map: &mut Map, start: usize, bytes: &[u8])
     requires { start + length bytes.now ≤ length (map_view map.old).contents }
     ensures { map_view map.new ≡ map_overwritten start bytes.now (map_view map.old) }
@@ -26,7 +26,7 @@ fn overwrite(map: &mut Map, start: usize, bytes: &[u8])
     contents[start..start + bytes.len()].copy_from_slice(bytes);
 }
 
-/// The maps of an object, kept as a list sorted by name.
+/// The maps of an object, sorted by name.
 #[derive(Debug)]
 pub struct Maps<'a> {
     entries: Vec<(&'a str, Map)>,
@@ -66,7 +66,7 @@ impl<'a> Maps<'a> {
         }
     }
 
-    /// The maps of these names, which strictly rise by bytes.
+    /// The maps of these entries, which are sorted by name without duplicates.
     pub(crate) fn from_entries(entries: Vec<(&'a str, Map)>) -> Maps<'a>
         requires { IsStrictlySortedBy (slice_cmp nat_cmp) (texts_of entries.items) }
         ensures { result ≡ shown entries.entry.items }
@@ -97,7 +97,7 @@ impl<'a> Maps<'a> {
         Some(&self.entries[place].1)
     }
 
-    /// The maps with their names, which strictly rise by bytes.
+    /// The names and their maps, sorted by name, without duplicates.
     pub fn iter(&self) -> Iter<'_, 'a, Map>
         ensures value { shown result ≡ self.now }
         ensures rising { IsStrictlySortedBy (slice_cmp nat_cmp) (map (λ e. e.0) self.now) }
@@ -105,8 +105,8 @@ impl<'a> Maps<'a> {
         Iter::new(&self.entries)
     }
 
-    /// Puts bytes over those of the map of a name, from a place on. The map is there, and has so
-    /// many bytes there.
+    /// Overwrites the bytes of the map of a name from offset `start` on. The map exists, and its
+    /// bytes reach as far.
     pub fn overwrite(&mut self, name: &str, start: usize, bytes: &[u8])
         requires { HasRange self.old name.now start (length bytes.now) }
         ensures { self.new ≡ with_bytes self.old name.now start bytes.now }
@@ -116,7 +116,7 @@ impl<'a> Maps<'a> {
         }
     }
 
-    /// The same maps.
+    /// A copy of the maps.
     pub fn try_clone(&self) -> Result<Maps<'a>, AllocError>
         ensures { IfOk result (λ maps. maps ≡ self.now) }
     {

@@ -1,4 +1,4 @@
-//! The sections of variables that a type table names ("BTF_KIND_DATASEC").
+//! The `BTF_KIND_DATASEC` records of a type table by name.
 
 ghost use Rattle.std.specs.Prelude.{◌≡◌, [], IfErr, IfOk, OnOk};
 ghost use Rattle.object_maps.specs.DataSections.{is_data_section, is_section_named, name_faults, section_name_faults, sections_named};
@@ -16,7 +16,7 @@ fn is_data_section(t: &TypeRef<'_>) -> bool
     t.kind() == BtfKind::DataSec
 }
 
-/// Whether this is a section of variables of a name.
+/// Whether a type is a `BTF_KIND_DATASEC` of this name.
 fn is_section_named(table: &Btf<'_>, name: &str, t: &TypeRef<'_>) -> bool
     ensures { result ≡ is_section_named table.now name.now t.now }
 {
@@ -46,7 +46,7 @@ pub(crate) fn sections_named<'t>(
     Ok(sections)
 }
 
-/// Refuses a section whose name can't be read.
+/// Refuses a type that is a `BTF_KIND_DATASEC` whose name can't be read.
 fn require_name(table: &Btf<'_>, t: &TypeRef<'_>) -> Result<(), ParseError>
     ensures accepted { OnOk result (section_name_faults table.now t.now ≡ []) }
     ensures refused { IfErr result (Says (section_name_faults table.now t.now)) }
@@ -60,7 +60,7 @@ fn require_name(table: &Btf<'_>, t: &TypeRef<'_>) -> Result<(), ParseError>
     }
 }
 
-/// Refuses a table in which the name of a section can't be read.
+/// Refuses a table in which the name of a `BTF_KIND_DATASEC` can't be read.
 pub(crate) fn require_names(table: &Btf<'_>) -> Result<(), ParseError>
     ensures accepted { OnOk result (name_faults table.now ≡ []) }
     ensures refused { IfErr result (Says (name_faults table.now)) }

@@ -17,7 +17,7 @@ use object_file::{ObjectFile, ReadSection};
 use std::alloc::Global;
 
 impl<'a> FoundMaps<'a> {
-    /// Enters the maps of a section.
+    /// Adds the maps of a section.
     #[tactic(auto, using(crate::proofs::Entered::entered_none), unfolding(crate::specs::Maps::section_faults, crate::specs::Maps::section_maps))]
     fn read_section(
         &mut self,
@@ -45,7 +45,7 @@ impl<'a> FoundMaps<'a> {
         }
     }
 
-    /// Enters the maps of these sections.
+    /// Adds the maps of these sections.
     #[tactic(auto, using(crate::proofs::Entered::entered_none))]
     fn read_sections(
         &mut self,
@@ -72,7 +72,7 @@ impl<'a> FoundMaps<'a> {
     }
 }
 
-/// The maps of an object file, with the sections of variables of its type table, if it has one.
+/// The maps of an object file, with the data sections of its type table, if it has one.
 #[tactic(auto, using(crate::proofs::Entered::entered_last))]
 fn maps_in<'a>(
     alloc: Global,
@@ -93,11 +93,13 @@ fn maps_in<'a>(
 ///
 /// # Errors
 ///
-/// `NoSymbolsForSection` for a section of maps without symbols for them, `InvalidMapDefinition`
-/// where the symbol of a section `maps` lies outside it or has fewer than 20 bytes, and where a
-/// section of variables is of 2^32 bytes or more, `NoBTF` for a section `.maps` without a table,
-/// `SymbolNotFound` for a map of such a section that no symbol names, `BtfError` where the table
-/// doesn't define these maps, and `OutOfMemory`.
+/// - `NoSymbolsForSection`: a section of maps has no symbols for them.
+/// - `InvalidMapDefinition`: a symbol of a section `maps` lies outside the section or has fewer
+///   than 20 bytes, or a data section has 2^32 bytes or more.
+/// - `NoBTF`: the object has a section `.maps` and no type table.
+/// - `SymbolNotFound`: no symbol names a map of a section `.maps`.
+/// - `BtfError`: the type table doesn't define the maps of a section `.maps`.
+/// - `OutOfMemory`.
 pub fn read_maps<'a>(
     alloc: Global,
     file: &ObjectFile<'a>,

@@ -12,7 +12,7 @@ use crate::numbers::{
 };
 use crate::program_section::ProgramSection;
 
-/// What `BPF_PROG_LOAD` takes of a program's kind.
+/// The attributes of `BPF_PROG_LOAD` that depend on a program's kind.
 #[derive(Clone, Copy, Debug, PartialEq, Eq)]
 pub struct LoadAttributes {
     /// `prog_type`
@@ -114,7 +114,7 @@ fn attach_type_of(kind: &ProgramSection) -> Option<u32>
     }
 }
 
-/// A flag where it is set, else 0.
+/// `value` if the flag is set, else 0.
 fn flag(is_set: bool, value: u32) -> u32
     ensures { result ≡ flag is_set value }
 {

@@ -4,14 +4,14 @@ ghost use Rattle.std.specs.Prelude.{◌≡◌, Some, slice_get};
 ghost use Rattle.std.specs.Result.{result_ok};
 ghost use Rattle.program_kinds.specs.Bindings.{map_types, prog_types, map_type_number, prog_type_number, attach_type_number, Refuses};
 
-/// A number that is no variant's.
+/// A number that no variant has.
 #[derive(Drop)]
 pub struct InvalidTypeBinding<T> {
     /// The number.
     pub value: T,
 }
 
-// The entry of a table at a number.
+// The entry of a table at an index.
 fn entry<T: Copy>(table: &[T], number: u32) -> Option<T>
     ensures { result ≡ slice_get table.now number }
 {
@@ -59,7 +59,7 @@ pub enum bpf_map_type {
 }
 
 impl bpf_map_type {
-    /// Its number in the kernel's `bpf.h`, from which `try_from` gives it back.
+    /// Its number in the kernel's `bpf.h`. `try_from` is the inverse.
     pub fn number(self) -> u32
         ensures value { result ≡ map_type_number self }
         ensures entry { slice_get map_types result ≡ Some self }
@@ -156,7 +156,7 @@ pub enum bpf_prog_type {
 }
 
 impl bpf_prog_type {
-    /// Its number in the kernel's `bpf.h`, from which `try_from` gives it back.
+    /// Its number in the kernel's `bpf.h`. `try_from` is the inverse.
     pub fn number(self) -> u32
         ensures value { result ≡ prog_type_number self }
         ensures entry { slice_get prog_types result ≡ Some self }

@@ -14,9 +14,9 @@ use std::error::Error;
 use std::fmt;
 use std::str::FromStr;
 
-/// The kind of a program, by its section's name: the pieces of the name between `/` decide, by the
-/// tables of `specs/ProgramSection.antt`, after the kernel's `libbpf/program_types.rst`. Pieces
-/// after the second are free.
+/// The kind of a program, by its section's name. The first two pieces of the name between `/`
+/// decide, by the tables of `specs/ProgramSection.antt`, after the kernel's
+/// `libbpf/program_types.rst`. Pieces after the second are ignored.
 #[derive(Clone, Debug, Drop)]
 pub enum ProgramSection {
     /// `kretprobe`
@@ -110,7 +110,7 @@ pub enum ProgramSection {
     },
 }
 
-/// Why a section's name is refused: it names no kind of program.
+/// The error of a section's name that names no kind of program.
 #[derive(Debug, Drop)]
 pub struct InvalidSection;
 
@@ -127,14 +127,14 @@ impl FromStr for ProgramSection {
 
     ghost from_str_gives = { λ name r. result_ok r ≡ kind_of_name name };
 
-    /// Takes no memory.
+    /// Allocates no memory.
     fn from_str(section: &str) -> Result<ProgramSection, InvalidSection> {
         let (first, rest) = pieces(section);
         kind_of_pieces(first, rest).ok_or(InvalidSection)
     }
 }
 
-/// The text up to the first `/`, and the text after it, where there is a `/`.
+/// The text before the first `/`, and the text after it, where there is a `/`.
 fn pieces(section: &str) -> (&str, Option<&str>)
     ensures first { result.0.now ≡ first_piece section.now }
     ensures second { option_map (λ rest. first_piece rest.now) result.1 ≡ second_piece section.now }
@@ -154,7 +154,7 @@ fn up_to_slash(text: &str) -> &str
     }
 }
 
-/// The piece that the text after the first `/` begins with.
+/// The second piece, of the text after the first `/`.
 fn second_piece<'n>(rest: Option<&'n str>) -> Option<&'n str>
     ensures { option_copied result ≡ option_map (λ rest. first_piece rest.now) rest.entry }
 {
@@ -164,8 +164,8 @@ fn second_piece<'n>(rest: Option<&'n str>) -> Option<&'n str>
     }
 }
 
-/// The kind by the first piece and the text after it. That text, which may be long, is only read
-/// where the first piece doesn't decide.
+/// The kind by the first piece and the text after it. The text after it may be long, and is only
+/// read where the first piece doesn't decide.
 fn kind_of_pieces(first: &str, rest: Option<&str>) -> Option<ProgramSection>
     ensures { result
         ≡ kind_of_pieces first.now (option_map (λ rest. first_piece rest.now) rest.entry) }

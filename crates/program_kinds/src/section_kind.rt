@@ -8,11 +8,11 @@ ghost use Rattle.program_kinds.specs.SectionKind.{kinds_by_beginning, kinds_by_n
 /// What a section of an object holds.
 #[derive(Clone, Copy, Debug, PartialEq, Eq)]
 pub enum EbpfSectionKind {
-    /// Nothing that is looked at.
+    /// Nothing that is read.
     Undefined,
-    /// Maps, defined by their words: `maps`.
+    /// Maps that are defined by words, as in the legacy form: `maps`.
     Maps,
-    /// Maps, defined by their types: `.maps`.
+    /// Maps that are defined by their BTF types: `.maps`.
     BtfMaps,
     /// Programs: any other executable section that isn't empty.
     Program,
@@ -20,7 +20,7 @@ pub enum EbpfSectionKind {
     Data,
     /// Constants: `.rodata`.
     Rodata,
-    /// Variables that begin as zero: `.bss`.
+    /// Variables that are initialised to zero: `.bss`.
     Bss,
     /// Functions that programs call: `.text`.
     Text,
@@ -35,16 +35,16 @@ pub enum EbpfSectionKind {
 }
 
 impl EbpfSectionKind {
-    /// The kind that a name alone decides, `Undefined` where it decides none. The names of types'
-    /// sections are whole names, the others the names' beginnings.
+    /// The kind that a name alone decides; `Undefined` where it decides none. `.BTF` and `.BTF.ext`
+    /// are compared with the whole name, the others with its beginning.
     pub fn from_name(name: &str) -> EbpfSectionKind
         ensures { result ≡ kind_named name.now }
     {
         decided(name).unwrap_or(EbpfSectionKind::Undefined)
     }
 
-    /// The kind of a section: what its name decides, else `Program` where it is executable text of
-    /// nonzero size.
+    /// The kind of a section: the kind that its name decides, else `Program` for executable text of
+    /// nonzero size, else `Undefined`.
     pub fn of_section(name: &str, is_text: bool, size: u64) -> EbpfSectionKind
         ensures { result ≡ kind_of_section name.now is_text size }
     {
@@ -56,7 +56,7 @@ impl EbpfSectionKind {
     }
 }
 
-/// The kind that a name decides, if it does.
+/// The kind that a name decides, if any.
 fn decided(name: &str) -> Option<EbpfSectionKind>
     ensures { result ≡ kind_decided name.now }
 {

@@ -1,4 +1,4 @@
-//! The words of the lines that programs print of what they read: texts, bytes, numbers, ids, names.
+//! The words of the lines that programs print: texts, bytes, numbers, ids and names.
 #![tactic(auto)]
 
 mod names;

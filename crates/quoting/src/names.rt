@@ -1,15 +1,16 @@
-//! Lists of names that may be long.
+//! Lists of names, shortened for a report.
 
 use std::alloc::{AllocError, Global};
 use std::fmt;
 
-/// How many names are told.
+/// The number of names that are printed.
 const TOLD: usize = 10;
 
-/// The longest name that is told whole, in bytes.
+/// The longest name that is printed whole, in bytes.
 const WHOLE: usize = 256;
 
-/// A name in double quotes; of a longer one its beginning, and its length.
+/// A name in double quotes. Of a name of more than 256 bytes, its beginning and its length in bytes
+/// are printed.
 #[derive(Clone, Copy, Debug)]
 pub struct ShortName<'n> {
     /// The name.
@@ -27,8 +28,8 @@ impl<'n> fmt::Display for ShortName<'n> {
     }
 }
 
-/// The first of some names, and how many more there are. An object of a megabyte can have thousands
-/// of names that are nearly as long as itself, since they may share their bytes.
+/// The first 10 of some names, and the number of the others. An object of a megabyte can have
+/// thousands of names that are nearly as long as the object, since names may share bytes.
 #[derive(Debug, Drop)]
 pub struct FirstNames<'n> {
     names: Vec<&'n str>,

@@ -78,10 +78,10 @@ impl<'a> fmt::Display for Quoted<'a> {
     }
 }
 
-/// A text as a word of a line; a dash stands for none. It stands as it is if it is printable ASCII
-/// without a space, a double quote or a backslash, and neither empty nor a dash. Any other stands
-/// in double quotes, in which a double quote, a backslash and each byte that isn't printable ASCII
-/// is `\x` and two hexadecimal digits.
+/// A text as a word of a line; a dash stands for none. A text is printed as it is if it is
+/// printable ASCII without a space, a double quote or a backslash, and neither empty nor a dash.
+/// Any other text is printed in double quotes, in which a double quote, a backslash and each byte
+/// that isn't printable ASCII is `\x` and two hexadecimal digits.
 #[derive(Debug, Drop)]
 pub struct Text<'a>(pub Option<&'a [u8]>);
 
@@ -108,7 +108,7 @@ impl<'a> fmt::Display for Text<'a> {
     }
 }
 
-/// A text as a word that stands in double quotes in any case, with the escapes of [`Text`].
+/// A text as a word that is always in double quotes, with the escapes of [`Text`].
 #[derive(Debug, Drop)]
 pub struct QuotedText<'a>(pub &'a str);
 

@@ -1,4 +1,4 @@
-//! How much two texts share at their beginnings.
+//! Common prefixes of two texts.
 
 ghost use Rattle.std.specs.Prelude.{◌≡◌, ◌≤◌, ◌<◌, ◌+◌, true, false};
 ghost use Rattle.std.specs.Cmp.Lexicographic.{slice_cmp};
@@ -7,10 +7,10 @@ ghost use Rattle.string_map.specs.Beginnings.{shared};
 
 use std::cmp::Ordering;
 
-/// So many bytes at most are compared at once.
+/// The most bytes that are compared at once.
 const MOST_AT_ONCE: usize = 4096;
 
-/// Whether two texts share so many bytes or more at their beginnings.
+/// Whether two texts share a prefix of at least `count` bytes.
 fn begin_alike(one: &[u8], other: &[u8], count: usize) -> bool
     ensures yes { result ≡ true → count ≤ shared one.now other.now }
     ensures no { result ≡ false → shared one.now other.now < count }
@@ -18,7 +18,7 @@ fn begin_alike(one: &[u8], other: &[u8], count: usize) -> bool
     count <= one.len() && count <= other.len() && one[..count] == other[..count]
 }
 
-/// How many bytes two texts share at their beginnings, which are known to be so many or more.
+/// The length of the common prefix of two texts, which is known to be at least `known` bytes.
 pub(crate) fn shared(one: &[u8], other: &[u8], known: usize) -> usize
     requires { known ≤ shared one.now other.now }
     ensures { result ≡ shared one.now other.now }
@@ -35,7 +35,7 @@ pub(crate) fn shared(one: &[u8], other: &[u8], known: usize) -> usize
     shared
 }
 
-/// How two texts compare that share so many bytes at their beginnings.
+/// How two texts compare whose common prefix has `count` bytes.
 pub(crate) fn ordering_after(one: &[u8], other: &[u8], count: usize) -> Ordering
     requires { count ≡ shared one.now other.now }
     ensures { result ≡ slice_cmp nat_cmp one.now other.now }

@@ -1,4 +1,4 @@
-//! Values that are entered by text one after the other.
+//! A builder of a map from texts to values.
 
 ghost use Rattle.std.specs.Prelude.{◌≡◌, ℕ, List, [], Some, if◌then◌else◌, IfOk, OnErr, OnOk};
 ghost use Rattle.std.specs.BTreeMap.{insert_entry};
@@ -12,8 +12,7 @@ use std::alloc::{AllocError, Global};
 use std::collections::VecDeque;
 use std::marker::Model;
 
-/// Values that are entered by text one after the other, and put in the order of their texts once,
-/// when a map is made of them.
+/// Builds a map from texts to values. The entries are sorted once, by `build`.
 #[derive(Debug, Drop)]
 pub struct TextMapBuilder<'a, T> {
     entries: VecDeque<(&'a str, T)>,
@@ -29,7 +28,7 @@ impl<'a, T> Model for TextMapBuilder<'a, T> {
 }
 
 impl<'a, T> TextMapBuilder<'a, T> {
-    /// No values.
+    /// An empty builder.
     #[tactic(auto, using(crate::proofs::Built::none_entered))]
     pub fn new(alloc: Global) -> TextMapBuilder<'a, T>
         ensures { result ≡ [] }
@@ -39,7 +38,7 @@ impl<'a, T> TextMapBuilder<'a, T> {
         }
     }
 
-    /// Enters a value under a text, in place of an earlier one of that text.
+    /// Inserts a value for a text; it replaces an earlier value of that text.
     #[tactic(auto, using(crate::proofs::Built::one_more))]
     pub fn insert(&mut self, text: &'a str, value: T) -> Result<(), AllocError>
     where
@@ -56,7 +55,7 @@ impl<'a, T> TextMapBuilder<'a, T> {
         Ok(())
     }
 
-    /// Puts the values in order, once, as a map.
+    /// Sorts the entries and returns the map.
     pub fn build(self, alloc: Global) -> Result<TextMap<'a, T>, AllocError>
     where
         T: Drop,

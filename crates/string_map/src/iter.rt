@@ -1,4 +1,4 @@
-//! Values and their texts one after the other.
+//! An iterator over texts and their values.
 
 ghost use Rattle.std.specs.Prelude.{◌≡◌};
 ghost use Rattle.std.specs.Iterator.{item_count};
@@ -7,7 +7,7 @@ ghost use Rattle.std.specs.Map.Iter.{TakesFirst, deref_pair};
 use std::marker::Model;
 use std::slice;
 
-/// The values of a list with their texts, one after the other.
+/// An iterator over texts and their values, in the order of the entries.
 #[derive(Debug, Drop)]
 pub struct Iter<'m, 'a, T> {
     left: slice::Iter<'m, (&'a str, T)>,
@@ -24,7 +24,7 @@ impl<'m, 'a, T> Model for Iter<'m, 'a, T> {
 }
 
 impl<'m, 'a, T> Iter<'m, 'a, T> {
-    /// The entries of a list.
+    /// An iterator over these entries.
     pub fn new(entries: &'m [(&'a str, T)]) -> Iter<'m, 'a, T>
         ensures { result ≡ entries.now }
     {

@@ -1,10 +1,11 @@
-//! Values in the order of the bytes of their texts.
+//! Maps from texts to values, sorted by the bytes of the texts.
 //!
 //! Texts with long common prefixes are costly to compare, such as the suffixes of one long text
-//! that repeats itself. So in a merge each text is kept with what it shares with the one before it,
-//! which isn't compared again (Ng and Kakehi, "Merging String Sequences by Longest Common
-//! Prefixes", 2008). A text is found by binary search, in which what it shares with both texts
-//! around the range that is left isn't compared again; a long one in a map by a hash of its ends.
+//! that repeats itself. Sorting is a merge sort that keeps the length of the prefix that each text
+//! shares with its predecessor, and doesn't compare that prefix again (Ng and Kakehi, "Merging
+//! String Sequences by Longest Common Prefixes", 2008). A look-up is a binary search that doesn't
+//! compare again the prefixes that the text shares with both bounds of the range. A long text in a
+//! map is found by a hash of its ends.
 #![tactic(auto)]
 
 mod beginnings;

@@ -1,4 +1,4 @@
-//! Where long texts stand in a list.
+//! Indices of long texts, by their hashes.
 
 ghost use Rattle.std.specs.Prelude.{◌≡◌, true, false, IfOk, IfSome, OnOk, IsTrue, slice_get};
 ghost use Rattle.std.specs.BTreeMap.{is_at};
@@ -15,10 +15,10 @@ use std::alloc::{AllocError, Global};
 use std::collections::BTreeMap;
 use string_table::name_hash;
 
-/// A text of so many bytes or more is found by its hash.
+/// The least length of a text, in bytes, that is found by its hash.
 const LONG: usize = 256;
 
-/// Notes the place of a text by its hash, if it is long.
+/// Adds the index of a text under its hash, if the text is long.
 fn note(places: &mut BTreeMap<u64, usize>, text: &str, place: usize) -> Result<(), AllocError>
     ensures { OnOk result (IsNoted places.old.entries places.new.entries text.now) }
 {
@@ -28,7 +28,8 @@ fn note(places: &mut BTreeMap<u64, usize>, text: &str, place: usize) -> Result<(
     Ok(())
 }
 
-/// The places of the long texts of a list by their hashes, of those of one hash the last.
+/// The indices of the long texts of a list, by their hashes. Of several texts with one hash the
+/// last counts.
 pub(crate) fn places_of<T>(
     alloc: Global,
     entries: &[(&str, T)],
@@ -42,7 +43,7 @@ pub(crate) fn places_of<T>(
     Ok(places)
 }
 
-/// The same places.
+/// A copy of the indices.
 pub(crate) fn places_clone(
     places: &BTreeMap<u64, usize>,
 ) -> Result<BTreeMap<u64, usize>, AllocError>
@@ -52,14 +53,14 @@ pub(crate) fn places_clone(
     Ok(same)
 }
 
-/// The place that is kept for a hash.
+/// The index that is stored for a hash.
 fn place_by(places: &BTreeMap<u64, usize>, hash: u64) -> Option<usize>
     ensures { result ≡ place_by places.now.entries hash }
 {
     places.get(&hash).copied()
 }
 
-/// Whether the entry at a place has this text.
+/// Whether the entry at index `place` has this text.
 fn has_text<T>(entries: &[(&str, T)], place: usize, text: &str) -> bool
     ensures { IsTrue result → HaveText entries.now place text.now }
 {
@@ -69,9 +70,8 @@ fn has_text<T>(entries: &[(&str, T)], place: usize, text: &str) -> bool
     }
 }
 
-/// The place of a text among entries whose texts strictly rise, in the order of their bytes;
-/// `None` where no entry has the text. A long one is compared with that of its hash alone, unless
-/// another has the same hash.
+/// The index of a text among entries sorted by the bytes of their texts, without duplicates;
+/// `None` if no entry has the text. A long text is looked up by its hash first.
 pub(crate) fn text_place<T>(
     entries: &[(&str, T)],
     places: &BTreeMap<u64, usize>,

@@ -1,4 +1,4 @@
-//! A list in the order of its texts.
+//! Sorting entries by their texts.
 
 ghost use Rattle.std.specs.Prelude.{◌≡◌, map, IfOk};
 ghost use Rattle.std.specs.Cmp.Lexicographic.{slice_cmp};
@@ -11,7 +11,7 @@ use crate::run::{Item, run_of};
 use std::alloc::{AllocError, Global};
 use std::collections::VecDeque;
 
-/// The items of a run, without what their texts share.
+/// The entries of a run, without the lengths of common prefixes.
 fn entries_of<'a, T: Drop>(
     alloc: Global,
     run: &mut VecDeque<Item<'a, T>>,
@@ -25,8 +25,8 @@ fn entries_of<'a, T: Drop>(
     Ok(entries)
 }
 
-/// Values in the order of the bytes of their texts; of those of one text the last alone. Each text
-/// is compared about once in full, whatever the order was.
+/// The entries sorted by the bytes of their texts. Of several entries with one text only the last
+/// is kept. Each text is compared in full about once, whatever the input order.
 pub fn in_text_order<'a, T: Drop>(
     alloc: Global,
     entries: VecDeque<(&'a str, T)>,

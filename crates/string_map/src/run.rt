@@ -1,4 +1,4 @@
-//! Runs of values whose texts rise, and how two are merged.
+//! Sorted runs of entries, and their merging.
 
 ghost use Rattle.std.specs.Prelude.{◌≡◌, ◌+◌, ◌<◌, ◌⊎◌, [], ◌++◌, None, true, false, take, drop, length, IfOk, OnOk};
 ghost use Rattle.std.specs.Cmp.Lexicographic.{slice_cmp};
@@ -11,24 +11,24 @@ use std::alloc::{AllocError, Global};
 use std::cmp::Ordering;
 use std::collections::VecDeque;
 
-/// A value and its text, in a run.
+/// A text and its value in a run.
 #[derive(Drop)]
 pub(crate) struct Item<'a, T> {
     pub(crate) text: &'a str,
-    /// How many bytes the text shares with the one before, 0 where there is none.
+    /// The length of the common prefix with the text before; 0 for the first.
     pub(crate) shared: usize,
     pub(crate) value: T,
 }
 
-/// How two texts compare, and how many bytes they share at their beginnings.
+/// How two texts compare, and the length of their common prefix in bytes.
 #[derive(Clone, Copy)]
 struct Comparison {
     ordering: Ordering,
     shared: usize,
 }
 
-/// Compares the texts of two items that may come after the same one: where they don't share equally
-/// much with that, without a look at them.
+/// Compares the texts of two items with the same predecessor. The texts are read only where both
+/// share a prefix of the same length with the predecessor.
 fn compare<T>(one: &Item<'_, T>, other: &Item<'_, T>) -> Comparison
     requires { AreNext one.now other.now }
     ensures ordering { result.ordering ≡ slice_cmp nat_cmp one.now.text.now other.now.text.now }
@@ -68,7 +68,7 @@ fn move_first<'a, T: Drop>(
     Ok(())
 }
 
-/// Notes what the first item of a run shares with the text that is now before it.
+/// Sets the length of the prefix that the first item of a run shares with its predecessor.
 fn set_shared<T>(run: &mut VecDeque<Item<'_, T>>, shared: usize)
     ensures { run.new.items ≡ with_shared shared run.old.items }
 {
@@ -77,8 +77,8 @@ fn set_shared<T>(run: &mut VecDeque<Item<'_, T>>, shared: usize)
     }
 }
 
-/// Moves the lesser of two first items to the end of what is merged; of two of one text the second
-/// run's, and the other is dropped. Whether both runs had an item.
+/// Moves the lesser of the two first items to the end of `merged`. Of two items with one text that
+/// of the second run is moved, and the other is dropped. Returns whether both runs had an item.
 fn merge_first<'a, T: Drop>(
     left: &mut VecDeque<Item<'a, T>>,
     right: &mut VecDeque<Item<'a, T>>,
@@ -116,7 +116,7 @@ fn merge_first<'a, T: Drop>(
     Ok(true)
 }
 
-/// The run of the items of two; of two of one text the second run's.
+/// Merges two runs. Of two items with one text that of the second run is kept.
 fn merged<'a, T: Drop>(
     alloc: Global,
     left: &mut VecDeque<Item<'a, T>>,
@@ -133,7 +133,7 @@ fn merged<'a, T: Drop>(
     Ok(merged)
 }
 
-/// The run of the next entry, which is taken.
+/// Takes the next entry, and returns it as a run.
 fn single<'a, T: Drop>(
     alloc: Global,
     entries: &mut VecDeque<(&'a str, T)>,
@@ -153,7 +153,8 @@ fn single<'a, T: Drop>(
     Ok(run)
 }
 
-/// The run of so many entries, which are taken; of those of one text the last stays.
+/// Takes the next `count` entries, and returns them as a run. Of several entries with one text the
+/// last is kept.
 pub(crate) fn run_of<'a, T: Drop>(
     alloc: Global,
     entries: &mut VecDeque<(&'a str, T)>,

@@ -1,4 +1,4 @@
-//! Where a text stands in a list in the order of its texts.
+//! Binary search for a text.
 
 ghost use Rattle.std.specs.Prelude.{◌≡◌};
 ghost use Rattle.std.specs.BTreeMap.{is_at};
@@ -12,9 +12,9 @@ ghost use Rattle.string_map.specs.Searches.{AllShare};
 use crate::beginnings::{ordering_after, shared};
 use std::cmp::Ordering;
 
-/// The place of a text among entries whose texts strictly rise. Entries with lesser texts share at
-/// least `below` bytes with the text, and those with greater ones at least `above`, so that the
-/// first `min(below, above)` bytes of no entry are compared. `None` where no entry has the text.
+/// The index of a text among sorted entries without duplicates; `None` if no entry has the text.
+/// Lesser texts share a prefix of at least `below` bytes with the text, and greater ones of at
+/// least `above`, so that the first `min(below, above)` bytes aren't compared.
 fn place_between<T>(entries: &[(&str, T)], text: &[u8], below: usize, above: usize) -> Option<usize>
     requires rising { IsStrictlySortedBy (slice_cmp nat_cmp) (texts_of entries.now) }
     requires shared { AllShare text.now below above entries.now }
@@ -35,11 +35,9 @@ fn place_between<T>(entries: &[(&str, T)], text: &[u8], below: usize, above: usi
     }
 }
 
-/// The place of a text, by its bytes, among entries whose texts strictly rise, in the order of
-/// their bytes; `None` where no entry has the text. By binary search: bytes that the text shares
-/// with the nearest lesser and the nearest greater one that it was compared with aren't compared
-/// again, so that it is compared a few times in full, or, where it belongs at an end of the list,
-/// at each step.
+/// The index of a text among entries sorted by the bytes of their texts, without duplicates; `None`
+/// if no entry has the text. A binary search that doesn't compare again the prefixes that the text
+/// shares with both bounds of the range.
 pub fn place_of<T>(entries: &[(&str, T)], text: &[u8]) -> Option<usize>
     requires { IsStrictlySortedBy (slice_cmp nat_cmp) (texts_of entries.now) }
     ensures { result ≡ position (λ e. is_at (slice_cmp nat_cmp text.now) e.0.now) entries.now }

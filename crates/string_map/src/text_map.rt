@@ -1,4 +1,4 @@
-//! Values by text.
+//! A map from texts to values.
 
 ghost use Rattle.std.specs.Prelude.{◌≡◌, ◌↔◌, [], length, option_copied, IfOk, IsTrue};
 ghost use Rattle.std.specs.BTreeMap.{is_at};
@@ -16,11 +16,11 @@ use std::alloc::{AllocError, Global};
 use std::collections::{BTreeMap, VecDeque};
 use std::marker::Model;
 
-/// Values by text, in the order of the bytes of their texts.
+/// A map from texts to values, sorted by the bytes of the texts.
 #[derive(Debug, Drop)]
 pub struct TextMap<'a, T> {
     entries: Vec<(&'a str, T)>,
-    /// The places of long texts by their hashes.
+    /// The indices of long texts, by their hashes.
     places: BTreeMap<u64, usize>,
 }
 
@@ -42,7 +42,7 @@ impl<'a, T> Model for TextMap<'a, T> {
 }
 
 impl<'a, T> TextMap<'a, T> {
-    /// No values.
+    /// An empty map.
     pub fn new(alloc: Global) -> TextMap<'a, T>
         ensures { result ≡ [] }
     {
@@ -52,7 +52,7 @@ impl<'a, T> TextMap<'a, T> {
         }
     }
 
-    /// The values of entries; of those of one text the last.
+    /// The map of these entries. Of several entries with one text the last counts.
     pub(crate) fn from_entries(
         alloc: Global,
         entries: VecDeque<(&'a str, T)>,
@@ -85,7 +85,7 @@ impl<'a, T> TextMap<'a, T> {
         self.entries.is_empty()
     }
 
-    /// The value of a text; `None` where it has none.
+    /// The value of a text; `None` if it has none.
     pub fn get(&self, text: &str) -> Option<&T>
         ensures value { option_copied result
             ≡ lookup (is_at (λ key. slice_cmp nat_cmp text.now key.now)) self.now }
@@ -95,7 +95,7 @@ impl<'a, T> TextMap<'a, T> {
         Some(&self.entries[place].1)
     }
 
-    /// The same values.
+    /// A copy of the map.
     pub fn try_clone(&self) -> Result<TextMap<'a, T>, AllocError>
     where
         T: Clone,
@@ -107,7 +107,7 @@ impl<'a, T> TextMap<'a, T> {
         })
     }
 
-    /// The values with their texts, which strictly rise by bytes.
+    /// The texts and their values, sorted by the bytes of the texts, without duplicates.
     pub fn iter(&self) -> Iter<'_, 'a, T>
         ensures value { result ≡ self.now }
         ensures rising { IsStrictlySortedBy (slice_cmp nat_cmp) (texts_of self.now) }

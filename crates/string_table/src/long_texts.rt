@@ -12,17 +12,17 @@ use std::alloc::{AllocError, Global};
 use std::marker::Model;
 use std::str;
 
-/// How many bytes of a text are looked at each time it is read.
+/// The length in bytes of the longest text that isn't entered as a long one.
 const SHORT: usize = 256;
 
-/// A text that was read once.
+/// A text of more than 256 bytes.
 #[derive(Clone, Copy, Debug)]
 struct LongText {
     offset: u32,
     len: usize,
 }
 
-/// Offsets where no text begins, as the bytes up to the next NUL aren't UTF-8.
+/// Offsets where no text begins, because the bytes up to the next NUL aren't UTF-8.
 #[derive(Clone, Copy, Debug)]
 struct Stretch {
     start: usize,
@@ -30,8 +30,9 @@ struct Stretch {
     end: usize,
 }
 
-/// Where the long texts of a string table stand, and where none begins, so that no long stretch is
-/// looked at again each time a text in it is read. The strings themselves stay with the caller.
+/// The offsets of the long texts of a string table, and of the stretches where no text begins. With
+/// these no long stretch is searched again each time a text in it is read. The strings themselves
+/// stay with the caller.
 #[derive(Debug)]
 pub struct LongTexts {
     texts: Vec<LongText>,
@@ -41,7 +42,7 @@ pub struct LongTexts {
 }
 
 impl Drop for LongTexts {
-    // One call wherever it is dropped, in place of one for each part.
+    // A single call where a value is dropped, instead of one call per field.
     fn drop(self) {
         let LongTexts {
             texts: _texts,
@@ -64,7 +65,7 @@ impl Model for LongTexts {
     } };
 }
 
-/// Whether no character goes on in the first byte.
+/// Whether the first byte isn't a continuation byte of UTF-8.
 fn is_at_boundary(bytes: &[u8]) -> bool
     ensures { IsTrue result ↔ IsCharBoundary bytes.now 0 }
 {
@@ -74,7 +75,7 @@ fn is_at_boundary(bytes: &[u8]) -> bool
     }
 }
 
-/// The end of a text as text, where it begins at a character.
+/// The end of a text as text, where it begins at a character boundary.
 #[tactic(auto, using(crate::proofs::Ends::end_is_utf8, crate::proofs::Ends::end_is_text, crate::proofs::Ends::end_is_none))]
 fn end_of(bytes: &[u8]) -> Option<&str>
     requires { IsEnd bytes.now }
@@ -83,11 +84,11 @@ fn end_of(bytes: &[u8]) -> Option<&str>
     if !is_at_boundary(bytes) {
         return None;
     }
-    // SAFETY: the bytes end a text, and begin at a character.
+    // SAFETY: the bytes end a text, and begin at a character boundary.
     Some(unsafe { str::from_utf8_unchecked(bytes) })
 }
 
-/// How many bytes come before the longest text that ends the bytes.
+/// The number of bytes before the longest suffix that is UTF-8.
 fn text_start(bytes: &[u8]) -> usize
     ensures { IsNoTextBefore bytes.now result }
 {
@@ -98,7 +99,7 @@ fn text_start(bytes: &[u8]) -> usize
     bytes.len() - rest.len()
 }
 
-/// The bytes before the first NUL, where they are few.
+/// The bytes before the first NUL, if that is among the first 257 bytes.
 #[tactic(auto, using(crate::proofs::Ends::before_nul_stays))]
 fn short_bytes(bytes: &[u8]) -> Option<&[u8]>
     ensures { IfSome result (λ text. before_nul bytes.now ≡ Some text.now) }
@@ -106,7 +107,7 @@ fn short_bytes(bytes: &[u8]) -> Option<&[u8]>
     before_nul(&bytes[..bytes.len().min(SHORT + 1)])
 }
 
-/// Where the last NUL of the first bytes stands.
+/// The index of the last NUL among the first 257 bytes.
 fn last_nul(bytes: &[u8]) -> Option<usize>
     ensures { IfSome result (λ n. n < length bytes.now) }
 {
@@ -126,7 +127,7 @@ fn last_end(strings: &[u8]) -> usize
     end
 }
 
-/// How many bytes of a text are left from an offset on that lies in it.
+/// The number of bytes of a text from `offset` on, if `offset` is within the text.
 fn left(text: LongText, offset: u32) -> Option<usize>
     ensures { IfSome result (IsLeft (text.offset, text.len) offset) }
 {
@@ -166,7 +167,7 @@ impl LongTexts {
         })
     }
 
-    /// Enters the text at an offset, where there is a long one.
+    /// Enters the text at an offset, if it is a long one.
     fn enter(&mut self, strings: &[u8], offset: usize) -> Result<(), AllocError>
         requires { AreLongTextsOf strings.now self.old }
         ensures { AreLongTextsOf strings.now self.new }
@@ -184,8 +185,8 @@ impl LongTexts {
         Ok(())
     }
 
-    /// Enters the bytes at an offset up to the next NUL: the longest text that ends them, and that
-    /// none begins before it.
+    /// Enters the bytes from an offset to the next NUL: the longest text that ends them if it is a
+    /// long one, and the stretch before it, where no text begins.
     fn enter_bytes(&mut self, strings: &[u8], offset: usize, bytes: &[u8]) -> Result<(), AllocError>
         requires within { offset + length bytes.now ≤ length strings.now }
         requires before { before_nul (drop offset strings.now) ≡ Some bytes.now }
@@ -200,13 +201,13 @@ impl LongTexts {
         Ok(())
     }
 
-    /// Enters the long texts after an offset, where more was written after the strings.
+    /// Enters the long texts after the offset `from`, where strings were appended to the table.
     pub fn extend(&mut self, strings: &[u8], from: usize) -> Result<(), AllocError>
         requires within { from ≤ length strings.now }
         requires before { AreLongTextsOf (take from strings.now) self.old }
         ensures { AreLongTextsOf strings.now self.new }
     {
-        // The bytes after the last NUL of the first strings may begin a text now.
+        // The bytes after the last NUL before `from` may begin a text now.
         let mut offset = from.min(self.end);
         self.end = last_end(strings);
         while offset < strings.len() {
@@ -224,7 +225,7 @@ impl LongTexts {
         Ok(())
     }
 
-    /// The last text that begins up to an offset.
+    /// The last long text that begins at or before an offset.
     fn last_up_to(&self, offset: u32) -> Option<LongText>
         ensures { IfSome result (λ text. Contains self.now.texts (text.offset, text.len)) }
     {
@@ -235,7 +236,7 @@ impl LongTexts {
         self.texts.get(index).copied()
     }
 
-    /// The last stretch without a text that begins up to an offset.
+    /// The last stretch without a text that begins at or before an offset.
     fn unreadable_up_to(&self, offset: usize) -> Option<Stretch>
         ensures { IfSome result (λ stretch.
             Contains self.now.unreadable (stretch.start, stretch.end)) }
@@ -247,7 +248,7 @@ impl LongTexts {
         self.unreadable.get(index).copied()
     }
 
-    /// Whether it was found that no text begins at an offset.
+    /// Whether no text is known to begin at an offset.
     fn is_unreadable(&self, strings: &[u8], offset: usize) -> bool
         requires { AreLongTextsOf strings.now self.now }
         ensures { IsTrue result → None ≡ text_at strings.now offset }
@@ -261,8 +262,8 @@ impl LongTexts {
         }
     }
 
-    /// The text at an offset of the string table, if one begins there. Looks at 256 bytes at most,
-    /// where the long texts are entered.
+    /// The text at an offset of the string table, if one begins there. Reads at most 257 bytes of
+    /// the table where the long texts are entered.
     #[tactic(auto, using(crate::proofs::Ends::text_past))]
     pub fn text_at<'a>(&self, strings: &'a [u8], offset: u32) -> Option<&'a str>
         requires { AreLongTextsOf strings.now self.now }

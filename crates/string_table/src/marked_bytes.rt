@@ -5,7 +5,7 @@ ghost use Rattle.string_table.specs.FirstBytes.{is_marked};
 
 use std::marker::Model;
 
-/// A set of bytes, in which a look-up reads one place.
+/// A set of bytes as a table of 256 flags.
 #[derive(Debug, Drop)]
 pub struct MarkedBytes {
     marked: [bool; 256],
@@ -38,7 +38,7 @@ impl MarkedBytes {
         self.marked[byte as usize] = true;
     }
 
-    /// Whether a byte is there.
+    /// Whether the set has a byte.
     pub fn contains(&self, byte: u8) -> bool
         ensures { result ≡ is_marked self.now byte }
     {

@@ -7,7 +7,7 @@ ghost use Rattle.string_table.specs.Texts.{before_nul, text_at, text_of};
 
 use std::str;
 
-/// Where the first NUL stands.
+/// The index of the first NUL.
 pub(crate) fn nul_position(bytes: &[u8]) -> Option<usize>
     ensures value { result ≡ position (λ b. b == 0) bytes.now }
     ensures within { IfSome result (λ n. n < length bytes.now) }
@@ -34,7 +34,7 @@ pub(crate) fn text_of(bytes: &[u8]) -> Option<&str>
 }
 
 /// The text at an offset of a string table: the bytes up to the next NUL, where there is one and
-/// they are UTF-8. Looks at each of them.
+/// they are UTF-8. Reads each of them.
 #[tactic(auto, unfolding(crate::specs::Texts::text_at))]
 pub fn text_at(strings: &[u8], offset: u32) -> Option<&str>
     ensures { option_copied result ≡ text_at strings.now offset }
@@ -56,7 +56,7 @@ pub(crate) fn from_offset(strings: &[u8], offset: u32) -> Option<&[u8]>
     strings.get(offset as usize..)
 }
 
-/// Whether a text and a NUL stand at the beginning.
+/// Whether the bytes begin with `text` and a NUL.
 fn begins_with(bytes: &[u8], text: &[u8]) -> bool
     ensures { IsTrue result ↔ (before_nul bytes.now ≡ Some text.now) }
 {
@@ -72,8 +72,8 @@ fn begins_with(bytes: &[u8], text: &[u8]) -> bool
     !has_nul(text)
 }
 
-/// Whether this is the text at an offset of a string table. Looks at no more bytes than the text
-/// has.
+/// Whether the text at an offset of a string table is `text`. Reads at most one byte more than
+/// `text` has.
 #[tactic(auto, using(crate::proofs::Texts::text_from, crate::proofs::Texts::text_here))]
 pub fn is_text_at(strings: &[u8], offset: u32, text: &str) -> bool
     ensures { IsTrue result ↔ (text_at strings.now offset ≡ Some text.now) }

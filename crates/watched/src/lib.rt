@@ -1,4 +1,4 @@
-//! Readers and writers that keep whether they failed.
+//! Readers and writers that record whether a call failed.
 #![tactic(auto)]
 
 mod watch;

@@ -1,4 +1,4 @@
-//! Readers and writers that keep whether they failed.
+//! Readers and writers that record whether a call failed.
 
 ghost use Rattle.std.specs.Prelude.{◌≡◌, ◌+◌, ◌-◌, ◌≤◌, ◌<◌, ◌^◌, ◌↔◌, ◌⊎◌, ℕ, List, true, false, length, IfOk, IfErr, OnOk, OnErr, IsErr};
 ghost use Rattle.std.specs.Io.{ReadsAtMost, WritesAtMost};
@@ -9,9 +9,9 @@ ghost use Rattle.watched.specs.Watched.{watched_inner, has_failed, calls_left, A
 use std::io;
 use std::io::{BufRead, ErrorKind, Read, Write};
 
-/// A reader or a writer that keeps whether it failed. It passes on at most 2^64 - 1 calls. A call
-/// that fails, that answers 0 where there was something to write, or that would be one more sets
-/// the flag `failed` for good, and every later call fails at once.
+/// A reader or a writer that records whether a call failed. It passes on at most 2^64 - 1 calls.
+/// The flag `failed` is set for good by a call that fails, by a write of one byte or more that
+/// returns 0, and by a call beyond the limit. Every later call fails at once.
 #[derive(Debug, Drop)]
 pub struct Watched<T> {
     inner: T,
@@ -32,7 +32,7 @@ impl<T> Watched<T> {
         }
     }
 
-    /// The reader or writer itself.
+    /// The reader or writer inside.
     pub fn into_inner(self) -> T
         ensures { result ≡ watched_inner self }
     {
@@ -46,8 +46,7 @@ impl<T> Watched<T> {
         self.has_failed
     }
 
-    /// Counts a call that is to be passed on. After a failure, or where no call is left, this
-    /// fails.
+    /// Counts a call that is to be passed on. Fails after a failure, or where no call is left.
     fn count_call(&mut self) -> io::Result<()>
         ensures inner { watched_inner self.new ≡ watched_inner self.old }
         ensures counted { OnOk result
@@ -66,7 +65,7 @@ impl<T> Watched<T> {
     }
 }
 
-// What a write comes to: a write that takes nothing of something fails.
+// The result of a write: a write of one byte or more that returns 0 fails.
 fn judged(answer: io::Result<usize>, is_asked: bool) -> io::Result<usize>
     ensures failed { IsErr result ↔ ((IsErr answer) ⊎ ((answer ≡ Ok 0) × (is_asked ≡ true))) }
     ensures kept { IfOk result (λ count. answer ≡ Ok count) }
@@ -78,7 +77,7 @@ fn judged(answer: io::Result<usize>, is_asked: bool) -> io::Result<usize>
 }
 
 impl<R: Read> Watched<R> {
-    /// Reads once. At most `buf.len()` bytes come, and none at the end.
+    /// Reads once: at most `buf.len()` bytes, and none at the end.
     pub fn read(&mut self, buf: &mut [u8]) -> io::Result<usize>
         ensures bound { ReadsAtMost result buf.new }
         ensures bytes { ReadConsumes (R.remaining (watched_inner self.old))
@@ -101,7 +100,7 @@ impl<R: Read> Watched<R> {
     }
 }
 
-/// What takes a reader's bytes, as many at a time as the reader has at hand.
+/// A consumer of a reader's bytes, which takes as many at a time as the reader has buffered.
 pub trait TakeBytes<E> {
     // the bytes are taken
     ghost takes: { Self → List ℕ → Self → Type 0 };
@@ -115,8 +114,8 @@ pub trait TakeBytes<E> {
 }
 
 impl<R: BufRead> Watched<R> {
-    /// Hands the bytes that the reader has at hand to a taker, and goes past them. `false` is
-    /// answered at the end, where nothing is handed on. This counts as one call.
+    /// Passes the bytes that the reader has buffered to `taker`, and consumes them. Returns `false`
+    /// at the end, where nothing is passed on. This counts as one call.
     pub fn hand_bytes<E, T: TakeBytes<E>>(&mut self, taker: &mut T) -> io::Result<Result<bool, E>>
         ensures taken { IfOk result (λ r. IfOk r (λ more.
             more ≡ true
@@ -159,7 +158,7 @@ impl<R: BufRead> Watched<R> {
 }
 
 impl<W: Write> Watched<W> {
-    /// Writes once. 0 is answered for no bytes alone.
+    /// Writes once. Returns 0 only for an empty `buf`.
     pub fn write(&mut self, buf: &[u8]) -> io::Result<usize>
         ensures bound { WritesAtMost result buf.now }
         ensures bytes { WriteAppends (W.contents (watched_inner self.old))
@@ -182,7 +181,7 @@ impl<W: Write> Watched<W> {
         count
     }
 
-    /// Writes all of the bytes, or fails after a beginning of them.
+    /// Writes all of the bytes, or fails after some of the first.
     pub fn write_all(&mut self, buf: &[u8]) -> io::Result<()>
         ensures ok { OnOk result
             (Appends (W.contents (watched_inner self.old)) (W.contents (watched_inner self.new))
@@ -205,7 +204,7 @@ impl<W: Write> Watched<W> {
         Ok(())
     }
 
-    /// Writes all of the bytes, unless it has failed or fails at them: ask `failed` when
+    /// Writes all of the bytes, unless a call has failed or one fails now. Call `failed` when
     /// everything is sent.
     pub fn send(&mut self, bytes: &[u8])
         ensures { Sends W.contents self.old self.new bytes.now }
