@@ -8,20 +8,21 @@ use crate::patch::{Patch, Width};
 use ebpf_items::bpf_insn;
 use slot_relocation::{Outcome, Write};
 
-/// Why an instruction can't get a value.
+/// Why a value can't be written into an instruction.
 #[derive(Clone, Copy, Debug)]
 pub enum WriteFault {
     /// Arithmetic has a register as its source.
     SourceRegister,
     /// An offset doesn't fit 16 signed bits.
     LargeOffset,
-    /// The field has another size than the instruction was compiled for, which that can't get.
+    /// The field has another size than the instruction was compiled for, and the instruction can't
+    /// get that size.
     OtherWidth,
     /// Instructions of the class hold no such value.
     OtherClass,
     /// No slot follows a load of 64 bits that gets a value.
     NoNextSlot,
-    /// No slot follows a load of 64 bits that can't be run.
+    /// No slot follows a load of 64 bits that is to become one that can't be run.
     NoNextPoison,
 }
 
@@ -55,7 +56,7 @@ fn high_word(value: u64) -> i32
     ((value / (1 << 32)) as u32).cast_signed()
 }
 
-/// Arithmetic with an immediate gets the low word.
+/// Arithmetic with an immediate: the low word becomes the immediate.
 fn of_arithmetic(slot: bpf_insn, value: u64) -> Outcome<WriteFault>
     ensures { result ≡ of_arithmetic slot value }
 {
@@ -80,7 +81,7 @@ fn width_bits(size: u32) -> Option<u8>
     }
 }
 
-/// A load or a store of another width.
+/// A load or a store with another width.
 fn with_width(slot: bpf_insn, width: Width) -> Outcome<WriteFault>
     ensures { result ≡ with_width slot width }
 {
@@ -98,7 +99,7 @@ fn with_width(slot: bpf_insn, width: Width) -> Outcome<WriteFault>
     Outcome::Written(Write { first, next: None })
 }
 
-/// A load or a store gets a value as its offset.
+/// A load or a store: the value becomes the offset.
 fn of_memory(slot: bpf_insn, value: u64, width: Width) -> Outcome<WriteFault>
     ensures { result ≡ of_memory slot value width }
 {
@@ -110,7 +111,7 @@ fn of_memory(slot: bpf_insn, value: u64, width: Width) -> Outcome<WriteFault>
     with_width(first, width)
 }
 
-/// A load of 64 bits gets the low word in its own slot, and the high word in the next one.
+/// A load of 64 bits: the low word goes into its own slot, the high word into the next one.
 fn of_wide_load(slot: bpf_insn, next: Option<bpf_insn>, value: u64) -> Outcome<WriteFault>
     ensures value { result ≡ of_wide_load slot next value }
     ensures within { NextFits next result }
@@ -127,7 +128,7 @@ fn of_wide_load(slot: bpf_insn, next: Option<bpf_insn>, value: u64) -> Outcome<W
     })
 }
 
-/// What a value does to an instruction.
+/// What a value changes in an instruction.
 fn of_value(slot: bpf_insn, next: Option<bpf_insn>, value: u64, width: Width) -> Outcome<WriteFault>
     ensures value { result ≡ of_value slot next value width }
     ensures within { NextFits next result }
@@ -147,7 +148,7 @@ fn poison() -> bpf_insn
     bpf_insn::from_bytes([0x85, 0, 0, 0, 0x10, 0x23, 0xad, 0x0b])
 }
 
-/// Makes an instruction one that can't be run.
+/// Replaces an instruction by one that can't be run.
 fn of_poison(slot: bpf_insn, next: Option<bpf_insn>) -> Outcome<WriteFault>
     ensures value { result ≡ of_poison slot next }
     ensures within { NextFits next result }
@@ -167,7 +168,7 @@ fn of_poison(slot: bpf_insn, next: Option<bpf_insn>) -> Outcome<WriteFault>
     }
 }
 
-/// What a type relocation does to an instruction, after which the next slot stands.
+/// What a type relocation changes in an instruction; `next` is the slot after it.
 pub fn patched(slot: bpf_insn, next: Option<bpf_insn>, patch: Patch) -> Outcome<WriteFault>
     ensures value { result ≡ patched slot next patch }
     ensures within { NextFits next result }

@@ -15,7 +15,7 @@ use core_spec::WholeField;
 pub enum Width {
     /// It stays.
     Kept,
-    /// It becomes as many bytes as this.
+    /// It becomes this number of bytes.
     Changed(u32),
     /// The field has another size, and its type isn't one whose width can change.
     Unknown,
@@ -25,11 +25,11 @@ pub enum Width {
 #[derive(Clone, Copy, Debug)]
 pub enum Patch {
     Value { value: u64, width: Width },
-    /// The instruction can't be run.
+    /// The instruction becomes one that can't be run.
     Poison,
 }
 
-/// The size of a field; what is no whole field has none.
+/// The size of a field in bytes; 0 where it isn't a whole field.
 fn field_size(field: Option<WholeField>) -> u32
     ensures { result ≡ field_size field }
 {
@@ -48,8 +48,8 @@ fn type_of<'b>(table: Option<&'b Btf<'_>>, field: Option<WholeField>) -> Option<
     table.type_by_id(field.type_id).ok()
 }
 
-/// Whether a type is an integer without the bit of signed ones, whatever the other bits of its
-/// encoding.
+/// Whether a type is an integer whose encoding lacks the bit for signed ones; the other bits don't
+/// matter.
 fn is_unsigned(t: &TypeRef<'_>) -> bool
     ensures { result ≡ is_unsigned t.now }
 {
@@ -59,7 +59,7 @@ fn is_unsigned(t: &TypeRef<'_>) -> bool
     }
 }
 
-/// Whether a field of another size can be read in the place of one.
+/// Whether an instruction that reads `local` can read `target` instead where their sizes differ.
 fn are_alike(local: &TypeRef<'_>, target: &TypeRef<'_>) -> bool
     ensures { result ≡ are_alike local.now target.now }
 {
@@ -67,7 +67,7 @@ fn are_alike(local: &TypeRef<'_>, target: &TypeRef<'_>) -> bool
         || (is_unsigned(local) && is_unsigned(target))
 }
 
-/// The same of types that may not be known.
+/// The same for types that may be unknown.
 fn may_stand_for(local: Option<TypeRef<'_>>, target: Option<TypeRef<'_>>) -> bool
     ensures { result ≡ may_stand_for local.entry target.entry }
 {
@@ -77,7 +77,8 @@ fn may_stand_for(local: Option<TypeRef<'_>>, target: Option<TypeRef<'_>>) -> boo
     }
 }
 
-/// What becomes of the width of an instruction that was compiled for a field and gets another.
+/// What becomes of the width of an instruction that was compiled for the field `compiled` and gets
+/// the field `field`.
 fn width_of(
     local: &Btf<'_>,
     target: Option<&Btf<'_>>,
@@ -97,7 +98,7 @@ fn width_of(
     }
 }
 
-/// The table in which the first match stands.
+/// The table of the first match.
 fn target_of<'b, 't>(targets: &'b [Btf<'t>], outcome: RelocationOutcome) -> Option<&'b Btf<'t>>
     ensures { option_copied result ≡ option_and_then (slice_get targets.entry.now) outcome.table }
 {

@@ -1,4 +1,4 @@
-//! Type relocations by the functions that they stand in.
+//! Type relocations, by the functions that hold them.
 
 ghost use Rattle.std.specs.Prelude.{◌≡◌, ℕ, ◌++◌, ◌∷◌, [], if◌then◌else◌, IfOk, OnOk};
 ghost use Rattle.std.specs.BTreeMap.{is_at};
@@ -9,10 +9,10 @@ use crate::placed_relocation::PlacedRelocation;
 use std::alloc::{AllocError, Global};
 use std::collections::BTreeMap;
 
-/// Lists of type relocations, with their offsets, by the keys of functions.
+/// Lists of type relocations with their offsets, by the keys of functions.
 pub(crate) type ByFunction = BTreeMap<(usize, u64), Vec<(u64, PlacedRelocation)>>;
 
-/// Enters a relocation after those of its function.
+/// Appends a relocation to the list of its function.
 fn enter(alloc: Global, lists: &mut ByFunction, placed: PlacedRelocation) -> Result<(), AllocError>
     ensures { OnOk result
         ((key : ℕ × ℕ)

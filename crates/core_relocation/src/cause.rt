@@ -1,4 +1,4 @@
-//! Causes, with what is to be known of them.
+//! The causes of failed relocations, with what their messages need.
 
 ghost use Rattle.std.specs.Prelude.{◌≢◌, IfOk};
 ghost use Rattle.core_relocation.specs.Faults.{OfAccess, OfMatch, OfWrite};
@@ -16,20 +16,21 @@ use object_parts::SLOT_SIZE;
 use relocation_errors::BtfRelocationCause;
 use std::alloc::{AllocError, Global};
 
-/// A relocation to tell of: where it stands, what it asks for, and among which types.
+/// A failed relocation: its place, what it asks for, and the types that it is resolved against.
 #[derive(Drop)]
 pub(crate) struct FailedRelocation<'r, 'l, 't> {
     pub(crate) alloc: Global,
     pub(crate) local: &'r Btf<'l>,
     pub(crate) targets: &'r [Btf<'t>],
-    /// Its place in its section info.
+    /// Its index in its section info.
     pub(crate) number: usize,
     /// The instruction's offset in the section, in bytes.
     pub(crate) offset: u64,
     pub(crate) asked: TypeRelocation,
 }
 
-/// An access that has no place, or no value, in a type of a table. The path began with a type.
+/// The cause for an access without a place, or without a value, in a type of a table; `root` is the
+/// first type of its path.
 fn of_access(
     failed: &FailedRelocation<'_, '_, '_>,
     table: &Btf<'_>,
@@ -67,7 +68,7 @@ fn of_access(
     Ok(cause)
 }
 
-/// The names of the kernel's types that conflict with the first.
+/// The names of the kernel types that conflict with the first.
 fn conflict_names(failed: &FailedRelocation<'_, '_, '_>) -> Result<Vec<String>, AllocError> {
     let mut names = Vec::new(failed.alloc);
     let matches = matches_of(failed.alloc, failed.local, failed.targets, failed.asked)?;
@@ -79,7 +80,7 @@ fn conflict_names(failed: &FailedRelocation<'_, '_, '_>) -> Result<Vec<String>, 
     Ok(names)
 }
 
-/// A relocation that comes to nothing in the kernel's types.
+/// The cause of a relocation that can't be resolved in the kernel's types.
 fn of_match(
     failed: &FailedRelocation<'_, '_, '_>,
     error: TypeRelocationError,
@@ -116,7 +117,8 @@ fn of_match(
     }
 }
 
-/// The cause of a relocation that comes to nothing in the kernel's types.
+/// The cause of a relocation that can't be resolved in the kernel's types, also where memory runs
+/// out.
 pub(crate) fn cause_of_match(
     failed: &FailedRelocation<'_, '_, '_>,
     error: TypeRelocationError,
@@ -140,7 +142,7 @@ fn reason_of(fault: WriteFault) -> &'static str {
     }
 }
 
-/// A value that doesn't fit its instruction.
+/// The cause of a value that doesn't fit its instruction.
 fn of_write(alloc: Global, placed: RelocationFault) -> Result<BtfRelocationCause, AllocError>
     ensures { IfOk result (λ c. c ≢ OutOfMemory → OfWrite placed.fault c) }
 {
@@ -164,7 +166,7 @@ fn of_write(alloc: Global, placed: RelocationFault) -> Result<BtfRelocationCause
     }
 }
 
-/// The cause of a value that doesn't fit its instruction.
+/// The cause of a value that doesn't fit its instruction, also where memory runs out.
 pub(crate) fn cause_of_write(alloc: Global, placed: RelocationFault) -> BtfRelocationCause
     ensures { result ≢ OutOfMemory → OfWrite placed.fault result }
 {

@@ -15,7 +15,7 @@ fn found_matches(
     kernel_matches(asked.kind, local, &path, targets)
 }
 
-/// The matches of a relocation in the kernel's types, none where they can't be looked up.
+/// The matches of a relocation in the kernel's types; none where the search fails.
 pub(crate) fn matches_of(
     alloc: Global,
     local: &Btf<'_>,

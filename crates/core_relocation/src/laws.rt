@@ -6,8 +6,8 @@ use crate::placed_relocation::{PlacedRelocation, RelocationFault};
 use core_resolve::outcomes_rest;
 use slot_relocation::{lengths_remain, one_writes, unwritten_stay};
 
-/// After all relocations, a slot that one of them alone writes is what that one puts there; a slot
-/// that none writes stays as it was; a function keeps its number of slots.
+/// After all relocations, a slot that exactly one relocation writes has what that one writes; a
+/// slot that none writes stays as it was; a function keeps its number of slots.
 #[tactic(auto, using(crate::proofs::Written::types_are_written))]
 pub fn types_are_written()
     ensures { TypesAreWritten }
@@ -17,9 +17,9 @@ pub fn types_are_written()
     lengths_remain::<PlacedRelocation, RelocationFault>();
 }
 
-/// What type relocations come to, write and are refused for rests, of the object's own types, on
-/// the records that are reached from their types, on the texts there, on their access strings and
-/// on the names of their section infos' sections.
+/// The outcomes, the writes and the refusals of type relocations depend on few of the object's own
+/// types: on the records that are reached from the relocations' types, on the texts there, on the
+/// access strings and on the names of the section infos' sections.
 pub fn relocations_rest()
     ensures { RelocationsRest }
 {

@@ -1,8 +1,8 @@
 //! Type relocations: what a kernel's types give to the instructions of an object's functions ("BTF
 //! CO-RE relocations"; tools/lib/bpf/relo_core.c).
 //!
-//! Each relocation is looked up in its function and among the kernel's types first; what they write
-//! is written after that, function by function.
+//! First each relocation's function is found and the relocation is resolved in the kernel's types.
+//! After that the results are written, function by function.
 #![tactic(auto)]
 
 mod by_function;

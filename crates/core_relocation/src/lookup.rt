@@ -1,4 +1,4 @@
-//! Type relocations, looked up in functions and among a kernel's types.
+//! The functions of type relocations, and their resolution in a kernel's types.
 
 ghost use Rattle.std.specs.Prelude.{◌≡◌, ◌≢◌, ◌<◌, ◌≤◌, ◌^◌, ℕ, ◌++◌, length, Ok, Err, Some, IfOk, IfErr, IfSome, OnOk};
 ghost use Rattle.std.specs.Option.{option_copied};
@@ -28,7 +28,7 @@ use std::alloc::{AllocError, Global};
 use std::marker::Model;
 use string_map::TextMap;
 
-/// What type relocations are looked up in.
+/// The sections, functions and types that type relocations are resolved against.
 #[derive(Drop)]
 pub(crate) struct Lookup<'r, 'o, 'f, 't, 'k> {
     pub(crate) alloc: Global,
@@ -59,7 +59,7 @@ impl<'r, 'o, 'f, 't, 'k> Model for Lookup<'r, 'o, 'f, 't, 'k> {
     ghost invariant = { λ l. AreIndexes (read_sections l.file.now) l.sections.now };
 }
 
-/// The first function, by key, of those of a section whose bytes hold an offset.
+/// The first function, by key, of a section's functions whose bytes hold an offset.
 pub(crate) fn function_holding<'g, 'f>(
     functions: &'g Functions<'f>,
     section_index: usize,
@@ -75,7 +75,7 @@ pub(crate) fn function_holding<'g, 'f>(
     None
 }
 
-/// The place of a table of which no more than 2^32 are there.
+/// The index of a table, of which there are at most 2^32.
 fn table_place(table: Option<usize>) -> Option<u32>
     requires { IfSome table (λ place. place < 2 ^ 32) }
     ensures { result ≡ table }
@@ -87,7 +87,7 @@ fn table_place(table: Option<usize>) -> Option<u32>
 }
 
 impl<'r, 'o, 'f, 't, 'k> Lookup<'r, 'o, 'f, 't, 'k> {
-    /// The section whose name stands at an offset of the strings.
+    /// The section whose name is at an offset of the strings.
     fn section(&self, name_offset: u32) -> Result<usize, BtfRelocationCause>
         ensures value { IfOk result (λ s. section_at self.now name_offset ≡ Some s) }
         ensures accepted { OnOk result (StandsNone (FaultOfSectionInfo self.now name_offset)) }
@@ -104,7 +104,7 @@ impl<'r, 'o, 'f, 't, 'k> Lookup<'r, 'o, 'f, 't, 'k> {
         }
     }
 
-    /// What a relocation of a number in its section info comes to in the kernel's types.
+    /// The outcome in the kernel's types of the relocation with a number in its section info.
     fn record_outcome(
         &self,
         matcher: &mut TypeMatcher<'_>,
@@ -143,7 +143,7 @@ impl<'r, 'o, 'f, 't, 'k> Lookup<'r, 'o, 'f, 't, 'k> {
         }
     }
 
-    /// A relocation of a section's section info, in its function and with what it gives.
+    /// A relocation of a section's section info, with its function and what it gives.
     fn place(
         &self,
         matcher: &mut TypeMatcher<'_>,
@@ -175,8 +175,8 @@ impl<'r, 'o, 'f, 't, 'k> Lookup<'r, 'o, 'f, 't, 'k> {
         })
     }
 
-    /// Places the relocations of a section's section info one after the other, up to the first that can't
-    /// be placed.
+    /// Places the relocations of a section's section info in order, up to the first that can't be
+    /// placed.
     fn place_records(
         &self,
         matcher: &mut TypeMatcher<'_>,
@@ -243,7 +243,7 @@ impl<'r, 'o, 'f, 't, 'k> Lookup<'r, 'o, 'f, 't, 'k> {
         )
     }
 
-    /// What a relocation with a fault asks for; where types of the kernel's conflict, with these.
+    /// What a relocation with a fault asks for; where kernel types conflict, with these.
     fn asked(&self, relo: bpf_core_relo, cause: &BtfRelocationCause) -> Result<String, AllocError> {
         if let BtfRelocationCause::ConflictingCandidates { .. } = cause {
             return asked_with_matches(self.alloc, self.local, self.targets, relo);
@@ -251,8 +251,8 @@ impl<'r, 'o, 'f, 't, 'k> Lookup<'r, 'o, 'f, 't, 'k> {
         asked_text(self.alloc, self.local, relo)
     }
 
-    /// Where a relocation of a section info stands, by its number; of a number that none has it is the
-    /// section info.
+    /// The place of the relocation with a number in a section info; where no relocation has the
+    /// number, the section info.
     fn place_of_relocation(
         &self,
         section_info: &RelocationSectionInfo,
@@ -269,7 +269,7 @@ impl<'r, 'o, 'f, 't, 'k> Lookup<'r, 'o, 'f, 't, 'k> {
         place_in_section(self.alloc, self.functions, section_index, record, asked)
     }
 
-    /// The error for a cause that stands at a relocation of a section info.
+    /// The error for a cause at a relocation of a section info.
     fn error_at(
         &self,
         section_info: &RelocationSectionInfo,

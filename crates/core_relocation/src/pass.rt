@@ -31,8 +31,7 @@ impl Model for TypePass {
     ghost invariant = { λ p. AreListed p.all.items p.by_function };
 }
 
-/// A fault with the relocation at which it stands, the place of its slot, and how many slots there
-/// are.
+/// A fault with the relocation where it is, the index of its slot, and the number of slots.
 fn at_position(
     position: Position,
     index: usize,
@@ -53,7 +52,7 @@ fn at_position(
     }
 }
 
-/// Enters the table in which a relocation has its first match, if it has one.
+/// Enters the table of a relocation's first match, if it has one.
 fn enter_match(tables: &mut MatchedTables, placed: PlacedRelocation) -> Result<(), AllocError>
     ensures { OnOk result (tables.new ≡ with_match tables.old placed) }
 {
@@ -63,7 +62,7 @@ fn enter_match(tables: &mut MatchedTables, placed: PlacedRelocation) -> Result<(
     }
 }
 
-/// Enters the tables in which relocations have their first matches.
+/// Enters the tables of the relocations' first matches.
 fn enter_matches(
     tables: &mut MatchedTables,
     relocations: &[(u64, PlacedRelocation)],
@@ -84,7 +83,7 @@ impl TypePass {
         Ok(TypePass { all, by_function })
     }
 
-    /// The relocations of the function of a key, with their offsets.
+    /// The relocations of the function with this key, with their offsets.
     fn relocations_at(&self, key: (usize, u64)) -> &[(u64, PlacedRelocation)]
         ensures { result.now ≡ placed_at self.now key }
     {
@@ -94,7 +93,7 @@ impl TypePass {
         }
     }
 
-    /// A function that knows the tables in which its relocations have their first matches.
+    /// The function, with the tables of its relocations' first matches entered.
     fn with_matches<'f>(&self, function: Function<'f>) -> Result<Function<'f>, AllocError>
         ensures { IfOk result (λ f.
             f ≡ with_matches (inside_of self.now function.entry) function.entry) }
@@ -105,7 +104,7 @@ impl TypePass {
         Ok(function)
     }
 
-    /// Functions that know the tables in which their relocations have their first matches.
+    /// The functions, with the tables of their relocations' first matches entered.
     pub(crate) fn all_with_matches<'f>(
         &self,
         alloc: Global,
@@ -143,7 +142,7 @@ impl Rule<PlacedRelocation, RelocationFault> for TypePass {
     }
 }
 
-/// Whether a relocation stands before another: by section info, and then by number.
+/// Whether a relocation comes before another: by section info, and then by number.
 fn precedes(one: Position, other: Position) -> bool
     ensures { result ≡ precedes one other }
 {

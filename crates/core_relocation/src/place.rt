@@ -1,4 +1,4 @@
-//! Where type relocations stand, for messages.
+//! The places of type relocations, for messages.
 
 use crate::conflicting::matches_of;
 use crate::lookup::function_holding;
@@ -11,7 +11,7 @@ use object_parts::{Functions, SLOT_SIZE};
 use relocation_errors::RelocationPlace;
 use std::alloc::{AllocError, Global};
 
-/// What a record asks for, in words; of a number that stands for no kind it has the number.
+/// What a record asks for, as text; where its number stands for no kind, `kind` and the number.
 pub(crate) fn asked_text(
     alloc: Global,
     local: &Btf<'_>,
@@ -23,7 +23,7 @@ pub(crate) fn asked_text(
     }
 }
 
-/// A text and the types of the kernel in which matches stand.
+/// A text, followed by the kernel types that match.
 fn with_matches(alloc: Global, text: String, matches: &[Match]) -> Result<String, AllocError> {
     let mut text = text;
     let mut separator = " in ";
@@ -38,7 +38,7 @@ fn with_matches(alloc: Global, text: String, matches: &[Match]) -> Result<String
     Ok(text)
 }
 
-/// What a record asks for, in words, with all types of the kernel that have it.
+/// What a record asks for, as text, with all kernel types that match.
 pub(crate) fn asked_with_matches(
     alloc: Global,
     local: &Btf<'_>,

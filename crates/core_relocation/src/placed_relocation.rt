@@ -1,15 +1,15 @@
-//! Type relocations at their places.
+//! Type relocations with their places.
 
 use core_patch::{Patch, WriteFault};
 
-/// Which of an object's type relocations one is.
+/// The position of a type relocation among those of an object.
 #[derive(Clone, Copy, Debug)]
 pub struct Position {
-    /// The place of its section info among the section infos, from 0.
+    /// The index of its section info among the section infos, from 0.
     pub section_info: usize,
-    /// Where the name of the section info's section stands among the strings.
+    /// The offset of the name of the section info's section in the strings.
     pub name_offset: u32,
-    /// Its place in the section info, from 0.
+    /// Its index in the section info, from 0.
     pub number: usize,
 }
 
@@ -22,17 +22,17 @@ pub struct PlacedRelocation {
     pub offset: u64,
     pub position: Position,
     pub patch: Patch,
-    /// The kernel table of its first match, by its place in the list of tables, if it has one.
+    /// The index of the kernel table of its first match in the list of tables, if it has one.
     pub table: Option<u32>,
 }
 
-/// What a type relocation would write doesn't fit its instruction.
+/// A type relocation whose result doesn't fit its instruction.
 #[derive(Clone, Copy, Debug)]
 pub struct RelocationFault {
     pub position: Position,
-    /// The place of its slot in the function.
+    /// The index of its slot in the function.
     pub index: usize,
-    /// How many slots the function has.
+    /// The number of slots of the function.
     pub num_instructions: usize,
     pub fault: WriteFault,
 }

@@ -27,14 +27,14 @@ use relocation_errors::{BtfRelocationError, RelocationPlace};
 use slot_relocation::{FaultAt, Stop, relocated_functions};
 use std::alloc::{AllocError, Global};
 
-/// Relocations in their functions, up to the first that can't be placed, and why that can't.
+/// Relocations in their functions up to the first that can't be placed, and the error of that one.
 #[derive(Drop)]
 struct PlacedRelocations {
     all: Vec<PlacedRelocation>,
     stopped: Option<BtfRelocationError>,
 }
 
-/// Places the relocations of section infos, with a matcher for these tables.
+/// Places the relocations of section infos, with a matcher for `targets`.
 fn place_by(
     alloc: Global,
     file: &ObjectFile<'_>,
@@ -80,7 +80,7 @@ fn place_by(
     }
 }
 
-/// Places the relocations of section infos. Each table is gone over once for all of them.
+/// Places the relocations of section infos. Each table is searched once for all of them.
 fn place_all<'t>(
     alloc: Global,
     file: &ObjectFile<'_>,
@@ -118,7 +118,7 @@ fn place_all<'t>(
     )
 }
 
-/// Where a relocation stands at which a value doesn't fit.
+/// The place of a relocation whose value doesn't fit.
 fn place_of_fault(
     alloc: Global,
     local: &Btf<'_>,
@@ -157,7 +157,7 @@ fn error_for(
     }
 }
 
-/// Functions with what relocations give written into their slots, in order of key.
+/// The functions after the results of relocations are written into their slots, in order of key.
 fn written<'f>(
     alloc: Global,
     local: &Btf<'_>,
@@ -182,8 +182,8 @@ fn written<'f>(
     }
 }
 
-/// Writes what relocations give into the slots of functions, which stay as they are where that
-/// doesn't fit an instruction.
+/// Writes the results of relocations into the slots of functions. The functions stay as they are
+/// where a result doesn't fit its instruction.
 fn write_all<'f>(
     alloc: Global,
     local: &Btf<'_>,
@@ -204,8 +204,8 @@ fn write_all<'f>(
     Ok(())
 }
 
-/// Why nothing is written where a relocation can't be placed: because of one before it, whose value
-/// doesn't fit its instruction, or else because of this one.
+/// The error where a relocation can't be placed: that of a relocation before it whose value doesn't
+/// fit its instruction, or else `stopped`.
 fn first_error(
     alloc: Global,
     local: &Btf<'_>,
@@ -228,28 +228,28 @@ fn first_error(
     }
 }
 
-/// Writes what type relocations come to in a kernel's tables into the instructions of an object's
-/// functions. The section infos, in order, name sections by the strings of `local`, the object's types; a
-/// relocation is made in the first function of its section, by key, whose bytes hold its offset, at
-/// the slot in which that lies, and by the slots after those before it. What it comes to is said by
-/// [`core_resolve::relocation_outcome`].
+/// Resolves the type relocations of an object in a kernel's tables, and writes the results into the
+/// instructions of its functions. The section infos, in order, name sections by the strings of
+/// `local`, the object's types. A relocation is made in the first function of its section, by key,
+/// whose bytes hold its offset: at the slot in which the offset lies, and on the slots after the
+/// relocations before it. [`core_resolve::relocation_outcome`] says what it resolves to.
 ///
-/// Arithmetic gets the value's low word as its immediate; a load or a store gets it as its offset,
-/// and the width of the kernel's field where that differs and both are pointers or unsigned
-/// integers; a load of 64 bits gets the low word in its own slot and the high word in the next one.
-/// Where the kernel has nothing to give, the instruction becomes a call of a helper that isn't
-/// there, a load of 64 bits two of these. The functions know in which tables their relocations have
-/// their first matches; there are no more than 2^32 tables.
+/// Arithmetic gets the value's low word as its immediate. A load or a store gets the value as its
+/// offset, and the width of the kernel's field where that differs and both are pointers or unsigned
+/// integers. A load of 64 bits gets the low word in its own slot and the high word in the next one.
+/// Where the kernel has no value, the instruction becomes a call of a helper that doesn't exist,
+/// and a load of 64 bits becomes two of these. The functions keep the tables of their relocations'
+/// first matches. There are at most 2^32 tables.
 ///
 /// # Errors
 ///
-/// With the name of the section info's section: `BtfError` and `SectionNotFound` for a section info whose
-/// section's name can't be read or isn't there; `FunctionNotFound` for a relocation that no
-/// function holds; those of [`core_resolve::relocation_outcome`]; `InvalidInstruction` for arithmetic
-/// with a register, an offset past 32,767, a load or a store of another width that it can't get,
-/// and an instruction of another class; `InvalidInstructionIndex` for a load of 64 bits without a
-/// second slot; and `OutOfMemory`. Of several faults the first by section info and relocation is answered.
-/// The functions then stay as they are.
+/// With the name of the section info's section: `BtfError` where that name can't be read, and
+/// `SectionNotFound` where the section is missing; `FunctionNotFound` for a relocation that no
+/// function holds; those of [`core_resolve::relocation_outcome`]; `InvalidInstruction` for
+/// arithmetic with a register, an offset past 32,767, a load or a store of another width that it
+/// can't get, and an instruction of another class; `InvalidInstructionIndex` for a load of 64 bits
+/// without a second slot; and `OutOfMemory`. Of several faults the first by section info and
+/// relocation is returned. The functions then stay as they are.
 pub fn relocate_types<'f>(
     alloc: Global,
     file: &ObjectFile<'_>,

@@ -11,7 +11,7 @@ use std::marker::Model;
 /// The type relocations of a section, in order.
 #[derive(Drop)]
 pub(crate) struct RelocationSectionInfo {
-    /// Where the section's name stands among the strings.
+    /// The offset of the section's name in the strings.
     pub(crate) name_offset: u32,
     pub(crate) records: Vec<bpf_core_relo>,
 }
@@ -26,7 +26,7 @@ impl Model for RelocationSectionInfo {
 }
 
 impl RelocationSectionInfo {
-    /// The relocation of a number, from 0.
+    /// The relocation with a number, from 0.
     pub(crate) fn record(&self, number: usize) -> Option<bpf_core_relo> {
         self.records.as_slice().get(number).copied()
     }
@@ -63,7 +63,7 @@ pub(crate) fn section_infos_of(
     Ok(section_infos)
 }
 
-/// What a relocation asks for; a number that stands for no kind asks for nothing.
+/// What a relocation asks for; nothing where its number stands for no kind.
 fn type_relocation(relo: bpf_core_relo) -> Option<TypeRelocation> {
     let kind = RelocationKind::try_from(relo.kind).ok()?;
     Some(TypeRelocation {
@@ -86,7 +86,7 @@ fn enter_asked(
     Ok(())
 }
 
-/// What all relocations ask for, for which a kernel's tables are gone over once.
+/// What all relocations ask for; a kernel's tables are searched once for all of it.
 pub(crate) fn asked_by(
     alloc: Global,
     section_infos: &[RelocationSectionInfo],

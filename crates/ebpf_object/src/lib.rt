@@ -1,4 +1,4 @@
-//! Parsed eBPF objects: the items of the crates that they are made of, and type relocations of a
+//! Parsed eBPF objects: the items of the crates that make them up, and the type relocations of a
 //! whole object.
 #![tactic(auto)]
 

@@ -14,8 +14,8 @@ use relocation_errors::BtfRelocationError;
 
 /// Type relocations of a whole object.
 pub trait RelocateBtf {
-    /// Writes what type relocations come to in a kernel's tables, of which there are no more than
-    /// 2^32, into the slots at which they stand: [`relocate_types`].
+    /// Resolves the type relocations in a kernel's tables, of which there are at most 2^32, and
+    /// writes the results into their slots: [`relocate_types`].
     ///
     /// # Errors
     ///
@@ -24,7 +24,7 @@ pub trait RelocateBtf {
         requires { length kernel_types.now ≤ 2 ^ 32 };
 }
 
-/// Relocates the functions of an object, which were taken from it.
+/// Relocates functions that were taken from an object.
 #[tactic(auto, using(crate::proofs::NoTypeRelocations::typeless_written, crate::proofs::NoTypeRelocations::typeless_refused, crate::proofs::NoTypeRelocations::bare_written, crate::proofs::NoTypeRelocations::bare_refused))]
 fn relocate_functions<'a>(
     object: &Object<'a>,

@@ -1,4 +1,4 @@
-//! Externs that are looked for among the kernel's symbols.
+//! Externs that are resolved by the kernel's symbols.
 
 ghost use Rattle.std.specs.Prelude.{◌≡◌, ◌≢◌, Any, false, IfErr, IfOk, OnOk};
 ghost use Rattle.std.specs.List.{AllZip};
@@ -17,14 +17,14 @@ use std::io::BufRead;
 use string_map::{TextMap, TextMapBuilder};
 use watched::Watched;
 
-/// Whether an extern is looked for among the kernel's symbols.
+/// Whether an extern is searched among the kernel's symbols.
 fn is_sought(desc: &ExternDesc<'_>) -> bool
     ensures { result ≡ is_sought desc.now }
 {
     desc.type_id.is_none() && !desc.is_resolved
 }
 
-/// Whether some extern is.
+/// Whether any extern is searched among the kernel's symbols.
 fn is_any_sought(externs: &Externs<'_>) -> bool
     ensures { result ≡ is_any_sought externs.now.by_name }
 {
@@ -36,7 +36,7 @@ fn is_any_sought(externs: &Externs<'_>) -> bool
     false
 }
 
-/// The names of those that are.
+/// The names of the externs that are searched among the kernel's symbols.
 fn sought_names<'a>(alloc: Global, externs: &Externs<'a>) -> Result<Vec<&'a str>, AllocError>
     ensures { IfOk result (λ names. AreSoughtNames externs.now.by_name names.items) }
 {
@@ -49,14 +49,14 @@ fn sought_names<'a>(alloc: Global, externs: &Externs<'a>) -> Result<Vec<&'a str>
     Ok(names)
 }
 
-/// The error of a name.
+/// The error for a name whose address can't be read.
 fn unreadable(alloc: Global, name: &str) -> Result<KsymsError, AllocError>
     ensures { IfOk result (IsUnreadable name.now) }
 {
     Ok(KsymsError::KallsymsParseError(String::from_str(alloc, name)?))
 }
 
-/// The error of a name with two addresses.
+/// The error for a name with two addresses.
 fn ambiguous(
     alloc: Global,
     name: &str,
@@ -72,7 +72,7 @@ fn ambiguous(
     })
 }
 
-/// The error that a fault of the symbols comes to.
+/// The error for a fault of the symbols.
 fn ksyms_error(alloc: Global, error: SymbolsError<'_>) -> KsymsError
     ensures { result ≢ OutOfMemory → SaysOfSymbols error.entry result }
 {
@@ -92,7 +92,7 @@ fn ksyms_error(alloc: Global, error: SymbolsError<'_>) -> KsymsError
     }
 }
 
-/// The addresses of the externs that are looked for; where none is, nothing is read.
+/// The addresses of the externs that are searched. Where no extern is, nothing is read.
 pub(crate) fn sought_addresses<'a, R: BufRead>(
     alloc: Global,
     externs: &Externs<'a>,
@@ -117,7 +117,7 @@ pub(crate) fn sought_addresses<'a, R: BufRead>(
     }
 }
 
-/// The address of an extern that is looked for.
+/// The address of an extern that is searched, if it is found.
 fn address_found(addresses: &Addresses<'_>, name: &str, desc: &ExternDesc<'_>) -> Option<u64>
     ensures { result ≡ address_found addresses.now name.now desc.now }
 {
@@ -150,7 +150,7 @@ fn with_address<'a>(found: Option<u64>, desc: &ExternDesc<'a>) -> ExternDesc<'a>
     }
 }
 
-/// An extern after the look-up by its name.
+/// An extern after the search by its name.
 fn addressed_extern<'a>(
     alloc: Global,
     addresses: &Addresses<'_>,
@@ -170,7 +170,7 @@ fn addressed_extern<'a>(
     Ok(with_address(found, desc))
 }
 
-/// The externs after the look-up by their names.
+/// The externs after the search by their names.
 pub(crate) fn addressed_externs<'a>(
     alloc: Global,
     externs: &Externs<'a>,

@@ -35,7 +35,7 @@ pub enum KsymsError {
     IncompatibleVariableType {
         name: String,
     },
-    /// What declares the extern is neither a function nor a variable.
+    /// The type that declares the extern is neither a function nor a variable.
     #[error("extern {name:?} is neither a function nor a variable")]
     InvalidExternType {
         name: String,
@@ -61,7 +61,7 @@ pub enum KsymsError {
     OutOfMemory,
 }
 
-/// Want of memory stays want of memory.
+/// `OutOfMemory` stays `OutOfMemory`.
 impl From<BtfError> for KsymsError {
     ghost from_gives = { λ error e. e ≡ ksyms_error_of error };
 

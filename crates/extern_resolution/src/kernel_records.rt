@@ -16,14 +16,14 @@ use std::alloc::{AllocError, Global};
 use std::marker::Model;
 use std::slice;
 
-/// What the kernel has of a kind and a name.
+/// The kernel's record of a kind and a name.
 #[derive(Clone, Copy)]
 pub(crate) enum KernelRecord {
     /// A record whose type is compatible.
     Compatible(u32),
-    /// One whose type isn't.
+    /// A record whose type isn't compatible.
     Incompatible,
-    /// None.
+    /// No record.
     Missing,
 }
 
@@ -35,7 +35,7 @@ pub(crate) struct KernelRecords<'k, 'n> {
 }
 
 impl<'k, 'n> Drop for KernelRecords<'k, 'n> {
-    // One call wherever it is dropped, in place of one for each part.
+    // A single call where a value is dropped, instead of one call per field.
     fn drop(self) {
         let KernelRecords {
             kernel: _,
@@ -66,7 +66,7 @@ fn typed_names<'n>(alloc: Global, externs: &Externs<'n>) -> Result<Vec<&'n str>,
     Ok(names)
 }
 
-/// Whether the name of the type of an id is this, or can't be read.
+/// Whether the name of the type with an id is `name`, or can't be read.
 fn may_be_first(kernel: &Btf<'_>, id: u32, name: &str) -> bool
     ensures { result ≡ may_be_first kernel.now name.now id }
 {
@@ -79,7 +79,7 @@ fn may_be_first(kernel: &Btf<'_>, id: u32, name: &str) -> bool
     }
 }
 
-/// The first id at which the name may be this.
+/// The first id whose name may be `name`.
 #[tactic(auto, using(crate::proofs::FirstNamed::find_on, crate::proofs::FirstNamed::find_here, crate::proofs::FirstNamed::find_end))]
 fn first_of(kernel: &Btf<'_>, ids: &[u32], name: &str) -> Option<u32>
     ensures { result ≡ find (may_be_first kernel.now name.now) ids.now }
@@ -92,7 +92,7 @@ fn first_of(kernel: &Btf<'_>, ids: &[u32], name: &str) -> Option<u32>
     None
 }
 
-/// Whether the name of the type of an id can be read.
+/// Whether the name of the type with an id can be read.
 fn is_readable(kernel: &Btf<'_>, id: u32) -> bool
     ensures { result ≡ is_readable kernel.now id }
 {
@@ -117,7 +117,7 @@ fn first_named(kernel: &Btf<'_>, ids: &[u32], name: &str, kind: BtfKind) -> Opti
     }
 }
 
-/// The type that the record of an id is of.
+/// The type that the record with an id refers to.
 fn type_held_at(kernel: &Btf<'_>, id: u32) -> u32
     ensures { result ≡ type_held_at kernel.now id }
 {
@@ -128,8 +128,8 @@ fn type_held_at(kernel: &Btf<'_>, id: u32) -> u32
 }
 
 impl<'k, 'n> KernelRecords<'k, 'n> {
-    /// Those of a kernel's table, which is gone over once for all externs with types, if there are
-    /// some.
+    /// The records of a kernel's table, which is searched once for all externs with types, if there
+    /// are any.
     pub(crate) fn find(
         alloc: Global,
         externs: &Externs<'n>,
@@ -153,7 +153,7 @@ impl<'k, 'n> KernelRecords<'k, 'n> {
         Ok(first_named(self.kernel, ids.as_slice(), name, kind))
     }
 
-    /// What the kernel has of a kind and a name for a local type.
+    /// The kernel's record of a kind and a name, compared with a local type.
     pub(crate) fn record(
         &self,
         table: &Btf<'_>,

@@ -1,5 +1,4 @@
-//! How what a program expects of the kernel is found there (libbpf's
-//! `bpf_object__resolve_externs`).
+//! The resolution of a program's externs in the kernel (libbpf's `bpf_object__resolve_externs`).
 #![tactic(auto)]
 
 mod addressed;

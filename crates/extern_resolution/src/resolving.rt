@@ -41,18 +41,19 @@ fn resolved<'a, R: BufRead>(
     addressed_externs(alloc, &typed, &addresses)
 }
 
-/// Resolves the externs of an object with this table of types: those with a type by the first table
-/// of the kernel's types, the others by the kernel's symbols, a text as /proc/kallsyms has it. A
-/// weak one that isn't there gets address 0. Without a table, nothing is done; where no extern
-/// without a type is left to resolve, nothing is read. On a refusal the externs are as before.
+/// Resolves the externs of an object with the table of types `table`: externs with a type by the
+/// first table of the kernel's types, the others by the kernel's symbols, a text in the format of
+/// /proc/kallsyms. A weak extern that is missing gets address 0. Without a table, nothing is done.
+/// Where no extern without a type is left to resolve, nothing is read. On a refusal the externs
+/// stay as before.
 ///
 /// `TypedKsymRequiresKernelBtf` where an extern with a type isn't weak and no kernel types are
-/// given; `FunctionNotFound` and `VariableNotFound` where the kernel doesn't have one that isn't
-/// weak; `IncompatibleFunctionSignature` and `IncompatibleVariableType` where its type isn't
-/// compatible; `BtfError` where types can't be compared; `InvalidExternType` where what declares an
+/// given; `FunctionNotFound` and `VariableNotFound` where the kernel lacks one that isn't weak;
+/// `IncompatibleFunctionSignature` and `IncompatibleVariableType` where its type isn't compatible;
+/// `BtfError` where types can't be compared; `InvalidExternType` where the type that declares an
 /// extern is neither a function nor a variable; `KallsymsAccessError` where the reader fails or a
 /// line isn't UTF-8; `KallsymsParseError` where the address of an extern can't be read;
-/// `AmbiguousResolution` where it has two.
+/// `AmbiguousResolution` where an extern has two addresses.
 pub fn resolve_externs<'a, R: BufRead>(
     alloc: Global,
     externs: &mut Externs<'a>,

@@ -140,7 +140,7 @@ fn with_kernel_id<'a>(found: Option<u32>, desc: &ExternDesc<'a>) -> ExternDesc<'
     }
 }
 
-/// An extern after the look-up by its type.
+/// An extern after the search by its type.
 fn typed_extern<'a>(
     alloc: Global,
     table: &Btf<'_>,
@@ -166,7 +166,7 @@ fn typed_extern<'a>(
     }
 }
 
-/// The externs after the look-up by their types in what is known of the kernel's.
+/// The externs after the search by their types in the kernel's records.
 fn typed_by<'a>(
     alloc: Global,
     externs: &Externs<'a>,
@@ -191,7 +191,7 @@ fn typed_by<'a>(
     Ok(externs.replaced(by_name))
 }
 
-/// The externs after the look-up by their types.
+/// The externs after the search by their types.
 pub(crate) fn typed_externs<'a>(
     alloc: Global,
     externs: &Externs<'a>,

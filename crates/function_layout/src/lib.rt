@@ -1,9 +1,9 @@
-//! How a program is laid out whose functions are linked to it, and what holds of such a layout.
+//! The layout of a program with the functions that are linked to it, and its laws.
 //!
-//! A kernel takes a program as one list of slots, so that copies of the functions that it calls
-//! stand after its own. The definitions say which copies these are, where each begins and what
-//! becomes of the slots; two machines say which slots are visited, by functions that call each
-//! other with a stack, and by the list of slots. The functions here compute nothing: their
+//! A kernel takes a program as one list of slots: copies of the functions that it calls come after
+//! its own function. The definitions say which copies these are, where each begins and what becomes
+//! of the slots. Two machines say which slots are visited: one runs functions that call each other
+//! with a stack, the other runs the list of slots. The functions here compute nothing: their
 //! contracts are the theorems.
 #![tactic(auto)]
 
@@ -17,22 +17,22 @@ pub fn layout_is_unique()
     ensures { LayoutIsUnique }
 {}
 
-/// The copies that a layout appends are those of the functions that chains of references lead to
-/// from the program's own, each once.
+/// The copies that a layout appends are those of the functions that chains of references reach from
+/// the program's own function, each once.
 pub fn reached_are_appended()
     ensures { ReachedAreAppended }
 {}
 
 /// For every list of decisions about branches on which the functions, run with a stack of calls,
-/// don't end outside, the linked slots are visited in the same order with the same end.
+/// don't end outside, the linked slots are visited in the same order and with the same end.
 pub fn linked_visits_same()
     ensures { LinkedVisitsSame }
 {}
 
-/// A program in which older helpers take the place of newer ones after it was linked has the slots
-/// that its layout gives for functions with older helpers in their slots that refer to no function.
-/// For every list of decisions about branches on which these functions, run with a stack of calls,
-/// don't end outside, its slots are visited in the same order with the same end.
+/// A linked program in which older helpers then replace newer ones has the slots of its layout for
+/// functions in which older helpers replace newer ones in the slots that refer to no function. For
+/// every list of decisions about branches on which these functions, run with a stack of calls,
+/// don't end outside, its slots are visited in the same order and with the same end.
 pub fn renamed_visits_same()
     ensures { RenamedVisitsSame }
 {}
@@ -47,12 +47,12 @@ pub fn lengths_add()
     ensures { LengthsAdd }
 {}
 
-/// A walk over the references, depth first, appends copies in the order of the layout.
+/// A depth-first walk over the references appends copies in the order of the layout.
 pub fn walk_laws()
     ensures { WalkLaws }
 {}
 
-/// An order of copies is a beginning of the layout.
+/// An order of copies is a prefix of the layout.
 pub fn order_laws()
     ensures { OrderLaws }
 {}
@@ -62,8 +62,8 @@ pub fn place_laws()
     ensures { PlaceLaws }
 {}
 
-/// Each slot of a function that is copied to a program stands in the copy, as it is where it refers
-/// to no function.
+/// Each slot of a function that is copied to a program is in the copy, unchanged where it refers to
+/// no function.
 pub fn slots_are_copied()
     ensures { SlotsAreCopied }
 {}

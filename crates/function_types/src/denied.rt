@@ -1,4 +1,4 @@
-//! Kernels that take no functions.
+//! Kernels without function types.
 
 ghost use Rattle.std.specs.Prelude.{◌≡◌};
 ghost use Rattle.function_types.specs.Rewritten.{is_denied};
@@ -6,7 +6,7 @@ ghost use Rattle.function_types.specs.Rewritten.{is_denied};
 use btf_records::BtfFeature;
 use btf_sanitize::Answers;
 
-/// Whether the kernel was asked for functions and doesn't take them: `BTF_KIND_FUNC` was denied.
+/// Whether the kernel was asked about `BTF_KIND_FUNC` and denied it.
 pub fn is_denied(answers: &Answers) -> bool
     ensures { result ≡ is_denied answers.now.items }
 {

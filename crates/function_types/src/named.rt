@@ -1,4 +1,4 @@
-//! Records of functions whose types are no functions.
+//! Function records whose types aren't functions.
 
 ghost use Rattle.std.specs.Prelude.{◌≡◌, ◌==◌, false, true, is_none, not, Some, IfSome};
 ghost use Rattle.std.specs.List.{list_any};
@@ -10,7 +10,7 @@ use btf_records::BtfKind;
 use btf_tables::Btf;
 use object_parts::{Function, Functions};
 
-/// Whether the type of an id is a function, whose name can be read.
+/// Whether the type with an id is a function whose name can be read.
 fn names_function(table: Option<&Btf<'_>>, type_id: u32) -> bool
     ensures { result ≡ names_function (option_copied table.entry) type_id }
 {
@@ -23,7 +23,7 @@ fn names_function(table: Option<&Btf<'_>>, type_id: u32) -> bool
     matches!(t.kind(), BtfKind::Func) && table.string_at(t.name_offset()).is_ok()
 }
 
-/// The type of the first record that names no function.
+/// The type of the first record that doesn't name a function.
 fn nameless_type(table: Option<&Btf<'_>>, records: &FuncSecInfo<'_>) -> Option<u32>
     ensures none { is_none result
         ≡ not
@@ -41,7 +41,7 @@ fn nameless_type(table: Option<&Btf<'_>>, records: &FuncSecInfo<'_>) -> Option<u
     None
 }
 
-/// A function's name, and the type of the first record that names no function.
+/// A function's name, and the type of its first record that doesn't name a function.
 #[tactic(auto, unfolding(crate::specs::Named::keeps_type))]
 fn nameless_in<'a>(table: Option<&Btf<'_>>, function: &Function<'a>) -> Option<(&'a str, u32)>
     ensures none { is_none result ≡ not (keeps_nameless (option_copied table.entry) function.now) }
@@ -52,9 +52,9 @@ fn nameless_in<'a>(table: Option<&Btf<'_>>, function: &Function<'a>) -> Option<(
     Some((function.name, type_id))
 }
 
-/// The first function, in order of section and address, that keeps a record whose type is no
-/// function with a name, with its own name and the record's type; `None` where each record that is
-/// kept names a function. Takes no memory.
+/// The name of the first function, in order of section and address, that keeps a record whose type
+/// isn't a function with a name, and that type; `None` where each kept record names a function.
+/// Takes no memory.
 pub fn nameless_record<'f, 'a>(
     table: Option<&Btf<'_>>,
     functions: &'f Functions<'a>,

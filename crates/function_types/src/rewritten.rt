@@ -1,9 +1,9 @@
-//! What holds of functions where a table is rewritten.
+//! A law of functions in rewritten tables.
 
 ghost use Rattle.function_types.specs.Rewritten.{FunctionsStay};
 
-/// Where a kernel takes functions, an id that is a function's is one's of the same name in the
-/// table rewritten for this kernel.
+/// Where a kernel takes functions, the id of a function is the id of a function of the same name in
+/// the table rewritten for this kernel.
 #[tactic(auto, using(crate::proofs::Stay::functions_stay))]
 pub fn functions_stay()
     ensures { FunctionsStay }

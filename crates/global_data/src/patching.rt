@@ -1,4 +1,4 @@
-//! Values put into maps.
+//! Writes of values into maps.
 
 ghost use Rattle.std.specs.Prelude.{◌≡◌, ◌≢◌, None, IfErr, OnOk, OnErr, fold};
 ghost use Rattle.ebpf_items.specs.declared.error.ParseError.TheVariants.{OutOfMemory};
@@ -12,7 +12,7 @@ use object_maps::Maps;
 use settings::GlobalValues;
 use std::alloc::Global;
 
-/// Writes bytes into maps, one after the other.
+/// Makes the writes into the maps, in order.
 fn write_all(maps: &mut Maps<'_>, writes: &[MapWrite<'_, '_>])
     requires { Fit maps.old writes.now }
     ensures { maps.new ≡ fold written maps.old writes.now }
@@ -22,18 +22,18 @@ fn write_all(maps: &mut Maps<'_>, writes: &[MapWrite<'_, '_>])
     }
 }
 
-/// Puts the values of global variables into the maps of an object, as `values` has them: over the
-/// bytes of the map of the symbol's section, of several maps of a section the first by name, from
-/// the symbol's address (`st_value`) on. The symbol is the one of the variable's name, of several
-/// the one of the greatest index. All other bytes stay, and so do all maps where a value is
-/// refused. Every map keeps its name and its number of bytes, whatever the answer.
+/// Writes the values of global variables into the maps of an object. The symbol of a variable is
+/// the one with its name; of several, the one with the greatest index. Its value is written into
+/// the map of the symbol's section, from the symbol's address (`st_value`) on; where the section
+/// has several maps, into the first by name. All other bytes stay, and where a value is refused all
+/// maps stay. Every map keeps its name and its number of bytes in any case.
 ///
 /// # Errors
 ///
-/// That of the first variable by name: `SymbolNotFound` where no symbol has the name and one must;
-/// `InvalidGlobalData` where the value isn't as long as the symbol's size (`st_size`), or the
-/// symbol's bytes lie outside the map's; `MapNotFound` where no map is made of the symbol's
-/// section, with the section's index or 0; and `OutOfMemory`.
+/// The error of the first variable by name that has one: `SymbolNotFound` where no symbol has the
+/// name and the object must have the variable; `InvalidGlobalData` where the value isn't as long as
+/// the symbol's size (`st_size`), or the symbol's bytes lie outside the map's; `MapNotFound` where
+/// no map is made of the symbol's section, with the section's index or 0; and `OutOfMemory`.
 pub fn patch_map_data(
     alloc: Global,
     file: &ObjectFile<'_>,

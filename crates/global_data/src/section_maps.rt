@@ -13,7 +13,7 @@ use std::alloc::{AllocError, Global};
 use std::collections::BTreeMap;
 use std::marker::Model;
 
-/// A map's name, and how many bytes it has.
+/// A map's name and its number of bytes.
 #[derive(Drop)]
 pub(crate) struct MapExtent<'a> {
     pub(crate) name: &'a str,
@@ -28,7 +28,7 @@ impl<'a> Model for MapExtent<'a> {
     ghost view = { λ e. record { name = e.name.now; size = e.size } };
 }
 
-/// The maps of sections, by the section's index; of several of a section the first by name.
+/// The maps of sections, by the section's index; where a section has several, the first by name.
 #[derive(Drop)]
 pub(crate) struct SectionMaps<'m, 'a> {
     maps: &'m Maps<'a>,
@@ -60,7 +60,7 @@ fn enter<'a>(
 }
 
 impl<'m, 'a> SectionMaps<'m, 'a> {
-    /// Those of some maps.
+    /// The maps of the sections that `maps` are made of.
     pub(crate) fn new(alloc: Global, maps: &'m Maps<'a>) -> Result<SectionMaps<'m, 'a>, AllocError>
         ensures value { IfOk result (λ found. found ≡ maps.now) }
         ensures rising { OnOk result
@@ -77,7 +77,7 @@ impl<'m, 'a> SectionMaps<'m, 'a> {
         Ok(SectionMaps { maps, by_section })
     }
 
-    /// The map of a section, if there is a section.
+    /// The map of the section with this index, if there is an index.
     pub(crate) fn of_section(&self, index: Option<usize>) -> Option<&MapExtent<'a>>
         ensures { option_copied result ≡ option_map extent_of (map_of self.now index) }
     {

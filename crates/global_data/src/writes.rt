@@ -1,4 +1,4 @@
-//! What the values of global variables write.
+//! The writes of the values of global variables.
 
 ghost use Rattle.std.specs.Prelude.{◌≡◌, ◌≢◌, None, Some, IfOk, IfErr, OnOk, map, option_and_then};
 ghost use Rattle.std.specs.Cmp.Lexicographic.{slice_cmp};
@@ -18,7 +18,7 @@ use settings::{GlobalValue, GlobalValues};
 use std::alloc::Global;
 use std::marker::Model;
 
-/// Bytes that are put over those of a map, from a place on.
+/// Bytes that are written into a map, from the offset `start` on.
 #[derive(Drop)]
 pub(crate) struct MapWrite<'a, 's> {
     pub(crate) map: &'a str,
@@ -34,7 +34,7 @@ impl<'a, 's> Model for MapWrite<'a, 's> {
     ghost view = { λ w. record { map = w.map.now; start = w.start; bytes = w.bytes.now } };
 }
 
-/// Says that a value doesn't fit its symbol, or the symbol its map.
+/// The error for a value that doesn't fit its symbol, or a symbol that doesn't fit its map.
 fn bad_data(alloc: Global, name: &str, value: &GlobalValue, symbol: &ReadSymbol<'_>) -> ParseError
     ensures { result ≢ OutOfMemory
         → fault_of result ≡ Some (bad_data (name.now, value.now) symbol.now) }
@@ -49,7 +49,7 @@ fn bad_data(alloc: Global, name: &str, value: &GlobalValue, symbol: &ReadSymbol<
     }
 }
 
-/// What a value writes that has a symbol.
+/// The write of a value that has a symbol.
 fn write_over<'a, 's>(
     alloc: Global,
     maps: &SectionMaps<'_, 'a>,
@@ -84,7 +84,7 @@ fn write_over<'a, 's>(
     })
 }
 
-/// What a value writes: nothing if there is no symbol and needn't be one.
+/// The write of a value; none where the symbol is missing and may be.
 fn write_of<'a, 's>(
     alloc: Global,
     maps: &SectionMaps<'_, 'a>,
@@ -111,7 +111,7 @@ fn write_of<'a, 's>(
     Ok(Some(write_over(alloc, maps, name, value, symbol)?))
 }
 
-/// What the values of all global variables write, by name.
+/// The writes of the values of all global variables, by name.
 pub(crate) fn writes_of<'a, 's>(
     alloc: Global,
     file: &ObjectFile<'_>,

@@ -1,4 +1,4 @@
-//! How long linked programs are.
+//! The lengths of linked programs.
 
 ghost use Rattle.linker.specs.Lengths.{ProgramsAreShort};
 

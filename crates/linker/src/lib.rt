@@ -1,8 +1,8 @@
 //! Links functions to the programs that call them.
 //!
-//! A kernel takes a program as one list of slots. So the functions that a program leads to are
-//! copied after its own, each once, depth first in the order in which slots refer to them, and the
-//! references are aimed at the copies.
+//! A kernel takes a program as one list of slots. So the functions that a program reaches are
+//! copied after its own function, each once, depth first in the order in which slots refer to them.
+//! The references then point to the copies.
 #![tactic(auto)]
 
 mod lengths;

@@ -1,4 +1,4 @@
-//! Programs are linked, and take the place of their functions.
+//! Linked programs, which replace their functions.
 
 ghost use Rattle.std.specs.Prelude.{[], ◌≡◌, ◌≢◌, true, reverse, Some, IfOk, IfErr, OnOk, OnErr};
 ghost use Rattle.relocation_errors.specs.declared.error.RelocationError.TheVariants.{OutOfMemory};
@@ -29,8 +29,8 @@ fn is_alone(order: &Order) -> bool
     order.keys.as_slice().is_empty()
 }
 
-/// The slots of a linked program. Those of a program that leads to no function are its function's,
-/// which stay in the file.
+/// The slots of a linked program. Where the program reaches no other function, they are its
+/// function's and stay in the file.
 fn program_slots<'f>(
     function: &Function<'f>,
     is_alone: bool,
@@ -45,9 +45,8 @@ fn program_slots<'f>(
     Ok(Slots::owned(slots))
 }
 
-/// A function with the slots and records of a linked program, and the kernel tables that its
-/// relocations matched, in place of its own. More records than 32 bits count can't be held: this is
-/// out of memory.
+/// A function whose slots, records and matched kernel tables are replaced by those of a linked
+/// program. More records than 32 bits count are out of memory.
 fn with_copies<'f>(
     function: &Function<'f>,
     is_alone: bool,
@@ -79,7 +78,7 @@ fn with_copies<'f>(
 }
 
 impl<'s, 'o, 'f> Source<'s, 'o, 'f> {
-    /// Enters the kernel tables that the relocations in the function of a key matched.
+    /// Enters the kernel tables that the relocations in the function with this key matched.
     fn enter_tables(&self, tables: &mut MatchedTables, key: Key) -> Result<(), AllocError>
         ensures { OnOk result (tables.new ≡ with_matched self.now tables.old key) }
     {
@@ -102,7 +101,7 @@ impl<'s, 'o, 'f> Source<'s, 'o, 'f> {
         Ok(tables)
     }
 
-    /// The function of a key with all that it leads to linked to it.
+    /// The function with this key, with all functions that it reaches linked to it.
     pub(crate) fn link(&self, own: Key) -> Result<Function<'f>, RelocationError>
         requires { has_function self.now.functions own ≡ true }
         ensures linked { IfOk result (λ f. IsLinked self.now own f) }
@@ -120,7 +119,7 @@ impl<'s, 'o, 'f> Source<'s, 'o, 'f> {
         Ok(linked)
     }
 
-    /// The function of a program with all that it leads to linked to it.
+    /// The function of a program, with all functions that it reaches linked to it.
     fn link_program(
         &self,
         name: &str,
@@ -162,18 +161,18 @@ impl<'s, 'o, 'f> Source<'s, 'o, 'f> {
     }
 }
 
-/// Links to each program the functions that it leads to, from the functions as they stand: after
-/// the program's own function come copies of those, each once, and references are aimed at the
-/// copies. The records of the copied functions come with them. A program's name is in its error.
-/// `text_sections` are the indexes of the sections with functions.
+/// Links to each program the functions that it reaches, taken from the current functions: copies of
+/// them come after the program's own function, each once, and references point to the copies. The
+/// records of the copied functions come with them. `text_sections` are the indexes of the sections
+/// with functions. An error carries the program's name.
 ///
 /// # Errors
 ///
 /// `UnknownSymbol` for a reference to a symbol that can't stand for a function, `UnknownFunction`
-/// for a reference to an address at which none begins, `FunctionInfoMismatch` for a function whose
-/// records don't fit those of the program, `InvalidRelocationOffset` for a program of 2^31 slots or
-/// more, and `OutOfMemory`; more records than 32 bits count are `OutOfMemory` too. The functions
-/// then stay as they are.
+/// for a reference to an address where no function begins, `FunctionInfoMismatch` for a function
+/// whose records don't fit those of the program, `InvalidRelocationOffset` for a program of 2^31
+/// slots or more, and `OutOfMemory`, also for more records than 32 bits count. The functions then
+/// stay as they are.
 pub fn relocate_calls<'f>(
     alloc: Global,
     file: &ObjectFile<'_>,

@@ -17,24 +17,24 @@ use relocation_errors::RelocationError;
 use std::alloc::AllocError;
 use std::collections::BTreeMap;
 
-/// The most slots of a program.
+/// The maximum number of slots of a program.
 pub(crate) const MOST_SLOTS: usize = 2147483647;
 
-/// A reference to a function that has no copy yet, at a slot.
+/// A reference at a slot to a function that has no copy yet.
 #[derive(Clone, Copy)]
 pub(crate) struct Open {
     key: Key,
     slot: usize,
 }
 
-/// A function whose references are being followed, from a slot on.
+/// A function whose references are followed from the slot `next` on.
 #[derive(Clone, Copy)]
 pub(crate) struct Frame {
     key: Key,
     next: usize,
 }
 
-/// The keys in the order of their copies, and where the copy of each begins.
+/// The keys in the order of their copies, and the slot where each copy begins.
 #[derive(Drop)]
 pub(crate) struct Order {
     pub(crate) keys: Vec<Key>,
@@ -51,8 +51,8 @@ fn too_long() -> RelocationError
     }
 }
 
-/// Appends the copy of a function that a slot of another refers to; its references are followed
-/// next, and after them those of the other after the slot.
+/// Appends the copy of the function that a slot of another refers to. Its references are followed
+/// next, and then those of the other after the slot.
 fn append(
     keys: &mut Vec<Key>,
     starts: &mut BTreeMap<Key, usize>,
@@ -84,7 +84,7 @@ fn append(
 }
 
 impl<'s, 'o, 'f> Source<'s, 'o, 'f> {
-    /// The function that a slot refers to, if it has no start.
+    /// The function that a slot refers to, if it has no start yet.
     fn open_at(
         &self,
         function: &Function<'f>,
@@ -109,7 +109,7 @@ impl<'s, 'o, 'f> Source<'s, 'o, 'f> {
         Ok(Some(key))
     }
 
-    /// The first reference, from a slot on, to a function without start.
+    /// The first reference, from the slot `from` on, to a function without a start.
     fn next_open(
         &self,
         function: &Function<'f>,
@@ -138,8 +138,8 @@ impl<'s, 'o, 'f> Source<'s, 'o, 'f> {
         Ok(None)
     }
 
-    /// The copies of a program in order, by a walk over the references, depth first. The program's
-    /// own function has the key `own`.
+    /// The copies of a program in order, by a depth-first walk over the references. `own` is the
+    /// key of the program's own function.
     pub(crate) fn order_of(
         &self,
         own: Key,

@@ -10,7 +10,7 @@ use object_parts::Function;
 use relocation_errors::RelocationError;
 use std::alloc::{AllocError, Global};
 
-/// Whether a record stands before the first.
+/// Whether a line record comes before the first one.
 fn goes_back(lines: &LineSecInfo<'_>) -> bool
     ensures { result ≡ goes_back lines.now }
 {
@@ -53,7 +53,7 @@ pub(crate) fn check_records(
     Err(RelocationError::FunctionInfoMismatch { name })
 }
 
-/// Appends records of functions, moved to a slot.
+/// Appends function records, moved to a slot.
 pub(crate) fn push_functions(
     out: &mut Vec<bpf_func_info>,
     records: &FuncSecInfo<'_>,
@@ -73,7 +73,7 @@ pub(crate) fn push_functions(
     Ok(())
 }
 
-/// Appends records of lines as they are.
+/// Appends line records as they are.
 pub(crate) fn push_lines(
     out: &mut Vec<bpf_line_info>,
     records: &LineSecInfo<'_>,
@@ -88,8 +88,8 @@ pub(crate) fn push_lines(
     Ok(())
 }
 
-/// A record of a line, moved: it keeps its distance from the first. It is none where its slot has
-/// no number of 32 bits.
+/// A line record, moved: it keeps its distance from the first one. It is none where its slot
+/// doesn't fit 32 bits.
 fn moved(line: bpf_line_info, start: u32, first: u32) -> Option<bpf_line_info>
     ensures { IfSome result (λ r. r ≡ moved_line start first line) }
 {
@@ -98,7 +98,7 @@ fn moved(line: bpf_line_info, start: u32, first: u32) -> Option<bpf_line_info>
     Some(bpf_line_info { insn_off, ..line })
 }
 
-/// Appends records of lines, moved to a slot. Fails where memory runs out.
+/// Appends line records, moved to a slot. Fails where memory runs out.
 pub(crate) fn push_moved_lines(
     out: &mut Vec<bpf_line_info>,
     records: &LineSecInfo<'_>,

@@ -1,4 +1,4 @@
-//! References by relocations, and calls without one.
+//! References by relocations, and calls without a relocation.
 
 ghost use Rattle.std.specs.Prelude.{◌≡◌, ◌+◌, ◌*◌, ◌<◌, ◌^◌, pos, ◌+ℤ◌, ◌*ℤ◌};
 ghost use Rattle.std.specs.BTreeSet.{contains};
@@ -13,7 +13,7 @@ use object_parts::{Function, SLOT_SIZE};
 use std::collections::BTreeSet;
 use std::marker::Model;
 
-/// A symbol that a relocation names, and how many bits the relocation fills.
+/// A symbol that a relocation names, and the number of bits that the relocation fills.
 #[derive(Drop)]
 struct Reference<'f, 'a> {
     index: usize,
@@ -29,7 +29,7 @@ impl<'f, 'a> Model for Reference<'f, 'a> {
     ghost view = { λ r. record { index = r.index; width = r.width; symbol = r.symbol.now } };
 }
 
-/// Where a slot of a function stands in its section, in bytes.
+/// The offset of a function's slot in its section, in bytes.
 fn slot_offset(function: &Function<'_>, slot: usize) -> u128
     ensures value { result ≡ slot_offset function.now slot }
     ensures small { result < 2 ^ 68 }
@@ -37,7 +37,7 @@ fn slot_offset(function: &Function<'_>, slot: usize) -> u128
     function.section_offset as u128 + SLOT_SIZE as u128 * slot as u128
 }
 
-/// Whether a symbol can stand for a function: code, or in a section with functions.
+/// Whether a symbol can stand for a function: it is code, or lies in a section with functions.
 fn stands_for_function(symbol: &SymbolView<'_>, text_sections: &BTreeSet<usize>) -> bool
     ensures { result ≡ stands_for_function (contains nat_cmp text_sections.now) symbol.now }
 {
@@ -50,7 +50,7 @@ fn stands_for_function(symbol: &SymbolView<'_>, text_sections: &BTreeSet<usize>)
     }
 }
 
-/// The symbol that a slot's relocation names, where it can stand for a function.
+/// The symbol that a slot's relocation names, if it can stand for a function.
 fn reference_of<'f, 'a>(
     file: &'f ObjectFile<'a>,
     text_sections: &BTreeSet<usize>,
@@ -75,7 +75,7 @@ fn reference_of<'f, 'a>(
 }
 
 impl<'f, 'a> Reference<'f, 'a> {
-    /// The address that the reference is to, by a slot's immediate.
+    /// The address that the reference leads to, given a slot's immediate.
     fn address(&self, imm: i32) -> Option<i128>
         ensures { result
             ≡ address_by self.now.symbol.kind self.now.symbol.address self.now.width imm }
@@ -92,7 +92,7 @@ impl<'f, 'a> Reference<'f, 'a> {
         }
     }
 
-    /// The function that the reference is to, by a slot's immediate.
+    /// The function that the reference leads to, given a slot's immediate.
     fn target(&self, imm: i32) -> Target
         ensures { result ≡ target_by self.now imm }
     {
@@ -109,7 +109,7 @@ impl<'f, 'a> Reference<'f, 'a> {
     }
 }
 
-/// A place as a signed number.
+/// An offset in bytes as a signed number.
 fn signed(place: u128) -> i128
     requires { place < 2 ^ 68 }
     ensures { result ≡ pos place }
@@ -117,7 +117,7 @@ fn signed(place: u128) -> i128
     place as i128
 }
 
-/// The address that a call is to: its immediate counts slots from the next one on.
+/// The address that a call leads to: its immediate counts slots from the next one on.
 fn called_address(function: &Function<'_>, index: usize, imm: i32) -> i128
     ensures { result ≡ pos (slot_offset function.now index) +ℤ pos 8 *ℤ (imm +ℤ pos 1) }
 {
@@ -125,7 +125,7 @@ fn called_address(function: &Function<'_>, index: usize, imm: i32) -> i128
     place + 8 * (imm as i128 + 1)
 }
 
-/// What a slot refers to that no relocation refers to.
+/// What a slot without a relocation refers to.
 fn called_by(function: &Function<'_>, index: usize, slot: bpf_insn) -> Target
     ensures { result ≡ called_by function.now index slot }
 {
@@ -138,8 +138,8 @@ fn called_by(function: &Function<'_>, index: usize, slot: bpf_insn) -> Target
     }
 }
 
-/// What a slot of a function refers to, by the slot's number in the function: what its relocation
-/// names, if that is a function or lies in a section with functions, or else what it calls.
+/// What the slot with the index `index` in a function refers to: what its relocation names, if that
+/// is a function or lies in a section with functions, or else what it calls.
 pub fn target_of(
     file: &ObjectFile<'_>,
     text_sections: &BTreeSet<usize>,

@@ -1,4 +1,4 @@
-//! What programs are linked from.
+//! The object that programs are linked from.
 
 ghost use Rattle.std.specs.Prelude.{◌≡◌, ◌≢◌, ◌<◌, true, Some, None, length, slice_get, IfOk, IfErr, OnOk};
 ghost use Rattle.object_parts.specs.Content.{function_at, has_function, key_of};
@@ -19,7 +19,7 @@ use std::marker::Model;
 /// A section's index and an address in it.
 pub(crate) type Key = (usize, u64);
 
-/// How many addresses there are.
+/// The number of addresses.
 const ADDRESSES: i128 = 18446744073709551616;
 
 /// An object's file, the indexes of its sections with functions, and its functions.
@@ -44,7 +44,7 @@ impl<'s, 'o, 'f> Model for Source<'s, 'o, 'f> {
         } };
 }
 
-/// How many slots a function has.
+/// The number of slots of a function.
 pub(crate) fn slot_count(function: &Function<'_>) -> usize
     ensures { result ≡ length function.now.instructions }
 {
@@ -62,7 +62,7 @@ pub(crate) fn slot_at(function: &Function<'_>, index: usize) -> bpf_insn
     }
 }
 
-/// The key of an address in a section, where the address is a number of 64 bits.
+/// The key of an address in a section, if the address is a number of 64 bits.
 fn key_at(section_index: usize, address: i128) -> Option<Key>
     ensures { result ≡ key_at section_index address }
 {
@@ -84,7 +84,7 @@ fn unknown_function(alloc: Global, address: i128, caller: &str) -> RelocationErr
 }
 
 impl<'s, 'o, 'f> Source<'s, 'o, 'f> {
-    /// The function of a key.
+    /// The function with this key.
     pub(crate) fn function(&self, key: Key) -> &'s Function<'f>
         requires { has_function self.now.functions key ≡ true }
         ensures value { function_at self.now.functions key ≡ Some result.now }
@@ -119,7 +119,7 @@ impl<'s, 'o, 'f> Source<'s, 'o, 'f> {
         Ok(key)
     }
 
-    /// The key of the function that a slot of a function refers to, by the slot's number.
+    /// The key of the function that a function's slot refers to; `index` is the slot's index.
     pub(crate) fn reference(
         &self,
         function: &Function<'f>,

@@ -39,7 +39,7 @@ pub(crate) struct Copies {
     pub(crate) records: Records,
 }
 
-/// A reference, marked as one where it isn't a call.
+/// A reference; where it isn't a call, its source register becomes `BPF_PSEUDO_FUNC`.
 fn marked(slot: bpf_insn) -> bpf_insn
     ensures { result ≡ marked (is_pseudo_call slot) slot }
 {
@@ -50,7 +50,7 @@ fn marked(slot: bpf_insn) -> bpf_insn
     marked
 }
 
-/// A reference at a position, to the copy that begins at a slot.
+/// A reference at a position that leads to the copy beginning at `start`.
 fn aim(slot: bpf_insn, start: usize, position: usize) -> bpf_insn
     requires start { start < 2147483648 }
     requires position { position < 2147483648 }
@@ -61,7 +61,7 @@ fn aim(slot: bpf_insn, start: usize, position: usize) -> bpf_insn
     aimed
 }
 
-/// What stands for a slot at a position.
+/// The slot that is written for `slot` at a position.
 fn place(
     slot: bpf_insn,
     target: Option<Key>,
@@ -115,7 +115,7 @@ fn push_records(
 }
 
 impl<'s, 'o, 'f> Source<'s, 'o, 'f> {
-    /// Appends the slots of a function's copy, in which references are aimed at copies.
+    /// Appends the slots of a function's copy, whose references lead to copies.
     fn write_copy(
         &self,
         slots: &mut Vec<bpf_insn>,
@@ -143,7 +143,7 @@ impl<'s, 'o, 'f> Source<'s, 'o, 'f> {
         Ok(())
     }
 
-    /// The slots and records of a program, whose own function has the key `own`.
+    /// The slots and records of a program; `own` is the key of its own function.
     pub(crate) fn write_all(
         &self,
         own: Key,

@@ -23,7 +23,7 @@ use std::alloc::Global;
 use std::collections::BTreeSet;
 use std::io::BufRead;
 
-/// Refuses an object with a function that keeps a record whose type is no function with a name.
+/// Refuses an object with a function that keeps a record whose type isn't a function with a name.
 fn require_named(alloc: Global, object: &Object<'_>) -> Result<(), PrepareError>
     ensures made { OnOk result (KeepsNamed object.now object.now) }
     ensures refused { IfErr result (λ e. e ≢ OutOfMemory → HasNamelessRecord object.now e) }
@@ -54,7 +54,7 @@ fn require_numbered(
     }
 }
 
-/// Puts the values of global variables into an object's maps.
+/// Writes the values of global variables into an object's maps.
 fn put_values(settings: &Settings, object: &mut Object<'_>) -> Result<(), PrepareError>
     ensures made { OnOk result (PutsValues settings.now object.old object.new) }
     ensures refused { IfErr result (λ e.
@@ -96,7 +96,7 @@ fn resolve<R: BufRead>(
     Ok(())
 }
 
-/// Writes what an object's type relocations come to into its slots.
+/// Resolves an object's type relocations, and writes the results into its slots.
 fn relocate_types(kernel_types: &[Btf<'_>], object: &mut Object<'_>) -> Result<(), PrepareError>
     requires { length kernel_types.now ≤ 2 ^ 32 }
     ensures made { OnOk result (RelocatesTypes kernel_types.now object.old object.new) }
@@ -121,7 +121,7 @@ fn rewrite_types<F: FnMut(BtfFeature) -> bool>(
     Ok(object.fixup_and_sanitize_btf(predicate)?)
 }
 
-/// Writes the numbers of maps into the slots of an object that lent them.
+/// Writes the numbers of maps into the slots of the object that the maps were taken from.
 fn write_numbers_of(
     alloc: Global,
     settings: &Settings,
@@ -161,7 +161,7 @@ fn write_numbers(
     written
 }
 
-/// Writes what is known of an object's externs into its slots.
+/// Writes what is known about an object's externs into its slots.
 fn write_externs(object: &mut Object<'_>) -> Result<(), PrepareError>
     ensures made { OnOk result (WritesExterns object.old object.new) }
     ensures refused { IfErr result (λ e.
@@ -181,8 +181,8 @@ fn link(object: &mut Object<'_>, text_sections: &BTreeSet<usize>) -> Result<(), 
     Ok(())
 }
 
-/// Relocates by an object's types and rewrites these, in either order, and answers what was
-/// answered about the kernel's features.
+/// Makes an object's type relocations and rewrites its types, in the order given, and returns the
+/// answers about the kernel's features.
 fn make_types<F: FnMut(BtfFeature) -> bool>(
     kernel_types: &[Btf<'_>],
     order: Order,
@@ -210,8 +210,8 @@ fn make_types<F: FnMut(BtfFeature) -> bool>(
     }
 }
 
-/// Makes the passes over an object, of whose result its plan is made, and answers what was answered
-/// about the kernel's features.
+/// Makes all passes over an object that come before its plan, and returns the answers about the
+/// kernel's features.
 pub(crate) fn make<R: BufRead, F: FnMut(BtfFeature) -> bool, P: FnOnce() -> bool>(
     alloc: Global,
     kernel_types: &[Btf<'_>],

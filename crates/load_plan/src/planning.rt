@@ -31,7 +31,7 @@ fn parse<'a>(alloc: Global, file: &'a [u8]) -> Result<Object<'a>, PrepareError>
     Ok(Object::parse(alloc, file)?)
 }
 
-/// The plan of what all passes make of a parsed object.
+/// The plan of a parsed object after all passes.
 fn plan_object<'a, R: BufRead, F: FnMut(BtfFeature) -> bool, P: FnOnce() -> bool>(
     alloc: Global,
     kernel_types: &[Btf<'_>],
@@ -81,30 +81,31 @@ fn plan_object<'a, R: BufRead, F: FnMut(BtfFeature) -> bool, P: FnOnce() -> bool
     Ok(plan_of(alloc, object, answers, maps)?)
 }
 
-/// The load plan of an object file for one kernel: its maps under the numbers that `settings` give
-/// them, with the values of its global variables; its types rewritten to the features that the
-/// kernel grants; and its programs, whose slots name the maps by these numbers and the kernel's
-/// functions and variables by what is known of them, each linked to the functions that it leads to.
+/// The load plan of an object file for one kernel. It has the object's maps under the numbers that
+/// `settings` give them, with the values of its global variables; its types rewritten to the
+/// features that the kernel grants; and its programs, each linked to the functions that it reaches.
+/// The slots name the maps by these numbers, and the kernel's functions and variables by what is
+/// known about them.
 ///
-/// `kernel_types` are the kernel's types, in no more than 2^32 tables, in which type relocations
-/// are looked up, and of which the first has its functions and variables; `symbols` are its symbols
-/// as `/proc/kallsyms` lists them, which are read only where a variable without a type is looked
-/// for; `predicate` says whether it takes a feature of types, and `probe` whether it has the newer
-/// helpers that read memory: where it lacks them, older ones are called. `order` says whether type
-/// relocations are looked up in the object's types as they are or as they are rewritten. A number
-/// that is set for a map that the object hasn't is ignored.
+/// `kernel_types` are the kernel's types, in at most 2^32 tables. Type relocations are resolved in
+/// all of them; the first has the kernel's functions and variables. `symbols` are the kernel's
+/// symbols as `/proc/kallsyms` lists them; they are read only where a variable without a type is
+/// searched. `predicate` says whether the kernel takes a feature of types. `probe` says whether it
+/// has the newer helpers that read memory; where it lacks them, older ones are called. `order` says
+/// whether type relocations are resolved in the object's types as they are or as they are
+/// rewritten. A number that is set for a map that the object lacks is ignored.
 ///
 /// # Errors
 ///
-/// The earliest pass that refuses: [`PrepareError::Parse`] where the file isn't an object that can
-/// be parsed, [`PrepareError::FunctionRecordType`] where a record of a function names none,
-/// [`PrepareError::MapNumberMissing`] where no number is set for a map, [`PrepareError::Parse`]
-/// where a value of a global variable can't be put into the maps,
-/// [`PrepareError::KernelTypesRequired`] where the object has type relocations and no kernel types
-/// are given, [`PrepareError::Ksyms`] where an extern can't be resolved,
+/// That of the earliest pass that refuses: [`PrepareError::Parse`] where the file isn't an object
+/// that can be parsed, [`PrepareError::FunctionRecordType`] where a function record names a type
+/// that isn't a function with a name, [`PrepareError::MapNumberMissing`] where no number is set for
+/// a map, [`PrepareError::Parse`] where a value of a global variable can't be written into the
+/// maps, [`PrepareError::KernelTypesRequired`] where the object has type relocations and no kernel
+/// types are given, [`PrepareError::Ksyms`] where an extern can't be resolved,
 /// [`PrepareError::BtfRelocation`] where a type relocation can't be made and
 /// [`PrepareError::Types`] where the types can't be rewritten, in the order given, and
-/// [`PrepareError::Relocation`] where a slot can't get a map's number or what is known of an
+/// [`PrepareError::Relocation`] where a slot can't get a map's number or what is known about an
 /// extern, or a program can't be linked.
 pub fn prepare<'a, R: BufRead, F: FnMut(BtfFeature) -> bool, P: FnOnce() -> bool>(
     alloc: Global,

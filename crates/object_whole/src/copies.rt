@@ -1,4 +1,4 @@
-//! The same object again.
+//! Copies of objects.
 
 ghost use Rattle.std.specs.Prelude.{◌≡◌, [], IfOk, OnOk};
 
@@ -7,7 +7,7 @@ use btf_ext::BtfExt;
 use btf_tables::Btf;
 use std::alloc::AllocError;
 
-/// A table again, if there is one.
+/// A copy of a table, if there is one.
 fn table_again<'a>(table: &Option<Btf<'a>>) -> Result<Option<Btf<'a>>, AllocError>
     ensures { IfOk result (λ again. again ≡ table.now) }
 {
@@ -17,7 +17,7 @@ fn table_again<'a>(table: &Option<Btf<'a>>) -> Result<Option<Btf<'a>>, AllocErro
     }
 }
 
-/// What stands beside a table again, if there is something.
+/// A copy of the records of `.BTF.ext`, if there are any.
 fn extension_again<'a>(extension: &Option<BtfExt<'a>>) -> Result<Option<BtfExt<'a>>, AllocError>
     ensures { IfOk result (λ again. again ≡ extension.now) }
 {
@@ -28,8 +28,9 @@ fn extension_again<'a>(extension: &Option<BtfExt<'a>>) -> Result<Option<BtfExt<'
 }
 
 impl<'a> Object<'a> {
-    /// Takes what another object has beside its file. The object has no programs before; functions
-    /// come before programs, so that each program's function is there where memory runs out.
+    /// Copies everything of another object but its file. The object has no programs before.
+    /// Functions are copied before programs, so that each program has its function where memory
+    /// runs out.
     fn copy(&mut self, other: &Object<'a>) -> Result<(), AllocError>
         requires { self.old.programs ≡ [] }
         ensures { OnOk result (self.new ≡ record other.now { file = self.old.file }) }
@@ -43,7 +44,7 @@ impl<'a> Object<'a> {
         Ok(())
     }
 
-    /// The same object again.
+    /// A copy of the object.
     pub fn try_clone(&self) -> Result<Object<'a>, AllocError>
         ensures { IfOk result (λ object. object ≡ self.now) }
     {

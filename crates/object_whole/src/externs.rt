@@ -15,10 +15,10 @@ use watched::Watched;
 
 impl Object<'_> {
     /// Resolves the externs: those with a type by the first table of the kernel's types, the others
-    /// by the kernel's symbols, a text as /proc/kallsyms has it. A weak one that isn't there gets
-    /// address 0. Without a table of types, nothing is done; where no extern without a type is left
-    /// to resolve, nothing is read. Everything else of the object stays, and on a refusal all of
-    /// it.
+    /// by the kernel's symbols, a text in the format of /proc/kallsyms. A weak extern that is
+    /// missing gets address 0. Without a table of types, nothing is done. Where no extern without a
+    /// type is left to resolve, nothing is read. Everything else of the object stays; on a refusal
+    /// the externs stay too.
     pub fn resolve_externs<R: BufRead>(
         &mut self,
         kernel_types: &[Btf<'_>],

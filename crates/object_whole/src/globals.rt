@@ -10,7 +10,7 @@ use global_data::patch_map_data;
 use settings::GlobalValues;
 
 impl<'a> Object<'a> {
-    /// Puts the values of global variables into the maps: [`patch_map_data`].
+    /// Writes the values of global variables into the maps: [`patch_map_data`].
     ///
     /// # Errors
     ///

@@ -1,5 +1,5 @@
-//! Passes over std's hashed collections, whose order is left open: what they hold is put in order
-//! first.
+//! Passes that take std's hashed collections. The order of these is unspecified, so what they hold
+//! is sorted first.
 
 ghost use Rattle.std.specs.Prelude.{◌≡◌, ◌≢◌, None, map, IfErr, IfOk, OnErr, OnOk};
 ghost use Rattle.std.specs.Iterator.{IsFinite};
@@ -43,7 +43,7 @@ fn by_name(alloc: Global, values: &HashMap<&str, (&[u8], bool)>) -> Result<Globa
     Ok(ordered)
 }
 
-/// Maps under their numbers.
+/// Maps with their numbers.
 fn numbered<'m>(
     alloc: Global,
     maps: &[(&'m str, i32, &'m Map)],
@@ -59,9 +59,9 @@ fn numbered<'m>(
 }
 
 impl<'a> Object<'a> {
-    /// Puts the values of global variables into the maps: [`Object::put_values`] over a map from
-    /// names to values, and whether the object must have the variable. Values are put in order of
-    /// names.
+    /// Writes the values of global variables into the maps: [`Object::put_values`] with a map from
+    /// names to values, each with whether the object must have the variable. The values are sorted
+    /// by name.
     ///
     /// # Errors
     ///
@@ -84,9 +84,9 @@ impl<'a> Object<'a> {
         self.put_values(&values)
     }
 
-    /// Writes the numbers of maps into the slots at which relocations by maps and variables stand:
-    /// [`Object::write_map_numbers`] over maps with names and numbers, as they come.
-    /// `text_sections` are the indexes of the sections with functions.
+    /// Writes the numbers of maps into the slots of relocations by maps and variables:
+    /// [`Object::write_map_numbers`] with an iterator over maps with names and numbers, in its
+    /// order. `text_sections` are the indexes of the sections with functions.
     ///
     /// # Errors
     ///
@@ -119,8 +119,8 @@ impl<'a> Object<'a> {
         self.write_map_numbers(&numbered, &sections)
     }
 
-    /// Links to each program the functions that it leads to, from the functions as they stand:
-    /// [`Object::link_programs`] over a set. `text_sections` are the indexes of the sections with
+    /// Links to each program the functions that it reaches, taken from the current functions:
+    /// [`Object::link_programs`] with a set. `text_sections` are the indexes of the sections with
     /// functions.
     ///
     /// # Errors

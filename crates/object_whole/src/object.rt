@@ -47,7 +47,7 @@ use std::collections::BTreeSet;
 use std::marker::Model;
 use std::mem;
 
-/// An object: what a file holds before anything is relocated. Each program's function is there.
+/// An object: what a file holds before anything is relocated. Each program has its function.
 #[derive(Debug)]
 pub struct Object<'a> {
     pub(crate) alloc: Global,
@@ -61,7 +61,7 @@ pub struct Object<'a> {
 }
 
 impl<'a> Drop for Object<'a> {
-    // One call wherever it is dropped, in place of one for each part.
+    // A single call where a value is dropped, instead of one call per field.
     fn drop(self) {
         let Object {
             alloc: _,
@@ -96,14 +96,14 @@ impl<'a> Model for Object<'a> {
     ghost invariant = { λ o. HaveFunctions o.programs o.functions };
 }
 
-/// Puts a value in place of another, which is dropped here alone.
+/// Replaces a value. The old value is dropped only here.
 pub(crate) fn put<T: Drop>(place: &mut T, value: T)
     ensures { place.new ≡ value }
 {
     *place = value;
 }
 
-/// An object of a file of which nothing else is read.
+/// An object of a file, of which nothing else is read yet.
 pub(crate) fn unread<'a>(alloc: Global, file: ObjectFile<'a>) -> Object<'a>
     ensures file { result.file ≡ file.entry }
     ensures programs { result.programs ≡ [] }
@@ -120,7 +120,7 @@ pub(crate) fn unread<'a>(alloc: Global, file: ObjectFile<'a>) -> Object<'a>
     }
 }
 
-/// The maps of a file whose types are these.
+/// The maps of a file with this table of types.
 fn maps<'a>(
     alloc: Global,
     file: &ObjectFile<'a>,
@@ -134,7 +134,7 @@ fn maps<'a>(
 }
 
 impl<'a> Object<'a> {
-    /// The file that the object was made of: its sections, symbols and relocations.
+    /// The file that the object was parsed from: its sections, symbols and relocations.
     pub fn file(&self) -> &ObjectFile<'a>
         ensures { result.now ≡ self.now.file }
     {
@@ -164,15 +164,15 @@ impl<'a> Object<'a> {
         self.file.kernel_version()
     }
 
-    /// The table of types, if the object has one. Where functions of the kernel are among the
-    /// externs, it ends with a variable that stands for them.
+    /// The table of types, if the object has one. Where kernel functions are among the externs, the
+    /// table ends with a variable that stands for them.
     pub fn btf(&self) -> Option<&Btf<'a>>
         ensures { option_copied result ≡ self.now.types }
     {
         self.btf.as_ref()
     }
 
-    /// What the object says of its instructions beside its types.
+    /// The records of the section `.BTF.ext`, if the object has them.
     pub fn btf_ext(&self) -> Option<&BtfExt<'a>>
         ensures { option_copied result ≡ self.now.extension }
     {
@@ -186,7 +186,7 @@ impl<'a> Object<'a> {
         &self.maps
     }
 
-    /// The programs, by name. The function of each is there.
+    /// The programs, by name. The object has the function of each.
     pub fn programs(&self) -> &Programs<'a>
         ensures value { result.now ≡ self.now.programs }
         ensures complete { HaveFunctions self.now.programs self.now.functions }
@@ -201,14 +201,14 @@ impl<'a> Object<'a> {
         &self.functions
     }
 
-    /// The function of a key: a section's index and an address in it.
+    /// The function with this key: a section's index and an address in it.
     pub fn function(&self, key: (usize, u64)) -> Option<&Function<'a>>
         ensures { option_copied result ≡ lookup (is_at (key_cmp key)) self.now.functions }
     {
         self.functions.get(key)
     }
 
-    /// The extern of a name.
+    /// The extern with this name.
     pub fn extern_desc(&self, name: &str) -> Option<&ExternDesc<'a>>
         ensures { option_copied result
             ≡ lookup (is_at (slice_cmp nat_cmp name.now)) self.now.externs.by_name }
@@ -273,7 +273,7 @@ impl<'a> Object<'a> {
     ///
     /// # Errors
     ///
-    /// `BtfError` where the types, what stands beside them or the externs can't be read or don't
+    /// `BtfError` where the types, the records of `.BTF.ext` or the externs can't be read or don't
     /// fit the object, those of [`read_code`] and [`read_maps`], and `OutOfMemory`.
     pub fn from_file(alloc: Global, file: ObjectFile<'a>) -> Result<Object<'a>, ParseError>
         ensures value { IfOk result (λ o. IsParsed file.entry o) }
@@ -285,7 +285,7 @@ impl<'a> Object<'a> {
         Ok(object)
     }
 
-    /// Takes the maps away: the object has none then.
+    /// Takes the maps out of the object, which then has none.
     pub fn take_maps(&mut self) -> Maps<'a>
         ensures taken { result ≡ self.old.maps }
         ensures others { self.new ≡ record self.old { maps = [] } }
@@ -293,7 +293,7 @@ impl<'a> Object<'a> {
         mem::replace(&mut self.maps, Maps::new(self.alloc))
     }
 
-    /// Takes the programs and the functions away: the object has none then.
+    /// Takes the programs and the functions out of the object, which then has none.
     #[tactic(auto, using(crate::proofs::Linked::served, crate::proofs::NoPrograms::none_lacks))]
     pub fn take_code(&mut self) -> Code<'a>
         ensures programs { result.programs ≡ self.old.programs }
@@ -309,7 +309,7 @@ impl<'a> Object<'a> {
         }
     }
 
-    /// Puts programs and functions in place of the object's.
+    /// Replaces the object's programs and functions.
     pub fn put_code(&mut self, code: Code<'a>)
         requires { HaveFunctions code.programs code.functions }
         ensures { self.new
@@ -323,7 +323,7 @@ impl<'a> Object<'a> {
         put(&mut self.functions, functions);
     }
 
-    /// Puts maps in place of the object's, which are answered.
+    /// Replaces the object's maps, and returns the old ones.
     pub fn replace_maps(&mut self, maps: Maps<'a>) -> Maps<'a>
         ensures replaced { result ≡ self.old.maps }
         ensures others { self.new ≡ record self.old { maps = maps.entry } }
@@ -331,11 +331,11 @@ impl<'a> Object<'a> {
         mem::replace(&mut self.maps, maps)
     }
 
-    /// Rewrites the table of types to the features that a kernel grants, as the predicate tells:
+    /// Rewrites the table of types to the features that a kernel grants, as `predicate` says:
     /// [`btf_rewrite::fixup_and_sanitize`] with the sizes of the sections, the offsets of the
-    /// symbols and, where a section of externs has an entry, its ids. Asks and changes nothing
-    /// where the object has no table or an empty one. Answers the features that were asked about,
-    /// each once, with their answers.
+    /// symbols and, where a section of externs has an entry, its ids. Where the object has no table
+    /// or an empty one, nothing is asked and nothing changes. Returns the features that were asked
+    /// about, each once, with their answers.
     ///
     /// # Errors
     ///
@@ -369,7 +369,7 @@ impl<'a> Object<'a> {
         text_sections(self.alloc, &self.functions)
     }
 
-    /// Links to each program the functions that it leads to, from the functions as they stand:
+    /// Links to each program the functions that it reaches, taken from the current functions:
     /// [`relocate_calls`]. `text_sections` are the indexes of the sections with functions.
     ///
     /// # Errors

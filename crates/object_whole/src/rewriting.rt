@@ -10,7 +10,7 @@ use btf_tables::Btf;
 use object_file::{ObjectFile, section_sizes, symbol_offsets};
 use std::alloc::Global;
 
-/// Rewrites a table by the sizes of a file's sections and the offsets of its symbols.
+/// Rewrites a table, given the sizes of a file's sections and the offsets of its symbols.
 fn rewrite_table<'a, F: FnMut(BtfFeature) -> bool>(
     alloc: Global,
     file: &ObjectFile<'_>,
@@ -31,7 +31,7 @@ fn rewrite_table<'a, F: FnMut(BtfFeature) -> bool>(
     fixup_and_sanitize(table, &sizes, &offsets, ksyms, predicate)
 }
 
-/// Rewrites the table of a file, where there is one that has a type.
+/// Rewrites the table of a file, if there is one and it has a type.
 pub(crate) fn rewrite<'a, F: FnMut(BtfFeature) -> bool>(
     alloc: Global,
     file: &ObjectFile<'_>,

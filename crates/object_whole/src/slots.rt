@@ -16,7 +16,7 @@ use slot_relocation::{NumberedMap, relocate_externs, relocate_maps};
 use std::collections::BTreeSet;
 
 impl<'a> Object<'a> {
-    /// Writes the numbers of maps into the slots at which relocations by maps and variables stand:
+    /// Writes the numbers of maps into the slots of relocations by maps and variables:
     /// [`relocate_maps`]. `text_sections` are the indexes of the sections with functions.
     ///
     /// # Errors
@@ -50,8 +50,8 @@ impl<'a> Object<'a> {
         )
     }
 
-    /// Writes what is known of the kernel's functions and variables into the slots at which
-    /// relocations by externs stand: [`relocate_externs`].
+    /// Writes what is known about the kernel's functions and variables into the slots of
+    /// relocations by externs: [`relocate_externs`].
     ///
     /// # Errors
     ///
@@ -74,9 +74,9 @@ impl<'a> Object<'a> {
         relocate_externs(self.alloc, &self.file, &mut self.functions, &self.externs)
     }
 
-    /// Calls older helpers in place of newer ones where the kernel lacks these: 4 in place of 112
-    /// and 113, 45 in place of 114 and 115. The probe says whether it has them, and is asked only
-    /// where a slot calls one. Takes no memory.
+    /// Replaces calls of newer helpers by calls of older ones where the kernel lacks the newer: 4
+    /// replaces 112 and 113, 45 replaces 114 and 115. `probe` says whether the kernel has them; it
+    /// is called only where a slot calls one. Takes no memory.
     #[tactic(auto, using(crate::proofs::Linked::functions_stay_renamed))]
     pub fn sanitize_functions<P: FnOnce() -> bool>(&mut self, probe: P)
         requires { has_newer_helper self.old.functions ≡ true → P.pre probe }

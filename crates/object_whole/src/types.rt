@@ -14,14 +14,14 @@ use object_externs::read_table;
 use object_file::ObjectFile;
 use std::alloc::Global;
 
-/// The types of an object, and what stands beside them.
+/// The types of an object, and the records of `.BTF.ext`.
 #[derive(Drop)]
 pub(crate) struct Types<'a> {
     pub(crate) table: Option<Btf<'a>>,
     pub(crate) extension: Option<BtfExt<'a>>,
 }
 
-/// What the section `.BTF.ext` says beside a table, if there is one.
+/// The records of the section `.BTF.ext` for a table, if there is that section.
 fn extension_of<'a>(
     alloc: Global,
     file: &ObjectFile<'a>,
@@ -40,7 +40,7 @@ fn extension_of<'a>(
     }
 }
 
-/// What the section `.BTF.ext` says beside the types, if there are both.
+/// The records of the section `.BTF.ext`, if there are both that section and types.
 fn read_extension<'a>(
     alloc: Global,
     file: &ObjectFile<'a>,

@@ -1,17 +1,17 @@
-//! What holds of the records of a plan.
+//! Laws of the records of a plan.
 
 ghost use Rattle.plan_contents.specs.Laws.{NamesAreCarried, RecordsName};
 
 use function_types::functions_stay;
 
-/// Records of linked programs name functions where those of all functions do.
+/// Function records of linked programs name functions where the records of all functions do.
 #[tactic(auto, using(crate::proofs::Records::records_name))]
 pub fn records_name()
     ensures { RecordsName }
 {}
 
-/// Where a kernel takes functions, what names one in an object's types does in the bytes of its
-/// plan.
+/// Where a kernel takes functions, an id that names a function in an object's types also names one
+/// in the bytes of its plan.
 #[tactic(auto, using(crate::proofs::Types::names_are_carried))]
 pub fn names_are_carried()
     ensures { NamesAreCarried }

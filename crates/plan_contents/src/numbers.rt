@@ -10,7 +10,7 @@ use settings::Settings;
 use slot_relocation::NumberedMap;
 use std::alloc::{AllocError, Global};
 
-/// The number that is set for a map, 0 where none is.
+/// The number that is set for a map; 0 where none is.
 pub(crate) fn number_of(settings: &Settings, name: &str) -> u32
     ensures value { result ≡ number_of settings.now name.now }
     ensures small { result < 2 ^ 31 }
@@ -42,8 +42,8 @@ pub fn unnumbered_map<'a>(maps: &Maps<'a>, settings: &Settings) -> Option<&'a st
     None
 }
 
-/// The maps with their names and the numbers that are set for them, names rising by bytes; one for
-/// which none is set has 0.
+/// The maps with their names and the numbers that are set for them, names rising by bytes. A map
+/// for which none is set has 0.
 pub fn numbered_maps<'m>(
     alloc: Global,
     maps: &'m Maps<'_>,

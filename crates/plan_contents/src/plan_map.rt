@@ -1,4 +1,4 @@
-//! Maps as a plan has them.
+//! The maps of a plan.
 
 ghost use Rattle.std.specs.Prelude.{◌≡◌, ◌<◌, ◌^◌, [], ◌∷◌, ◌++◌, map, IfOk, IfSome, OnOk};
 ghost use Rattle.std.specs.List.{All};
@@ -77,7 +77,7 @@ fn plan_map<'a>(
     Ok(PlanMap::new(name, number, is_typed(map), words, contents, inner))
 }
 
-/// Appends a map to maps that keep to a plan's limits.
+/// Appends a map to maps that satisfy a plan's limits.
 #[tactic(auto, using(crate::proofs::SoundMaps::with_sound))]
 fn push_map<'a>(list: &mut Vec<PlanMap<'a>>, map: PlanMap<'a>) -> Result<(), AllocError>
     requires map { IsSoundMap map }
@@ -89,8 +89,8 @@ fn push_map<'a>(list: &mut Vec<PlanMap<'a>>, map: PlanMap<'a>) -> Result<(), All
     Ok(())
 }
 
-/// The maps of a plan, names rising by bytes, with the numbers that are set for them; one for which
-/// none is set has 0. Their bytes are copied.
+/// The maps of a plan, names rising by bytes, with the numbers that are set for them. A map for
+/// which none is set has 0. Their bytes are copied.
 pub fn plan_maps<'a>(
     alloc: Global,
     maps: &Maps<'a>,

@@ -17,7 +17,7 @@ use object_whole::{Function, Object};
 use plan_text::{Plan, PlanMap, PlanParts, PlanProgram, plan_of_parts};
 use std::alloc::{AllocError, Global};
 
-/// The section as which an object's types are written: none where it has no type.
+/// The bytes of an object's types as a section; none where it has no type.
 fn type_bytes(table: Option<&Btf<'_>>) -> Result<Option<Vec<u8>>, AllocError>
     ensures value { IfOk result (λ bytes.
         option_map (λ b. b.items) bytes ≡ type_bytes (option_copied table.entry)) }
@@ -31,7 +31,7 @@ fn type_bytes(table: Option<&Btf<'_>>) -> Result<Option<Vec<u8>>, AllocError>
     }
 }
 
-/// The records of functions of a program, which a kernel that takes no functions doesn't get.
+/// The function records of a program; none for a kernel that takes no functions.
 fn func_records<'a>(
     alloc: Global,
     answers: &Answers,
@@ -45,7 +45,7 @@ fn func_records<'a>(
     function.func_info.try_clone()
 }
 
-/// The records of lines of a program, which go with its types.
+/// The line records of a program, which go with its types.
 fn line_records<'a>(
     alloc: Global,
     answers: &Answers,
@@ -70,7 +70,7 @@ fn no_tables(alloc: Global) -> Vec<u32>
     Vec::new(alloc)
 }
 
-/// The places of the kernel tables that a function's type relocations matched.
+/// The indexes of the kernel tables that a function's type relocations matched.
 fn tables_of(alloc: Global, function: &Function<'_>) -> Result<Vec<u32>, AllocError>
     ensures value { IfOk result (λ places. places.items ≡ function.now.matched_tables) }
     ensures sound { IfOk result (λ places. AreTables places.items) }
@@ -82,7 +82,7 @@ fn tables_of(alloc: Global, function: &Function<'_>) -> Result<Vec<u32>, AllocEr
     Ok(places)
 }
 
-/// A program with the slots and the records of its function, and the kernel tables that it knows.
+/// A program with the slots, the records and the matched kernel tables of its function.
 fn program_of<'a>(
     alloc: Global,
     answers: &Answers,
@@ -110,7 +110,7 @@ fn program_of<'a>(
     Ok(PlanProgram::new(name, section, slots, functions, lines, tables))
 }
 
-/// Appends a program to programs that keep to a plan's limits.
+/// Appends a program to programs that satisfy a plan's limits.
 #[tactic(auto, using(crate::proofs::Sound::with_sound))]
 fn push_program<'a>(
     list: &mut Vec<PlanProgram<'a>>,
@@ -149,8 +149,8 @@ fn plan_programs<'a>(
     Ok(programs)
 }
 
-/// The plan of an object with these maps, names rising by bytes, under these answers about a
-/// kernel's features. Maps of the object itself aren't looked at.
+/// The plan of an object with these maps, names rising by bytes, and these answers about a kernel's
+/// features. The object's own maps are ignored.
 pub fn plan_of<'a>(
     alloc: Global,
     object: &Object<'a>,

@@ -19,7 +19,7 @@ pub enum PrepareError {
     /// The object can't be parsed, or a value of a global variable can't be put into its maps.
     #[error("{0}")]
     Parse(ParseError),
-    /// A record of a function names a type that is no function with a name.
+    /// A function record names a type that isn't a function with a name.
     #[error("function {function:?} has a record of type {type_id}, which is no function with a name")]
     FunctionRecordType {
         /// The function's own name.
@@ -45,8 +45,8 @@ pub enum PrepareError {
     /// The object's types can't be rewritten to the kernel's features.
     #[error("{0}")]
     Types(BtfError),
-    /// A slot can't get a map's number or what is known of an extern, or a program can't be linked
-    /// to the functions that it leads to.
+    /// A slot can't get a map's number or what is known about an extern, or a program can't be
+    /// linked to the functions that it reaches.
     #[error("{0}")]
     Relocation(EbpfRelocationError),
     /// Memory ran out.

@@ -1,29 +1,29 @@
-//! That a plan is determined by its inputs and the answers about the kernel.
+//! A plan is determined by its inputs and the answers about the kernel.
 
 ghost use Rattle.plan_laws.specs.Determined.{FeaturesLeaveSlotsAndMaps, PlansAreDetermined, PlansExcludeRefusals};
 
 use function_layout::layout_is_unique;
 
 /// Equal inputs and equal answers give equal plans, where the text of the kernel's symbols is known
-/// or no extern is looked for in it. So do equal inputs for a kernel of which it is known
-/// beforehand what it grants.
+/// or no extern is searched in it. So do equal inputs for a kernel whose answers are known
+/// beforehand.
 pub fn plans_are_determined()
     ensures { PlansAreDetermined }
 {
     layout_is_unique();
 }
 
-/// Of the same inputs and answers there isn't both a plan and a refusal, out of memory apart,
-/// where the text of the kernel's symbols is known or no extern is looked for in it.
+/// The same inputs and answers don't give both a plan and a refusal, out of memory apart, where the
+/// text of the kernel's symbols is known or no extern is searched in it.
 pub fn plans_exclude_refusals()
     ensures { PlansExcludeRefusals }
 {
     layout_is_unique();
 }
 
-/// Where type relocations are looked up before types are rewritten, plans of the same inputs have
-/// the same maps and, program by program, the same slots, whichever features of types are granted:
-/// where the text of the kernel's symbols is known or no extern is looked for in it.
+/// Where type relocations are resolved before types are rewritten, plans of the same inputs have
+/// the same maps and, program by program, the same slots, whichever features of types are granted.
+/// This holds where the text of the kernel's symbols is known or no extern is searched in it.
 pub fn features_leave_slots_and_maps()
     ensures { FeaturesLeaveSlotsAndMaps }
 {

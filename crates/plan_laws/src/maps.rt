@@ -1,10 +1,10 @@
-//! What becomes of an object's maps in a plan.
+//! The maps of an object in its plan.
 
 ghost use Rattle.plan_laws.specs.Maps.{MapsKeepLengths};
 
-/// Each map of a plan is one of the object, under the number that is set for it and as long as it
-/// was. Its bytes are the object's but where the value of a global variable is set whose symbol is
-/// of the map's section: in that symbol's range.
+/// Each map of a plan is a map of the object, under the number that is set for it and with the same
+/// length. Its bytes are the object's, except in the range of a symbol of the map's section whose
+/// global variable has a value set.
 pub fn maps_keep_lengths()
     ensures { MapsKeepLengths }
 {}

@@ -8,7 +8,7 @@ use std::alloc::{AllocError, AllocFailed};
 /// Why a line can't be read.
 #[derive(Clone, Copy, Debug, PartialEq, Eq)]
 pub enum LineError {
-    /// It is no line of a plan's text.
+    /// It isn't a line of a plan's text.
     Invalid,
     /// Memory ran out.
     OutOfMemory,

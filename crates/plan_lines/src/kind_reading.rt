@@ -175,7 +175,7 @@ fn are_same(a: KindNumbers, b: KindNumbers) -> bool
     a.kind == b.kind && a.first == b.first && a.second == b.second
 }
 
-/// The kind that has these numbers.
+/// The kind with these numbers.
 pub(crate) fn section_of(numbers: KindNumbers) -> Result<ProgramSection, LineError>
     ensures { Says (λ section. section) (section_of numbers) result }
 {

@@ -1,4 +1,4 @@
-//! That names and numbers fit the words of a line, which their types give.
+//! Names and numbers fit the words of a line, by their types.
 
 ghost use Rattle.plan_lines.specs.Lines.{AreWithin, IsName, numbers_of, word_limits};
 ghost use Rattle.plan_lines.specs.Words.{AreBytes};

@@ -4,8 +4,8 @@ use crate::map_words::MapWords;
 use btf_records::BtfFeature;
 use program_kinds::ProgramSection;
 
-/// The version of a plan's text: the second one also says which kernel tables each program's type
-/// relocations matched.
+/// The version of a plan's text. The second version also says which kernel tables each program's
+/// type relocations matched.
 #[derive(Clone, Copy, Debug, PartialEq, Eq)]
 pub enum TextVersion {
     First,
@@ -39,7 +39,7 @@ pub enum PlanLine {
     License(Vec<u8>),
     /// The kernel version. `None` is any version.
     Version(Option<u32>),
-    /// A feature of the kernel, and whether it has it.
+    /// A feature of the kernel, and whether the kernel has it.
     Feature(BtfFeature, bool),
     /// The types as the kernel takes them.
     Types(Option<Vec<u8>>),
@@ -54,7 +54,7 @@ pub enum PlanLine {
     /// The kernel tables that the program's type relocations matched. `None` where that isn't
     /// known.
     Tables(Option<Vec<u32>>),
-    /// A slot, and the id of the function's type that begins there.
+    /// A slot, and the id of the type of the function that begins there.
     Func(u32, u32),
     /// A slot, and the file, the line and the column that it comes from.
     Source(u32, u32, u32, u32),

@@ -13,7 +13,7 @@ use crate::values::{
 use crate::words::{Words, hex, number_upto};
 use std::alloc::Global;
 
-/// The number that stands for any version, in place of which a text has the word `any`.
+/// The number that stands for any version. A text has the word `any` instead.
 const ANY_VERSION: u64 = 0xffff_fffe;
 
 fn header(word: &[u8]) -> Result<PlanLine, LineError>
@@ -177,14 +177,14 @@ fn line(alloc: Global, bytes: &[u8]) -> Result<PlanLine, LineError>
     }
 }
 
-/// What a line says, without the line feed that ends it.
+/// What a line says; `bytes` is the line without its line feed.
 pub fn read_line(alloc: Global, bytes: &[u8]) -> Result<PlanLine, LineError>
     ensures { IsReadLine bytes.now result }
 {
     line(alloc, bytes)
 }
 
-/// No line feed stands within the text of a line.
+/// The text of a line contains no line feed.
 pub fn lines_are_unbroken()
     ensures { LinesAreUnbroken }
 {}

@@ -8,7 +8,7 @@ use program_kinds::{
     ProgramSection, SkReuseportAttachType, SkSkbKind, XdpAttachType,
 };
 
-/// The kind's number, and the numbers of its fields in order, 0 for a missing one.
+/// The kind's number, and the numbers of its fields in order, 0 for a missing field.
 #[derive(Clone, Copy, Debug)]
 pub struct KindNumbers {
     pub kind: u8,

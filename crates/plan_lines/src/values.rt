@@ -206,7 +206,8 @@ pub(crate) fn map_words(words: &mut Words<'_>) -> Result<MapWords, LineError>
     })
 }
 
-/// Whether these are the words of a map that types define, or of another.
+/// Whether these are the words of a map that types define, or of another map where `is_btf` is
+/// `false`.
 pub fn are_words_of(is_btf: bool, words: MapWords) -> bool
     ensures { result ≡ are_words_of is_btf words }
 {
@@ -216,7 +217,7 @@ pub fn are_words_of(is_btf: bool, words: MapWords) -> bool
     words.map_extra == 0 && words.btf_key_type_id == 0 && words.btf_value_type_id == 0
 }
 
-/// A kind of programs, by its three numbers.
+/// A kind of program, from its three numbers.
 pub(crate) fn section(words: &mut Words<'_>) -> Result<ProgramSection, LineError>
     ensures { Reads (λ s. s) (section_words_by words.old) result words.new }
 {
@@ -239,7 +240,7 @@ fn is_above(last: Option<u32>, place: u64) -> bool
     }
 }
 
-/// A place above the last one.
+/// An index above the last one.
 fn place_after(last: Option<u32>, word: &[u8]) -> Result<u32, LineError>
     ensures { Says (λ n. n) (place_by last word.now) result }
 {
@@ -277,7 +278,7 @@ fn some_places(alloc: Global, words: &mut Words<'_>) -> Result<Option<Vec<u32>>,
     Ok(Some(places))
 }
 
-/// The places of kernel tables, if they are known, in all words that are left.
+/// The indexes of kernel tables, if they are known, from all words that are left.
 pub(crate) fn tables(alloc: Global, words: &mut Words<'_>) -> Result<Option<Vec<u32>>, LineError>
     ensures value { Says (λ t. option_map (λ v. v.items) t) (tables_by words.old) result }
     ensures all { OnOk result (words.new ≡ []) }

@@ -54,7 +54,7 @@ fn send_digits<W: Write>(out: &mut Watched<W>, bytes: &[u8])
     }
 }
 
-/// Sends bytes in hexadecimal digits, of no bytes a dash.
+/// Sends bytes in hexadecimal digits, or a dash where there are none.
 pub fn send_bytes<W: Write>(out: &mut Watched<W>, bytes: &[u8])
     ensures { Sends W.contents out.old out.new (hex_word bytes.now) }
 {
@@ -81,7 +81,7 @@ fn send_slot_digits<W: Write>(out: &mut Watched<W>, slots: &Slots<'_>)
     }
 }
 
-/// Sends the bytes of slots in hexadecimal digits, of no slots a dash.
+/// Sends the bytes of slots in hexadecimal digits, or a dash where there are none.
 pub fn send_slots<W: Write>(out: &mut Watched<W>, slots: &Slots<'_>)
     ensures { Sends W.contents out.old out.new (hex_word (slot_bytes slots.now)) }
 {
@@ -92,7 +92,7 @@ pub fn send_slots<W: Write>(out: &mut Watched<W>, slots: &Slots<'_>)
     }
 }
 
-/// Sends places of kernel tables, a space before each.
+/// Sends indexes of kernel tables, a space before each.
 fn send_places<W: Write>(out: &mut Watched<W>, places: &[u32])
     ensures { Sends W.contents out.old out.new (words_onto (map decimal places.now) []) }
 {
@@ -102,8 +102,8 @@ fn send_places<W: Write>(out: &mut Watched<W>, places: &[u32])
     }
 }
 
-/// Sends places of kernel tables, a space before each: of none a dash, and a question mark where
-/// they aren't known.
+/// Sends indexes of kernel tables, a space before each: a dash where there are none, and a question
+/// mark where they aren't known.
 pub fn send_tables<W: Write>(out: &mut Watched<W>, tables: Option<&[u32]>)
     ensures { Sends W.contents out.old out.new
         (words_onto (table_words (option_map (λ places. places.now) tables.entry)) []) }
@@ -126,7 +126,7 @@ pub fn send_form<W: Write>(out: &mut Watched<W>, is_btf: bool)
     }
 }
 
-/// Sends a kernel version, of any version a word.
+/// Sends a kernel version, or a word for any version.
 pub fn send_version<W: Write>(out: &mut Watched<W>, version: Option<u32>)
     ensures { Sends W.contents out.old out.new (version_word version) }
 {

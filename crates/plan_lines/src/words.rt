@@ -15,7 +15,7 @@ use std::alloc::Global;
 use std::marker::Model;
 use std::str;
 
-/// The number that a word writes, also where a sign or zeros stand before it.
+/// The number that a word writes, also with a sign or leading zeros.
 fn parsed(word: &[u8]) -> Option<u64>
     ensures { (n : ℕ) → n < 2 ^ 64 → word.now ≡ decimal n → result ≡ Some n }
 {
@@ -32,7 +32,7 @@ fn is_number_upto(max: u64, word: &[u8], number: u64) -> bool
     number <= max && buffer.format(number).as_bytes() == word
 }
 
-/// The number, at most `max`, that decimal digits without leading zeros write.
+/// The number, at most `max`, that a word writes in decimal digits without leading zeros.
 pub(crate) fn number_upto(word: &[u8], max: u64) -> Result<u64, LineError>
     ensures value { Says (λ n. n) (number_upto max word.now) result }
     ensures within { IfOk result (λ n. n ≤ max) }
@@ -47,7 +47,7 @@ pub(crate) fn number_upto(word: &[u8], max: u64) -> Result<u64, LineError>
     }
 }
 
-/// The bytes that a word was decoded to, where it writes them in lower case.
+/// The bytes that a word was decoded to, if the word writes them in lower case.
 fn in_lower_case(alloc: Global, word: &[u8], bytes: Vec<u8>) -> Result<Vec<u8>, LineError>
     ensures { Says (λ v. v.items)
         (if is_hex_of word.now bytes.items then Some bytes.items else None) result }
@@ -74,7 +74,7 @@ pub(crate) fn hex(alloc: Global, word: &[u8]) -> Result<Vec<u8>, LineError>
     }
 }
 
-/// What stands before the first of a byte, and what after it.
+/// The bytes before and after the first occurrence of `byte`.
 pub fn cut_at(bytes: &[u8], byte: u8) -> Option<(&[u8], &[u8])>
     ensures { MatchOption result (Lacks byte bytes.now) (λ p.
         (bytes.now ≡ p.0.now ++ byte ∷ p.1.now) × Lacks byte p.0.now) }
@@ -136,7 +136,7 @@ impl<'a> Words<'a> {
         }
     }
 
-    /// Leaves no words.
+    /// Drops the words that are left.
     pub(crate) fn finish(&mut self)
         ensures { self.new ≡ [] }
     {
@@ -153,7 +153,7 @@ impl<'a> Words<'a> {
         }
     }
 
-    /// The only word that is left.
+    /// The word that is left, if there is only one.
     #[tactic(auto, using(crate::proofs::Cut::no_only_word))]
     pub(crate) fn only(&self) -> Option<&'a [u8]>
         ensures { option_map (λ word. word.now) result ≡ only_word self.now }

@@ -9,7 +9,7 @@ ghost use Rattle.plan_reach.specs.Flow.{compared, outcome, source_in, decided, a
 use crate::known::Registers;
 use ebpf_items::bpf_insn;
 
-/// Whether a comparison of two numbers holds, by the operation of the jump: `x` and `y` are the
+/// Whether a comparison of two numbers holds, given the operation of the jump. `x` and `y` are the
 /// numbers unsigned, `i` and `j` signed.
 fn compared(operation: u8, x: u64, y: u64, i: i64, j: i64) -> Option<bool>
     ensures { result ≡ compared operation x y i j }
@@ -77,7 +77,7 @@ pub(crate) fn decided(slot: bpf_insn, known: &Registers) -> Option<bool>
     outcome(slot.code, x, y)
 }
 
-/// Whether a branch may be taken, or not taken.
+/// Whether a decision allows a branch to be taken, or not taken.
 pub(crate) fn allows(decision: Option<bool>, taken: bool) -> bool
     ensures { result ≡ allows decision taken }
 {
@@ -101,7 +101,7 @@ pub(crate) fn is_callback(slot: bpf_insn) -> bool
     slot.code == 0x18 && slot.src_reg() == 4
 }
 
-/// How far a slot moves that neither leaves nor calls.
+/// How many slots control moves on from a slot that neither exits nor calls.
 pub(crate) fn distance(slot: bpf_insn, taken: bool) -> i64
     requires stays { slot.code ≢ 0x95 }
     requires within { is_pseudo_call slot ≡ false }

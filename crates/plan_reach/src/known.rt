@@ -1,4 +1,4 @@
-//! What is known of the registers.
+//! What is known about the registers.
 
 ghost use Rattle.std.specs.Prelude.{◌≡◌, length, count_by, slice_set};
 ghost use Rattle.plan_reach.specs.Known.{value_in, constant_of, wide_constant, writes_destination, is_atomic, is_call, after, after_call, nothing};
@@ -39,7 +39,7 @@ impl Registers {
         }
     }
 
-    /// What is known of a register.
+    /// The number in a register, if it is known.
     pub(crate) fn value(&self, register: usize) -> Option<u64>
         ensures value { result ≡ value_in self.now register }
         ensures size { length self.now ≡ 11 }
@@ -63,7 +63,7 @@ impl Registers {
         }
     }
 
-    /// The same again.
+    /// A copy.
     pub(crate) fn copy(&self) -> Registers
         ensures value { result ≡ self.now }
         ensures size { length self.now ≡ 11 }
@@ -74,7 +74,7 @@ impl Registers {
         }
     }
 
-    /// How many registers are known.
+    /// The number of known registers.
     pub(crate) fn count(&self) -> usize
         ensures { result ≡ count self.now }
     {
@@ -97,14 +97,14 @@ fn agreed(a: Option<u64>, b: Option<u64>) -> Option<u64>
     }
 }
 
-/// What is known where two ways come together.
+/// What is known where two paths meet.
 pub(crate) fn meet(a: &Registers, b: &Registers) -> Registers
     ensures value { result ≡ meet a.now b.now }
     ensures left { length a.now ≡ 11 }
     ensures right { length b.now ≡ 11 }
 {
     let mut met = a.copy();
-    // A look at a field tells the proof how many registers there are.
+    // For the proof: using a field gives it the number of registers.
     let _ = &b.values;
     for i in 0..REGISTERS {
         let value = agreed(met.value(i), b.value(i));

@@ -1,9 +1,9 @@
-//! Which slots of a linked program a run can come to.
+//! The slots of a linked program that a run can reach.
 //!
-//! A compiler leaves of a question about the kernel's types a constant in a register and a jump
-//! that tests it, and the verifier prunes the side that the constant rules out. Constants are
-//! followed from slot to slot here, through moves of immediates and 64-bit immediates alone. A slot
-//! that isn't reached is one that no run visits which takes each jump as the constants decide it.
+//! For a question about the kernel's types, a compiler leaves a constant in a register and a jump
+//! that tests it. The verifier prunes the side that the constant rules out. Constants are followed
+//! here from slot to slot, only through moves of immediates and 64-bit immediates. No run that
+//! takes each jump as the constants decide it visits a slot that isn't reached.
 #![tactic(auto)]
 
 ghost use Rattle.plan_reach.specs.Visits.{VisitsReached};
@@ -17,8 +17,8 @@ mod work;
 pub use reached::Reach;
 pub use search::reach;
 
-/// For every list of decisions about branches that takes each jump which the least facts decide as
-/// they say, the slots of a program that are visited are all reached.
+/// For every list of decisions about branches that takes each jump decided by the least facts as
+/// they say, all slots of a program that are visited are reached.
 pub fn visits_reached()
     ensures { VisitsReached }
 {}

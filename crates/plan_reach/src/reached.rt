@@ -1,4 +1,4 @@
-//! The slots that a run can come to.
+//! The slots that a run can reach.
 
 ghost use Rattle.std.specs.Prelude.{◌≡◌, ◌↔◌, IfOk, IsTrue};
 ghost use Rattle.plan_reach.specs.Reach.{IsLeast, IsReached, decision_at};
@@ -10,7 +10,8 @@ use ebpf_items::bpf_insn;
 use std::alloc::{AllocError, Global};
 use std::marker::Model;
 
-/// The slots of a program, with what is known of the registers at each that a run can come to.
+/// The slots of a program, with what is known about the registers at each slot that a run can
+/// reach.
 #[derive(Debug, Drop)]
 pub struct Reach {
     code: Vec<bpf_insn>,
@@ -37,15 +38,15 @@ impl Reach {
         Ok(Reach { code, facts })
     }
 
-    /// Whether a run can come to a slot.
+    /// Whether a run can reach a slot.
     pub fn is_reached(&self, slot: usize) -> bool
         ensures { IsTrue result ↔ IsReached self.now.slots slot }
     {
         fact_of(&self.facts, slot).is_some()
     }
 
-    /// Whether the conditional jump in a slot is always taken or never, or `None` where that isn't
-    /// known, where the slot isn't reached and where no conditional jump is in it.
+    /// Whether the conditional jump in a slot is always taken or never. `None` where that isn't
+    /// known, where the slot isn't reached and where it holds no conditional jump.
     pub fn decision(&self, slot: usize) -> Option<bool>
         ensures { result ≡ decision_at self.now slot }
     {

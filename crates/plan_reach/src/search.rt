@@ -1,4 +1,4 @@
-//! The search for the slots that a run can come to.
+//! The search for the slots that a run can reach.
 
 ghost use Rattle.std.specs.Prelude.{◌≡◌, IfOk};
 ghost use Rattle.plan_reach.specs.Reach.{IsLeast};
@@ -7,8 +7,8 @@ use crate::reached::Reach;
 use ebpf_items::Slots;
 use std::alloc::{AllocError, Global};
 
-/// Finds the slots that a run can come to. A jump whose operands are constants counts as taken or
-/// not, as they say, and any other as both.
+/// Finds the slots that a run can reach. A jump whose operands are constants is followed as they
+/// decide it, and any other jump both ways.
 pub fn reach(alloc: Global, slots: &Slots<'_>) -> Result<Reach, AllocError>
     ensures slots { IfOk result (λ reach. reach.slots ≡ slots.now) }
     ensures least { IfOk result (λ reach. IsLeast slots.now reach.facts) }

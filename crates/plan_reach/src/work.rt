@@ -12,7 +12,7 @@ use crate::known::{Registers, after, meet};
 use ebpf_items::bpf_insn;
 use std::alloc::{AllocError, Global};
 
-/// What is known at each slot so far, and the slots whose ways are still to be followed.
+/// What is known at each slot so far, and the slots from which paths are still to be followed.
 #[derive(Drop)]
 pub(crate) struct Work {
     facts: Vec<Option<Registers>>,
@@ -29,7 +29,7 @@ fn unreached(alloc: Global, len: usize) -> Result<Vec<Option<Registers>>, AllocE
     Ok(facts)
 }
 
-/// The first slot is reached with nothing known.
+/// The start: the first slot is reached with nothing known.
 fn started(alloc: Global, len: usize) -> Result<Work, AllocError>
     ensures { IfOk result (λ work. state_of work ≡ first_state len) }
 {
@@ -43,7 +43,7 @@ fn started(alloc: Global, len: usize) -> Result<Work, AllocError>
     Ok(work)
 }
 
-/// Writes what is known at a slot, and puts the slot on the list.
+/// Records what is known at a slot, and puts the slot on the list.
 fn raise(work: &mut Work, slot: usize, known: Registers) -> Result<(), AllocError>
     requires { slot < length work.old.facts.items }
     ensures { OnOk result (state_of work.new ≡ raised (state_of work.old) slot known) }
@@ -53,7 +53,7 @@ fn raise(work: &mut Work, slot: usize, known: Registers) -> Result<(), AllocErro
     Ok(())
 }
 
-/// A slot is reached with what is known, or with less where it was reached before.
+/// Reaches a slot. Where it was reached before, what is known there both times is kept.
 fn join(work: &mut Work, slot: usize, known: &Registers) -> Result<(), AllocError>
     requires { slot < length work.old.facts.items }
     ensures { OnOk result (Joins (state_of work.old) (state_of work.new)
@@ -71,7 +71,7 @@ fn join(work: &mut Work, slot: usize, known: &Registers) -> Result<(), AllocErro
     }
 }
 
-/// The same at a place that may be outside.
+/// The same at a position that may be outside the program.
 fn join_at(work: &mut Work, to: i128, known: &Registers) -> Result<(), AllocError>
     ensures { OnOk result (Joins (state_of work.old) (state_of work.new)
         (record { to = to; known = known.now } ∷ [])) }
@@ -147,7 +147,7 @@ fn follow_callback(work: &mut Work, slot: bpf_insn, position: usize) -> Result<(
     Ok(())
 }
 
-/// Follows each way from a slot at a position.
+/// Follows each path from a slot at a position.
 fn follow(
     work: &mut Work,
     slot: bpf_insn,
@@ -189,7 +189,7 @@ pub(crate) fn fact_of(facts: &[Option<Registers>], position: usize) -> Option<Re
     }
 }
 
-/// Follows each way from a position, if it is reached.
+/// Follows each path from a position, if it is reached.
 fn follow_from(work: &mut Work, code: &[bpf_insn], position: usize) -> Result<(), AllocError>
     ensures { OnOk result (Joins (state_of work.old) (state_of work.new)
         (ways_at code.now work.old.facts.items position)) }
@@ -204,7 +204,7 @@ fn follow_from(work: &mut Work, code: &[bpf_insn], position: usize) -> Result<()
     follow(work, slot, next, position, &known)
 }
 
-/// Follows the ways from each position on the list, and from those that come to it.
+/// Follows the paths from each position on the list, and from those that are put on it meanwhile.
 fn settle(work: &mut Work, code: &[bpf_insn]) -> Result<(), AllocError>
     requires { IsUnderway code.now (state_of work.old) }
     ensures { OnOk result (IsLeast code.now work.new.facts.items) }

@@ -1,5 +1,5 @@
-//! That numbers fit the words of a plan's text, which their types give. Of lists that are known by
-//! what they hold alone, each element is looked at once for it.
+//! Numbers fit the words of a plan's text, by their types. For the proof, each element of the lists
+//! that are known only by what they hold is visited once.
 
 ghost use Rattle.std.specs.Prelude.{◌≤◌, IfSome};
 ghost use Rattle.std.specs.List.{All};
@@ -28,7 +28,7 @@ fn slot_fits(slot: bpf_insn)
     bytes_fit(&bytes);
 }
 
-/// Looks at each slot.
+/// Visits each slot.
 pub(crate) fn slots_fit(slots: &Slots<'_>)
     ensures { All FitsSlot slots.now }
 {
@@ -41,7 +41,7 @@ fn func_fits(info: bpf_func_info)
     ensures { FitsFunc info }
 {}
 
-/// Looks at each record.
+/// Visits each record.
 pub(crate) fn funcs_fit(records: &FuncSecInfo<'_>)
     ensures { All FitsFunc records.now }
 {
@@ -56,7 +56,7 @@ fn source_fits(info: bpf_line_info)
     ensures { FitsSource info }
 {}
 
-/// Looks at each record.
+/// Visits each record.
 pub(crate) fn sources_fit(records: &LineSecInfo<'_>)
     ensures { All FitsSource records.now }
 {

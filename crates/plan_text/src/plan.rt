@@ -47,7 +47,7 @@ impl<'a> Model for PlanMap<'a> {
 }
 
 impl<'a> PlanMap<'a> {
-    /// A map by its name, its number, whether types define it, its words, the bytes of its
+    /// A map with its name, its number, whether types define it, its words, the bytes of its
     /// variables, and the words of the maps that it holds.
     pub fn new(
         name: &'a str,
@@ -77,7 +77,7 @@ impl<'a> PlanMap<'a> {
         )
     }
 
-    /// The same of a name that the map may own.
+    /// The same for a name that the map may own.
     pub(crate) fn of(
         name: CowStr<'a, Global>,
         number: u32,
@@ -109,7 +109,7 @@ impl<'a> PlanMap<'a> {
         let _name = &self.name;
     }
 
-    /// The map, which holds maps of these words.
+    /// The map, which now holds maps of these words.
     pub(crate) fn with_inner(self, words: MapWords) -> PlanMap<'a>
         ensures { result ≡ record self.entry { inner = Some words } }
     {
@@ -127,7 +127,7 @@ impl<'a> PlanMap<'a> {
         self.name.as_str()
     }
 
-    /// The number that stands for the map in the slots of programs, in a plan below 2^31.
+    /// The number that stands for the map in the slots of programs; in a plan it is below 2^31.
     pub fn number(&self) -> u32
         ensures { result ≡ self.now.number }
     {
@@ -147,7 +147,7 @@ impl<'a> PlanMap<'a> {
         self.words
     }
 
-    /// The bytes of a section's variables, none for other maps.
+    /// The bytes of a section's variables; none for other maps.
     pub fn contents(&self) -> &[u8]
         ensures { result.now ≡ self.now.contents }
     {
@@ -191,8 +191,8 @@ impl<'a> Model for PlanProgram<'a> {
 }
 
 impl<'a> PlanProgram<'a> {
-    /// A program by its name, its kind, its slots, the records of its functions and lines, and the
-    /// places of the kernel tables that its type relocations matched.
+    /// A program with its name, its kind, its slots, the records of its functions and lines, and
+    /// the indexes of the kernel tables that its type relocations matched.
     pub fn new(
         name: &'a str,
         section: ProgramSection,
@@ -221,7 +221,7 @@ impl<'a> PlanProgram<'a> {
         )
     }
 
-    /// The same of a name that the program may own.
+    /// The same for a name that the program may own.
     pub(crate) fn of(
         name: CowStr<'a, Global>,
         section: ProgramSection,
@@ -291,8 +291,8 @@ impl<'a> PlanProgram<'a> {
     }
 
     /// The kernel tables in which the type relocations of the program's functions have their first
-    /// matches, by their places in the list of tables, from 0: strictly rising. `None` where that
-    /// isn't known.
+    /// matches, by their indexes in the list of tables, from 0: strictly rising. `None` where they
+    /// aren't known.
     pub fn tables(&self) -> Option<&[u32]>
         ensures { option_map (λ places. places.now) result ≡ self.now.tables }
     {
@@ -334,7 +334,7 @@ pub struct Plan<'a> {
 }
 
 impl<'a> Drop for Plan<'a> {
-    // One call wherever it is dropped, in place of one for each part.
+    // A single call where a value is dropped, instead of one call per field.
     fn drop(self) {
         let Plan {
             license: _license,
@@ -411,7 +411,7 @@ impl<'a> Plan<'a> {
         }
     }
 
-    /// The plan keeps to what each plan keeps to, and its numbers fit their words.
+    /// The plan satisfies what holds of every plan, and its numbers fit their words.
     pub(crate) fn fits(&self)
         ensures { IsPlan self.now }
     {

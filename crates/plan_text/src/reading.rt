@@ -30,8 +30,8 @@ use thiserror::Error;
 /// Why bytes can't be read as a plan.
 #[derive(Debug, Drop, Error)]
 pub enum PlanReadError {
-    /// The first line, counted from 1, with which no plan's text begins. Where the text only stops
-    /// early, the line after the last whole one.
+    /// The number, from 1, of the first line that no plan's text has after the lines before it.
+    /// Where the text only ends too early, that of the line after the last whole one.
     #[error("no plan's text goes on with line {0}")]
     Line(usize),
     /// Memory ran out.
@@ -47,7 +47,7 @@ impl From<AllocError> for PlanReadError {
     }
 }
 
-/// The most records of a program that 32 bits count.
+/// The maximum number of records of a program: as many as 32 bits count.
 const MOST_RECORDS: usize = 0xffff_ffff;
 
 /// Which lines may come next.
@@ -65,7 +65,7 @@ pub enum Phase {
     AtEnd,
 }
 
-/// A program of which more may be read. Its records are counted in 32 bits.
+/// A program of which more may be read. 32 bits count its records.
 #[derive(Drop)]
 pub struct ReadProgram {
     name: String,
@@ -76,7 +76,7 @@ pub struct ReadProgram {
     line_records: Vec<bpf_line_info>,
 }
 
-/// What was read of a plan.
+/// What has been read of a plan.
 #[derive(Drop)]
 pub struct Reader {
     phase: Phase,
@@ -108,7 +108,7 @@ impl Model for ReadProgram {
 }
 
 impl ReadProgram {
-    /// A program of which no more was read.
+    /// A program of which nothing else has been read.
     fn new(alloc: Global, name: String, section: ProgramSection) -> ReadProgram
         ensures { result ≡ bare_program (string_bytes name) section }
     {
@@ -122,7 +122,7 @@ impl ReadProgram {
         }
     }
 
-    /// Adds the record of a function, where 32 bits still count it.
+    /// Adds a function record, if 32 bits still count it.
     fn add_func(&mut self, info: bpf_func_info) -> Result<(), AllocError>
         ensures { OnOk result (self.new ≡ with_func info self.old) }
     {
@@ -133,7 +133,7 @@ impl ReadProgram {
         Ok(())
     }
 
-    /// Adds the record of a line, where 32 bits still count it.
+    /// Adds a line record, if 32 bits still count it.
     fn add_source(&mut self, info: bpf_line_info) -> Result<(), AllocError>
         ensures { OnOk result (self.new ≡ with_source info self.old) }
     {
@@ -250,7 +250,7 @@ impl Reader {
         }
     }
 
-    /// Whether a map of this name may come next.
+    /// Whether a map with this name may come next.
     fn map_follows(&self, name: &str) -> bool
         ensures { result ≡ follows (last_map_name (state_view self.now)) name.now }
     {
@@ -260,7 +260,7 @@ impl Reader {
         }
     }
 
-    /// Puts the last map among the others.
+    /// Appends the last map to the others.
     fn keep_map(&mut self) -> Result<(), AllocError>
         ensures { OnOk result
             (state_view self.new
@@ -324,7 +324,7 @@ impl Reader {
         }
     }
 
-    /// Whether a program of this name may come next.
+    /// Whether a program with this name may come next.
     fn program_follows(&self, name: &str) -> bool
         ensures { result ≡ follows (last_program_name (state_view self.now)) name.now }
     {
@@ -334,7 +334,7 @@ impl Reader {
         }
     }
 
-    /// Puts the last program among the others.
+    /// Appends the last program to the others.
     fn keep_program(&mut self) -> Result<(), AllocError>
         ensures { OnOk result
             (state_view self.new
@@ -468,7 +468,7 @@ impl Reader {
         }
     }
 
-    /// Takes the next line, if it may stand there.
+    /// Takes the next line, if it may come next.
     fn step(&mut self, alloc: Global, line: PlanLine) -> Result<bool, AllocError>
         requires { AreDistinct (features self.old.features.items) }
         ensures { IfOk result (λ ok.
@@ -499,7 +499,7 @@ impl Reader {
         }
     }
 
-    /// Takes the next line, from its bytes, if it may stand there.
+    /// Takes the next line from its bytes, if it may come next.
     fn take(&mut self, alloc: Global, bytes: &[u8]) -> Result<bool, AllocError>
         requires { AreDistinct (features self.old.features.items) }
         ensures { IfOk result (TakesLine (state_view self.old) bytes.now (state_view self.new)) }
@@ -577,7 +577,7 @@ fn after_slots(text_version: TextVersion) -> Phase
     }
 }
 
-/// The slots of bytes that are whole slots.
+/// The slots of bytes that make up whole slots.
 fn slots_of(alloc: Global, bytes: &[u8]) -> Result<Vec<bpf_insn>, AllocError>
     ensures { IfOk result (λ slots. slots.items ≡ slots_of bytes.now) }
 {
@@ -587,7 +587,7 @@ fn slots_of(alloc: Global, bytes: &[u8]) -> Result<Vec<bpf_insn>, AllocError>
     }
 }
 
-/// The plan of a text that isn't the longest of all.
+/// The plan of a text of fewer than 2^64 - 1 bytes.
 fn read_plan(alloc: Global, bytes: &[u8]) -> Result<Plan<'static>, PlanReadError>
     requires { length bytes.now < 2 ^ 64 - 1 }
     ensures found { IfOk result (λ plan. IsTextOf plan bytes.now) }
@@ -602,13 +602,13 @@ fn read_plan(alloc: Global, bytes: &[u8]) -> Result<Plan<'static>, PlanReadError
 }
 
 impl Plan<'static> {
-    /// The plan of a text of either version. Of the first version no program's kernel tables are
-    /// known.
+    /// Reads a plan from its text, in either version. The first version doesn't give the kernel
+    /// tables of programs.
     ///
     /// # Errors
     ///
-    /// `Line` where the bytes are no plan's text, and `OutOfMemory`, also where a program has 2^32
-    /// records of functions or of lines, or the lines can't be counted.
+    /// `Line` where the bytes aren't a plan's text, and `OutOfMemory`, also where a program has
+    /// 2^32 records of functions or of lines, or the lines can't be counted.
     pub fn read(alloc: Global, bytes: &[u8]) -> Result<Plan<'static>, PlanReadError>
         ensures found { IfOk result (λ plan. IsTextOf plan bytes.now) }
         ensures only { (plan : PlanContent) → IsTextOf plan bytes.now → ReadsAs result plan }

@@ -67,12 +67,13 @@ fn send_plan<W: Write>(out: &mut Watched<W>, plan: &Plan<'_>)
 }
 
 impl<'a> Plan<'a> {
-    /// Writes the text of the plan, in its second version, and takes no memory for it. Each plan
-    /// has its text, and `Plan::read` gives the plan back from it.
+    /// Writes the text of the plan, in its second version, without taking memory. Each plan has its
+    /// text, and `Plan::read` gives the plan back from it.
     ///
     /// # Errors
     ///
-    /// Where the writer fails, or answers 0 to some bytes; a beginning of the text went out then.
+    /// An error where the writer fails, or returns 0 for some bytes. A prefix of the text has then
+    /// been written.
     pub fn write<W: Write>(&self, out: &mut Watched<W>) -> io::Result<()>
         ensures text { IsTextOf self.now (text_of self.now) }
         ensures ok { OnOk result

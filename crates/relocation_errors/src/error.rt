@@ -1,4 +1,4 @@
-//! Faults of relocations, and the functions at which they stand.
+//! Errors of relocations, with the functions that they occur in.
 
 ghost use Rattle.std.specs.Prelude.{◌≡◌, ◌≢◌, None, Some, [], unwrap_or};
 ghost use Rattle.std.specs.Option.{option_map};
@@ -11,29 +11,28 @@ use thiserror::Error;
 /// Why a relocation, or a call of a function, can't be resolved.
 #[derive(Debug, Drop, Error)]
 pub enum RelocationError {
-    /// The symbol table has no such symbol, or the symbol isn't one that can be referred to.
-    /// `index` counts the symbol table's entries.
+    /// The symbol table has no such symbol, or the symbol can't be referred to. `index` is the
+    /// symbol's index in the symbol table.
     #[error("unknown symbol, index {index}")]
     UnknownSymbol {
         index: usize,
     },
-    /// No map is given for the symbol or its section. `section_index` counts the section headers,
-    /// `symbol_index` the symbol table's entries.
+    /// No map is given for the symbol or its section. `section_index` is an index of the section
+    /// headers, `symbol_index` one of the symbol table.
     #[error("no map for section {section_index} of symbol {symbol_index} {:?}", symbol_name.as_deref().unwrap_or(""))]
     SectionNotFound {
         section_index: usize,
         symbol_index: usize,
         symbol_name: Option<String>,
     },
-    /// No function begins at the address that a function refers to. The address is counted modulo
-    /// 2^64.
+    /// No function begins at the address that a function refers to. `address` is taken modulo 2^64.
     #[error("function {caller_name:?} refers to address {address:#x}, where no function begins")]
     UnknownFunction {
         address: u64,
         caller_name: String,
     },
-    /// A function's records don't fit those of the program that it is linked to: one alone has
-    /// records of functions, or a record of a line stands before the function's first.
+    /// A function's records don't fit those of the program that it is linked to: only one of the
+    /// two has function records, or a line record of the function comes before its first one.
     #[error("the records of function {name:?} don't fit those of the program")]
     FunctionInfoMismatch {
         name: String,
@@ -55,8 +54,8 @@ pub enum RelocationError {
         address: u64,
     },
     /// A relocation doesn't apply to a whole instruction, or its value doesn't fit. `offset` is in
-    /// bytes from the section's beginning, `relocation_number` counts the section's relocations in
-    /// order of offset; both are 0 for a program that is too long.
+    /// bytes from the section's beginning. `relocation_number` is the index among the section's
+    /// relocations in order of offset. Both are 0 for a program that is too long.
     #[error("relocation {relocation_number} at offset {offset:#x} is invalid")]
     InvalidRelocationOffset {
         offset: u64,
@@ -92,7 +91,7 @@ pub struct EbpfRelocationError {
 }
 
 impl EbpfRelocationError {
-    /// A fault at a function. It is out of memory where the name can't be kept.
+    /// A fault of a function. It is `OutOfMemory` where memory runs out for the name.
     pub fn new(alloc: Global, function: &str, error: RelocationError) -> EbpfRelocationError
         ensures error { result.error ≢ OutOfMemory → result.error ≡ error }
         ensures function { result.error ≢ OutOfMemory

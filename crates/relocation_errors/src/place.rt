@@ -1,8 +1,8 @@
-//! Where type relocations stand that have a fault.
+//! Places of faults of type relocations.
 
 use std::fmt;
 
-/// What a fault of type relocations belongs to.
+/// What a fault of type relocations belongs to: a section info or a relocation.
 #[derive(Debug, Drop)]
 pub enum RelocationPlace {
     /// A section info as a whole.
@@ -11,10 +11,10 @@ pub enum RelocationPlace {
     Relocation {
         /// The name of the function that holds the instruction, if there is one.
         function: Option<String>,
-        /// The instruction, by slots from the function's beginning, or from the section's where no
-        /// function holds it.
+        /// The index of the instruction, in slots from the function's beginning, or from the
+        /// section's beginning where no function holds it.
         instruction: u64,
-        /// What the relocation asks for, in words.
+        /// What the relocation asks for, as text.
         asked: String,
     },
 }

@@ -12,8 +12,8 @@ use ebpf_items::RelocationKind;
 use std::alloc::{AllocError, AllocFailed};
 use thiserror::Error;
 
-/// Why a type relocation, or a section info of them, can't be made. Relocations are counted from 0 in
-/// their section info.
+/// Why a type relocation, or a section info of type relocations, can't be made. Relocation numbers
+/// count from 0 in their section info.
 #[derive(Debug, Drop, Error)]
 pub enum BtfRelocationCause {
     /// The object has no section of the section info's name.
@@ -22,36 +22,37 @@ pub enum BtfRelocationCause {
     /// No function of the section holds the instruction.
     #[error("no function holds the instruction")]
     FunctionNotFound,
-    /// The access string isn't one or more numbers of 64 bits joined by `:`, or has other numbers
-    /// than the kind of the relocation calls for.
+    /// The access string isn't one or more 64-bit numbers joined by `:`, or its numbers aren't
+    /// those that the relocation's kind calls for.
     #[error("invalid access string {access_str:?}")]
     InvalidAccessString {
         access_str: String,
     },
-    /// A load of 64 bits has no second slot. `index` is that slot's, counted from the function's
-    /// beginning, in bytes where the load was to be one that can't be run.
+    /// A load of 64 bits has no second slot. `index` is the index of that slot in the function.
+    /// Where the load was to become one that can't be run, `index` is in bytes from the function's
+    /// beginning.
     #[error("relocation {relocation_number} needs instruction {index} of {num_instructions}")]
     InvalidInstructionIndex {
         index: usize,
         num_instructions: usize,
         relocation_number: usize,
     },
-    /// Types of the kernel's have what is asked for at different places, or with different values.
-    /// `type_name` is the name of the object's type, `candidates` are the names of those types that
-    /// differ from the first.
+    /// Kernel types have what the relocation asks for at different places, or with different
+    /// values. `type_name` is the name of the object's type. `candidates` are the names of the
+    /// types that differ from the first.
     #[error("type {type_name:?} has conflicting candidates: {candidates:?}")]
     ConflictingCandidates {
         type_name: String,
         candidates: Vec<String>,
     },
-    /// A path through a type of the kernel's has too many parts, or a struct or union is met inside
-    /// itself. `type_name` is the type's name, if it can be read.
+    /// A path through a kernel type has too many parts, or a struct or union contains itself.
+    /// `type_name` is the type's name, if it can be read.
     #[error("types are nested too deep in {:?}", type_name.as_deref().unwrap_or(""))]
     MaximumNestingLevelReached {
         type_name: Option<String>,
     },
-    /// The access string `spec` counts past the members, elements or variants of the type
-    /// `access_path`, which are `len`.
+    /// The access string `spec` counts past the end of the type `access_path`, which has `len`
+    /// members, elements or variants.
     #[error("access string {spec:?} counts to {index} in {access_path}: {error} {len}")]
     InvalidAccessIndex {
         access_path: String,
@@ -60,7 +61,7 @@ pub enum BtfRelocationCause {
         len: usize,
         error: String,
     },
-    /// The access, or the kind of the relocation, doesn't go with a type.
+    /// The access, or the kind of the relocation, doesn't apply to the type.
     #[error("relocation {relocation_number} of kind {relocation_kind}: {error} {type_kind}")]
     InvalidRelocationKindForType {
         relocation_number: usize,
@@ -68,16 +69,16 @@ pub enum BtfRelocationCause {
         type_kind: String,
         error: String,
     },
-    /// The instruction isn't one that can hold what the relocation gives. `index` counts the slots
-    /// of the function.
+    /// The instruction can't hold the relocation's value. `index` is the index of its slot in the
+    /// function.
     #[error("relocation {relocation_number} at instruction {index}: {error}")]
     InvalidInstruction {
         relocation_number: usize,
         index: usize,
         error: String,
     },
-    /// The kernel hasn't got a type whose id or size is asked for. `ins_index` counts the slots of
-    /// the section.
+    /// The kernel lacks a type whose id or size the relocation asks for. `ins_index` is the index
+    /// of the slot in the section.
     #[error("{kind:?} of type id {type_id} at instruction {ins_index}: no such type in the kernel")]
     MissingTargetDefinition {
         kind: RelocationKind,
@@ -108,8 +109,8 @@ impl<T: Drop> From<AllocFailed<T>> for BtfRelocationCause {
     }
 }
 
-/// Why the type relocations of an object can't be made, with the name of the section info's section and
-/// the relocation at which it stands.
+/// Why the type relocations of an object can't be made, with the name of the section info's section
+/// and the relocation where the fault is.
 #[derive(Debug, Drop, Error)]
 #[error("error relocating section {:?}{place}: {error}", section.as_deref().unwrap_or(""))]
 pub struct BtfRelocationError {
@@ -119,7 +120,8 @@ pub struct BtfRelocationError {
 }
 
 impl BtfRelocationError {
-    /// A fault at a place of a section info. It is out of memory where name or place couldn't be kept.
+    /// A fault at a place of a section info. It is `OutOfMemory` where memory ran out for the name
+    /// or the place.
     pub fn new(
         section: Result<String, AllocError>,
         place: Result<RelocationPlace, AllocError>,
@@ -137,8 +139,8 @@ impl BtfRelocationError {
         }
     }
 
-    /// The name of the section info's section, or `section@` and its offset where it can't be read; empty
-    /// where memory ran out before it was known.
+    /// The name of the section info's section, or `section@` and its offset where it can't be read;
+    /// empty where memory ran out before it was known.
     pub fn section(&self) -> &str
         ensures { result.now ≡ unwrap_or (option_map string_bytes self.now.section) [] }
     {
@@ -148,7 +150,7 @@ impl BtfRelocationError {
         }
     }
 
-    /// The relocation at which the fault stands, if it isn't one of the section info.
+    /// The relocation where the fault is, or the section info as a whole.
     pub fn place(&self) -> &RelocationPlace
         ensures { result.now ≡ self.now.place }
     {

@@ -16,7 +16,7 @@ use std::marker::Model;
 /// The value of a global variable.
 #[derive(Debug, Drop)]
 pub struct GlobalValue {
-    /// The variable's bytes, as many as it has.
+    /// The variable's bytes, as many as its size.
     pub bytes: Vec<u8>,
     /// Whether an object without this variable is refused.
     pub must_exist: bool,
@@ -38,7 +38,7 @@ pub struct GlobalValues {
 }
 
 impl Drop for GlobalValues {
-    // One call wherever it is dropped, in place of one for each part.
+    // A single call where a value is dropped, instead of one call per field.
     fn drop(self) {
         let GlobalValues {
             alloc: _,
@@ -58,7 +58,7 @@ impl Model for GlobalValues {
 }
 
 impl GlobalValues {
-    /// No value is set.
+    /// An empty collection.
     pub fn new(alloc: Global) -> GlobalValues
         ensures { result ≡ [] }
     {
@@ -68,12 +68,12 @@ impl GlobalValues {
         }
     }
 
-    /// Sets the bytes of a global variable. `must_exist` says whether an object that has no such
+    /// Sets the bytes of a global variable. `must_exist` says whether an object without this
     /// variable is refused. Of several values of one name the last one counts.
     ///
     /// # Errors
     ///
-    /// `AllocError`, where memory is wanted; the values are as before then.
+    /// `AllocError` where memory runs out; the values are as before then.
     pub fn set(&mut self, name: &str, bytes: &[u8], must_exist: bool) -> Result<(), AllocError>
         ensures ok { OnOk result
             (self.new
@@ -96,7 +96,7 @@ impl GlobalValues {
         self.values.iter()
     }
 
-    /// Whether the value of the global variable of a name is set.
+    /// Whether a value is set for the global variable with this name.
     pub fn contains(&self, name: &str) -> bool
         ensures { result ≡ is_some (lookup (is_at (slice_cmp nat_cmp name.now)) self.now) }
     {

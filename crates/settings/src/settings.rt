@@ -20,7 +20,7 @@ pub struct Settings {
 }
 
 impl Drop for Settings {
-    // One call wherever it is dropped, in place of one for each part.
+    // A single call where a value is dropped, instead of one call per field.
     fn drop(self) {
         let Settings {
             alloc: _,
@@ -42,7 +42,7 @@ impl Model for Settings {
 }
 
 impl Settings {
-    /// Nothing is set.
+    /// Empty settings.
     pub fn new(alloc: Global) -> Settings
         ensures { result ≡ record { maps = []; globals = [] } }
     {
@@ -53,13 +53,13 @@ impl Settings {
         }
     }
 
-    /// Sets the number by which programs know a map: its file descriptor, or what stands for it. It
-    /// must be below 2^31, as file descriptors are. Of several numbers of one name the last one
-    /// counts.
+    /// Sets the number by which programs know a map: its file descriptor, or a number that stands
+    /// for it. The number must be below 2^31, like file descriptors. Of several numbers of one name
+    /// the last one counts.
     ///
     /// # Errors
     ///
-    /// `AllocError` where memory is wanted; all is set as before then.
+    /// `AllocError` where memory runs out; the settings are as before then.
     pub fn set_map(&mut self, name: &str, number: u32) -> Result<(), AllocError>
         requires { number < 2 ^ 31 }
         ensures ok { OnOk result
@@ -73,12 +73,12 @@ impl Settings {
         Ok(())
     }
 
-    /// Sets the bytes of a global variable. `must_exist` says whether an object that has no such
+    /// Sets the bytes of a global variable. `must_exist` says whether an object without this
     /// variable is refused. Of several values of one name the last one counts.
     ///
     /// # Errors
     ///
-    /// `AllocError` where memory is wanted; all is set as before then.
+    /// `AllocError` where memory runs out; the settings are as before then.
     pub fn set_global(
         &mut self,
         name: &str,

@@ -13,13 +13,13 @@ use elf64::{RelocView, SymbolView};
 use object_file::ObjectFile;
 use object_parts::{Function, SLOT_SIZE};
 
-/// What a relocation does by its symbol.
+/// What a relocation does, given its symbol.
 pub trait SymbolRule {
     /// The rule's definition.
     ghost does: { Self → Does };
 
-    /// What a relocation at a slot, after which the next one stands, does by the symbol of an
-    /// index.
+    /// What a relocation at `slot` does, given the slot after it and the symbol with the index
+    /// `symbol_index`.
     fn outcome_by(
         &self,
         slot: bpf_insn,
@@ -31,7 +31,7 @@ pub trait SymbolRule {
         ensures within { NextFits next result };
 }
 
-/// The relocations that the file holds, by a rule on their symbols.
+/// The relocations that the file holds, made by a rule on their symbols.
 #[derive(Drop)]
 pub(crate) struct BySymbol<'r, 'o, S> {
     pub(crate) file: &'r ObjectFile<'o>,
@@ -80,7 +80,7 @@ impl<'r, 'o, S: SymbolRule> Rule<RelocView, Fault> for BySymbol<'r, 'o, S> {
     }
 }
 
-/// The slots of a function that ends past all offsets, after the relocations inside it.
+/// The slots, after the relocations inside it, of a function that ends past all offsets.
 fn slots_to_last<'f, R: Rule<RelocView, Fault>>(
     rule: &R,
     file: &ObjectFile<'_>,
@@ -117,7 +117,7 @@ fn slots_after<'f, R: Rule<RelocView, Fault>>(
     ensures refused { IfErr result
         (IsRefusal (R.rule rule.now) (relocations_inside file.now function.now) function.now) }
 {
-    // Offsets have 64 bits, so that none lies after an end past these.
+    // Offsets have 64 bits: where the end has more, no offset lies after it.
     let Ok(end) = u64::try_from(function.end()) else {
         return slots_to_last(rule, file, function);
     };

@@ -1,4 +1,4 @@
-//! The functions of an object, relocated.
+//! The relocation of an object's functions.
 
 ghost use Rattle.std.specs.Prelude.{◌≡◌, map, true, IfErr, IfOk, OnErr, OnOk};
 ghost use Rattle.std.specs.Prelude.{List, ℕ};
@@ -12,7 +12,7 @@ use crate::rule::{Pass, Refusal};
 use object_parts::{Function, Functions, changes_are_installed};
 use std::alloc::{AllocError, AllocFailed, Global};
 
-/// A fault of the relocation of an offset in a function's section.
+/// A fault of the relocation at an offset of a function's section.
 #[derive(Clone, Copy, Debug)]
 pub struct FaultAt<'f, E> {
     pub function: &'f str,
@@ -50,8 +50,7 @@ impl<'f, E, T: Drop> From<AllocFailed<T>> for Stop<'f, E> {
     }
 }
 
-/// The first of two faults in a pass's order; where neither stands before the other the earlier
-/// one.
+/// The first of two faults in a pass's order; `earlier` where neither comes before the other.
 fn first_of<'f, A, E: Copy, P: Pass<A, E>>(
     pass: &P,
     earlier: Option<FaultAt<'f, E>>,
@@ -87,7 +86,7 @@ fn relocated<'f, A, E: Copy, P: Pass<A, E>>(
 }
 
 /// The functions after the relocations inside them, in order of key. Of several faults the first in
-/// the pass's order is answered.
+/// the pass's order is returned.
 pub fn relocated_functions<'g, 'f, A, E: Copy, P: Pass<A, E>>(
     alloc: Global,
     pass: &P,
@@ -123,9 +122,9 @@ pub fn relocated_functions<'g, 'f, A, E: Copy, P: Pass<A, E>>(
     }
 }
 
-/// Makes the relocations of a pass in all functions, each function's in the pass's order: all new
-/// functions are made before the first is put in its place, so that they stay as they are where a
-/// fault stands or memory runs out. Of several faults the first in the pass's order is answered.
+/// Makes the relocations of a pass in all functions, each function's in the pass's order. All new
+/// functions are made before the first one is replaced: on a fault, or where memory runs out, the
+/// functions stay as they are. Of several faults the first in the pass's order is returned.
 pub fn relocate_functions<'f, A, E: Copy, P: Pass<A, E>>(
     alloc: Global,
     pass: &P,

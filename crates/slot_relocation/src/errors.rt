@@ -16,14 +16,14 @@ use object_parts::Functions;
 use relocation_errors::{EbpfRelocationError, RelocationError};
 use std::alloc::{AllocError, Global};
 
-/// The number of the relocation of an offset in a section: how many stand before it.
+/// The number of the relocation at an offset of a section: how many relocations come before it.
 fn number_of(file: &ObjectFile<'_>, section_index: usize, offset: u64) -> usize
     ensures { result ≡ number_of file.now section_index offset }
 {
     file.relocations_in(section_index, 0, offset).count()
 }
 
-/// The name of the symbol of an index.
+/// The name of the symbol with this index.
 fn name_of(
     alloc: Global,
     file: &ObjectFile<'_>,
@@ -37,7 +37,7 @@ fn name_of(
     }
 }
 
-/// The name of the symbol of an index, empty where it has none.
+/// The name of the symbol with this index, empty where it has none.
 fn text_of(alloc: Global, file: &ObjectFile<'_>, symbol_index: usize) -> Result<String, AllocError>
     ensures { IfOk result (λ name. string_bytes name ≡ text_of file.now symbol_index) }
 {
@@ -96,7 +96,7 @@ fn error_for(alloc: Global, file: &ObjectFile<'_>, stop: Stop<'_, Fault>) -> Ebp
 }
 
 /// Makes the relocations that the file holds in all functions, by a rule on their symbols. Of
-/// several faults the first in order of section and offset is answered. The functions then stay as
+/// several faults the first in order of section and offset is returned. The functions then stay as
 /// they are.
 pub fn relocate_by_symbol<'f, S: SymbolRule + Drop>(
     alloc: Global,

@@ -25,26 +25,26 @@ const CALL: u8 = 0x85;
 /// The operation code of a load of 64 bits: `BPF_LD | BPF_IMM | BPF_DW`.
 const LOAD_64: u8 = 0x18;
 
-/// The source register that marks a call of a kernel's function.
+/// The source register that marks a call of a kernel function.
 const BPF_PSEUDO_KFUNC_CALL: u8 = 2;
 
-/// The source register that marks the id of a kernel's variable.
+/// The source register that marks the id of a kernel variable.
 const BPF_PSEUDO_BTF_ID: u8 = 3;
 
-/// The immediate of a call of a missing function, from which on the symbol's index is counted
-/// (libbpf's `POISON_CALL_KFUNC_BASE`).
+/// The immediate of a call of a missing function is this plus the symbol's index (libbpf's
+/// `POISON_CALL_KFUNC_BASE`).
 const MISSING_CALL: u64 = 2_002_000_000;
 
-/// What is known of an extern in the kernel.
+/// What is known about an extern in the kernel.
 #[derive(Clone, Copy, Debug)]
 pub enum Resolution {
     /// The id of its type.
     Id(u32),
     /// Its address.
     Address(u64),
-    /// The kernel hasn't got it, and may be without it.
+    /// The kernel lacks it, and it is weak.
     Missing,
-    /// The kernel hasn't got it, and may not be without it.
+    /// The kernel lacks it, and it isn't weak.
     Unresolved,
 }
 
@@ -55,7 +55,7 @@ struct ExternRule<'r, 'e> {
 }
 
 impl Resolution {
-    /// What is known of an extern.
+    /// What is known about an extern.
     fn of(desc: &ExternDesc<'_>) -> Resolution
         ensures { result ≡ resolution desc.now }
     {
@@ -105,7 +105,7 @@ fn call_outcome(slot: bpf_insn, symbol_index: usize, resolution: Resolution) -> 
     }
 }
 
-/// What a relocation at a load does that gets two words.
+/// What a relocation does at a load that gets two words.
 fn load_write(
     slot: bpf_insn,
     next: Option<bpf_insn>,
@@ -158,7 +158,7 @@ fn load_outcome(
     }
 }
 
-/// What a relocation does by how its extern was resolved.
+/// What a relocation does, given the resolution of its extern.
 fn resolved_outcome(
     slot: bpf_insn,
     next: Option<bpf_insn>,
@@ -174,7 +174,7 @@ fn resolved_outcome(
     }
 }
 
-/// The extern of a symbol's name.
+/// The extern with a symbol's name.
 fn extern_of<'r, 'e>(
     externs: &'r Externs<'e>,
     symbol: &SymbolView<'_>,
@@ -207,24 +207,23 @@ impl<'r, 'e> SymbolRule for ExternRule<'r, 'e> {
     }
 }
 
-/// Writes what is known of the kernel's functions and variables into the slots that relocations by
-/// externs name. Of each relocation inside a function, in order of their offsets, the symbol's name
-/// says which extern; symbols that aren't externs are skipped. A call gets the id of the kernel's
-/// type as its immediate, `BPF_PSEUDO_KFUNC_CALL` as its source register and the offset 0; a load
-/// of 64 bits gets the id with `BPF_PSEUDO_BTF_ID`, or the address in two words with source
-/// register 0. Where the kernel hasn't got a weak extern, a load gets 0, and a call the immediate
-/// 2,002,000,000 plus the symbol's index with all other fields 0.
+/// Writes what is known about the kernel's functions and variables into the slots of relocations by
+/// externs. The relocations inside a function are made in order of offset. The symbol's name gives
+/// the extern; symbols that aren't externs are skipped. A call gets the id of the kernel type as
+/// its immediate, `BPF_PSEUDO_KFUNC_CALL` as its source register and the offset 0. A load of 64
+/// bits gets the id with `BPF_PSEUDO_BTF_ID`, or the address in two words with source register 0.
+/// Where the kernel lacks a weak extern, a load gets 0, and a call the immediate 2,002,000,000 plus
+/// the symbol's index with all other fields 0.
 ///
 /// # Errors
 ///
-/// With the function's name: `InvalidRelocationOffset` for a relocation at no whole slot, at one
-/// that is neither a call nor a load of 64 bits with a second slot, or at a call of a missing
-/// function with an immediate past 32 signed bits; `UnknownSymbol` for a symbol that the object
-/// hasn't; `ExternNotFound` for a name that no extern has, which is so of all names where the
-/// object has no table of types; `UnresolvableSymbol` for an extern that the kernel hasn't got and
-/// that isn't weak, and for a call of one that has an address alone; and `OutOfMemory`. Of several
-/// faults the first in order of section and offset is answered. The functions then stay as they
-/// are.
+/// With the function's name: `InvalidRelocationOffset` for a relocation that applies to no whole
+/// slot, to one that is neither a call nor a load of 64 bits with a second slot, or to a call of a
+/// missing function with an immediate past 32 signed bits; `UnknownSymbol` for a symbol that the
+/// object lacks; `ExternNotFound` for a name that no extern has, which is every name where the
+/// object has no table of types; `UnresolvableSymbol` for an extern that the kernel lacks and that
+/// isn't weak, and for a call of one that has only an address; and `OutOfMemory`. Of several faults
+/// the first in order of section and offset is returned. The functions then stay as they are.
 pub fn relocate_externs<'f>(
     alloc: Global,
     file: &ObjectFile<'_>,

@@ -1,5 +1,5 @@
-//! What holds of functions after the relocations inside them. The functions here compute nothing:
-//! their contracts are the theorems.
+//! Laws of functions after the relocations inside them. The functions here compute nothing: their
+//! contracts are the theorems.
 
 ghost use Rattle.slot_relocation.specs.Laws.{NumbersAreWritten, SlotsCarryNumbers};
 ghost use Rattle.slot_relocation.specs.WriteLaws.{LengthsRemain, OneWrites, UnwrittenStay, WritesAreKept};
@@ -13,7 +13,7 @@ pub fn unwritten_stay<A, E>()
 {}
 
 /// A slot that exactly one relocation writes carries what that one writes, computed from the slots
-/// after those before it, by any rule.
+/// after the relocations before it, by any rule.
 pub fn one_writes<A, E>()
     ensures { OneWrites A E }
 {}
@@ -23,20 +23,20 @@ pub fn lengths_remain<A, E>()
     ensures { LengthsRemain A E }
 {}
 
-/// Of the relocations that the file holds, by any rule on their symbols, one that writes stands at
-/// a slot and is by a symbol, and after all of them the slot carries what it writes, whatever the
-/// others write.
+/// By any rule on the symbols, a relocation that the file holds and that writes applies to a slot
+/// and has a symbol. After all relocations the slot carries what it writes, whatever the others
+/// write.
 pub fn writes_are_kept()
     ensures { WritesAreKept }
 {}
 
-/// After all relocations, a slot at which one by a map, or by a variable of it, stands and writes
+/// After all relocations, a slot that a relocation by a map, or by a variable of a map, writes
 /// carries the map's number, whatever the others write.
 pub fn slots_carry_numbers()
     ensures { SlotsCarryNumbers }
 {}
 
-/// All of it holds of the functions of an object that were relocated by maps.
+/// All these laws hold for the functions of an object relocated by maps.
 #[tactic(auto, using(crate::proofs::Written::numbers_are_written))]
 pub fn numbers_are_written()
     ensures { NumbersAreWritten }

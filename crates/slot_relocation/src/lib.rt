@@ -1,10 +1,10 @@
 //! The writes that relocations make into the slots of an object's functions.
 //!
-//! A pass goes over the relocations inside each function in its order. By the slots as they then
-//! stand its rule says of each whether it is skipped, what it writes, or why it is refused. The
-//! driver is the same for all passes ([`relocate_functions`]), and so is what they have in common
-//! that go by the relocations that the file holds ([`relocate_by_symbol`]); here stands that for
-//! maps.
+//! A pass makes the relocations inside each function in its order. Its rule says of each
+//! relocation, given the slots after those before it, whether it is skipped, what it writes, or why
+//! it is refused. All passes have the same driver ([`relocate_functions`]). The passes over the
+//! relocations that the file holds also share [`relocate_by_symbol`]; those for maps and externs
+//! are here.
 #![tactic(auto)]
 
 mod by_symbol;

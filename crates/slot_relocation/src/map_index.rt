@@ -1,4 +1,4 @@
-//! Maps under their numbers, by symbol and by section.
+//! Maps with their numbers, by symbol and by section.
 
 ghost use Rattle.std.specs.Prelude.{◌≡◌, IfOk};
 ghost use Rattle.std.specs.Option.{option_copied};
@@ -10,7 +10,7 @@ use std::alloc::{AllocError, Global};
 use std::collections::BTreeMap;
 use std::marker::Model;
 
-/// A map under its name, with the number that the kernel, or a plan, gives it.
+/// A map with its name and the number that the kernel, or a plan, gives it.
 #[derive(Debug, Drop)]
 pub struct NumberedMap<'m> {
     pub name: &'m str,
@@ -27,7 +27,7 @@ impl<'m> Model for NumberedMap<'m> {
     ghost view = { λ m. record { name = m.name.now; number = m.number; map = map_view m.map.now } };
 }
 
-/// Maps, and where among them stands the last one of each symbol and of each section.
+/// Maps, and the index of the last one of each symbol and of each section.
 #[derive(Drop)]
 pub(crate) struct MapIndex<'m> {
     maps: &'m [NumberedMap<'m>],
@@ -69,7 +69,7 @@ impl<'m> MapIndex<'m> {
         })
     }
 
-    /// The map of a symbol or a section, by the places of the last ones.
+    /// The map of a symbol or a section; `places` holds the indexes of the last ones.
     fn map_at(&self, places: &BTreeMap<usize, usize>, index: usize) -> Option<&'m NumberedMap<'m>>
         ensures { option_copied result ≡ map_at self.now places.now index }
     {

@@ -99,21 +99,22 @@ impl<'r, 'm> SymbolRule for MapRule<'r, 'm> {
     }
 }
 
-/// Writes the numbers of maps into the slots that relocations by maps, or by variables of them,
-/// name. Of each relocation inside a function, in order of their offsets, the symbol says which
-/// map: the last one in `maps` of the symbol, or else the last one of the symbol's section. The
-/// slot gets the map's number as its immediate and `BPF_PSEUDO_MAP_FD` as its source register;
-/// where the map has bytes it gets `BPF_PSEUDO_MAP_VALUE`, and the next slot's immediate becomes
-/// the sum of the slot's old one and the symbol's address. Skipped are calls of functions, and
-/// symbols of no section or of one of `text_sections`, the indexes of the sections with functions.
+/// Writes the numbers of maps into the slots of relocations by maps, or by variables of them. The
+/// relocations inside a function are made in order of offset. The symbol gives the map: the last
+/// one in `maps` of the symbol, or else the last one of the symbol's section. The slot gets the
+/// map's number as its immediate and `BPF_PSEUDO_MAP_FD` as its source register. Where the map has
+/// bytes the source register is `BPF_PSEUDO_MAP_VALUE`, and the next slot's immediate becomes the
+/// sum of the slot's old immediate and the symbol's address. Calls of functions are skipped, and so
+/// are symbols of no section or of one of `text_sections`, the indexes of the sections with
+/// functions.
 ///
 /// # Errors
 ///
-/// With the function's name: `InvalidRelocationOffset` for a relocation at no whole slot, or by a
-/// variable without a next slot or with a sum past 32 signed bits, `UnknownSymbol` for a symbol
-/// that the object hasn't, `SectionNotFound` for one without a map, and `OutOfMemory`. Of several
-/// faults the first in order of section and offset is answered. The functions then stay as they
-/// are.
+/// With the function's name: `InvalidRelocationOffset` for a relocation that applies to no whole
+/// slot, or by a variable without a next slot or with a sum past 32 signed bits; `UnknownSymbol`
+/// for a symbol that the object lacks; `SectionNotFound` for a symbol without a map; and
+/// `OutOfMemory`. Of several faults the first in order of section and offset is returned. The
+/// functions then stay as they are.
 pub fn relocate_maps<'f>(
     alloc: Global,
     file: &ObjectFile<'_>,

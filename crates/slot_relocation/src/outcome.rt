@@ -8,7 +8,7 @@ use ebpf_items::{Slots, bpf_insn};
 use object_parts::SLOT_SIZE;
 use std::alloc::AllocError;
 
-/// What a relocation writes: the slot at which it stands, and perhaps the next one.
+/// What a relocation writes: its own slot, and perhaps the next one.
 #[derive(Clone, Copy, Debug)]
 pub struct Write {
     pub first: bpf_insn,
@@ -26,10 +26,10 @@ pub enum Outcome<E> {
 /// Why a relocation that the file holds is refused.
 #[derive(Clone, Copy, Debug)]
 pub enum Fault {
-    /// No whole slot stands there, there is no second one, its code isn't one that the relocation
-    /// applies to, or the value doesn't fit.
+    /// There is no whole slot at the offset, a second slot is missing, the relocation doesn't apply
+    /// to the slot's operation code, or the value doesn't fit.
     InvalidOffset,
-    /// The symbol table has no symbol of this index.
+    /// The symbol table has no symbol with this index.
     UnknownSymbol {
         index: usize,
     },
@@ -38,18 +38,18 @@ pub enum Fault {
         section_index: usize,
         symbol_index: usize,
     },
-    /// No extern has the name of the symbol of this index.
+    /// No extern has the name of the symbol with this index.
     NoExtern {
         symbol_index: usize,
     },
-    /// The extern of the symbol of this index has no value that the slot could hold.
+    /// The extern of the symbol with this index has no value that the slot could hold.
     Unresolvable {
         symbol_index: usize,
     },
 }
 
 impl Write {
-    /// Writes into slots, at a distance in bytes from their beginning.
+    /// Writes into slots, `distance` bytes from their beginning.
     pub(crate) fn apply(self, slots: &mut Slots<'_>, distance: u64) -> Result<(), AllocError>
         requires first { distance / 8 < length slots.old }
         requires next { IfSome self.next (λ s. distance / 8 + 1 < length slots.old) }

@@ -1,4 +1,4 @@
-//! Rules of relocations, and the walk over those of one function.
+//! Rules of relocations, and the relocation of one function.
 
 ghost use Rattle.std.specs.Prelude.{◌≡◌, ◌/◌, false, true, IfOk, IfErr, OnOk};
 ghost use Rattle.std.specs.Prelude.{Bool, List, ℕ};
@@ -17,7 +17,7 @@ use std::collections::btree_map::Range;
 /// Why a function isn't relocated.
 #[derive(Clone, Copy, Debug)]
 pub enum Refusal<E> {
-    /// The relocation of an offset of the function's section has a fault.
+    /// The relocation at this offset of the function's section has a fault.
     Fault { offset: u64, fault: E },
     /// Memory ran out.
     OutOfMemory,
@@ -33,12 +33,12 @@ impl<E> From<AllocError> for Refusal<E> {
     }
 }
 
-/// What relocations do: `A` is a relocation's record, `E` why one is refused.
+/// What relocations do. `A` is a relocation's record, `E` the reason of a refusal.
 pub trait Rule<A, E> {
     /// The rule's definition.
     ghost rule: { Self → RuleOf A E };
 
-    /// What a relocation does to slots as they stand, at a distance in bytes from their beginning.
+    /// What a relocation does to the current slots, `distance` bytes from their beginning.
     fn outcome(&self, slots: &Slots<'_>, distance: u64, relocation: &A) -> Outcome<E>
         ensures value { result ≡ rule self.now slots.now distance relocation.now }
         ensures within { FitsIn slots.now (distance / 8) result };
@@ -46,18 +46,18 @@ pub trait Rule<A, E> {
 
 /// The relocations of functions, made by a rule.
 pub trait Pass<A, E>: Rule<A, E> {
-    /// Which of two faults stands before the other in the pass's order.
+    /// Whether the first fault comes before the second in the pass's order.
     ghost before: { Self → FaultAt E → FaultAt E → Bool };
 
     /// The relocations inside a function, with their offsets in its section, in the order in which
     /// they are made.
     ghost inside: { Self → FunctionContent → List (ℕ × A) };
 
-    /// Whether a fault stands before another in the pass's order.
+    /// Whether `one` comes before `other` in the pass's order.
     fn is_before(&self, one: &FaultAt<'_, E>, other: &FaultAt<'_, E>) -> bool
         ensures { result ≡ before self.now one.now other.now };
 
-    /// The slots of a function after the relocations inside it. Slots in which nothing is written
+    /// The slots of a function after the relocations inside it. Slots to which nothing is written
     /// stay in the file.
     fn slots_after<'f>(&self, function: &Function<'f>) -> Result<Slots<'f>, Refusal<E>>
         ensures value { IfOk result (λ s.
@@ -68,7 +68,7 @@ pub trait Pass<A, E>: Rule<A, E> {
             (IsRefusal (Self.rule self.now) (inside self.now function.now) function.now) };
 }
 
-/// Makes the relocation of an offset inside a function, in the function's slots as they stand.
+/// Makes the relocation at an offset inside a function, in the function's current slots.
 pub(crate) fn relocate_at<A, E: Copy, R: Rule<A, E>>(
     rule: &R,
     function: &Function<'_>,
@@ -114,8 +114,8 @@ pub fn relocate_each<'f, A, E: Copy, R: Rule<A, E>>(
     Ok(slots)
 }
 
-/// The slots of a function after some relocations inside it, one after the other, each with its
-/// offset in the function's section.
+/// The slots of a function after some relocations inside it, made in order; each has its offset in
+/// the function's section.
 pub fn relocate_list<'f, A, E: Copy, R: Rule<A, E>>(
     rule: &R,
     function: &Function<'f>,
