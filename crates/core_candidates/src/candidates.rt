@@ -16,7 +16,7 @@ use btf_tables::Btf;
 use std::alloc::{AllocError, Global};
 use std::marker::Model;
 
-/// The types of a kernel's tables, by kind and name.
+/// The types of the kernel's tables, by kind and name.
 #[derive(Debug)]
 pub struct Candidates<'t, 'l> {
     types: NamedTypes<'t, 'l>,

@@ -81,7 +81,7 @@ pub enum ParseError {
     MapSymbolNameNotFound {
         i: usize,
     },
-    /// No symbol lies in this section.
+    /// No symbol is in this section.
     NoSymbolsForSection {
         section_name: String,
     },
