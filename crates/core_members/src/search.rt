@@ -17,7 +17,7 @@ pub struct Found {
     pub place: Place,
     /// The id of its type.
     pub type_id: u32,
-    /// Its offset in bits, counted from that of the search, if it fits in 32 bits.
+    /// Its offset in bits, including the offset that the search began with, if it fits in 32 bits.
     pub bits: Option<u32>,
     /// The number of members on the path to it: members without names, and itself.
     pub parts: usize,
