@@ -1,4 +1,4 @@
-//! Queries of a kernel's features, each made once.
+//! Queries of a kernel's features, each made at most once.
 
 ghost use Rattle.std.specs.Prelude.{◌≡◌, ◌∷◌, [], if◌then◌else◌};
 ghost use Rattle.btf_sanitize.specs.Answers.{answer_to, features, granted, noted, noted_all, feature_number, AreDistinct, AreGiven, Settles};

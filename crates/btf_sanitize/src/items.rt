@@ -6,7 +6,7 @@ ghost use Rattle.btf_sanitize.specs.Rewritten.{member_of_variant, variant_of_par
 use btf_records::{BtfEnum, BtfEnum64, BtfMember, BtfParam};
 use std::alloc::{AllocError, Global};
 
-/// The variant that stands for a parameter: its name, and its type as the value.
+/// The variant that replaces a parameter: its name, and its type's id as the value.
 fn variant_of_param(param: BtfParam) -> BtfEnum
     ensures { result ≡ variant_of_param param }
 {
@@ -31,7 +31,7 @@ pub(crate) fn variants_of_params(
     Ok(variants)
 }
 
-/// The member that stands for a variant, of the placeholder's type.
+/// The member that replaces a variant; it has the placeholder's type.
 fn member_of_variant(placeholder: u32, variant: BtfEnum64) -> BtfMember
     ensures { result ≡ member_of_variant placeholder variant }
 {

@@ -1,4 +1,4 @@
-//! The types of a kernel that may be taken for a local one.
+//! The candidates for a local type.
 
 ghost use Rattle.std.specs.Prelude.{◌≡◌, ◌≢◌, ◌<◌, ◌++◌, ◌∷◌, [], true, false, filter, find, length, take, IfOk, IfErr, OnOk, Ok, Err, None};
 ghost use Rattle.std.specs.Option.{IsSomeAnd};
@@ -16,14 +16,14 @@ use btf_tables::Btf;
 use std::alloc::{AllocError, Global};
 use std::marker::Model;
 
-/// The types of a kernel's tables, by kind and name.
+/// The types of the kernel's tables, by kind and name.
 #[derive(Debug)]
 pub struct Candidates<'t, 'l> {
     types: NamedTypes<'t, 'l>,
 }
 
 impl<'t, 'l> Drop for Candidates<'t, 'l> {
-    // One call wherever it is dropped, in place of one for each part.
+    // A single call where a value is dropped, instead of one call per field.
     fn drop(self) {
         let Candidates { types: _types } = self;
     }
@@ -38,17 +38,17 @@ impl<'t, 'l> Model for Candidates<'t, 'l> {
     ghost view = { λ c. c.types };
 }
 
-/// Kinds and names that are looked for among a kernel's types.
+/// The kinds and names of the types that are searched for in the kernel's tables.
 #[derive(Debug, Drop)]
 struct WantedNames<'l> {
     kinds: Vec<BtfKind>,
-    /// Without flavours.
+    /// The names, without flavours.
     names: Vec<&'l str>,
 }
 
 impl<'l> WantedNames<'l> {
-    /// Adds what is looked for for the local type of an id; nothing where that isn't there or its
-    /// name can't be read.
+    /// Adds the kind and name for a local type; nothing where the type is missing or its name can't
+    /// be read.
     fn add(&mut self, local: &'l Btf<'l>, type_id: u32) -> Result<(), AllocError> {
         let Ok(wanted) = WantedType::find(local, type_id) else {
             return Ok(());
@@ -62,7 +62,7 @@ impl<'l> WantedNames<'l> {
     }
 }
 
-/// What is looked for for the local types of these ids.
+/// The kinds and names for the local types of these ids.
 fn wanted_names<'l>(
     alloc: Global,
     local: &'l Btf<'l>,
@@ -78,9 +78,9 @@ fn wanted_names<'l>(
     Ok(wanted)
 }
 
-/// Whether a type is a candidate.
+/// Whether a kernel type is a candidate.
 ///
-/// `UnreadableName` where it is of the kind and its name can't be read.
+/// `UnreadableName` where it has the wanted kind and its name can't be read.
 fn is_candidate(
     wanted: &WantedType<'_>,
     targets: &[Btf<'_>],
@@ -111,7 +111,7 @@ fn is_candidate(
     }
 }
 
-/// Adds a type, if it is a candidate.
+/// Adds a kernel type, if it is a candidate.
 fn add_candidate(
     wanted: &WantedType<'_>,
     targets: &[Btf<'_>],
@@ -133,7 +133,7 @@ fn add_candidate(
     Ok(())
 }
 
-/// Adds those of some types of a table that are candidates.
+/// Adds the candidates among some types of a table.
 fn add_candidates(
     wanted: &WantedType<'_>,
     targets: &[Btf<'_>],
@@ -160,8 +160,8 @@ fn add_candidates(
     Ok(())
 }
 
-/// The ids of the types of a table that are of the wanted kind and name, or of the kind with a name
-/// that can't be read.
+/// The ids of the types of a table that have the wanted kind, and the wanted name or a name that
+/// can't be read.
 fn named_ids(
     alloc: Global,
     types: &NamedTypes<'_, '_>,
@@ -206,7 +206,7 @@ fn add_from(
     add_candidates(wanted, targets, table, ids.as_slice(), found)
 }
 
-/// The candidates in some tables, which are the first of those whose types these are.
+/// The candidates in `targets`, which are the first of the tables of `types`.
 fn candidates_in(
     alloc: Global,
     types: &NamedTypes<'_, '_>,
@@ -225,7 +225,7 @@ fn candidates_in(
     Ok(found)
 }
 
-/// The first of some tables alone, if there is one.
+/// A list of the first of some tables, if there is one.
 fn first_table<'t, 'a>(targets: &'t [Btf<'a>]) -> &'t [Btf<'a>]
     ensures { result.now ≡ take 1 targets.now }
 {
@@ -236,7 +236,7 @@ fn first_table<'t, 'a>(targets: &'t [Btf<'a>]) -> &'t [Btf<'a>]
 }
 
 impl<'t, 'l> Candidates<'t, 'l> {
-    /// The types of these tables. Each question goes over the tables.
+    /// The types of these tables. Each query searches the tables.
     pub fn new(alloc: Global, targets: &'t [Btf<'t>]) -> Candidates<'t, 'l>
         ensures { result ≡ targets.now }
     {
@@ -245,7 +245,7 @@ impl<'t, 'l> Candidates<'t, 'l> {
         }
     }
 
-    /// The types of these tables, each of which is gone over once for the local types of these ids.
+    /// The types of these tables. Each table is searched once for the local types of these ids.
     pub fn collect(
         alloc: Global,
         local: &'l Btf<'l>,
@@ -264,10 +264,9 @@ impl<'t, 'l> Candidates<'t, 'l> {
         Ok(Candidates { types })
     }
 
-    /// The types of the tables that may be taken for a local one, table by table, and in each by
-    /// id.
+    /// The candidates for a local type in all tables, in order of table and then of id.
     ///
-    /// `UnreadableName` where the name of a type of the kind can't be read.
+    /// `UnreadableName` where the name of a type of the wanted kind can't be read.
     #[tactic(auto, using(crate::proofs::Searched::all_first))]
     pub fn of(
         &self,
@@ -281,9 +280,9 @@ impl<'t, 'l> Candidates<'t, 'l> {
         candidates_in(alloc, &self.types, wanted, self.types.tables())
     }
 
-    /// The same types of the first table alone.
+    /// The candidates for a local type in the first table alone.
     ///
-    /// `UnreadableName` where the name of a type of the kind can't be read in that table.
+    /// `UnreadableName` where the name of a type of the wanted kind in that table can't be read.
     #[tactic(auto, using(crate::proofs::Searched::one_first))]
     pub fn of_first(
         &self,

@@ -1,4 +1,4 @@
-//! Why candidates can't be told.
+//! The errors of candidates.
 
 ghost use Rattle.std.specs.Prelude.{◌≡◌};
 ghost use Rattle.core_candidates.specs.declared.error.CandidateError.TheVariants.{OutOfMemory};
@@ -7,10 +7,11 @@ use crate::kernel_type::KernelType;
 use std::alloc::{AllocError, AllocFailed};
 use thiserror::Error;
 
-/// Why the types of a kernel that may be taken for a local one can't be told.
+/// Why the candidates for a local type can't be found.
 #[derive(Debug, Drop, Error)]
 pub enum CandidateError {
-    /// The name of a type of the kind can't be read, at an offset of the strings of its table.
+    /// The name of a kernel type of the wanted kind can't be read, at an offset of the strings of
+    /// its table.
     #[error("the name of type id {} of table {} can't be read", .place.type_id, .place.table)]
     UnreadableName { place: KernelType, offset: u32 },
     /// Memory ran out.

@@ -1,10 +1,10 @@
-//! Places of a kernel's types.
+//! Types of a kernel.
 
-/// A type of a kernel's.
+/// A type of the kernel.
 #[derive(Clone, Copy, Debug, PartialEq, Eq)]
 pub struct KernelType {
-    /// Which of the kernel's tables it stands in, counted from 0.
+    /// The index of its table among the kernel's tables, from 0.
     pub table: usize,
-    /// Its id there.
+    /// Its id in that table.
     pub type_id: u32,
 }

@@ -1,4 +1,4 @@
-//! Which types of a kernel may be taken for an object's own, by kind and name
+//! The candidates for an object's types: the kernel's types with the same kind and name
 //! (`bpf_core_add_cands`, tools/lib/bpf/libbpf.c).
 #![tactic(auto)]
 

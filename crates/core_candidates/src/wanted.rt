@@ -1,4 +1,4 @@
-//! What is wanted of a kernel's types.
+//! The kind and name of candidates.
 
 ghost use Rattle.std.specs.Prelude.{◌≡◌, MatchResult, Ok, Err, nat_eq};
 ghost use Rattle.std.specs.Cmp.Lexicographic.{pointwise};
@@ -10,11 +10,11 @@ use btf_records::{BtfError, BtfKind};
 use btf_tables::{Btf, essential_name};
 use std::marker::Model;
 
-/// The kind and the name of the types that may be taken for a local one.
+/// The kind and the name of the candidates for a local type.
 #[derive(Debug, Drop)]
 pub struct WantedType<'l> {
     kind: BtfKind,
-    /// A 64-bit enum may be one too, which the local type, a union, stands for.
+    /// Whether 64-bit enums are candidates too: the local type is a union that stands for one.
     or_enum64: bool,
     /// Without its flavour.
     name: &'l str,
@@ -29,7 +29,7 @@ impl<'l> Model for WantedType<'l> {
 }
 
 impl<'l> WantedType<'l> {
-    /// What is wanted for a local type of this name.
+    /// The kind and name for a local type with this name.
     fn of(t: &TypeRef<'_>, name: &'l str) -> WantedType<'l>
         ensures { result ≡ wanted_of t.now name.now }
     {
@@ -40,7 +40,7 @@ impl<'l> WantedType<'l> {
         }
     }
 
-    /// What is wanted for the local type of an id.
+    /// The kind and name for the local type of an id.
     ///
     /// `UnknownBtfType` where there is no such type, `InvalidStringOffset` where its name can't be
     /// read.
@@ -62,7 +62,7 @@ impl<'l> WantedType<'l> {
         self.kind
     }
 
-    /// Whether a 64-bit enum may be one too.
+    /// Whether 64-bit enums are candidates too.
     pub(crate) fn or_enum64(&self) -> bool
         ensures { result ≡ self.now.or_enum64 }
     {
@@ -76,14 +76,14 @@ impl<'l> WantedType<'l> {
         self.name
     }
 
-    /// Whether a type is of the kind.
+    /// Whether a type has the kind of a candidate.
     pub(crate) fn is_of_kind(&self, t: &TypeRef<'_>) -> bool
         ensures { result ≡ is_of_kind self.now t.now }
     {
         t.kind() == self.kind || (self.or_enum64 && t.kind() == BtfKind::Enum64)
     }
 
-    /// Whether this is the name, flavours aside.
+    /// Whether this is the name of a candidate, without its flavour.
     pub(crate) fn is_name(&self, name: &str) -> bool
         ensures { result ≡ pointwise nat_eq (essential_name name.now) self.now.name }
     {

@@ -1,4 +1,4 @@
-//! Paths in one candidate.
+//! The path in one candidate.
 
 ghost use Rattle.std.specs.Prelude.{◌≡◌, ◌≢◌, ◌++◌, ◌∷◌, [], IfOk, IfErr, IfSome, Ok, Err};
 ghost use Rattle.std.specs.Option.{option_to_list};
@@ -14,7 +14,7 @@ use btf_records::BtfError;
 use btf_tables::Btf;
 use core_spec::{AccessError, AccessPath, Step, Steps, Subject};
 
-/// The path at its end.
+/// The path with these steps, at its end.
 fn path_found(
     type_id: u32,
     steps: Steps,
@@ -32,7 +32,7 @@ fn path_found(
     }
 }
 
-/// Goes on by a step, and adds what it is in the target's types.
+/// The state of a path after a step; the step in the target's types is added to `steps`.
 fn go_on<'t>(
     local: &Btf<'t>,
     step: Step,
@@ -84,7 +84,7 @@ fn fields_matched<'t>(
     path_found(type_id, steps, progress.bits)
 }
 
-/// The whole of a type of the target that is compatible with the local one.
+/// The path to a whole type of the target, if it is compatible with the local one.
 fn type_matched<'t>(
     local: &Btf<'t>,
     local_id: u32,
@@ -107,7 +107,7 @@ fn type_matched<'t>(
     }
 }
 
-/// The variant of an enum of the target.
+/// The path to a variant of an enum of the target.
 fn enum_matched(
     local: &Btf<'_>,
     step: Option<Step>,
@@ -134,16 +134,16 @@ fn enum_matched(
     }))
 }
 
-/// The path of a type relocation in a type of the target, where the type has what the local path
-/// leads to: the fields that its steps lead to by name and index, the variant of the same name, or
-/// the whole type, if it is compatible (`bpf_core_spec_match`, tools/lib/bpf/relo_core.c). An index
-/// past an array's end is none, unless the array is without elements and the last member of a
-/// struct.
+/// The path of a type relocation in a type of the target, if the type matches the local path: it
+/// has the members and elements of the path's steps, by name and index; it has a variant of the
+/// same name; or it is compatible as a whole (`bpf_core_spec_match`, tools/lib/bpf/relo_core.c). An
+/// index past an array's end doesn't match, unless the array has no elements and is the last member
+/// of a struct.
 ///
 /// `MaximumNestingLevelReached` where a step would come after 64 elements and members or more,
-/// those without names too, or a struct or union is met inside itself; `BtfError::InvalidTypeInfo`
-/// where the field lies 2^32 bits or more after the type's beginning; and what the look-ups of
-/// names, sizes and types and the comparisons on the way answer.
+/// including members without names, or where a struct or union contains itself;
+/// `BtfError::InvalidTypeInfo` where the field's offset is 2^32 bits or more; and the errors of the
+/// look-ups of names, sizes and types and of the comparisons.
 pub fn matching_path<'t>(
     subject: Subject,
     local: &Btf<'t>,

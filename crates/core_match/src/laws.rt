@@ -6,7 +6,7 @@ use btf_compatibility::comparisons_rest;
 use core_members::searches_rest;
 use core_spec::lookups_rest;
 
-/// The path in a target's type rests, of the local table, on the records that the local path
+/// The path in a target's type depends, in the local table, only on the records that the local path
 /// reaches, and on their texts.
 pub fn matches_rest()
     ensures { MatchesRest }

@@ -1,4 +1,4 @@
-//! The paths of type relocations in a kernel's types (`bpf_core_spec_match`,
+//! The paths of type relocations in the kernel's types (`bpf_core_spec_match`,
 //! tools/lib/bpf/relo_core.c).
 #![tactic(auto)]
 

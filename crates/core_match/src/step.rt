@@ -1,4 +1,4 @@
-//! Steps of a path, done in other types.
+//! The steps of a local path in the target's types.
 
 ghost use Rattle.std.specs.Prelude.{◌≡◌, ◌≢◌, IfOk, IfErr, Ok, Err};
 ghost use Rattle.core_match.specs.Steps.{element_in, element_matched, gone_to, has_members, local_member, member_matched, step_matched};
@@ -11,24 +11,25 @@ use btf_tables::Btf;
 use core_members::{Found, find_member};
 use core_spec::{AccessError, Place, Step, elements_after, is_in_array};
 
-/// A step isn't begun with this number of parts: libbpf's `BPF_CORE_SPEC_MAX_LEN`.
+/// The number of parts after which no further step is made: libbpf's `BPF_CORE_SPEC_MAX_LEN`.
 const MAX_PARTS: usize = 64;
 
-/// How far a path has come in the target's types.
+/// The state of a path in the target's types.
 #[derive(Clone, Copy, Debug)]
 pub(crate) struct Progress {
-    /// The id of the type of what it has come to.
+    /// The id of the type that it has reached.
     pub(crate) type_id: u32,
     /// The last step; none before the first.
     pub(crate) last: Option<Step>,
-    /// The bits so far, where 32 bits hold them.
+    /// The offset so far in bits, if it fits in 32 bits.
     pub(crate) bits: Option<u32>,
-    /// The elements and members so far, those without names too; no more than 64 are counted.
+    /// The number of elements and members so far, including members without names; at most 64.
     pub(crate) parts: usize,
 }
 
-/// The type of the element of this index in a type without modifiers, which isn't there where that
-/// is no array, or too short. The first element is of the type itself.
+/// The id of the type of the element at this index of a type without modifiers; none where the type
+/// isn't an array, or the array is too short. In the first step, the elements are of the type
+/// itself.
 fn element_in(
     target: &Btf<'_>,
     type_id: u32,
@@ -51,7 +52,7 @@ fn element_in(
     Ok(Some(element))
 }
 
-/// A step to an element.
+/// The state of a path after a step to an element.
 fn element_matched(
     target: &Btf<'_>,
     from: Progress,
@@ -98,7 +99,7 @@ fn has_members(t: &TypeRef<'_>) -> bool
     t.member(0).is_some()
 }
 
-/// How far a path comes with a member that was found.
+/// The state of a path after a step to a member that was found.
 fn gone_to(from: Progress, found: Option<Found>) -> Option<Progress>
     ensures { result ≡ gone_to from found }
 {
@@ -111,7 +112,7 @@ fn gone_to(from: Progress, found: Option<Found>) -> Option<Progress>
     })
 }
 
-/// A step to a member of a name.
+/// The state of a path after a step to a member, by its name.
 fn member_matched<'t>(
     local: &Btf<'t>,
     place: Place,
@@ -134,11 +135,11 @@ fn member_matched<'t>(
     Ok(gone_to(from, found))
 }
 
-/// How far a path comes with the next step of a local path; none where there is nothing of the
-/// kind.
+/// The state of a path after the next step of the local path; none where the target has no such
+/// member or element.
 ///
 /// `MaximumNestingLevelReached` where the step would come after 64 parts or more, or a struct or
-/// union is met inside itself, and what the look-ups of names, sizes and types answer.
+/// union contains itself, and the errors of the look-ups of names, sizes and types.
 pub(crate) fn step_matched<'t>(
     local: &Btf<'t>,
     step: Step,

@@ -7,7 +7,7 @@ use btf_encoding::TypeRef;
 use btf_tables::{Btf, essential_name};
 use core_spec::{AccessError, Place, variant_count, variant_name};
 
-/// Whether the name at an offset is this one, flavours aside.
+/// Whether the name at an offset is this one, without its flavour.
 fn is_so_named(target: &Btf<'_>, offset: u32, name: &str) -> Result<bool, AccessError>
     ensures { result ≡ is_so_named target.now offset name.now }
 {
@@ -15,7 +15,7 @@ fn is_so_named(target: &Btf<'_>, offset: u32, name: &str) -> Result<bool, Access
     Ok(essential_name(text) == essential_name(name))
 }
 
-/// The index of the first variant of a name, flavours aside.
+/// The index of the first variant with this name, without flavours.
 #[tactic(auto, using(crate::proofs::Variants::none_left, crate::proofs::Variants::unnamed, crate::proofs::Variants::this_variant, crate::proofs::Variants::bad_variant, crate::proofs::Variants::next_variant))]
 fn first_variant(
     target: &Btf<'_>,
@@ -54,8 +54,8 @@ fn local_variant<'l>(local: &'l Btf<'_>, place: Place) -> Result<&'l str, Access
     }
 }
 
-/// The first variant of an enum, or of a union that stands for one, that has the name of a local
-/// variant, flavours aside; none where there is none, or the type is no enum.
+/// The first variant of an enum, or of a union that stands for one, with the name of a local
+/// variant, without flavours; none where there is no such variant, or the type isn't an enum.
 ///
 /// `BtfError` where the type can't be looked up, or a name before it can't be read.
 pub(crate) fn variant_matched(

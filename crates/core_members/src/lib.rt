@@ -1,4 +1,4 @@
-//! Members of structs and unions by name, those of members without names too
+//! Members of structs and unions by name, including those inside members without names
 //! (`bpf_core_match_member`, tools/lib/bpf/relo_core.c).
 #![tactic(auto)]
 

@@ -1,4 +1,4 @@
-//! What one member says.
+//! The comparison of one member.
 
 ghost use Rattle.std.specs.Prelude.{◌≡◌};
 ghost use Rattle.core_members.specs.Looks.{is_composite, look_at, look_at_named, look_at_unnamed, searched};
@@ -9,16 +9,16 @@ use btf_records::{BtfKind, BtfMember};
 use btf_tables::Btf;
 use core_spec::AccessError;
 
-/// What a look at a member of a struct or union gives.
+/// The result of the comparison of a member of a struct or union.
 #[derive(Clone, Copy, Debug)]
 pub(crate) enum Look {
-    /// It isn't the one, and the next may be.
+    /// It doesn't match; the next one may match.
     Next,
-    /// It has the name, and isn't compatible: the struct or union doesn't hold the one.
+    /// It has the name and isn't compatible: no member of the struct or union matches.
     Mismatch,
-    /// It is the one.
+    /// It matches.
     Match,
-    /// It has no name, and is the struct or union of this id, which is searched.
+    /// It has no name, and its type is the struct or union of this id, which is searched.
     Descend(u32),
 }
 
@@ -28,7 +28,7 @@ fn is_composite(t: &TypeRef<'_>) -> bool
     matches!(t.kind(), BtfKind::Struct | BtfKind::Union)
 }
 
-/// A member without a name.
+/// The comparison of a member without a name.
 fn look_at_unnamed(target: &Btf<'_>, member: BtfMember) -> Result<Look, AccessError>
     ensures { result ≡ look_at_unnamed target.now member }
 {
@@ -41,7 +41,7 @@ fn look_at_unnamed(target: &Btf<'_>, member: BtfMember) -> Result<Look, AccessEr
     }
 }
 
-/// A member of the wanted name.
+/// The comparison of a member with the wanted name.
 fn look_at_named<'t>(
     local: &Btf<'t>,
     type_id: u32,
@@ -57,8 +57,8 @@ fn look_at_named<'t>(
     }
 }
 
-/// Whether a member of a target type is the one of this name that is compatible with the local type
-/// of this id.
+/// Compares a member of a target type: whether it has this name and is compatible with the local
+/// type of this id.
 ///
 /// `BtfError` where its name or its type can't be looked up, or types can't be compared.
 pub(crate) fn look_at<'t>(

@@ -13,26 +13,26 @@ use core_spec::{AccessError, Place};
 /// A member that was found.
 #[derive(Clone, Copy, Debug)]
 pub struct Found {
-    /// The struct or union that it stands in, and its index there.
+    /// Its struct or union, and its index there.
     pub place: Place,
     /// The id of its type.
     pub type_id: u32,
-    /// Its bits, after those with which the search began, where 32 bits hold them.
+    /// Its offset in bits, including the offset that the search began with, if it fits in 32 bits.
     pub bits: Option<u32>,
-    /// How many members lead to it: those without names, and itself.
+    /// The number of members on the path to it: members without names, and itself.
     pub parts: usize,
 }
 
-/// The member of a struct or union of the target's types that has this name and is compatible with
-/// the local type of the first id: libbpf's `bpf_core_match_member` (tools/lib/bpf/relo_core.c).
-/// The struct or union, `root`, begins at these bits.
+/// The member of the target's struct or union `root` that has this name and is compatible with the
+/// local type `type_id`: libbpf's `bpf_core_match_member` (tools/lib/bpf/relo_core.c). `bits` is
+/// the offset of `root` in bits.
 ///
-/// Members are looked at in order. One without a name that is a struct or union is searched as it
-/// is met; the first of the name decides for the struct or union that it stands in. One that is met
-/// again, outside of itself, holds nothing, and isn't gone through once more.
+/// Members are compared in order. A struct or union member without a name is searched in its turn.
+/// The first member with the name decides the search of its struct or union. A struct or union that
+/// was searched without a match isn't searched again.
 ///
-/// `MaximumNestingLevelReached` where a struct or union is met inside itself, and what the look-ups
-/// of names and types and the comparison of types on the way answer.
+/// `MaximumNestingLevelReached` where a struct or union contains itself, and the errors of the
+/// look-ups of names and types and of the comparisons of types.
 pub fn find_member<'t>(
     local: &Btf<'t>,
     type_id: u32,

@@ -1,4 +1,4 @@
-//! Turns of a search: a look at one member after the other.
+//! Turns of a search; each compares one member.
 
 ghost use Rattle.std.specs.Prelude.{◌≡◌, ◌≢◌, ◌<◌, ◌++◌, ◌∷◌, [], IfOk, IfErr, IfSome, Err, true, false, slice_get};
 ghost use Rattle.core_members.specs.EmptyTypes.{is_noted};
@@ -18,31 +18,31 @@ use core_spec::{AccessError, Place, bits_after};
 use std::alloc::{AllocError, Global};
 use std::collections::BTreeSet;
 
-/// A struct or union whose members are being looked at.
+/// A struct or union whose members are being compared.
 #[derive(Clone, Copy, Debug)]
 pub(crate) struct Frame {
     pub(crate) type_id: u32,
-    /// The index of the member that is the next.
+    /// The index of the next member.
     pub(crate) next: usize,
-    /// The bits of its beginning.
+    /// Its offset in bits, if it fits in 32 bits.
     pub(crate) bits: Option<u32>,
 }
 
-/// What a search remembers between turns.
+/// The state of a search between turns.
 #[derive(Debug, Drop)]
 pub(crate) struct Memory {
-    /// The structs and unions around the innermost, which is being looked at.
+    /// The structs and unions around the innermost one, which is being searched.
     pub(crate) outer: Vec<Frame>,
-    /// The ids of those that were searched and hold nothing.
+    /// The ids of the structs and unions that were searched without a match.
     pub(crate) nothing: BTreeSet<u32>,
 }
 
-/// What a turn gives.
+/// The result of a turn.
 #[derive(Clone, Copy, Debug)]
 pub(crate) enum Turn {
     /// The member was found.
     Found(Found),
-    /// This is now the innermost.
+    /// This is the innermost struct or union now.
     On(Frame),
     /// There is no such member.
     Over,
@@ -60,7 +60,7 @@ impl Memory {
     }
 }
 
-/// The member of an index of a struct or union.
+/// The member of a struct or union at an index.
 #[tactic(auto, using(crate::proofs::Members::no_more))]
 fn member_at(t: &TypeRef<'_>, index: usize) -> Option<BtfMember>
     ensures value { result ≡ slice_get (members_of t.now) index }
@@ -72,7 +72,8 @@ fn member_at(t: &TypeRef<'_>, index: usize) -> Option<BtfMember>
     t.member(index)
 }
 
-/// What the next member of a struct or union is, if it is the one; `parts` members lead to it.
+/// The result for the next member of a struct or union, if it matches. `parts` members are on the
+/// path to it.
 fn found_here(frame: Frame, t: &TypeRef<'_>, member: BtfMember, parts: usize) -> Found
     ensures { result ≡ found_here frame.type_id t.now parts frame.bits frame.next member }
 {
@@ -87,7 +88,7 @@ fn found_here(frame: Frame, t: &TypeRef<'_>, member: BtfMember, parts: usize) ->
     }
 }
 
-/// A struct or union before its members are looked at.
+/// A struct or union before its members are compared.
 pub(crate) fn entered(type_id: u32, bits: Option<u32>) -> Frame
     ensures { result ≡ entered type_id bits }
 {
@@ -98,16 +99,16 @@ pub(crate) fn entered(type_id: u32, bits: Option<u32>) -> Frame
     }
 }
 
-/// Whether one of these is of this id.
+/// Whether one of these has this id.
 fn is_open(frames: &[Frame], type_id: u32) -> bool
     ensures { result ≡ is_open frames.now type_id }
 {
     frames.iter().any(|frame| frame.type_id == type_id)
 }
 
-/// Goes into a struct or union from the innermost.
+/// Enters a struct or union from the innermost one.
 ///
-/// `MaximumNestingLevelReached` where its members are being looked at.
+/// `MaximumNestingLevelReached` where its members are being compared already.
 fn enter(
     type_id: u32,
     bits: Option<u32>,
@@ -130,7 +131,7 @@ fn enter(
     Ok(Turn::On(entered(type_id, bits)))
 }
 
-/// Goes on around a struct or union that was the innermost, which holds nothing.
+/// Leaves the innermost struct or union, which has no match.
 fn leave(type_id: u32, memory: &mut Memory) -> Result<Turn, AllocError>
     ensures { IfOk result (λ turn.
         IsLeft type_id memory.old.outer.items memory.old.nothing.keys turn memory.new.outer.items
@@ -145,7 +146,7 @@ fn leave(type_id: u32, memory: &mut Memory) -> Result<Turn, AllocError>
     }
 }
 
-/// Goes on after a look at a member of the innermost struct or union.
+/// Continues after the comparison of a member of the innermost struct or union.
 fn follow(seen: Look, here: Found, after: Frame, memory: &mut Memory) -> Result<Turn, AccessError>
     ensures over { IfOk result (λ turn.
         IsFollowed seen here after memory.old.outer.items memory.old.nothing.keys turn
@@ -170,7 +171,7 @@ fn follow(seen: Look, here: Found, after: Frame, memory: &mut Memory) -> Result<
     }
 }
 
-/// Looks at the next member of the innermost struct or union.
+/// Compares the next member of the innermost struct or union.
 pub(crate) fn next_turn<'t>(
     local: &Btf<'t>,
     type_id: u32,

@@ -1,4 +1,4 @@
-//! Why a type relocation comes to nothing.
+//! Why a type relocation can't be resolved.
 
 ghost use Rattle.std.specs.Prelude.{◌≡◌, ◌≢◌};
 ghost use Rattle.core_spec.specs.declared.error.AccessError.TheVariants.{BtfError as TypeError};
@@ -12,31 +12,30 @@ use core_spec::AccessError;
 use std::alloc::{AllocError, AllocFailed};
 use thiserror::Error;
 
-/// Why a type relocation comes to nothing.
+/// Why a type relocation can't be resolved.
 #[derive(Debug, Drop, Error)]
 pub enum TypeRelocationError {
-    /// Its access has no place, or no value, in the object's own types.
+    /// Its access has no path, or no value, in the object's own types.
     #[error("{0}")]
     Local(AccessError),
-    /// The name of a type of a kernel's that is of the kind can't be read, at an offset of the
-    /// strings of its table.
+    /// The name of a kernel type of the wanted kind can't be read, at an offset of the strings of
+    /// its table.
     #[error("the name of type id {} of kernel table {} can't be read", .place.type_id, .place.table)]
     UnreadableName {
         place: KernelType,
         offset: u32,
     },
-    /// A type of a kernel's of the kind and the name can't be compared with the object's, or has no
-    /// size where that is asked for.
+    /// A kernel type of the wanted kind and name can't be compared with the object's type, or its
+    /// size can't be computed where the relocation is for the size.
     #[error("type id {} of kernel table {}: {error}", .place.type_id, .place.table)]
     Kernel {
         place: KernelType,
         error: AccessError,
     },
-    /// A type of a kernel's that has what is asked for has it elsewhere than the first such type,
-    /// or with another value.
+    /// A match has another offset, or another value, than the first match.
     #[error("conflicting candidates")]
     ConflictingCandidates,
-    /// The id or the size of a type is asked for that the kernel doesn't have.
+    /// The relocation is for the id or the size of a type that the kernel doesn't have.
     #[error("missing target definition")]
     MissingTargetDefinition,
     /// Memory ran out.
@@ -85,7 +84,7 @@ impl<T: Drop> From<AllocFailed<T>> for TypeRelocationError {
     }
 }
 
-/// What an error at a type of a kernel's is for the relocation.
+/// The error of a type relocation, for an error at a kernel type.
 pub(crate) fn at_kernel_type(place: KernelType, error: AccessError) -> TypeRelocationError
     ensures { result ≢ OutOfMemory → (result ≡ Kernel place error) × (error ≢ TypeError NoMemory) }
 {

@@ -1,13 +1,13 @@
-//! Outcomes that are known.
+//! Known outcomes.
 
 ghost use Rattle.std.specs.Prelude.{◌≡◌, true};
 
 use crate::relocation::{RelocationOutcome, TypeRelocation};
 
-/// A relocation's type, access string and number of kind.
+/// A relocation's type id, access string offset and kind number.
 pub(crate) type AccessKey = (u32, u32, u32);
 
-/// What a relocation came to.
+/// The outcome of a relocation.
 #[derive(Clone, Copy, Debug)]
 pub(crate) struct KnownOutcome {
     pub(crate) relocation: TypeRelocation,
@@ -22,7 +22,7 @@ pub(crate) fn access_key(relocation: TypeRelocation) -> AccessKey {
     )
 }
 
-/// Whether two relocations ask for the same.
+/// Whether two relocations are equal.
 #[tactic(auto, using(crate::proofs::KnownOutcomes::same_relocation))]
 pub(crate) fn is_same(one: TypeRelocation, other: TypeRelocation) -> bool
     ensures { result ≡ true → one ≡ other }

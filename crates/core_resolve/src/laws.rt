@@ -5,14 +5,14 @@ ghost use Rattle.core_resolve.specs.Laws.{ListsOfOneTable, OutcomesRest};
 use core_match::matches_rest;
 use core_spec::{lookups_rest, paths_rest, values_rest};
 
-/// A list of one table is searched as that table is, and a type relocation comes to what that table
-/// gives alone.
+/// A list of one table is searched as that table is, and a type relocation resolves to the result
+/// for that table alone.
 pub fn lists_of_one_table()
     ensures { ListsOfOneTable }
 {}
 
-/// What a type relocation comes to rests, of the object's own types, on the records that are
-/// reached from its type, on their texts, and on the access string.
+/// The outcome of a type relocation depends, in the object's own table, only on the records that
+/// are reached from its type, on their texts, and on the access string.
 pub fn outcomes_rest()
     ensures { OutcomesRest }
 {

@@ -1,4 +1,4 @@
-//! What type relocations come to in a kernel's types (`bpf_core_calc_relo_insn`,
+//! Resolving type relocations against the kernel's types (`bpf_core_calc_relo_insn`,
 //! tools/lib/bpf/relo_core.c).
 #![tactic(auto)]
 

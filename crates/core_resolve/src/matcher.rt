@@ -1,4 +1,5 @@
-//! Matches of an object's type relocations, for which each of a kernel's tables is gone over once.
+//! Matches of an object's type relocations; each of the kernel's tables is searched once for all of
+//! them.
 
 ghost use Rattle.std.specs.Prelude.{◌≡◌, ◌≢◌, [], true, IfOk, IfErr, IfSome, Ok, Err};
 ghost use Rattle.core_spec.specs.LocalPaths.{local_path};
@@ -24,21 +25,21 @@ use std::alloc::{AllocError, Global};
 use std::collections::BTreeMap;
 use std::marker::Model;
 
-/// An object's own types, and a kernel's, with the candidates of relocations.
+/// An object's own types and the kernel's types, with the candidates for relocations.
 #[derive(Debug)]
 pub struct TypeMatcher<'m> {
     local: &'m Btf<'m>,
     targets: &'m [Btf<'m>],
     candidates: Candidates<'m, 'm>,
-    /// What relocations came to.
+    /// The known outcomes of relocations.
     known: BTreeMap<AccessKey, KnownOutcome>,
-    /// The paths that were found for relocations about fields and variants, by type and access
-    /// string.
+    /// The paths that were found for relocations of fields and variants, by type id and access
+    /// string offset.
     paths: BTreeMap<(u32, u32), KnownPaths>,
 }
 
 impl<'m> Drop for TypeMatcher<'m> {
-    // One call wherever it is dropped, in place of one for each part.
+    // A single call where a value is dropped, instead of one call per field.
     fn drop(self) {
         let TypeMatcher {
             local: _,
@@ -67,7 +68,7 @@ impl<'m> Model for TypeMatcher<'m> {
         × AreKnown m.local.now m.targets.now (values_of m.paths.entries) };
 }
 
-/// The local types of relocations that are looked for in a kernel's types, each once.
+/// The local types of the relocations that are resolved against the kernel's types, each once.
 fn wanted_ids(local: &Btf<'_>, relocations: &[TypeRelocation]) -> Result<Vec<u32>, AllocError> {
     let mut type_ids = Vec::new(local.allocator());
     for relocation in relocations {
@@ -80,7 +81,7 @@ fn wanted_ids(local: &Btf<'_>, relocations: &[TypeRelocation]) -> Result<Vec<u32
     Ok(type_ids)
 }
 
-/// The candidates for a local type that a kind asks for.
+/// The candidates for a local type, in the tables that are searched for a kind of relocation.
 fn candidates_for(
     alloc: Global,
     kind: RelocationKind,
@@ -100,7 +101,8 @@ fn candidates_for(
 }
 
 impl<'m> TypeMatcher<'m> {
-    /// The types of an object and of a kernel. Each relocation goes over the kernel's tables.
+    /// The types of an object and of the kernel. The kernel's tables are searched for each
+    /// relocation.
     #[tactic(auto, using(crate::proofs::KnownOutcomes::none_known, crate::proofs::FoundPaths::no_paths_known))]
     pub fn new(local: &'m Btf<'m>, targets: &'m [Btf<'m>]) -> TypeMatcher<'m>
         ensures { result ≡ record { local = local.now; targets = targets.now } }
@@ -115,8 +117,8 @@ impl<'m> TypeMatcher<'m> {
         }
     }
 
-    /// The types of an object and of a kernel, of which each table is gone over once for all of
-    /// these relocations.
+    /// The types of an object and of the kernel. Each of the kernel's tables is searched once for
+    /// all of these relocations.
     #[tactic(auto, using(crate::proofs::KnownOutcomes::none_known, crate::proofs::FoundPaths::no_paths_known))]
     pub fn collect(
         local: &'m Btf<'m>,
@@ -158,7 +160,7 @@ impl<'m> TypeMatcher<'m> {
         Ok(found)
     }
 
-    /// What `kernel_matches` answers.
+    /// The result of `kernel_matches`.
     #[tactic(auto, using(crate::proofs::WantedCandidates::matches_among, crate::proofs::WantedCandidates::matches_refused))]
     pub fn kernel_matches(
         &self,
@@ -175,7 +177,7 @@ impl<'m> TypeMatcher<'m> {
         matches_of(kind, self.local, path, self.targets, found.as_slice())
     }
 
-    /// The paths in all tables that lead to a part of a local type.
+    /// The paths in all tables that match a path to a part of a local type.
     #[tactic(auto, using(crate::proofs::WantedCandidates::paths_among))]
     fn found_paths(
         &self,
@@ -200,7 +202,7 @@ impl<'m> TypeMatcher<'m> {
         )
     }
 
-    /// The paths that were found for a relocation that asks for the same.
+    /// The paths that were found for a relocation of the same subject, type and access string.
     #[tactic(auto, using(crate::proofs::FoundPaths::paths_known))]
     fn known_paths(&self, relocation: TypeRelocation) -> Option<&[FoundPath]>
         ensures { IfSome result (λ paths.
@@ -216,8 +218,8 @@ impl<'m> TypeMatcher<'m> {
         }
     }
 
-    /// The matches of a relocation about a part of a type, which has this path; the paths in the
-    /// kernel's types are remembered.
+    /// The matches of a relocation of a part of a type, with this path. The paths in the kernel's
+    /// types are stored.
     fn part_matches(
         &mut self,
         relocation: TypeRelocation,
@@ -250,7 +252,7 @@ impl<'m> TypeMatcher<'m> {
         Ok(matches)
     }
 
-    /// The matches of a relocation that has this path.
+    /// The matches of a relocation with this path.
     fn matches(
         &mut self,
         relocation: TypeRelocation,
@@ -274,7 +276,7 @@ impl<'m> TypeMatcher<'m> {
         }
     }
 
-    /// What `relocation_outcome` answers.
+    /// The result of `relocation_outcome`.
     pub(crate) fn found_outcome(
         &mut self,
         relocation: TypeRelocation,
@@ -295,7 +297,7 @@ impl<'m> TypeMatcher<'m> {
         settled(kind, matches.as_slice(), value)
     }
 
-    /// What a relocation came to.
+    /// The outcome of a relocation, if it is known.
     #[tactic(auto, using(crate::proofs::KnownOutcomes::known_outcome))]
     fn known_outcome(&self, relocation: TypeRelocation) -> Option<RelocationOutcome>
         ensures { IfSome result (IsOutcome self.now.local self.now.targets relocation) }
@@ -308,7 +310,7 @@ impl<'m> TypeMatcher<'m> {
         }
     }
 
-    /// What `relocation_outcome` answers; what a relocation came to is remembered.
+    /// The result of `relocation_outcome`, which is stored for equal relocations.
     pub fn relocation_outcome(
         &mut self,
         relocation: TypeRelocation,

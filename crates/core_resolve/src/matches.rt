@@ -1,4 +1,4 @@
-//! The matches of a type relocation in a kernel's tables.
+//! The matches of a type relocation in the kernel's tables.
 
 ghost use Rattle.std.specs.Prelude.{◌≡◌, ◌≢◌, ◌++◌, [], IfOk, IfErr, Ok, Err};
 ghost use Rattle.std.specs.Option.{option_to_list};
@@ -15,19 +15,20 @@ use core_match::matching_path;
 use core_spec::{AccessError, AccessPath, RelocationValue, path_value, subject_of};
 use ebpf_items::RelocationKind;
 
-/// A type of a kernel's that has what a type relocation asks for.
+/// A match of a type relocation: a kernel type in which the relocation has a path.
 #[derive(Clone, Copy, Debug)]
 pub struct Match {
-    /// Which of the kernel's tables it stands in, counted from 0.
+    /// The index of its table among the kernel's tables, from 0.
     pub table: usize,
     pub type_id: u32,
-    /// The bits that the field lies after its beginning.
+    /// The offset of the field from the type's beginning, in bits.
     pub bit_offset: u32,
     /// The relocation's value there, if it can be computed.
     pub value: Option<RelocationValue>,
 }
 
-/// What a path in a table is as a match. A type's size must be computable.
+/// The match of a path in a table. An error where the kind is a type's size and it can't be
+/// computed.
 fn match_of(
     kind: RelocationKind,
     target: &Btf<'_>,
@@ -53,7 +54,7 @@ fn match_of(
     })
 }
 
-/// The match that a candidate in a table is, if it is one.
+/// The match of a candidate in a table, if it matches.
 fn match_in<'t>(
     kind: RelocationKind,
     local: &Btf<'t>,
@@ -74,7 +75,7 @@ fn match_in<'t>(
     Ok(Some(m))
 }
 
-/// The match that a candidate is, if it is one.
+/// The match of a candidate, if it matches.
 fn match_at<'t>(
     kind: RelocationKind,
     local: &Btf<'t>,
@@ -96,7 +97,7 @@ fn match_at<'t>(
     }
 }
 
-/// Adds the match that a candidate is, if it is one.
+/// Adds the match of a candidate, if it matches.
 fn add_match<'t>(
     kind: RelocationKind,
     local: &Btf<'t>,
@@ -141,15 +142,15 @@ pub(crate) fn matches_of<'t>(
     Ok(matches)
 }
 
-/// The matches of a type relocation in a kernel's tables, in order, and in each by id: of the types
-/// of the kind and, flavours aside, of the name of the path's type, those that have what it leads
-/// to. An id of the object's own types has none, and one of a kernel's type is looked for in the
-/// first table alone.
+/// The matches of a type relocation in the kernel's tables, in order of table and then of id: the
+/// types that have the kind of the path's type and its name without flavours, and that match the
+/// path. An id of the object's own types has no matches. For the id of a kernel type, only the
+/// first table is searched.
 ///
-/// `Local` where the local type isn't there or its name can't be read; `UnreadableName` where the
-/// name of a type of the kind can't be read in a table that is searched; `Kernel` where all can be
-/// read, with what a search for the path in a type of the kind and the name answers, or why the
-/// size of a match isn't known, where that is asked for.
+/// `Local` where the local type is missing or its name can't be read; `UnreadableName` where the
+/// name of a type of the kind can't be read in a table that is searched; `Kernel` where all names
+/// can be read, with the error of the search for the path in a type of the kind and the name, or
+/// with the error of the size of a match, where the relocation is for the size.
 pub fn kernel_matches<'t>(
     kind: RelocationKind,
     local: &Btf<'t>,

@@ -1,4 +1,4 @@
-//! Paths in a kernel's types, from which the matches of several kinds are made.
+//! Paths in the kernel's types, from which the matches of several kinds are made.
 
 ghost use Rattle.std.specs.Prelude.{◌≡◌, ◌≢◌, [], map, true, IfOk, IfErr, OnOk, Ok, Err};
 ghost use Rattle.core_resolve.specs.FoundPaths.{AskForOne, IsAdded, is_part, match_from, path_at, paths_of};
@@ -14,10 +14,10 @@ use core_spec::{AccessPath, Subject, path_value, subject_of};
 use ebpf_items::RelocationKind;
 use std::alloc::{AllocError, Global};
 
-/// The way to what is asked for in a type of a kernel's.
+/// The path of a relocation in a kernel type.
 #[derive(Debug, Drop)]
 pub(crate) struct FoundPath {
-    /// Which of the kernel's tables the type stands in, counted from 0.
+    /// The index of the type's table among the kernel's tables, from 0.
     pub(crate) table: usize,
     pub(crate) path: AccessPath,
 }
@@ -39,7 +39,7 @@ pub(crate) fn is_part(subject: Subject) -> bool
     }
 }
 
-/// Whether two relocations ask for the same part of a type, or for the same type.
+/// Whether two relocations have the same subject, type and access string.
 pub(crate) fn ask_for_one(one: TypeRelocation, other: TypeRelocation) -> bool
     ensures { result ≡ true → AskForOne one other }
 {
@@ -52,7 +52,7 @@ pub(crate) fn ask_for_one(one: TypeRelocation, other: TypeRelocation) -> bool
     one.access_str_off == other.access_str_off
 }
 
-/// The path in a candidate, if this has what is asked for.
+/// The path in a candidate, if it matches.
 fn path_at<'t>(
     subject: Subject,
     local: &Btf<'t>,
@@ -78,7 +78,7 @@ fn path_at<'t>(
     }
 }
 
-/// Adds the path in a candidate, if this has what is asked for.
+/// Adds the path in a candidate, if it matches.
 fn add_path<'t>(
     subject: Subject,
     local: &Btf<'t>,
@@ -124,7 +124,7 @@ pub(crate) fn paths_of<'t>(
     Ok(paths)
 }
 
-/// The match that a path is for a kind about parts of types.
+/// The match of a path, for a kind of fields or variants.
 fn match_from(kind: RelocationKind, targets: &[Btf<'_>], found: &FoundPath) -> Match
     ensures { result ≡ match_from kind targets.now found.now }
 {
@@ -140,7 +140,7 @@ fn match_from(kind: RelocationKind, targets: &[Btf<'_>], found: &FoundPath) -> M
     }
 }
 
-/// The matches that paths are for a kind about parts of types.
+/// The matches of paths, for a kind of fields or variants.
 pub(crate) fn matches_from(
     alloc: Global,
     kind: RelocationKind,

@@ -1,4 +1,4 @@
-//! What type relocations come to.
+//! The outcomes of type relocations.
 
 ghost use Rattle.std.specs.Prelude.{◌≡◌, ◌≢◌, IfOk, IfErr, Ok, Err};
 ghost use Rattle.core_resolve.specs.RelocationOutcomes.{IsTableOf, decided, first_table, local_value, relocation_outcome, settled};
@@ -12,28 +12,29 @@ use btf_tables::Btf;
 use core_spec::{AccessError, AccessPath, RelocationValue, WholeField, path_value};
 use ebpf_items::RelocationKind;
 
-/// What a type relocation asks for (`struct bpf_core_relo`, include/uapi/linux/bpf.h).
+/// A type relocation (`struct bpf_core_relo`, include/uapi/linux/bpf.h).
 #[derive(Clone, Copy, Debug, PartialEq, Eq)]
 pub struct TypeRelocation {
     pub kind: RelocationKind,
-    /// The id of a type of the object's own.
+    /// The id of a type in the object's own table.
     pub type_id: u32,
     /// The offset of its access string.
     pub access_str_off: u32,
 }
 
-/// What a type relocation comes to, and what its instruction was compiled for.
+/// The result of a type relocation, and the field that its instruction was compiled for.
 #[derive(Clone, Copy, Debug)]
 pub struct RelocationOutcome {
     pub outcome: Resolved,
-    /// Of a byte offset the field in the object's own types, if it is no bit field.
+    /// For a byte offset, the field in the object's own types, unless it is a bit field.
     pub local_field: Option<WholeField>,
-    /// The kernel's table in which the first match stands, counted from 0, also where its value
+    /// The index from 0 of the kernel's table with the first match, also where the match's value
     /// can't be computed; none without a match, and for an id of the object's own types.
     pub table: Option<usize>,
 }
 
-/// The value in the object's own types; a type's size is asked of the kernel's alone.
+/// The value in the object's own types; 0 for a type's size, which is only computed for the
+/// kernel's types.
 pub(crate) fn local_value(
     local: &Btf<'_>,
     kind: RelocationKind,
@@ -50,7 +51,7 @@ pub(crate) fn local_value(
     }
 }
 
-/// What matches come to; an id of the object's own types is its value there.
+/// The result for some matches; an id of the object's own types has its value there.
 fn decided(
     kind: RelocationKind,
     value: RelocationValue,
@@ -74,7 +75,7 @@ fn first_table(matches: &[Match]) -> Option<usize>
     }
 }
 
-/// What matches come to, with the value in the object's own types.
+/// The outcome for some matches, with the value in the object's own types.
 pub(crate) fn settled(
     kind: RelocationKind,
     matches: &[Match],
@@ -90,13 +91,13 @@ pub(crate) fn settled(
     })
 }
 
-/// What a type relocation comes to in a kernel's tables: the value of what its access string leads
-/// to in the first type of these that has it, and poison where that can't be computed; what
-/// `outcome_of` says where none has it; an id of the object's own types stays as it is.
+/// The outcome of a type relocation in the kernel's tables: the value at the first match, or poison
+/// where it can't be computed; without a match, the result of `outcome_of`. An id of the object's
+/// own types stays as it is.
 ///
-/// `Local` where the access has no place in the object's own types, as `local_path` says, or no
-/// value there; `UnreadableName` and `Kernel` as `kernel_matches` says; `ConflictingCandidates` and
-/// `MissingTargetDefinition` as `outcome_of` says.
+/// `Local` where the access has no path in the object's own types, with the error of `local_path`,
+/// or no value there; `UnreadableName` and `Kernel` as for `kernel_matches`;
+/// `ConflictingCandidates` and `MissingTargetDefinition` as for `outcome_of`.
 pub fn relocation_outcome<'t>(
     local: &Btf<'t>,
     relocation: TypeRelocation,

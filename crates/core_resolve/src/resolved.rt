@@ -1,4 +1,4 @@
-//! What matches come to.
+//! The results for matches.
 
 ghost use Rattle.std.specs.Prelude.{◌≡◌, filter, not, IfOk};
 ghost use Rattle.std.specs.List.{list_all};
@@ -10,7 +10,7 @@ use core_spec::RelocationValue;
 use ebpf_items::RelocationKind;
 use std::alloc::{AllocError, Global};
 
-/// What a type relocation comes to.
+/// The result of a type relocation.
 #[derive(Clone, Copy, Debug)]
 pub enum Resolved {
     /// This value.
@@ -19,7 +19,7 @@ pub enum Resolved {
     Poison,
 }
 
-/// Without a match.
+/// The result without a match.
 fn no_match(kind: RelocationKind) -> Result<Resolved, TypeRelocationError>
     ensures { result ≡ no_match kind }
 {
@@ -37,7 +37,7 @@ fn no_match(kind: RelocationKind) -> Result<Resolved, TypeRelocationError>
     }
 }
 
-/// Whether two matches have one bit offset, and one value where both have one.
+/// Whether two matches have the same bit offset, and the same value where both have one.
 fn agree(first: Match, other: Match) -> bool
     ensures { result ≡ agree first other }
 {
@@ -57,7 +57,7 @@ fn all_agree(first: Match, others: &[Match]) -> bool
     others.iter().all(|other| agree(first, *other))
 }
 
-/// What the first of several matches comes to.
+/// The result for the first match.
 fn of_first(first: Match) -> Resolved
     ensures { result ≡ of_first first }
 {
@@ -67,13 +67,13 @@ fn of_first(first: Match) -> Resolved
     }
 }
 
-/// What a type relocation comes to that has these matches, in the order of tables and ids: the
-/// first's value, or poison where that can't be computed. Without a match what is asked for isn't
-/// there, which is 0 for the kinds that ask whether it is, and poison for others.
+/// The result of a type relocation with these matches, in order of table and then of id: the value
+/// of the first match, or poison where that can't be computed. Without a match, the result is 0 for
+/// the kinds of existence, and poison for others.
 ///
-/// `ConflictingCandidates` where another match has another bit offset, or another value where both
-/// can be computed; `MissingTargetDefinition` where the id or the size of a type is asked for that
-/// isn't there.
+/// `ConflictingCandidates` where another match has another bit offset than the first, or another
+/// value where both can be computed; `MissingTargetDefinition` for the id or the size of a type
+/// without a match.
 pub fn outcome_of(kind: RelocationKind, matches: &[Match]) -> Result<Resolved, TypeRelocationError>
     ensures { result ≡ outcome_of kind matches.now }
 {
@@ -87,7 +87,7 @@ pub fn outcome_of(kind: RelocationKind, matches: &[Match]) -> Result<Resolved, T
     }
 }
 
-/// The matches that don't agree with one.
+/// The matches that don't agree with `first`.
 #[tactic(auto, using(crate::proofs::DifferingMatches::conflict_on, crate::proofs::DifferingMatches::conflict_past, crate::proofs::DifferingMatches::conflict_end))]
 fn differing(alloc: Global, first: Match, others: &[Match]) -> Result<Vec<Match>, AllocError>
     ensures { IfOk result (λ found.
@@ -102,7 +102,7 @@ fn differing(alloc: Global, first: Match, others: &[Match]) -> Result<Vec<Match>
     Ok(found)
 }
 
-/// The matches that don't agree with the first, in order: those for which `outcome_of` answers
+/// The matches that don't agree with the first, in order. Because of these, `outcome_of` returns
 /// `ConflictingCandidates`.
 pub fn conflicts(alloc: Global, matches: &[Match]) -> Result<Vec<Match>, AllocError>
     ensures { IfOk result (λ found. found.items ≡ conflicts matches.now) }

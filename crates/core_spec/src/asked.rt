@@ -1,4 +1,4 @@
-//! What a type relocation asks for, as text.
+//! Type relocations as text.
 
 ghost use Rattle.std.specs.Prelude.{◌≡◌, ◌↔◌, IsTrue};
 ghost use Rattle.core_spec.specs.declared.error.AccessError.TheVariants.{BtfError as TypeError};
@@ -12,7 +12,7 @@ use btf_tables::Btf;
 use ebpf_items::RelocationKind;
 use std::alloc::{AllocError, Global};
 
-/// What a kind of type relocations asks of a field, a type or a variant.
+/// The property of a field, a type or a variant, by the kind of type relocation.
 fn kind_text(kind: RelocationKind) -> &'static str {
     match kind {
         RelocationKind::FieldByteOffset => "byte offset of ",
@@ -30,14 +30,14 @@ fn kind_text(kind: RelocationKind) -> &'static str {
     }
 }
 
-/// Whether memory ran out, which says nothing of the access.
+/// Whether memory ran out, which isn't an error of the access.
 fn is_want_of_memory(error: &AccessError) -> bool
     ensures { IsTrue result ↔ (error.now ≡ TypeError OutOfMemory) }
 {
     matches!(error, AccessError::BtfError(BtfError::OutOfMemory))
 }
 
-/// Appends a type and the access string, of an access that leads to nothing.
+/// Appends the type and the access string of an access without a path.
 fn push_unread(
     alloc: Global,
     text: &mut String,
@@ -52,9 +52,9 @@ fn push_unread(
     }
 }
 
-/// What a type relocation asks for by a table, the types that its program was compiled against: the
-/// kind in words, and the type with the members, elements or the variant that the access leads to.
-/// Of an access that leads to nothing it has the access string.
+/// The text of a type relocation: the kind in words, and the type with the members, the elements or
+/// the variant of the access. `table` has the types that the program was compiled against. For an
+/// access without a path, the text has the access string instead.
 pub fn relocation_text(
     alloc: Global,
     table: &Btf<'_>,

@@ -1,4 +1,4 @@
-//! Why an access has no place.
+//! The errors of accesses.
 
 ghost use Rattle.std.specs.Prelude.{◌≡◌};
 ghost use Rattle.core_spec.specs.declared.error.AccessError.TheVariants.{BtfError as TypeError};
@@ -9,24 +9,24 @@ use btf_records::BtfError;
 use std::alloc::{AllocError, AllocFailed};
 use thiserror::Error;
 
-/// Why an access of a type relocation has no place in a type, or no value.
+/// Why an access of a type relocation has no path in a type, or no value.
 #[derive(Debug, Drop, Error)]
 pub enum AccessError {
     /// The access string isn't one or more numbers of 64 bits joined by `:`, or has other numbers
-    /// than the kind of the relocation calls for.
+    /// than the kind of the relocation requires.
     #[error("invalid access string")]
     InvalidAccessString,
-    /// The access string counts past the members, elements or variants of a type, which are so
-    /// many.
+    /// An index in the access string is past the members, elements or variants of a type, of which
+    /// there are `len`.
     #[error("index {} is out of bounds, length {len}", .place.index)]
     InvalidAccessIndex { place: Place, len: usize },
-    /// The access, or the kind of the relocation, doesn't go with this type.
+    /// The access, or the kind of the relocation, isn't allowed for this type.
     #[error("no access of this kind to BTF type id {type_id}")]
     InvalidRelocationKindForType { type_id: u32 },
-    /// A path has too many parts, or a struct or union is met inside itself.
+    /// A path has too many parts, or a struct or union contains itself.
     #[error("maximum nesting level reached")]
     MaximumNestingLevelReached,
-    /// The types can't be read so, or memory ran out.
+    /// The types can't be read, or memory ran out.
     #[error("{0}")]
     BtfError(BtfError),
 }

@@ -1,36 +1,37 @@
-//! Where a field is read from.
+//! The bytes and bits of a field.
 
 ghost use Rattle.std.specs.Prelude.{◌≡◌, ◌<◌, ◌+◌, ◌*◌, ◌/◌, ◌^◌, IfSome};
 ghost use Rattle.core_spec.specs.Extents.{bit_field_extent, extent_of, fits_unit, unit_of};
 
-/// No type has more units to try: one of a byte has 1, 2, 4 and 8 bytes.
+/// The greatest number of units that are tried for a type: for a type of 1 byte, units of 1, 2, 4
+/// and 8 bytes.
 const UNITS: u32 = 4;
 
-/// What a member says of its field.
+/// The field of a member.
 #[derive(Clone, Copy, Debug)]
 pub(crate) struct Field {
     /// The id of its type, after modifiers.
     pub(crate) type_id: u32,
     /// The size of its type in bytes.
     pub(crate) size: u32,
-    /// The bits of a bit field; 0 where it is none.
+    /// The size of a bit field in bits; 0 where it isn't a bit field.
     pub(crate) bit_size: u32,
 }
 
 /// The bytes that hold a field, and its bits in them.
 #[derive(Clone, Copy)]
 pub(crate) struct Extent {
-    /// The first byte.
+    /// The offset of the first byte.
     pub(crate) byte_offset: u64,
-    /// How many bytes.
+    /// The number of bytes.
     pub(crate) byte_size: u32,
-    /// The bits before the field.
+    /// The number of bits before the field.
     pub(crate) start: u64,
-    /// The bits of the field.
+    /// The number of bits of the field.
     pub(crate) bits: u64,
 }
 
-/// Whether a bit field fits the aligned unit of bytes in which it begins.
+/// Whether a bit field fits in the aligned unit of `unit` bytes where it begins.
 fn fits_unit(at: u32, bits: u32, unit: u32) -> bool
     requires { 0 < unit }
     ensures { result ≡ fits_unit at bits unit }
@@ -39,8 +40,9 @@ fn fits_unit(at: u32, bits: u32, unit: u32) -> bool
     u64::from(at) % unit_bits + u64::from(bits) <= unit_bits
 }
 
-/// The bytes of the least aligned unit for a bit field of a type of a size: of the type, or doubled
-/// until the field fits. One of 8 bytes or more isn't doubled.
+/// The size in bytes of the least aligned unit that a bit field fits in. The first unit has the
+/// size of the field's type, and each further one twice the size of the one before. A unit of 8
+/// bytes or more isn't doubled.
 #[tactic(auto, using(crate::proofs::Units::no_rounds, crate::proofs::Units::fitting_unit, crate::proofs::Units::large_unit, crate::proofs::Units::next_unit))]
 fn unit_of(size: u32, at: u32, bits: u32) -> Option<u32>
     ensures value { result ≡ unit_of size at bits }
@@ -62,7 +64,7 @@ fn unit_of(size: u32, at: u32, bits: u32) -> Option<u32>
     None
 }
 
-/// The first byte of the aligned unit that a bit lies in.
+/// The offset of the first byte of the aligned unit that a bit is in.
 fn unit_start(at: u32, unit: u32) -> u64
     requires { 0 < unit }
     ensures { result ≡ at / (8 * unit) * unit }
@@ -70,7 +72,7 @@ fn unit_start(at: u32, unit: u32) -> u64
     u64::from(at) / (8 * u64::from(unit)) * u64::from(unit)
 }
 
-/// The extent of a bit field in a unit of a number of bytes.
+/// The extent of a bit field in a unit of `unit` bytes.
 fn bit_field_extent(unit: u32, at: u32, bits: u32) -> Extent
     requires { 0 < unit }
     ensures { result ≡ bit_field_extent unit at bits }
@@ -83,8 +85,7 @@ fn bit_field_extent(unit: u32, at: u32, bits: u32) -> Extent
     }
 }
 
-/// The extent of a field that lies a number of bits after the beginning; none where a bit field has
-/// no unit.
+/// The extent of a field at the offset `at`, in bits; none where a bit field has no unit.
 pub(crate) fn extent_of(field: Field, at: u32) -> Option<Extent>
     ensures value { result ≡ extent_of field at }
     ensures few { IfSome result (λ extent. extent.start + extent.bits < 2 ^ 64) }

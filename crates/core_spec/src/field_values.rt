@@ -12,7 +12,7 @@ use btf_records::{BtfError, BtfKind, IntEncoding};
 use btf_tables::Btf;
 use ebpf_items::RelocationKind;
 
-/// A field that is no bit field: an instruction that loads it has its size.
+/// A field that isn't a bit field: an instruction that loads it has its size.
 #[derive(Clone, Copy, Debug)]
 pub struct WholeField {
     /// The id of its type, after modifiers.
@@ -28,9 +28,9 @@ pub(crate) fn plain(value: u64) -> RelocationValue
     RelocationValue { value, field: None }
 }
 
-/// What is left of 64 bits.
+/// The difference of 64 and a number of bits.
 ///
-/// `BtfError::InvalidTypeInfo` where these are more.
+/// `BtfError::InvalidTypeInfo` where there are more than 64 bits.
 fn shift_past(bits: u64) -> Result<RelocationValue, AccessError>
     ensures { result ≡ shift_past bits }
 {
@@ -40,7 +40,7 @@ fn shift_past(bits: u64) -> Result<RelocationValue, AccessError>
     }
 }
 
-/// The value of an element of a type, which lies a number of bits after the beginning.
+/// The value of an element at the offset `at`, in bits.
 pub(crate) fn element_value(
     table: &Btf<'_>,
     kind: RelocationKind,
@@ -65,7 +65,7 @@ pub(crate) fn element_value(
     }
 }
 
-/// Whether numbers of a type are signed.
+/// Whether a type's numbers are signed.
 fn is_signed(t: &TypeRef<'_>) -> bool
     ensures { result ≡ is_signed t.now }
 {
@@ -79,7 +79,7 @@ fn is_signed(t: &TypeRef<'_>) -> bool
     }
 }
 
-/// What a member says of its field.
+/// The field of a member.
 fn field_at(table: &Btf<'_>, place: Place) -> Result<Field, AccessError>
     ensures { result ≡ field_at table.now place }
 {
@@ -98,7 +98,7 @@ fn field_at(table: &Btf<'_>, place: Place) -> Result<Field, AccessError>
     })
 }
 
-/// The value of a field that these bytes hold.
+/// The value of a field with this extent.
 fn of_extent(
     table: &Btf<'_>,
     kind: RelocationKind,
@@ -133,7 +133,7 @@ fn of_extent(
     }
 }
 
-/// The value of a member, which lies a number of bits after the beginning.
+/// The value of a member at the offset `at`, in bits.
 pub(crate) fn member_value(
     table: &Btf<'_>,
     kind: RelocationKind,

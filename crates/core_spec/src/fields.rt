@@ -12,24 +12,24 @@ use btf_encoding::TypeRef;
 use btf_records::{BtfArray, BtfError, BtfKind, BtfMember};
 use btf_tables::Btf;
 
-/// How far a path has come.
+/// The state of a path after some numbers.
 #[derive(Clone, Copy)]
 pub(crate) struct Reached {
-    /// The id of the type of what it has come to.
+    /// The id of the type that it has reached.
     pub(crate) type_id: u32,
     pub(crate) last: Step,
-    /// The bits so far, where 32 bits hold them.
+    /// The offset so far in bits, if it fits in 32 bits.
     pub(crate) bits: Option<u32>,
 }
 
-/// How far a path has come with another number, and the step that this makes.
+/// The state of a path after another number, and the step of that number.
 #[derive(Clone, Copy)]
 pub(crate) struct Advance {
     pub(crate) reached: Reached,
     pub(crate) step: Option<Step>,
 }
 
-/// Some more bits after others, where 32 bits hold the sum.
+/// The sum of two numbers of bits, if it fits in 32 bits.
 pub fn bits_after(bits: Option<u32>, more: u64) -> Option<u32>
     ensures { result ≡ bits_after bits more }
 {
@@ -40,7 +40,7 @@ pub fn bits_after(bits: Option<u32>, more: u64) -> Option<u32>
     }
 }
 
-/// The bits of a number of elements of a size in bytes after others, where 32 bits hold the sum.
+/// The sum of `bits` and the bits of `count` elements of `size` bytes, if it fits in 32 bits.
 pub fn elements_after(bits: Option<u32>, count: u64, size: u32) -> Option<u32>
     ensures { result ≡ bits_after bits (8 * (count * size)) }
 {
@@ -61,8 +61,9 @@ fn ends_with(t: &TypeRef<'_>, index: u64) -> bool
     }
 }
 
-/// Whether an array has an element of this index, or, without elements, is the last member of a
-/// struct, which is as long as what it stands in has room for. `last` is the step before.
+/// Whether an array has an element at this index. An array without elements that is the last member
+/// of a struct has one at each index: it is as long as the memory around the struct has room for.
+/// `last` is the step before.
 pub fn is_in_array(table: &Btf<'_>, len: u32, last: Step, index: u64) -> bool
     ensures { result ≡ is_in_array table.now len last index }
 {
@@ -76,7 +77,8 @@ pub fn is_in_array(table: &Btf<'_>, len: u32, last: Step, index: u64) -> bool
     }
 }
 
-/// The first number counts elements of the type without modifiers that a path begins with.
+/// The state of a path after its first number, the index of an element of the type `root` without
+/// modifiers.
 fn begun(table: &Btf<'_>, root: u32, index: u64) -> Result<Reached, AccessError>
     ensures { result ≡ begun table.now root index }
 {
@@ -91,7 +93,7 @@ fn begun(table: &Btf<'_>, root: u32, index: u64) -> Result<Reached, AccessError>
     })
 }
 
-/// The step to a member of the struct or union of an id; a member without a name makes none.
+/// The step to a member of a struct or union; none for a member without a name.
 fn member_step(
     table: &Btf<'_>,
     place: Place,
@@ -106,7 +108,7 @@ fn member_step(
     Ok(Some(Step::Member(place)))
 }
 
-/// On to a member of a struct or union.
+/// The state of a path after a step to a member of a struct or union.
 fn to_member(
     table: &Btf<'_>,
     from: Reached,
@@ -132,7 +134,7 @@ fn to_member(
     })
 }
 
-/// On to an element of an array.
+/// The state of a path after a step to an element of an array.
 fn to_element(
     table: &Btf<'_>,
     from: Reached,
@@ -163,7 +165,7 @@ fn to_element(
     })
 }
 
-/// How far a path comes with the next number.
+/// The state of a path after the next number.
 fn advanced(table: &Btf<'_>, from: Reached, index: u64) -> Result<Advance, AccessError>
     ensures { result ≡ advanced table.now from index }
 {
@@ -179,7 +181,7 @@ fn advanced(table: &Btf<'_>, from: Reached, index: u64) -> Result<Advance, Acces
     }
 }
 
-/// Goes on by a number, and adds the step that this makes.
+/// The state of a path after the next number; its step is added to `steps`.
 fn go_on(
     table: &Btf<'_>,
     from: Reached,
@@ -198,7 +200,7 @@ fn go_on(
     Ok(next)
 }
 
-/// The path at its end.
+/// The path with these steps, at its end.
 fn ended(type_id: u32, steps: Steps, bits: Option<u32>) -> Result<AccessPath, AccessError>
     ensures { result ≡ ended type_id steps bits }
 {
@@ -212,7 +214,7 @@ fn ended(type_id: u32, steps: Steps, bits: Option<u32>) -> Result<AccessPath, Ac
     }
 }
 
-/// The path that goes on from its first step by these numbers.
+/// The path with this first step and these further numbers.
 #[tactic(auto, using(crate::proofs::FieldPaths::path_done, crate::proofs::FieldPaths::path_more))]
 fn path_from(
     table: &Btf<'_>,
@@ -236,12 +238,12 @@ fn path_from(
     ended(type_id, steps, reached.bits)
 }
 
-/// The path to a field along the numbers of an access string, from a type of which the other id is
-/// the one without modifiers.
+/// The path to a field by the numbers of an access string. `root` is the id of the type without its
+/// modifiers.
 ///
-/// `InvalidAccessIndex` and `InvalidRelocationKindForType` where it leads nowhere,
-/// `BtfError::InvalidTypeInfo` where the field lies 2^32 bits or more after the type's beginning,
-/// and what the look-ups of sizes, names and types on the way answer.
+/// `InvalidAccessIndex` where an index is out of bounds, `InvalidRelocationKindForType` where a
+/// type has neither members nor elements, `BtfError::InvalidTypeInfo` where the field's offset is
+/// 2^32 bits or more, and the errors of the look-ups of sizes, names and types on the path.
 pub(crate) fn field_path(
     table: &Btf<'_>,
     type_id: u32,

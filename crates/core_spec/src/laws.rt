@@ -3,18 +3,19 @@
 
 ghost use Rattle.core_spec.specs.Laws.{LookupsRest, PathsRest, ValuesRest};
 
-/// What is looked up at types rests on the records that are reached from these, and on their texts.
+/// Look-ups at types depend only on the records that are reached from the types, and on their
+/// texts.
 pub fn lookups_rest()
     ensures { LookupsRest }
 {}
 
-/// The path of an access rests on the records that are reached from its type, on their texts, and
-/// on the access string.
+/// The path of an access depends only on the records that are reached from its type, on their
+/// texts, and on the access string.
 pub fn paths_rest()
     ensures { PathsRest }
 {}
 
-/// The value of a path rests on the records that the path reaches.
+/// The value of a path depends only on the records that the path reaches.
 pub fn values_rest()
     ensures { ValuesRest }
 {

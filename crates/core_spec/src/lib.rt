@@ -1,7 +1,7 @@
-//! Where the accesses of type relocations go, and what they say: access strings, walked through the
-//! types that a program was compiled against (`struct bpf_core_relo` in the kernel's
+//! The paths of type relocations and their values: the paths of access strings through the types
+//! that a program was compiled against (`struct bpf_core_relo` in the kernel's
 //! `include/uapi/linux/bpf.h`; `bpf_core_parse_spec`, tools/lib/bpf/relo_core.c), and the values of
-//! such paths through types (`bpf_core_calc_field_relo`, `bpf_core_calc_type_relo` and
+//! such paths (`bpf_core_calc_field_relo`, `bpf_core_calc_type_relo` and
 //! `bpf_core_calc_enumval_relo`, in the same file).
 #![tactic(auto)]
 

@@ -51,7 +51,7 @@ fn variant_path(
     })
 }
 
-/// The path of a subject along the numbers of an access string.
+/// The path of a subject by the numbers of an access string.
 fn path_of(
     subject: Subject,
     table: &Btf<'_>,
@@ -71,17 +71,17 @@ fn path_of(
     }
 }
 
-/// The path of a type relocation through the types that its program was compiled against: of a kind
-/// about fields to the field, of one about variants to the variant, and of the others to the whole
-/// type (`bpf_core_parse_spec`, tools/lib/bpf/relo_core.c).
+/// The path of a type relocation through the types that its program was compiled against: to the
+/// field for the kinds of fields, to the variant for the kinds of variants, and to the whole type
+/// for the others (`bpf_core_parse_spec`, tools/lib/bpf/relo_core.c).
 ///
-/// Its type's name and the access string are read, and the type is looked up after its modifiers:
-/// `BtfError` where that fails. `InvalidAccessString` where the access string isn't numbers of 64
-/// bits joined by `:`, or isn't the one number 0 for a whole type, or one number for a variant;
-/// `InvalidAccessIndex` where it counts past what a type has, and `InvalidRelocationKindForType`
-/// where a type has nothing to count. An array without elements that is the last member of a struct
-/// may be counted in past its end. `BtfError::InvalidTypeInfo` where a field lies 2^32 bits or more
-/// after the type's beginning.
+/// `BtfError` where the type's name, the access string, or the type after its modifiers can't be
+/// read. `InvalidAccessString` where the access string isn't numbers of 64 bits joined by `:`, or
+/// isn't the one number 0 for a whole type, or one number for a variant. `InvalidAccessIndex` where
+/// an index is past the members, elements or variants of a type; an array without elements that is
+/// the last member of a struct may have any index. `InvalidRelocationKindForType` where a type has
+/// no members, elements or variants. `BtfError::InvalidTypeInfo` where a field's offset is 2^32
+/// bits or more.
 pub fn local_path(
     table: &Btf<'_>,
     kind: RelocationKind,

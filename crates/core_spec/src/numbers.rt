@@ -8,7 +8,7 @@ ghost use Rattle.btf_records.specs.declared.error.BtfError.TheVariants.{OutOfMem
 use crate::error::AccessError;
 use std::alloc::Global;
 
-/// The number of 64 bits that a text writes in base ten, after a `+` or none.
+/// The 64-bit number of a text in decimal digits, after an optional `+`.
 #[tactic(auto, using(crate::proofs::AccessStrings::parsed_number))]
 fn number_in(text: &str) -> Option<u64>
     ensures { result ≡ number_in text.now }

@@ -5,7 +5,7 @@ ghost use Rattle.std.specs.Prelude.{◌≡◌, ◌-◌, ◌++◌, ◌∷◌, [],
 use std::alloc::{AllocError, AllocFailed, Global};
 use std::marker::Model;
 
-/// A number that counts something in a type.
+/// A member, an element or a variant of a type, by its index.
 #[derive(Clone, Copy, Debug)]
 pub struct Place {
     /// The type's id, after modifiers.
@@ -16,9 +16,9 @@ pub struct Place {
 /// A step of a path.
 #[derive(Clone, Copy, Debug)]
 pub enum Step {
-    /// A number of elements of a type on.
+    /// To the element of a type at an index.
     Element(Place),
-    /// To a member with a name of a struct or union.
+    /// To a member of a struct or union that has a name.
     Member(Place),
     /// To a variant of an enum, or of a union that stands for one.
     Variant(Place),
@@ -64,7 +64,7 @@ impl Steps {
         self.steps.as_slice()
     }
 
-    /// The step at which the path ends.
+    /// The last step of the path.
     pub fn last(&self) -> Option<Step>
         ensures { result ≡ slice_get self.now (length self.now - 1) }
     {
@@ -72,14 +72,15 @@ impl Steps {
     }
 }
 
-/// The way to a part of a type, or to the whole type.
+/// A path to a part of a type, or to the whole type.
 #[derive(Debug, Drop)]
 pub struct AccessPath {
-    /// The id of the type with which it begins.
+    /// The id of the type that it begins with.
     pub type_id: u32,
-    /// Its steps: of a path to a field the elements and the members with names, of one to a variant
-    /// that variant, of one to the whole type none.
+    /// Its steps: the elements and the members with names for a path to a field, one variant for a
+    /// path to a variant, and none for a path to the whole type.
     pub steps: Steps,
-    /// The bits that its field lies after the type's beginning; 0 where it leads to no field.
+    /// The offset of its field from the type's beginning, in bits; 0 for a path that isn't to a
+    /// field.
     pub bit_offset: u32,
 }

@@ -1,4 +1,4 @@
-//! Types and paths through them, as C writes them.
+//! Types and paths through them, in the form of C.
 
 use crate::path::{AccessPath, Place, Step};
 use crate::variants::variant_name;
@@ -7,10 +7,10 @@ use btf_records::BtfKind;
 use btf_tables::Btf;
 use std::alloc::{AllocError, Global};
 
-/// What stands for a name that is empty or can't be read.
+/// The text for a name that is empty or can't be read.
 const ANONYMOUS: &str = "<anonymous>";
 
-/// The keyword before the name of a type of a kind.
+/// The keyword before the name of a type, by its kind.
 fn keyword(kind: BtfKind) -> &'static str {
     match kind {
         BtfKind::Struct => "struct ",
@@ -42,7 +42,7 @@ pub(crate) fn push_type(
     push_name(text, table, t.name_offset())
 }
 
-/// Where the name of a member stands among a table's strings.
+/// The name offset of a member.
 fn member_name(t: &TypeRef<'_>, index: usize) -> Option<u32> {
     Some(t.member(index)?.name_offset)
 }
@@ -61,7 +61,7 @@ fn push_part(
     }
 }
 
-/// The record of the type in which a place is counted.
+/// The record of the type of a place.
 fn record_at<'t>(table: &'t Btf<'_>, place: Place) -> Option<TypeRef<'t>> {
     table.type_by_id(place.type_id).ok()
 }
@@ -88,8 +88,7 @@ fn push_step(
     }
 }
 
-/// Appends a path: its type and its steps. The first element of what begins with the type isn't
-/// mentioned.
+/// Appends a path: its type and its steps. A first step to element 0 is left out.
 pub(crate) fn push_path(
     alloc: Global,
     text: &mut String,

@@ -1,11 +1,11 @@
-//! What kinds of type relocations are about.
+//! The subjects of type relocations.
 
 ghost use Rattle.std.specs.Prelude.{◌≡◌};
 ghost use Rattle.core_spec.specs.Subjects.{subject_of};
 
 use ebpf_items::RelocationKind;
 
-/// What a type relocation is about.
+/// The subject of a type relocation.
 #[derive(Clone, Copy, Debug, PartialEq, Eq)]
 pub enum Subject {
     /// A part of a type.
@@ -16,7 +16,7 @@ pub enum Subject {
     Variant,
 }
 
-/// What a kind of type relocations is about.
+/// The subject of a kind of type relocation.
 pub fn subject_of(kind: RelocationKind) -> Subject
     ensures { result ≡ subject_of kind }
 {

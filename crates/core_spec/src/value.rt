@@ -10,15 +10,15 @@ use crate::variant_values::variant_value;
 use btf_tables::Btf;
 use ebpf_items::RelocationKind;
 
-/// What a type relocation's path comes to.
+/// The value of a type relocation's path.
 #[derive(Clone, Copy, Debug)]
 pub struct RelocationValue {
     pub value: u64,
-    /// Of a byte offset the field that is there, if it is no bit field.
+    /// For a byte offset, the field at that offset, unless it is a bit field.
     pub field: Option<WholeField>,
 }
 
-/// The value of a path to a field, for the kinds that ask where it is or what it is like.
+/// The value of a path to a field, for the kinds of a field's offset, size, sign and shifts.
 fn field_value(
     table: &Btf<'_>,
     kind: RelocationKind,
@@ -61,16 +61,16 @@ fn enum_value(table: &Btf<'_>, path: &AccessPath) -> Result<RelocationValue, Acc
     }
 }
 
-/// The value that a kind of type relocations asks of a path through a table's types: of a field its
-/// offset, its size, whether it is signed, or how far it is to be shifted in 64 bits, of a type its
-/// id or its size, of a variant its value, and 1 where it is asked whether something is there.
+/// The value of a path through a table's types, by the kind of type relocation: a field's offset or
+/// size in bytes, whether it is signed, or its shift in 64 bits; a type's id or its size in bytes;
+/// a variant's value; and 1 for the existence of a field, a type or a variant.
 ///
-/// A bit field is read in the least aligned unit that it fits: its type's size, doubled as long as
-/// it is below 8 bytes.
+/// The offset and size of a bit field are those of the least aligned unit that it fits in. The unit
+/// has the size of the field's type, doubled as often as needed while it is below 8 bytes.
 ///
-/// `InvalidRelocationKindForType` where an element is asked for more than its offset and size,
-/// `BtfError::InvalidTypeInfo` where a bit field has no unit, a size doesn't fit 32 bits, or a
-/// shift would be negative, and what the look-ups of sizes and types answer.
+/// `InvalidRelocationKindForType` for the sign or a shift of an element,
+/// `BtfError::InvalidTypeInfo` where a bit field has no unit, a size doesn't fit in 32 bits, or a
+/// shift would be negative, and the errors of the look-ups of sizes and types.
 pub fn path_value(
     table: &Btf<'_>,
     kind: RelocationKind,

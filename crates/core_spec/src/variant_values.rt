@@ -6,7 +6,7 @@ ghost use Rattle.core_spec.specs.VariantValues.{sign_extended, variant_value};
 use btf_encoding::TypeRef;
 use btf_records::BtfKind;
 
-/// The number of 64 bits that is, as a signed one, a signed number of 32 bits.
+/// A 32-bit number, sign-extended to 64 bits.
 fn sign_extended(value: u32) -> u64
     ensures { result ≡ sign_extended value }
 {

@@ -9,7 +9,7 @@ use btf_encoding::TypeRef;
 use btf_records::BtfKind;
 use btf_tables::Btf;
 
-/// How many variants an enum, or a union that stands for one, has.
+/// The number of variants of an enum, or of a union that stands for one.
 pub fn variant_count(t: &TypeRef<'_>) -> Option<usize>
     ensures { result ≡ variant_count t.now }
 {
@@ -20,7 +20,7 @@ pub fn variant_count(t: &TypeRef<'_>) -> Option<usize>
     }
 }
 
-/// The offset of the name of a variant of an enum, or of a union that stands for one.
+/// The name offset of a variant of an enum, or of a union that stands for one.
 pub fn variant_name(t: &TypeRef<'_>, index: usize) -> Option<u32>
     ensures { result ≡ variant_name t.now index }
 {
@@ -35,10 +35,10 @@ pub fn variant_name(t: &TypeRef<'_>, index: usize) -> Option<u32>
     }
 }
 
-/// The variant that the numbers of an access string lead to from a type without modifiers.
+/// The variant for the numbers of an access string, in the type `root` without modifiers.
 ///
-/// `InvalidRelocationKindForType` where the type is no enum, `InvalidAccessString` where the
-/// numbers aren't one, `InvalidAccessIndex` where the enum has no such variant,
+/// `InvalidRelocationKindForType` where the type isn't an enum, `InvalidAccessString` where there
+/// isn't exactly one number, `InvalidAccessIndex` where the enum has no such variant,
 /// `InvalidStringOffset` where its name can't be read.
 pub(crate) fn variant_place(
     table: &Btf<'_>,

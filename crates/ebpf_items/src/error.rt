@@ -1,4 +1,4 @@
-//! What is wrong with an object file.
+//! The errors of object files.
 
 ghost use Rattle.std.specs.Prelude.{◌≡◌};
 ghost use Rattle.ebpf_items.specs.declared.error.ParseError.TheVariants.{ElfError, OutOfMemory};
@@ -43,11 +43,11 @@ pub enum ParseError {
     /// A function begins below its section's address, its bytes lie outside the section, or they
     /// aren't whole instruction slots.
     InvalidProgramCode,
-    /// A map's definition doesn't fit its section, or its size doesn't fit 32 bits.
+    /// A map's definition doesn't fit in its section, or its size doesn't fit in 32 bits.
     InvalidMapDefinition {
         name: String,
     },
-    /// Two functions of a section begin at one address, as their symbols give it.
+    /// Two functions of a section begin at the same address, by their symbols.
     SymbolTableConflict {
         section_index: usize,
         address: u64,
@@ -66,14 +66,14 @@ pub enum ParseError {
     SymbolNotFound {
         name: String,
     },
-    /// A global variable's value doesn't fit its symbol, or the symbol lies outside its map. Both
-    /// sizes are in bytes: the symbol's and the value's.
+    /// The size of a global variable's value isn't that of its symbol, or the symbol lies outside
+    /// its map. Both sizes are in bytes.
     InvalidGlobalData {
         name: String,
         sym_size: u64,
         data_size: usize,
     },
-    /// No map is made of this section. `index` counts the section headers; 0 stands for no section.
+    /// No map is made of this section. `index` counts the section headers; 0 means no section.
     MapNotFound {
         index: usize,
     },
@@ -81,17 +81,17 @@ pub enum ParseError {
     MapSymbolNameNotFound {
         i: usize,
     },
-    /// No symbol lies in this section.
+    /// No symbol is in this section.
     NoSymbolsForSection {
         section_name: String,
     },
-    /// Maps are defined by types, and the object has none.
+    /// Maps are defined by types, and the object has no type information.
     NoBTF,
     /// Memory ran out.
     OutOfMemory,
 }
 
-/// The forms that the texts of faults have.
+/// The forms of the error messages.
 enum Form<'a> {
     Text(&'a str),
     /// A text before a name, and one after it.
@@ -110,7 +110,7 @@ enum Form<'a> {
     Sizes(&'a str, usize, u64),
 }
 
-/// The text of a fault, in its form.
+/// The message of an error, in its form.
 fn form_of(error: &ParseError) -> Form<'_> {
     match error {
         ParseError::ElfError(error) => Form::Elf(error),
@@ -201,7 +201,7 @@ impl From<ElfError> for ParseError {
     }
 }
 
-/// Out of memory stays out of memory.
+/// An `OutOfMemory` of types becomes the `OutOfMemory` here.
 impl From<BtfError> for ParseError {
     ghost from_gives = { λ error e. e ≡ parse_error_of error };
 

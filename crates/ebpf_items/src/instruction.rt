@@ -30,7 +30,7 @@ pub struct bpf_insn {
 }
 
 impl bpf_insn {
-    /// The slot that eight bytes encode, little-endian.
+    /// The slot that eight little-endian bytes encode.
     pub fn from_bytes(bytes: [u8; 8]) -> bpf_insn
         ensures value { result ≡ slot_of bytes }
         ensures again { bytes_of result ≡ bytes }
@@ -105,15 +105,16 @@ impl bpf_insn {
         self.registers = reg % 16 * 16 + self.dst_reg();
     }
 
-    /// Whether the slot calls a function of the program: `BPF_JMP | BPF_CALL` with source
-    /// `BPF_PSEUDO_CALL`, and neither destination nor offset.
+    /// Whether the slot calls a function of the program: `BPF_JMP | BPF_CALL` with the source
+    /// register `BPF_PSEUDO_CALL`, the destination register 0 and the offset 0.
     pub fn is_pseudo_call(self) -> bool
         ensures { result ≡ is_pseudo_call self }
     {
         self.code == 0x85 && self.src_reg() == 1 && self.dst_reg() == 0 && self.off == 0
     }
 
-    /// Whether the slot calls a helper: `BPF_JMP | BPF_CALL` with neither source nor destination.
+    /// Whether the slot calls a helper: `BPF_JMP | BPF_CALL` with the source and destination
+    /// registers 0.
     fn is_helper_call(self) -> bool
         ensures { result ≡ is_helper_call self }
     {
@@ -121,14 +122,14 @@ impl bpf_insn {
     }
 
     /// Whether the slot calls a helper that kernels before 5.5 lack and that an older helper can
-    /// stand in for.
+    /// replace.
     pub fn calls_newer_helper(self) -> bool
         ensures { result ≡ calls_newer_helper self }
     {
         self.is_helper_call() && older_helper(self.imm).is_some()
     }
 
-    /// The slot with the older helper in place of the newer one, where it calls such a helper.
+    /// The slot; if it calls a helper that an older one can replace, with the older helper.
     pub fn with_older_helper(self) -> bpf_insn
         ensures { result ≡ with_older_helper self }
     {
@@ -140,7 +141,7 @@ impl bpf_insn {
     }
 }
 
-/// The helper that older kernels have in place of a newer one.
+/// The older helper that replaces a newer one, if there is one.
 fn older_helper(helper: i32) -> Option<i32>
     ensures { result ≡ older_helper helper }
 {

@@ -11,12 +11,12 @@ use program_kinds::EbpfSectionKind;
 use std::alloc::{AllocError, Global};
 use thiserror::Error;
 
-/// Whether a map is pinned: kept under a name in the BPF file system.
+/// Whether a map is pinned, that is, has a path in the BPF file system.
 #[derive(Clone, Copy, Debug, PartialEq, Eq)]
 pub enum PinningType {
-    /// It isn't.
+    /// The map isn't pinned.
     None = 0,
-    /// It is, under its own name.
+    /// The map is pinned under its own name.
     ByName = 1,
 }
 
@@ -31,7 +31,7 @@ impl Default for PinningType {
     }
 }
 
-/// Why a number is no way of pinning.
+/// The error of a number that is no pinning type.
 #[derive(Debug, Drop, Error)]
 pub enum PinningError {
     #[error("unsupported pinning type {pinning_type}")]
@@ -56,8 +56,7 @@ impl TryFrom<u32> for PinningType {
 }
 
 impl PinningType {
-    /// The way of pinning that a map's definition names: a number that names none counts as not
-    /// pinned.
+    /// The pinning type of a number in a map's definition; not pinned for an unknown number.
     pub fn of_number(value: u32) -> PinningType
         ensures { result ≡ pinning_or_none value }
     {
@@ -65,7 +64,7 @@ impl PinningType {
     }
 }
 
-/// The words that define a map of a section `maps`, sizes in bytes.
+/// The words that define a map of a section `maps`. Sizes are in bytes.
 #[derive(Clone, Copy, Debug, PartialEq, Eq)]
 pub struct bpf_map_def {
     pub map_type: u32,
@@ -94,8 +93,8 @@ impl Default for bpf_map_def {
     }
 }
 
-/// The words that define a map of a section `.maps`, sizes in bytes. The ids name types of the
-/// object's table, 0 none.
+/// The words that define a map of a section `.maps`. Sizes are in bytes. The ids are those of types
+/// in the object's table; 0 means none.
 #[derive(Clone, Copy, Debug, PartialEq, Eq)]
 pub struct BtfMapDef {
     pub(crate) map_type: u32,
@@ -130,7 +129,7 @@ impl Default for BtfMapDef {
     }
 }
 
-/// A word of a map's definition that a number sets.
+/// A word of a map's definition that is set to a number.
 #[derive(Clone, Copy, Debug, PartialEq, Eq)]
 pub enum MapWord {
     MapType,
@@ -142,7 +141,7 @@ pub enum MapWord {
     MapFlags,
     /// The per-type extra word.
     MapExtra,
-    /// 1 stands for pinning by name, any other number for none.
+    /// 1 means pinned by name, any other number not pinned.
     Pinning,
 }
 
@@ -163,7 +162,7 @@ impl BtfMapDef {
     }
 }
 
-/// What the kernel tells of a map: nine fields of `struct bpf_map_info` of its `bpf.h`.
+/// The kernel's description of a map: nine fields of `struct bpf_map_info` of its `bpf.h`.
 #[derive(Clone, Copy, Debug)]
 pub struct bpf_map_info {
     pub type_: u32,
@@ -177,11 +176,11 @@ pub struct bpf_map_info {
     pub btf_value_type_id: u32,
 }
 
-/// A map that its words define, or a section's variables.
+/// A map that is defined by words, or a section's variables.
 #[derive(Debug, Drop)]
 pub struct LegacyMap {
     pub def: bpf_map_def,
-    /// The words of the maps that it holds.
+    /// The words of the maps that are its values, if any.
     pub inner_def: Option<bpf_map_def>,
     pub section_index: usize,
     pub section_kind: EbpfSectionKind,
@@ -191,11 +190,11 @@ pub struct LegacyMap {
     pub contents: Vec<u8>,
 }
 
-/// A map that its types define.
+/// A map that is defined by types.
 #[derive(Debug, Drop)]
 pub struct BtfMap {
     pub def: BtfMapDef,
-    /// The words of the maps that it holds.
+    /// The words of the maps that are its values, if any.
     pub(crate) inner_def: Option<BtfMapDef>,
     pub(crate) section_index: usize,
     pub(crate) symbol_index: usize,
@@ -203,7 +202,7 @@ pub struct BtfMap {
 }
 
 impl BtfMap {
-    /// A map without bytes, by its words and those of the maps that it holds.
+    /// A map without bytes, by its words and those of the maps that are its values.
     pub fn new(
         alloc: Global,
         def: BtfMapDef,
@@ -225,17 +224,17 @@ impl BtfMap {
     }
 }
 
-/// A map of an object, as libbpf's two ways of defining maps give it.
+/// A map of an object, defined in one of libbpf's two ways.
 #[derive(Debug, Drop)]
 pub enum Map {
-    /// Of a section `maps`, or a section's variables.
+    /// A map of a section `maps`, or a section's variables.
     Legacy(LegacyMap),
-    /// Of a section `.maps`.
+    /// A map of a section `.maps`.
     Btf(BtfMap),
 }
 
 impl Map {
-    /// A map of these words alone.
+    /// A map with these words, and without a section.
     pub fn new_from_params(
         alloc: Global,
         map_type: u32,
@@ -365,7 +364,7 @@ impl Map {
         }
     }
 
-    /// The bytes of the variables, to be changed.
+    /// The bytes of the variables, mutable.
     pub fn data_mut(&mut self) -> &mut Vec<u8>
         ensures* writes_back { sem 𝓛 (LendsContents self.entry result) }
         ensures shows { result.now.items ≡ (map_view self.old).contents }
@@ -404,7 +403,7 @@ impl Map {
         }
     }
 
-    /// The map that each value of this one holds: its words alone, of no section.
+    /// The map that each value of this one is, if any: its words, without a section.
     pub fn inner(&self) -> Option<Map>
         ensures { option_map map_view result ≡ inner_view (map_view self.now) }
     {
@@ -414,7 +413,7 @@ impl Map {
         }
     }
 
-    /// The same map again.
+    /// A copy.
     pub fn try_clone(&self) -> Result<Map, AllocError>
         ensures { IfOk result (λ map. map_view map ≡ map_view self.now) }
     {
@@ -477,7 +476,8 @@ fn bare_btf(alloc: Global, def: BtfMapDef) -> Map
     })
 }
 
-/// The map that the kernel tells of: one that types define exactly if it names a type of values.
+/// The map of the kernel's description. It is one that is defined by types exactly if it has a type
+/// of values.
 pub fn parse_map_info(alloc: Global, info: bpf_map_info, pinning: PinningType) -> Map
     ensures { map_view result ≡ view_of_info info pinning }
 {

@@ -7,8 +7,8 @@ ghost use Rattle.btf_records.specs.declared.error.BtfError.TheVariants.{InvalidR
 
 use btf_records::BtfError;
 
-/// What a type relocation asks of the kernel's types: `enum bpf_core_relo_kind` of the kernel's
-/// `bpf.h` ("CO-RE relocations" in its `llvm_reloc.rst`).
+/// The property of the kernel's types that a type relocation is resolved to: `enum
+/// bpf_core_relo_kind` of the kernel's `bpf.h` ("CO-RE relocations" in its `llvm_reloc.rst`).
 #[derive(Clone, Copy, Debug, PartialEq, Eq)]
 pub enum RelocationKind {
     /// The offset of a field, in bytes.
@@ -19,9 +19,9 @@ pub enum RelocationKind {
     FieldExists = 2,
     /// Whether a field is signed.
     FieldSigned = 3,
-    /// How far a bit field is to be shifted left in 64 bits.
+    /// The number of bits to shift a bit field left in 64 bits.
     FieldLShift64 = 4,
-    /// How far a bit field is to be shifted right in 64 bits.
+    /// The number of bits to shift a bit field right in 64 bits.
     FieldRShift64 = 5,
     /// The id of a type in the object.
     TypeIdLocal = 6,
@@ -38,7 +38,7 @@ pub enum RelocationKind {
 }
 
 impl RelocationKind {
-    /// Its number in the kernel's `bpf.h`, from which `try_from` gives it back.
+    /// Its number in the kernel's `bpf.h`. `try_from` is the inverse.
     pub fn number(self) -> u32
         ensures value { result ≡ relocation_kind_number self }
         ensures entry { slice_get relocation_kinds result ≡ Some self }

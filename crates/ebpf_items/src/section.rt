@@ -1,4 +1,4 @@
-//! A section, read whole.
+//! A section with its name and bytes.
 
 ghost use Rattle.ebpf_items.specs.Section.{Reads};
 
@@ -14,7 +14,7 @@ pub struct Section<'a> {
     pub kind: EbpfSectionKind,
     pub address: u64,
     pub name: &'a str,
-    /// Its bytes in the file: a section like `.bss` has none.
+    /// Its bytes in the file; a section such as `.bss` has none.
     pub bytes: &'a [u8],
     /// Its size in memory, in bytes.
     pub size: u64,
@@ -25,7 +25,7 @@ impl<'a> TryFrom<&SectionView<'a>> for Section<'a> {
 
     ghost try_from_gives = { λ view r. Reads view.now r };
 
-    /// Answers `SectionError` where the name or the bytes can't be read. Takes no memory.
+    /// Returns `SectionError` where the name or the bytes can't be read. Allocates no memory.
     fn try_from(view: &SectionView<'a>) -> Result<Section<'a>, ParseError> {
         let index = view.index();
         let name = match view.name() {

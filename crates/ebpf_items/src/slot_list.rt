@@ -11,10 +11,11 @@ use crate::instruction::bpf_insn;
 use std::alloc::{AllocError, Global};
 use std::marker::Model;
 
-/// The bytes of a slot.
+/// The size of a slot in bytes.
 const SLOT_SIZE: usize = 8;
 
-/// Slots that stand in the file, read with older helpers where they are so marked.
+/// Slots in the file's bytes. If `is_renamed` is set, they are read with older helpers in place of
+/// newer ones.
 #[derive(Clone, Copy, Debug)]
 struct FileSlots<'a> {
     bytes: &'a [u8],
@@ -50,7 +51,7 @@ impl<'a> FileSlots<'a> {
         }
     }
 
-    /// Appends the slots, as they are read, to a list.
+    /// Appends the slots to a list, with older helpers if they are renamed.
     fn append_to(&self, list: &mut Vec<bpf_insn>) -> Result<(), AllocError>
         ensures ok { OnOk result (list.new.items ≡ list.old.items ++ file_slots self.now) }
         ensures err { OnErr result (list.new.items ≡ list.old.items) }
@@ -98,7 +99,7 @@ enum Body<'a> {
     Own(Vec<bpf_insn>),
 }
 
-/// The slots of a function: those of the file's bytes until one is written, and from then on a
+/// The slots of a function: borrowed from the file's bytes until one is written, and from then on a
 /// list of the function's own.
 #[derive(Debug)]
 pub struct Slots<'a> {
@@ -107,7 +108,7 @@ pub struct Slots<'a> {
 }
 
 impl<'a> Drop for Slots<'a> {
-    // One call wherever it is dropped, in place of one for each part.
+    // A single call where a value is dropped, instead of one call per field.
     fn drop(self) {
         let Slots {
             alloc: _,
@@ -127,8 +128,8 @@ impl<'a> Model for Slots<'a> {
 }
 
 impl<'a> Slots<'a> {
-    /// The slots that stand in a function's bytes, or `None` where those aren't whole slots. Takes
-    /// no memory until a slot is written.
+    /// The slots in a function's bytes, or `None` where these aren't whole slots. Allocates no
+    /// memory until a slot is written.
     pub fn borrowed(alloc: Global, bytes: &'a [u8]) -> Option<Slots<'a>>
         ensures { SomeIff result (length bytes.now % 8 ≡ 0) (slots_of bytes.now) }
     {
@@ -155,7 +156,7 @@ impl<'a> Slots<'a> {
         }
     }
 
-    /// Whether the slots still stand in the file's bytes.
+    /// Whether the slots are still borrowed from the file's bytes.
     pub fn is_borrowed(&self) -> bool {
         match &self.body {
             Body::File(_) => true,
@@ -163,7 +164,7 @@ impl<'a> Slots<'a> {
         }
     }
 
-    /// How many slots there are.
+    /// The number of slots.
     pub fn len(&self) -> usize
         ensures { result ≡ length self.now }
     {
@@ -173,7 +174,7 @@ impl<'a> Slots<'a> {
         }
     }
 
-    /// The slot of an index.
+    /// The slot at an index, from 0.
     pub fn get(&self, index: usize) -> Option<bpf_insn>
         ensures { result ≡ slice_get self.now index }
     {
@@ -199,7 +200,7 @@ impl<'a> Slots<'a> {
         }
     }
 
-    /// Writes a slot. A function whose slots stand in the file gets a list of its own first.
+    /// Writes a slot. Borrowed slots are copied to a list first.
     pub fn set(&mut self, index: usize, slot: bpf_insn) -> Result<(), AllocError>
         requires { index < length self.old }
         ensures ok { OnOk result (self.new ≡ slice_set self.old index slot) }
@@ -219,8 +220,8 @@ impl<'a> Slots<'a> {
         }
     }
 
-    /// Puts the older helper into each slot that calls a newer one. Takes no memory: slots that
-    /// stand in the file are renamed when they are read.
+    /// Puts the older helper into each slot that calls a newer one. Allocates no memory: borrowed
+    /// slots are renamed when they are read.
     pub fn rename_helpers(&mut self)
         ensures { self.new ≡ map with_older_helper self.old }
     {
@@ -241,7 +242,7 @@ impl<'a> Slots<'a> {
         }
     }
 
-    /// The same slots again; those that stand in the file stay there.
+    /// A copy; borrowed slots stay borrowed.
     pub fn try_clone(&self) -> Result<Slots<'a>, AllocError>
         ensures { IfOk result (λ slots. slots ≡ self.now) }
     {
@@ -301,7 +302,7 @@ impl<'a> Iterator for SlotIter<'a> {
     }
 }
 
-/// The slots that bytes hold, or `InvalidProgramCode` where those aren't whole slots.
+/// The slots in some bytes, or `InvalidProgramCode` where these aren't whole slots.
 pub fn copy_instructions(alloc: Global, bytes: &[u8]) -> Result<Vec<bpf_insn>, ParseError>
     ensures value { IfOk result (λ slots.
         (length bytes.now % 8 ≡ 0) × (slots.items ≡ slots_of bytes.now)) }

@@ -42,8 +42,8 @@ fn settled<'a>(wanted: &Wanted<'a>, word: &[u8]) -> Result<Option<u64>, SymbolsE
     }
 }
 
-/// Records the address that a line gives a wanted symbol. `is_ascii` may say that the line is
-/// ASCII.
+/// Records the address that a line gives a wanted symbol. If `is_ascii` is set, the line is known
+/// to be ASCII.
 pub(crate) fn take_line<'a>(
     by_name: &mut WantedByName<'a>,
     line: &[u8],

@@ -46,7 +46,7 @@ impl<'a> Reading<'a> {
         })
     }
 
-    /// Reads the end of a line. `is_ascii` may say that it is ASCII.
+    /// Reads the end of a line. If `is_ascii` is set, it is known to be ASCII.
     fn end_line(&mut self, end: &[u8], is_ascii: bool) -> Result<(), SymbolsError<'a>>
         requires unbroken { IsUnbroken end.now }
         requires ascii { is_ascii ≡ true → IsAscii end.now }

@@ -1,4 +1,4 @@
-//! Maps that their types define.
+//! Maps that are defined by types.
 
 ghost use Rattle.std.specs.Prelude.{◌≡◌, ◌≢◌, List, [], Contains, MatchResult, IfOk, IfErr, OnOk, Ok, Err};
 ghost use Rattle.ebpf_items.specs.Maps.{btf_words};
@@ -14,7 +14,7 @@ use btf_tables::Btf;
 use ebpf_items::BtfMapDef;
 use std::alloc::Global;
 
-/// The variable that a map is in a section `.maps`.
+/// The variable of a map in a section `.maps`.
 #[derive(Debug, Drop)]
 pub struct MapVariable<'t> {
     pub name: &'t str,
@@ -22,7 +22,7 @@ pub struct MapVariable<'t> {
     pub struct_id: u32,
 }
 
-/// A map's words, and those of the maps that it holds.
+/// A map's words, and those of the maps that are its values.
 #[derive(Clone, Copy, Debug)]
 pub struct BtfDefinition {
     pub def: BtfMapDef,
@@ -33,9 +33,10 @@ pub struct BtfDefinition {
 ///
 /// # Errors
 ///
-/// `UnknownBtfType` where a type isn't in the table, `UnexpectedBtfType` where the entry's is no
-/// variable or the variable's no struct, `InvalidStringOffset` where the name can't be read,
-/// `MaximumTypeDepthReached` where the struct stands after too many modifiers.
+/// `UnknownBtfType` where a type isn't in the table, `UnexpectedBtfType` where the entry's type
+/// isn't a variable or the variable's type isn't a struct, `InvalidStringOffset` where the name
+/// can't be read, `MaximumTypeDepthReached` where the chain of modifiers before the struct is too
+/// long.
 pub fn map_variable<'t>(table: &'t Btf<'_>, type_id: u32) -> Result<MapVariable<'t>, BtfError>
     ensures { MatchResult result (λ v.
         map_variable table.now type_id ≡ Ok (v.name.now, v.struct_id)) (λ e.
@@ -47,7 +48,7 @@ pub fn map_variable<'t>(table: &'t Btf<'_>, type_id: u32) -> Result<MapVariable<
     Ok(MapVariable { name, struct_id })
 }
 
-/// The words of the maps that a map holds, which the struct of this id defines.
+/// The words of the inner maps that are defined by the struct of this id.
 pub(crate) fn inner_def(table: &Btf<'_>, struct_id: u32) -> Result<BtfMapDef, Refusal>
     ensures value { IfOk result (λ def. btf_words def ≡ inner_words table.now struct_id) }
     ensures accepted { OnOk result (inner_refusals table.now struct_id ≡ []) }
@@ -61,7 +62,7 @@ pub(crate) fn inner_def(table: &Btf<'_>, struct_id: u32) -> Result<BtfMapDef, Re
     Ok(def)
 }
 
-/// The error of a refusal, of the map of this name.
+/// The error for a refusal of the map with this name.
 pub(crate) fn named_error(alloc: Global, name: &str, refusal: Refusal) -> BtfError
     ensures { (all : List Refusal)
         → (refusal ≢ Types OutOfMemory → Contains all refusal)

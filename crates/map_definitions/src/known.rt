@@ -1,4 +1,4 @@
-//! What structs define, each read once.
+//! The maps that are defined by structs, each struct read once.
 
 ghost use Rattle.std.specs.Prelude.{◌≡◌, ◌≢◌, [], Contains, IfErr, IfOk, IfSome, OnOk};
 ghost use Rattle.ebpf_items.specs.Maps.{btf_words};
@@ -18,21 +18,21 @@ use std::alloc::{AllocError, Global};
 use std::collections::BTreeMap;
 use std::marker::Model;
 
-/// What a struct defines as a map.
+/// The map that is defined by a struct.
 #[derive(Clone, Copy, Debug)]
 pub(crate) struct KnownDefinition {
     pub(crate) struct_id: u32,
     pub(crate) definition: BtfDefinition,
 }
 
-/// What a struct defines as a map inside another.
+/// The inner map that is defined by a struct.
 #[derive(Clone, Copy, Debug)]
 pub(crate) struct KnownInner {
     pub(crate) struct_id: u32,
     pub(crate) def: BtfMapDef,
 }
 
-/// A type table, and what structs of it define.
+/// A type table, and the maps that are defined by its structs.
 #[derive(Debug)]
 pub struct MapDefinitions<'t, 'b> {
     table: &'t Btf<'b>,
@@ -41,7 +41,7 @@ pub struct MapDefinitions<'t, 'b> {
 }
 
 impl<'t, 'b> Drop for MapDefinitions<'t, 'b> {
-    // One call wherever it is dropped, in place of one for each part.
+    // A single call where a value is dropped, instead of one call per field.
     fn drop(self) {
         let MapDefinitions {
             table: _,
@@ -66,7 +66,7 @@ impl<'t, 'b> Model for MapDefinitions<'t, 'b> {
 }
 
 impl<'t, 'b> MapDefinitions<'t, 'b> {
-    /// A table of which no struct was read.
+    /// A table before any struct is read.
     #[tactic(auto, using(crate::proofs::KnownDefinitions::no_definitions, crate::proofs::KnownDefinitions::no_inner_defs))]
     pub fn new(alloc: Global, table: &'t Btf<'b>) -> MapDefinitions<'t, 'b>
         ensures { result ≡ table.now }
@@ -85,7 +85,7 @@ impl<'t, 'b> MapDefinitions<'t, 'b> {
         self.table
     }
 
-    /// What a struct that was read defines, if it was kept.
+    /// The map that is defined by a struct, if it is kept.
     #[tactic(auto, using(crate::proofs::KnownDefinitions::known_definition))]
     fn known(&self, struct_id: u32) -> Option<BtfDefinition>
         ensures { IfSome result (IsDefinition self.now struct_id) }
@@ -98,7 +98,7 @@ impl<'t, 'b> MapDefinitions<'t, 'b> {
         }
     }
 
-    /// What a struct that was read defines as a map inside another.
+    /// The inner map that is defined by a struct, if it is kept.
     #[tactic(auto, using(crate::proofs::KnownDefinitions::known_inner_def))]
     fn known_inner(&self, struct_id: u32) -> Option<BtfMapDef>
         ensures { IfSome result (IsInnerDef self.now struct_id) }
@@ -111,7 +111,7 @@ impl<'t, 'b> MapDefinitions<'t, 'b> {
         }
     }
 
-    /// Keeps what a struct defines.
+    /// Keeps the map that is defined by a struct.
     fn keep(&mut self, struct_id: u32, definition: BtfDefinition) -> Result<(), AllocError>
         requires { IsDefinition self.old struct_id definition }
         ensures { self.new ≡ self.old }
@@ -124,7 +124,7 @@ impl<'t, 'b> MapDefinitions<'t, 'b> {
         Ok(())
     }
 
-    /// Keeps what a struct defines as a map inside another.
+    /// Keeps the inner map that is defined by a struct.
     fn keep_inner(&mut self, struct_id: u32, def: BtfMapDef) -> Result<(), AllocError>
         requires { IsInnerDef self.old struct_id def }
         ensures { self.new ≡ self.old }
@@ -133,7 +133,7 @@ impl<'t, 'b> MapDefinitions<'t, 'b> {
         Ok(())
     }
 
-    /// The words of the maps that a map holds, which the struct of this id defines. They are kept.
+    /// The words of the inner maps that are defined by the struct of this id. They are kept.
     fn inner_def(&mut self, struct_id: u32) -> Result<BtfMapDef, Refusal>
         ensures value { IfOk result (λ def. btf_words def ≡ inner_words self.old struct_id) }
         ensures accepted { OnOk result (inner_refusals self.old struct_id ≡ []) }
@@ -149,7 +149,7 @@ impl<'t, 'b> MapDefinitions<'t, 'b> {
         Ok(def)
     }
 
-    /// Enters what a member says of a map.
+    /// Applies a member of a map's struct to the map's definition.
     fn enter_member(
         &mut self,
         defined: &mut BtfDefinition,
@@ -171,7 +171,7 @@ impl<'t, 'b> MapDefinitions<'t, 'b> {
         Ok(())
     }
 
-    /// What the struct of this id defines.
+    /// The map that is defined by the struct of this id.
     fn definition(&mut self, struct_id: u32) -> Result<BtfDefinition, Refusal>
         ensures value { IfOk result (λ d. definition_of d ≡ defined self.old struct_id) }
         ensures accepted { OnOk result (refusals self.old struct_id ≡ []) }
@@ -189,13 +189,13 @@ impl<'t, 'b> MapDefinitions<'t, 'b> {
         Ok(defined)
     }
 
-    /// What the struct of an id defines, of the map of this name. It is kept, so that no struct is
-    /// read again for another map.
+    /// The definition of the map with this name, by the struct of an id. The definition is kept, so
+    /// that no struct is read again for another map.
     ///
     /// # Errors
     ///
     /// `InvalidStringOffset` where a member's name can't be read, `UnexpectedBtfType` where a
-    /// member isn't of the shape that its name asks for, `UnknownBtfType`,
+    /// member's type isn't of the form that its name requires, `UnknownBtfType`,
     /// `MaximumTypeDepthReached` and `InvalidTypeInfo` where a type or its size can't be found,
     /// `InvalidValuesSpec` where the array of inner maps has elements, `InnerMapCannotBePinned` and
     /// `MultiLevelMapInMapNotSupported` where an inner map is pinned or holds maps, `OutOfMemory`.

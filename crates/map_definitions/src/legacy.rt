@@ -7,7 +7,7 @@ ghost use Rattle.map_definitions.specs.LegacyWords.{legacy_map_words, word_in};
 
 use ebpf_items::{PinningType, bpf_map_def};
 
-/// How many bytes a definition has at least.
+/// The least size of a definition in bytes.
 const LEAST_SIZE: usize = 20;
 
 fn byte(bytes: &[u8], at: usize) -> u8
@@ -16,7 +16,7 @@ fn byte(bytes: &[u8], at: usize) -> u8
     bytes.get(at).copied().unwrap_or(0)
 }
 
-/// The little-endian word of an index; bytes that are missing are 0.
+/// The little-endian word at an index; missing bytes are 0.
 fn word(bytes: &[u8], index: usize) -> u32
     requires { index < 2 ^ 16 }
     ensures { result ≡ word_in bytes.now index }
@@ -31,8 +31,8 @@ fn word(bytes: &[u8], index: usize) -> u32
     u32::from_le_bytes(four)
 }
 
-/// The words that a symbol's bytes in a section `maps` define a map by: none where they are fewer
-/// than 20.
+/// The words of a map, in a symbol's bytes in a section `maps`; none where there are fewer than 20
+/// bytes.
 pub fn legacy_map_def(bytes: &[u8]) -> Option<bpf_map_def>
     ensures { option_map legacy_words result ≡ legacy_map_words bytes.now }
 {

@@ -1,4 +1,4 @@
-//! How the maps of an object are defined: by words of a section `maps`, or by types.
+//! The definitions of an object's maps: by words of a section `maps`, or by types.
 #![tactic(auto)]
 
 mod definition;

@@ -1,4 +1,4 @@
-//! What the members of a map's struct lead to in a type table.
+//! Look-up of the types that the members of a map's struct refer to.
 
 ghost use Rattle.std.specs.Prelude.{◌≡◌, MatchResult, Ok, Err};
 ghost use Rattle.btf_records.specs.Fields.{type_of, var_of};
@@ -9,14 +9,14 @@ use btf_records::{BtfArray, BtfError, BtfKind, Var};
 use btf_tables::Btf;
 use std::alloc::AllocError;
 
-/// Why a map's struct is refused, without the map's name.
+/// Why a map's struct is refused; the map's name is added later.
 #[derive(Drop)]
 pub enum Refusal {
     /// A look-up in the type table fails, or memory ran out.
     Types(BtfError),
-    /// A map inside another is pinned.
+    /// An inner map is pinned.
     PinnedInnerMap,
-    /// A map inside another holds maps.
+    /// An inner map has maps as values.
     MapsInInnerMap,
     /// The array of inner maps has elements.
     ValuesWithCount,
@@ -49,7 +49,7 @@ impl From<AllocError> for Refusal {
 #[derive(Clone, Copy)]
 pub(crate) struct SizedType {
     pub type_id: u32,
-    /// In bytes.
+    /// The size in bytes.
     pub size: u32,
 }
 
@@ -68,7 +68,7 @@ fn is_struct(t: &TypeRef<'_>) -> bool
     t.kind() == BtfKind::Struct
 }
 
-/// The error for a record that isn't of the kind that is asked for.
+/// The error for a record of an unexpected kind.
 fn unexpected(t: &TypeRef<'_>) -> BtfError
     ensures { result ≡ unexpected t.now }
 {
@@ -97,7 +97,7 @@ fn array_at(table: &Btf<'_>, type_id: u32) -> Result<BtfArray, BtfError>
     }
 }
 
-/// The variable that a record is.
+/// The variable with this id.
 pub(crate) fn variable_at(table: &Btf<'_>, type_id: u32) -> Result<Var, BtfError>
     ensures { result ≡ variable_at table.now type_id }
 {
@@ -108,7 +108,7 @@ pub(crate) fn variable_at(table: &Btf<'_>, type_id: u32) -> Result<Var, BtfError
     }
 }
 
-/// The struct at the end of a chain of modifiers.
+/// The id of the struct at the end of a chain of modifiers.
 pub(crate) fn struct_after_modifiers(table: &Btf<'_>, type_id: u32) -> Result<u32, BtfError>
     ensures { result ≡ struct_after_modifiers table.now type_id }
 {
@@ -130,7 +130,7 @@ pub(crate) fn number_of(table: &Btf<'_>, type_id: u32) -> Result<u32, BtfError>
     Ok(array.len)
 }
 
-/// The target of a member that points to a type of keys or values.
+/// The id of the type of keys or values that a member points to.
 fn typed_target(table: &Btf<'_>, type_id: u32) -> Result<u32, BtfError>
     ensures { result ≡ typed_target table.now type_id }
 {
@@ -155,7 +155,7 @@ fn struct_of_element(table: &Btf<'_>, element: u32) -> Result<u32, BtfError>
     struct_after_modifiers(table, target)
 }
 
-/// The struct of the maps that a member gives as values.
+/// The id of the struct of the maps that a member gives as values.
 pub(crate) fn values_struct(table: &Btf<'_>, type_id: u32) -> Result<u32, Refusal>
     ensures { result ≡ values_struct table.now type_id }
 {

@@ -1,4 +1,4 @@
-//! What a member of a map's struct says.
+//! The meaning of a member of a map's struct.
 
 ghost use Rattle.std.specs.Prelude.{◌≡◌};
 ghost use Rattle.ebpf_items.specs.Maps.{btf_words};
@@ -9,7 +9,7 @@ use btf_records::BtfMember;
 use btf_tables::Btf;
 use ebpf_items::{BtfMapDef, MapWord};
 
-/// What a member of a map's struct is there for, by its name.
+/// The purpose of a member of a map's struct, by its name.
 #[derive(Clone, Copy)]
 pub(crate) enum Role {
     /// It sets a word to a number.
@@ -20,17 +20,17 @@ pub(crate) enum Role {
     Value,
     /// It gives the maps that are the values.
     Values,
-    /// It says nothing.
+    /// It has no meaning.
     Other,
 }
 
-/// What a member of a map's struct says.
+/// The meaning of a member of a map's struct.
 #[derive(Clone, Copy)]
 pub(crate) enum Said {
     Number(MapWord, u32),
     Key(SizedType),
     Value(SizedType),
-    /// The values are maps, which the struct of this id defines.
+    /// The values are maps that are defined by the struct of this id.
     Inner(u32),
     Nothing,
 }
@@ -94,7 +94,7 @@ fn said_inside(table: &Btf<'_>, role: Role, type_id: u32) -> Result<Said, Refusa
     }
 }
 
-/// What a member of a map's struct says.
+/// The meaning of a member of a map's struct.
 pub(crate) fn member_said(table: &Btf<'_>, member: BtfMember) -> Result<Said, Refusal>
     ensures { result ≡ member_said table.now member }
 {
@@ -102,7 +102,7 @@ pub(crate) fn member_said(table: &Btf<'_>, member: BtfMember) -> Result<Said, Re
     said_by(table, role, member.btf_type)
 }
 
-/// What a member of the struct of a map inside another says.
+/// The meaning of a member of an inner map's struct.
 pub(crate) fn member_said_inside(table: &Btf<'_>, member: BtfMember) -> Result<Said, Refusal>
     ensures { result ≡ member_said_inside table.now member }
 {
@@ -110,10 +110,10 @@ pub(crate) fn member_said_inside(table: &Btf<'_>, member: BtfMember) -> Result<S
     said_inside(table, role, member.btf_type)
 }
 
-/// The size of the descriptor that stands for a map inside another, in bytes.
+/// The size in bytes of the file descriptor of an inner map, which is the value.
 const DESCRIPTOR_SIZE: u32 = 4;
 
-/// Enters what a member says.
+/// Applies the meaning of a member to a definition.
 pub(crate) fn enter_said(def: &mut BtfMapDef, said: Said)
     ensures { btf_words def.new ≡ with_said (btf_words def.old) said }
 {

@@ -27,7 +27,7 @@ impl<'t> Model for Members<'t> {
 }
 
 impl<'t> Members<'t> {
-    /// The members of the struct of an id.
+    /// The members of the struct with this id.
     pub(crate) fn new(table: &'t Btf<'_>, id: u32) -> Members<'t>
         ensures { result ≡ members_at table.now id }
     {

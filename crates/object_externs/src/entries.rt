@@ -18,7 +18,8 @@ use object_file::{ReadSymbol, SymbolNames};
 use std::alloc::Global;
 use string_map::{TextMap, TextMapBuilder};
 
-/// The type of what a record declares, after modifiers; a variable of void has none.
+/// The id of the type of a declared function or variable, after modifiers; a variable of void has
+/// none.
 fn declared_type(table: &Btf<'_>, t: &TypeRef<'_>) -> Result<Option<u32>, BtfError>
     ensures value { IfOk result (λ id. id ≡ declared_type table.now t.now) }
     ensures refused { IfErr result (TypeFault table.now t.now) }
@@ -31,7 +32,7 @@ fn declared_type(table: &Btf<'_>, t: &TypeRef<'_>) -> Result<Option<u32>, BtfErr
     Ok(Some(id))
 }
 
-/// The symbol of what a record declares.
+/// The symbol of a declared function or variable.
 fn declared_symbol<'s, 'a>(
     symbols: &SymbolNames<'s, 'a>,
     table: &Btf<'_>,
@@ -51,7 +52,7 @@ fn declared_symbol<'s, 'a>(
     }
 }
 
-/// The extern that the record of an id declares.
+/// The extern that is declared by the record of an id.
 fn read_record<'a>(
     symbols: &SymbolNames<'_, 'a>,
     table: &Btf<'_>,
@@ -80,7 +81,7 @@ fn read_record<'a>(
     })
 }
 
-/// Enters the extern that an entry declares, in place of an earlier one of its name.
+/// Enters the extern that is declared by an entry. It replaces an earlier one with its name.
 fn enter<'a>(
     externs: &mut TextMapBuilder<'a, ExternDesc<'a>>,
     symbols: &SymbolNames<'_, 'a>,
@@ -99,7 +100,7 @@ fn enter<'a>(
     Ok(())
 }
 
-/// The externs that the entries of a section declare, by name.
+/// The externs that are declared by the entries of a section, by name.
 pub(crate) fn read_entries<'a>(
     alloc: Global,
     symbols: &SymbolNames<'_, 'a>,

@@ -2,20 +2,20 @@
 
 use std::marker::Model;
 
-/// What a program expects of the kernel: a function or a variable, declared in the table of types.
+/// A function or a variable of the kernel that a program uses, declared in the table of types.
 #[derive(Clone, Debug, Drop)]
 pub struct ExternDesc<'a> {
     /// Its name, with its flavour.
     pub name: &'a str,
     /// The id of the `BTF_KIND_FUNC` or `BTF_KIND_VAR` that declares it.
     pub btf_id: u32,
-    /// Whether the kernel may be without it.
+    /// Whether it may be missing from the kernel.
     pub is_weak: bool,
     /// Whether it was found in the kernel.
     pub is_resolved: bool,
-    /// The id of the kernel's type, where it was found by its type.
+    /// The id of the kernel's type, if it was found by its type.
     pub kernel_btf_id: Option<u32>,
-    /// Its address in the kernel, where it was found by its name alone.
+    /// Its address in the kernel, if it was found by its name alone.
     pub ksym_addr: Option<u64>,
     /// The id of its type after modifiers; a variable of void has none.
     pub type_id: Option<u32>,

@@ -15,7 +15,7 @@ use std::alloc::{AllocError, Global};
 use std::marker::Model;
 use string_map::{Iter, TextMap};
 
-/// The externs of an object, by name, and what a rewriting of their section is handed.
+/// The externs of an object, by name, and the ids that the rewriting of their section takes.
 #[derive(Debug)]
 pub struct Externs<'a> {
     by_name: TextMap<'a, ExternDesc<'a>>,
@@ -23,7 +23,7 @@ pub struct Externs<'a> {
 }
 
 impl<'a> Drop for Externs<'a> {
-    // One call wherever it is dropped, in place of one for each part.
+    // A single call where a value is dropped, instead of one call per field.
     fn drop(self) {
         let Externs {
             by_name: _by_name,
@@ -52,14 +52,14 @@ impl<'a> Externs<'a> {
         }
     }
 
-    /// These externs.
+    /// The externs of a map by name.
     pub(crate) fn new(by_name: TextMap<'a, ExternDesc<'a>>, ksyms: Option<KsymsIds>) -> Externs<'a>
         ensures { result ≡ record { by_name = by_bytes by_name.entry; ksyms = ksyms } }
     {
         Externs { by_name, ksyms }
     }
 
-    /// The extern of a name.
+    /// The extern with this name.
     pub fn get(&self, name: &str) -> Option<&ExternDesc<'a>>
         ensures { option_copied result
             ≡ lookup (is_at (slice_cmp nat_cmp name.now)) self.now.by_name }
@@ -67,7 +67,7 @@ impl<'a> Externs<'a> {
         self.by_name.get(name)
     }
 
-    /// How many externs there are.
+    /// The number of externs.
     pub fn len(&self) -> usize
         ensures { result ≡ length self.now.by_name }
     {
@@ -81,7 +81,7 @@ impl<'a> Externs<'a> {
         self.by_name.is_empty()
     }
 
-    /// The externs with their names, which strictly rise by bytes.
+    /// The externs with their names, in strictly ascending order of the names' bytes.
     pub fn iter(&self) -> Iter<'_, 'a, ExternDesc<'a>>
         ensures value { by_bytes result ≡ self.now.by_name }
         ensures rising { IsStrictlySortedBy (slice_cmp nat_cmp) (map (λ e. e.0) self.now.by_name) }
@@ -89,7 +89,7 @@ impl<'a> Externs<'a> {
         self.by_name.iter()
     }
 
-    /// Whether an extern has a type.
+    /// Whether some extern has a type.
     pub fn has_typed(&self) -> bool
         ensures { result ≡ list_any (λ e. is_some e.1.type_id) self.now.by_name }
     {
@@ -101,7 +101,7 @@ impl<'a> Externs<'a> {
         false
     }
 
-    /// Whether an extern has a type and isn't weak.
+    /// Whether some extern has a type and isn't weak.
     pub fn has_strong_typed(&self) -> bool
         ensures { result ≡ list_any (λ e. is_some e.1.type_id && not e.1.is_weak) self.now.by_name }
     {
@@ -113,15 +113,16 @@ impl<'a> Externs<'a> {
         false
     }
 
-    /// The ids that a rewriting of the section is handed: its own, and that of the variable that
-    /// stands in it for each function, where it names one. None where it has no entry.
+    /// The ids that the rewriting of the section `.ksyms` takes: the section's id, and the id of
+    /// the placeholder variable that replaces functions in it, if it names a function. None where
+    /// the section has no entries.
     pub fn ksyms(&self) -> Option<KsymsIds>
         ensures { result ≡ self.now.ksyms }
     {
         self.ksyms
     }
 
-    /// The externs with these in place of their own, for the same section.
+    /// Other externs, for the same section.
     pub fn replaced(&self, by_name: TextMap<'a, ExternDesc<'a>>) -> Externs<'a>
         ensures { result ≡ record self.now { by_name = by_bytes by_name.entry } }
     {
@@ -131,15 +132,16 @@ impl<'a> Externs<'a> {
         }
     }
 
-    /// Puts these in place of the externs, for the same section.
+    /// Replaces the externs, for the same section.
     pub fn set_by_name(&mut self, by_name: TextMap<'a, ExternDesc<'a>>)
         ensures { self.new ≡ record self.old { by_name = by_bytes by_name.entry } }
     {
-        // The whole is assigned: the toolchain takes no assignment of a field of this type yet.
+        // The whole value is assigned: the toolchain doesn't support assignment of a field of this
+        // type yet.
         *self = self.replaced(by_name);
     }
 
-    /// The same externs.
+    /// A copy.
     pub fn try_clone(&self) -> Result<Externs<'a>, AllocError>
         ensures { IfOk result (λ externs. externs ≡ self.now) }
     {

@@ -1,4 +1,4 @@
-//! The externs of an object: what its programs expect of the kernel (libbpf's
+//! The externs of an object: the kernel's functions and variables that its programs use (libbpf's
 //! `bpf_object__collect_externs`; Documentation/bpf/btf.rst, "BTF_KIND_DATASEC").
 #![tactic(auto)]
 

@@ -1,4 +1,4 @@
-//! The variable that stands in the section for each function.
+//! The placeholder variable that replaces functions in the section.
 
 ghost use Rattle.std.specs.Prelude.{◌≡◌, ◌≢◌, ◌+◌, length, IfErr, IfOk, OnErr, OnOk};
 ghost use Rattle.btf_records.specs.declared.error.BtfError.TheVariants.{InvalidTypeInfo, OutOfMemory};
@@ -35,7 +35,8 @@ fn int4_id(table: &Btf<'_>) -> Option<u32>
     None
 }
 
-/// The integer of 4 bytes of a table: the least, or a signed one that is added.
+/// The id of a table's integer of 4 bytes: the least one, or that of a signed integer that is
+/// added.
 fn int_of(table: &mut Btf<'_>) -> Result<u32, BtfError>
     ensures table { OnOk result (table.new ≡ with_int table.old) }
     ensures id { IfOk result (λ id. id ≡ int_id table.old) }
@@ -51,7 +52,7 @@ fn int_of(table: &mut Btf<'_>) -> Result<u32, BtfError>
     table.add_type(BtfType::Int(Int::new(name_offset, 4, IntEncoding::Signed, 0)))
 }
 
-/// Adds a variable of an integer, and answers its id.
+/// Adds a variable of the type `int`, and returns its id.
 fn add_variable(table: &mut Btf<'_>, int: u32) -> Result<u32, BtfError>
     ensures table { OnOk result (table.new ≡ with_variable int table.old) }
     ensures id { IfOk result (λ id. id ≡ length table.old.types + 1) }
@@ -65,9 +66,10 @@ fn add_variable(table: &mut Btf<'_>, int: u32) -> Result<u32, BtfError>
     table.add_type(BtfType::Var(Var::new(name_offset, int, VarLinkage::Global)))
 }
 
-/// Adds the placeholder, and the integer that it is of where none is there, and answers its id.
+/// Adds the placeholder, and its integer type where the table has none, and returns the
+/// placeholder's id.
 ///
-/// `InvalidTypeInfo` where the table would get greater than 32 bits can count.
+/// `InvalidTypeInfo` where the size of the table overflows 32 bits.
 pub(crate) fn add_placeholder<'a>(table: &mut Btf<'a>) -> Result<u32, BtfError>
     ensures table { OnOk result (table.new ≡ with_placeholder table.old) }
     ensures id { IfOk result (λ id. id ≡ placeholder_id table.old) }

@@ -1,4 +1,4 @@
-//! The externs of an object, read.
+//! Reading the externs of an object.
 
 ghost use Rattle.std.specs.Prelude.{◌≡◌, ◌≢◌, if◌then◌else◌, IfErr, IfOk, OnErr, OnOk};
 ghost use Rattle.btf_records.specs.declared.error.BtfError.TheVariants.{OutOfMemory};
@@ -17,15 +17,16 @@ use btf_tables::Btf;
 use object_file::{ReadSymbol, SymbolNames};
 use std::alloc::Global;
 
-/// The externs that the first section `.ksyms` of a table declares, of an object with these
-/// symbols. Where one is a function, a variable is added to the table that stands for functions
-/// when the section is rewritten; what look-ups find in the table stays.
+/// The externs that are declared by the first section `.ksyms` of a table, for an object with these
+/// symbols. If one of them is a function, a placeholder variable is added to the table. It replaces
+/// functions when the section is rewritten. Existing types and strings of the table stay as they
+/// are.
 ///
 /// `InvalidStringOffset` where the name of a section before it, or of an extern, can't be read;
-/// `UnknownBtfType` where no type has the id of an entry, or one of the chain to an extern's type
-/// isn't there, and `MaximumTypeDepthReached` where that is too long; `InvalidDatasec` where an
-/// entry names neither a function nor a variable; `InvalidSymbolName` where no symbol has an
-/// extern's name; `InvalidTypeInfo` where the table would get greater than 32 bits can count.
+/// `UnknownBtfType` where no type has the id of an entry, or a type of the chain to an extern's
+/// type is missing; `MaximumTypeDepthReached` where that chain is too long; `InvalidDatasec` where
+/// an entry names neither a function nor a variable; `InvalidSymbolName` where no symbol has an
+/// extern's name; `InvalidTypeInfo` where the size of the table overflows 32 bits.
 pub fn read_externs<'a>(
     alloc: Global,
     symbols: &[ReadSymbol<'a>],

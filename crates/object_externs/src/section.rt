@@ -33,7 +33,7 @@ fn is_ksyms(table: &Btf<'_>, t: &TypeRef<'_>) -> Result<bool, BtfError>
     Ok(table.string_at(t.name_offset())? == KSYMS)
 }
 
-/// The id of the first section called `.ksyms`, where there is one.
+/// The id of the first section called `.ksyms`, if there is one.
 ///
 /// `InvalidStringOffset` where the name of a section before it can't be read.
 pub(crate) fn ksyms_section(table: &Btf<'_>) -> Result<Option<u32>, BtfError>

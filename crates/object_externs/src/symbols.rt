@@ -1,12 +1,12 @@
-//! Symbols of what is outside the object.
+//! Symbols that are defined outside the object.
 
 ghost use Rattle.std.specs.Prelude.{◌≡◌};
 ghost use Rattle.object_externs.specs.Symbols.{is_extern_symbol};
 
 use elf64::{SymbolKind, SymbolView};
 
-/// Whether a symbol stands for something outside the object: it lies in no section, defines
-/// nothing, and is of no kind.
+/// Whether a symbol is defined outside the object: it has no section, isn't a definition, and has
+/// no kind.
 pub fn is_extern_symbol(symbol: &SymbolView<'_>) -> bool
     ensures { result ≡ is_extern_symbol symbol.now }
 {

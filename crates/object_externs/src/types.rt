@@ -1,4 +1,4 @@
-//! The types of an object, and the externs that they declare.
+//! The types of an object, and the externs that are declared in them.
 
 ghost use Rattle.std.specs.Prelude.{◌≡◌, ◌≢◌, IfErr, IfOk, IfSome, OnOk};
 ghost use Rattle.std.specs.Option.{IsSomeAnd, option_map, option_map_or};
@@ -17,7 +17,7 @@ use std::alloc::Global;
 
 /// The table of the section `.BTF`, if there is one.
 ///
-/// `BtfError` where its bytes hold no table, as [`Btf::parse`] says.
+/// `BtfError` where its bytes aren't a table, with the error of [`Btf::parse`].
 pub fn read_table<'a>(alloc: Global, file: &ObjectFile<'a>) -> Result<Option<Btf<'a>>, ParseError>
     ensures holds { IfOk result (λ table. HoldsTypes file.now table) }
     ensures refused { IfErr result (λ e. e ≢ OutOfMemory → SaysOfTypes (TypesFault file.now) e) }
@@ -28,7 +28,7 @@ pub fn read_table<'a>(alloc: Global, file: &ObjectFile<'a>) -> Result<Option<Btf
     }
 }
 
-/// The externs of a table, which is completed for them.
+/// The externs of a table; a placeholder is added to it where one is needed.
 fn externs_of<'a>(
     alloc: Global,
     symbols: &[ReadSymbol<'a>],
@@ -43,10 +43,10 @@ fn externs_of<'a>(
     Ok(read_externs(alloc, symbols, table)?)
 }
 
-/// The externs that a table declares, if there is one, which is completed for them as
-/// [`read_externs`] does it, of an object with these symbols.
+/// The externs that are declared in a table, if there is one, for an object with these symbols. A
+/// placeholder is added to the table as [`read_externs`] does it.
 ///
-/// `BtfError` where they have a fault.
+/// `BtfError` with the error of [`read_externs`].
 pub fn declared_externs<'a>(
     alloc: Global,
     symbols: &[ReadSymbol<'a>],

@@ -1,4 +1,4 @@
-//! An object file, opened.
+//! Object files.
 
 ghost use Rattle.std.specs.Prelude.{◌≡◌, ◌≢◌, ◌≤◌, Some, false, map, slice_get, IfOk, IfErr, IfSome, OnOk};
 ghost use Rattle.std.specs.List.{list_any};
@@ -31,7 +31,8 @@ use std::alloc::{AllocError, Global};
 use std::collections::btree_map::{Iter, Range};
 use std::marker::Model;
 
-/// An ELF file whose sections and symbols could be read, and whose license and version are sound.
+/// An ELF file whose sections and symbols can be read, and whose license and version are
+/// well-formed.
 #[derive(Debug)]
 pub struct ObjectFile<'a> {
     bytes: &'a [u8],
@@ -44,7 +45,7 @@ pub struct ObjectFile<'a> {
 }
 
 impl<'a> Drop for ObjectFile<'a> {
-    // One call wherever it is dropped, in place of one for each part.
+    // A single call where a value is dropped, instead of one call per field.
     fn drop(self) {
         let ObjectFile {
             bytes: _,
@@ -71,7 +72,7 @@ impl<'a> Model for ObjectFile<'a> {
         f.kernel_version };
 }
 
-/// The byte order of a file's numbers, as type information has it.
+/// The byte order of a file's numbers, as that of type information.
 fn endianness(elf: &ElfFile<'_>) -> Endianness
     ensures { result ≡ file_endianness elf.now }
 {
@@ -81,7 +82,7 @@ fn endianness(elf: &ElfFile<'_>) -> Endianness
     }
 }
 
-/// The bytes of the first section of a name.
+/// The bytes of the first section with this name.
 fn contents_of<'a>(elf: &ElfFile<'a>, name: &str) -> Option<&'a [u8]>
     ensures { option_copied result ≡ contents_named elf.now name.now }
 {
@@ -89,7 +90,7 @@ fn contents_of<'a>(elf: &ElfFile<'a>, name: &str) -> Option<&'a [u8]>
     section.data().ok()
 }
 
-/// The license of a file: `GPL` where it names none.
+/// The license of a file; `GPL` where it has none.
 fn license<'a>(alloc: Global, elf: &ElfFile<'a>) -> Result<&'a [u8], ParseError>
     ensures value { IfOk result (λ license. license.now ≡ license_of elf.now) }
     ensures text { IfOk result (λ license. HasNoNul license.now) }
@@ -102,7 +103,7 @@ fn license<'a>(alloc: Global, elf: &ElfFile<'a>) -> Result<&'a [u8], ParseError>
     }
 }
 
-/// The kernel version that a file names.
+/// The kernel version in a file.
 fn kernel_version(alloc: Global, elf: &ElfFile<'_>) -> Result<Option<u32>, ParseError>
     ensures value { IfOk result (λ version. version ≡ version_of elf.now) }
     ensures known { IfOk result IsKnownVersion }
@@ -115,9 +116,9 @@ fn kernel_version(alloc: Global, elf: &ElfFile<'_>) -> Result<Option<u32>, Parse
     }
 }
 
-/// The index of the first symbol of a file whose name can't be read:
-/// `BtfError(InvalidSymbolName)` stands for it. None where the file can't be read so far, or memory
-/// runs out.
+/// The index of the first symbol of a file whose name can't be read; [`ObjectFile::parse`] reports
+/// it as `BtfError(InvalidSymbolName)`. None where the file can't be read so far, or memory runs
+/// out.
 pub fn unnamed_symbol(alloc: Global, bytes: &[u8]) -> Option<usize>
     ensures { IfSome result (λ index. unnamed_symbol bytes.now ≡ Some index) }
 {
@@ -126,7 +127,7 @@ pub fn unnamed_symbol(alloc: Global, bytes: &[u8]) -> Option<usize>
     first_unnamed(&elf, &names)
 }
 
-/// The symbol at a place of some.
+/// The symbol at an index of a list.
 fn symbol_of_place<'s, 'a>(
     symbols: &'s [ReadSymbol<'a>],
     place: usize,
@@ -143,11 +144,11 @@ impl<'a> ObjectFile<'a> {
     /// # Errors
     ///
     /// `ElfError` where the file isn't an ELF64 file that can be read, `SectionError` where a
-    /// section's name or bytes can't be read, `UnsupportedRelocationTarget` for a relocation of
-    /// such a section that has no symbol, `InvalidLicense` and `MissingLicenseNullTerminator` for
-    /// a section `license` that doesn't hold a text ended by a NUL, `InvalidKernelVersion` for a
-    /// section `version` that isn't four bytes, `BtfError(InvalidSymbolName)` for a symbol whose
-    /// name can't be read, and `OutOfMemory`.
+    /// section's name or bytes can't be read, `UnsupportedRelocationTarget` for a relocation
+    /// without a symbol, of a section that is read, `InvalidLicense` and
+    /// `MissingLicenseNullTerminator` for a section `license` that doesn't hold a text ended by a
+    /// NUL, `InvalidKernelVersion` for a section `version` that isn't four bytes,
+    /// `BtfError(InvalidSymbolName)` for a symbol whose name can't be read, and `OutOfMemory`.
     pub fn parse(alloc: Global, bytes: &'a [u8]) -> Result<ObjectFile<'a>, ParseError>
         ensures value { IfOk result (λ f. f ≡ bytes.entry.now) }
         ensures accepted { OnOk result (IsFileFaultless bytes.entry.now) }
@@ -174,7 +175,7 @@ impl<'a> ObjectFile<'a> {
         Ok(file)
     }
 
-    /// The same file, read anew.
+    /// A copy, for which the file is read again.
     pub fn try_clone(&self) -> Result<ObjectFile<'a>, AllocError>
         ensures { IfOk result (λ file. file ≡ self.now) }
     {
@@ -184,14 +185,14 @@ impl<'a> ObjectFile<'a> {
         }
     }
 
-    /// The byte order of the file's numbers, as type information has it.
+    /// The byte order of the file's numbers, as that of type information.
     pub fn endianness(&self) -> Endianness
         ensures { result ≡ file_endianness self.now }
     {
         endianness(&self.elf)
     }
 
-    /// The license, without the NUL that ends it: `GPL` where the file names none.
+    /// The license, without the NUL that ends it; `GPL` where the file has none.
     pub fn license(&self) -> &'a [u8]
         ensures value { result.now ≡ license_of self.now }
         ensures text { HasNoNul result.now }
@@ -207,8 +208,8 @@ impl<'a> ObjectFile<'a> {
         self.kernel_version
     }
 
-    /// The sections that are read, in order of index: all but a further `.BTF` or `.BTF.ext`, and a
-    /// `.BTF.ext` without a `.BTF`.
+    /// The sections that are read, in order of index: all sections except a second `.BTF` or
+    /// `.BTF.ext` and later ones, and except a `.BTF.ext` in a file without a `.BTF`.
     pub fn sections(&self) -> &[ReadSection<'a>]
         ensures { result.now ≡ read_sections self.now }
     {
@@ -223,7 +224,7 @@ impl<'a> ObjectFile<'a> {
         self.symbols.all.as_slice()
     }
 
-    /// The symbols that lie in the section of an index, in order.
+    /// The symbols in the section at an index, in order.
     pub fn symbols_in(&self, index: usize) -> &[ReadSymbol<'a>]
         ensures { result.now ≡ symbols_in (symbols_of self.now) index }
     {
@@ -233,7 +234,7 @@ impl<'a> ObjectFile<'a> {
         symbols.as_slice()
     }
 
-    /// The relocations of the section of an index, by relocation section and then by entry.
+    /// The relocations of the section at an index, by relocation section and then by entry.
     pub fn relocations_of(&self, index: usize) -> &[RelocView]
         ensures { result.now ≡ relocations_of self.now index }
     {
@@ -243,8 +244,8 @@ impl<'a> ObjectFile<'a> {
         relocations.as_slice()
     }
 
-    /// The relocations of the section of an index with their offsets, which strictly rise; of
-    /// several of one offset the last entry.
+    /// The relocations of the section at an index with their offsets, in strictly ascending order.
+    /// Of several relocations at one offset only the last is in the list.
     pub fn relocations_by_offset(&self, index: usize) -> Iter<'_, u64, RelocView>
         ensures value { result ≡ relocations_by_offset self.now index }
         ensures rising { IsStrictlySortedBy nat_cmp
@@ -253,7 +254,8 @@ impl<'a> ObjectFile<'a> {
         self.relocations.by_offset(index).iter()
     }
 
-    /// Those whose offsets lie between two, the first one included.
+    /// The relocations of the section at an index, by offset, from `start` inclusive to `end`
+    /// exclusive.
     pub fn relocations_in(&self, index: usize, start: u64, end: u64) -> Range<'_, u64, RelocView>
         requires { start ≤ end }
         ensures { result
@@ -263,7 +265,7 @@ impl<'a> ObjectFile<'a> {
         self.relocations.by_offset(index).range(start..end)
     }
 
-    /// The relocation of an offset in the section of an index: of several the last entry.
+    /// The relocation at an offset in the section at an index; the last of several.
     pub fn relocation_at(&self, index: usize, offset: u64) -> Option<&RelocView>
         ensures value { option_copied result ≡ relocation_at self.now index offset }
         ensures last { option_copied result
@@ -272,7 +274,7 @@ impl<'a> ObjectFile<'a> {
         self.relocations.by_offset(index).get(&offset)
     }
 
-    /// The symbol of an index in the symbol table. Symbol 0 is none.
+    /// The symbol at an index of the symbol table; none for index 0.
     pub fn symbol_at(&self, index: usize) -> Option<&ReadSymbol<'a>>
         ensures { option_copied result ≡ symbol_at self.now index }
     {
@@ -280,14 +282,14 @@ impl<'a> ObjectFile<'a> {
         symbol_of_place(self.symbols(), place)
     }
 
-    /// The bytes of the first section of a name, where it can be read.
+    /// The bytes of the first section with this name, if they can be read.
     pub fn contents_of(&self, name: &str) -> Option<&'a [u8]>
         ensures { option_copied result ≡ contents_named self.now name.now }
     {
         contents_of(&self.elf, name)
     }
 
-    /// Whether a relocation of a section that is read has no symbol.
+    /// Whether a section that is read has a relocation without a symbol.
     fn has_unsupported_target(&self) -> bool
         ensures { result
             ≡ list_any (has_relocation_without_symbol self.now) (read_sections self.now) }

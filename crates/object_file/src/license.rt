@@ -9,10 +9,10 @@ ghost use Rattle.object_file.specs.License.{IsLicense, IsLicenseFault, HasNoNul,
 use ebpf_items::ParseError;
 use std::alloc::Global;
 
-/// The license that an object without a section `license` has.
+/// The license of an object without a section `license`.
 pub(crate) const DEFAULT_LICENSE: &[u8] = b"GPL";
 
-/// The license that a section's bytes hold: all but the NUL that ends them.
+/// The license in a section's bytes: all bytes except the NUL at the end.
 pub(crate) fn parse_license<'a>(alloc: Global, bytes: &'a [u8]) -> Result<&'a [u8], ParseError>
     ensures value { IfOk result (λ license. license.now ≡ without_last bytes.now) }
     ensures text { IfOk result (λ license. HasNoNul license.now) }

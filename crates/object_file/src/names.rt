@@ -1,4 +1,4 @@
-//! Sections and symbols with their names, each of which is looked up once.
+//! Sections and symbols with their names, each looked up once.
 
 ghost use Rattle.std.specs.Prelude.{◌≡◌, true, false, is_none, is_some, Some, IfOk, IfErr, OnOk, IfSome};
 ghost use Rattle.std.specs.Option.{option_copied};
@@ -34,7 +34,7 @@ impl<'a> Model for Names<'a> {
     ghost invariant = { λ n. IfSome n.strings (λ s. AreLongTextsOf s.now n.texts) };
 }
 
-/// A section whose name and bytes could be read.
+/// A section with its name and bytes.
 #[derive(Debug, Drop)]
 pub struct ReadSection<'a> {
     view: SectionView<'a>,
@@ -69,7 +69,7 @@ impl<'a> ReadSection<'a> {
         self.name
     }
 
-    /// Its bytes in the file. A section that occupies none there, as `.bss`, has no bytes.
+    /// Its bytes in the file. A section that occupies no bytes there, such as `.bss`, has none.
     pub fn bytes(&self) -> &'a [u8]
         ensures { self.now.contents ≡ Some result.now }
     {
@@ -90,7 +90,7 @@ impl<'a> ReadSection<'a> {
         self.view.size()
     }
 
-    /// What it holds, by its name.
+    /// Its kind, by its name.
     pub fn kind(&self) -> EbpfSectionKind
         ensures value { result ≡ kind_of self.now }
         ensures named { is_some self.now.name ≡ true }
@@ -99,7 +99,7 @@ impl<'a> ReadSection<'a> {
     }
 }
 
-/// A symbol whose name could be read.
+/// A symbol with its name.
 #[derive(Clone, Debug, Drop)]
 pub struct ReadSymbol<'a> {
     view: SymbolView<'a>,
@@ -118,7 +118,7 @@ impl<'a> Model for ReadSymbol<'a> {
 }
 
 impl<'a> ReadSymbol<'a> {
-    /// What the symbol table says of it.
+    /// Its entry in the symbol table.
     pub fn view(&self) -> &SymbolView<'a>
         ensures { result.now ≡ self.now }
     {
@@ -152,8 +152,8 @@ impl<'a> Names<'a> {
         self.texts.text_at(self.strings?, offset)
     }
 
-    /// A section, whose name stands in the table; `SectionError` where its name or its bytes can't
-    /// be read.
+    /// A section with its name from this string table; `SectionError` where its name or its bytes
+    /// can't be read.
     pub(crate) fn section(&self, view: SectionView<'a>) -> Result<ReadSection<'a>, ParseError>
         requires { view.name ≡ name_in self.now view.name_offset }
         ensures value { IfOk result (λ s. s ≡ view.entry) }
@@ -173,7 +173,7 @@ impl<'a> Names<'a> {
         }
     }
 
-    /// A symbol, whose name stands in the table; `None` where it can't be read.
+    /// A symbol with its name from this string table; `None` where the name can't be read.
     pub(crate) fn symbol(&self, view: SymbolView<'a>) -> Option<ReadSymbol<'a>>
         requires { view.name ≡ name_in self.now view.name_offset }
         ensures value { IfSome result (λ s. s ≡ view.entry) }

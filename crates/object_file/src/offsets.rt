@@ -1,4 +1,4 @@
-//! Symbols by name.
+//! The offsets of symbols by name.
 
 ghost use Rattle.std.specs.Prelude.{◌≡◌, IfOk, OnOk};
 ghost use Rattle.elf64.specs.Symbols.{symbols_of};
@@ -10,7 +10,7 @@ use elf64::SymbolKind;
 use std::alloc::{AllocError, Global};
 use string_map::{TextMap, TextMapBuilder};
 
-/// Whether a symbol's offset is known by its name.
+/// Whether a symbol's offset is entered under its name.
 fn has_offset(symbol: &ReadSymbol<'_>) -> bool
     ensures { result ≡ has_offset symbol.now }
 {
@@ -31,8 +31,8 @@ fn offsets<'a>(alloc: Global, symbols: &[ReadSymbol<'a>]) -> Result<TextMap<'a, 
     Ok(offsets)
 }
 
-/// Where the symbols that aren't local and those of variables begin (`st_value`), by name; of
-/// several of a name the one of the greatest index.
+/// The offsets (`st_value`) of the symbols that aren't local and of those of variables, by name. Of
+/// several symbols with one name, the one with the greatest index counts.
 pub fn symbol_offsets<'a>(
     alloc: Global,
     file: &ObjectFile<'a>,

@@ -11,7 +11,7 @@ use ebpf_items::ParseError;
 use elf64::{ElfFile, SectionView};
 use std::alloc::Global;
 
-/// Whether a section is the one that was found.
+/// Whether a section is `found`.
 fn is_found(found: &Option<SectionView<'_>>, section: &SectionView<'_>) -> bool
     ensures { result ≡ is_found found.now section.now }
 {
@@ -21,7 +21,7 @@ fn is_found(found: &Option<SectionView<'_>>, section: &SectionView<'_>) -> bool
     }
 }
 
-/// Whether a section is read, by the first sections of types and of their extension.
+/// Whether a section is read, given the first `.BTF` and the first `.BTF.ext`.
 fn is_read(
     types: &Option<SectionView<'_>>,
     extension: &Option<SectionView<'_>>,

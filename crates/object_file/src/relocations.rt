@@ -13,7 +13,7 @@ use std::collections::BTreeMap;
 #[derive(Debug, Drop)]
 pub(crate) struct RelocationTable {
     by_section: BTreeMap<usize, Vec<RelocView>>,
-    /// Of several relocations of one offset the last.
+    /// The last of several relocations at one offset.
     by_offset: BTreeMap<usize, BTreeMap<u64, RelocView>>,
     none: BTreeMap<u64, RelocView>,
 }
@@ -37,7 +37,7 @@ impl RelocationTable {
         Ok(table)
     }
 
-    /// Adds the relocations of a relocation section after those that its target has.
+    /// Appends the relocations of a relocation section to those of its target.
     fn add_section(&mut self, section: &RelocationSectionView<'_>) -> Result<(), AllocError>
         ensures { OnOk result
             (AddsRelocations self.old self.new section.now.target section.now.relocations) }
@@ -63,14 +63,14 @@ impl RelocationTable {
         Ok(())
     }
 
-    /// The relocations of the section of an index, if there are any.
+    /// The relocations of the section at an index, if there are any.
     pub(crate) fn of_section(&self, index: usize) -> Option<&Vec<RelocView>>
         ensures { option_map_or (λ v. v.now.items) result [] ≡ relocations_at self.now index }
     {
         self.by_section.get(&index)
     }
 
-    /// Those of the section of an index, by offset; of several of one offset the last.
+    /// The relocations of the section at an index, by offset; the last of several at one offset.
     pub(crate) fn by_offset(&self, index: usize) -> &BTreeMap<u64, RelocView>
         requires { self.now.none.entries ≡ [] }
         ensures { result.now.entries ≡ offsets_at self.now index }

@@ -33,8 +33,8 @@ fn indexes<'a>(alloc: Global, sections: &[ReadSection<'a>]) -> Result<TextMap<'a
     Ok(indexes)
 }
 
-/// The sizes in bytes (`sh_size`) of the sections that are read, by name; of several of a name that
-/// of the last.
+/// The sizes in bytes (`sh_size`) of the sections that are read, by name; of several sections with
+/// one name, the last counts.
 pub fn section_sizes<'a>(
     alloc: Global,
     file: &ObjectFile<'a>,
@@ -44,7 +44,8 @@ pub fn section_sizes<'a>(
     sizes(alloc, file.sections())
 }
 
-/// The indexes of the sections that are read, by name; of several of a name that of the last.
+/// The indexes of the sections that are read, by name; of several sections with one name, the last
+/// counts.
 pub fn section_indexes<'a>(
     alloc: Global,
     file: &ObjectFile<'a>,

@@ -11,16 +11,15 @@ use std::collections::BTreeMap;
 use std::marker::Model;
 use string_table::name_hash;
 
-/// Symbols in order of index, of which those of a name are found at once: by a hash of the name's
-/// length and its ends, so that names that are ends of one long text are neither compared with each
-/// other nor put in order.
+/// Symbols in order of index, with an index by a hash of the name's length, beginning and end. So
+/// names that are suffixes of one long text are neither compared with each other nor sorted.
 pub struct SymbolNames<'s, 'a> {
     symbols: &'s [ReadSymbol<'a>],
     by_hash: BTreeMap<u64, Vec<&'s ReadSymbol<'a>>>,
 }
 
 impl<'s, 'a> Drop for SymbolNames<'s, 'a> {
-    // One call wherever it is dropped, in place of one for each part.
+    // A single call where a value is dropped, instead of one call per field.
     fn drop(self) {
         let SymbolNames {
             symbols: _symbols,
@@ -41,7 +40,7 @@ impl<'s, 'a> Model for SymbolNames<'s, 'a> {
     ghost invariant = { λ s. AreByHash s.symbols.now s.by_hash };
 }
 
-/// Lists a symbol under a hash, after the others.
+/// Appends a symbol to the list of a hash.
 fn list_symbol<'s, 'a>(
     by_hash: &mut BTreeMap<u64, Vec<&'s ReadSymbol<'a>>>,
     hash: u64,
@@ -53,7 +52,7 @@ fn list_symbol<'s, 'a>(
     Ok(())
 }
 
-/// The symbols that are listed under a hash, if there are any.
+/// The symbols in the list of a hash, if there are any.
 fn listed<'l, 's, 'a>(
     by_hash: &'l BTreeMap<u64, Vec<&'s ReadSymbol<'a>>>,
     hash: u64,
@@ -63,14 +62,14 @@ fn listed<'l, 's, 'a>(
     by_hash.get(&hash)
 }
 
-/// Whether a symbol has a name.
+/// Whether a symbol has this name.
 fn is_named(symbol: &ReadSymbol<'_>, name: &str) -> bool
     ensures { result ≡ is_named name.now symbol.now }
 {
     symbol.name() == name
 }
 
-/// The first of some symbols that has a name.
+/// The first of some symbols with this name.
 fn first_of<'s, 'a>(symbols: &[&'s ReadSymbol<'a>], name: &str) -> Option<&'s ReadSymbol<'a>>
     ensures { result ≡ find (λ s. is_named name.now s.now) symbols.now }
 {
@@ -80,7 +79,7 @@ fn first_of<'s, 'a>(symbols: &[&'s ReadSymbol<'a>], name: &str) -> Option<&'s Re
         .find(|symbol| is_named(symbol, name))
 }
 
-/// The last of some symbols that has a name.
+/// The last of some symbols with this name.
 fn last_of<'s, 'a>(symbols: &[&'s ReadSymbol<'a>], name: &str) -> Option<&'s ReadSymbol<'a>>
     ensures { result ≡ find (λ s. is_named name.now s.now) (reverse symbols.now) }
 {
@@ -106,7 +105,7 @@ impl<'s, 'a> SymbolNames<'s, 'a> {
         Ok(SymbolNames { symbols, by_hash })
     }
 
-    /// Of the symbols of a name that of the least index.
+    /// The symbol with this name and the least index.
     pub fn first(&self, name: &str) -> Option<&'s ReadSymbol<'a>>
         ensures value { option_copied result ≡ first_named self.now name.now }
         ensures named { IfSome result (λ symbol. symbol.now.name ≡ Some name.now) }
@@ -115,7 +114,7 @@ impl<'s, 'a> SymbolNames<'s, 'a> {
         first_of(symbols.as_slice(), name)
     }
 
-    /// Of the symbols of a name that of the greatest index.
+    /// The symbol with this name and the greatest index.
     pub fn last(&self, name: &str) -> Option<&'s ReadSymbol<'a>>
         ensures value { option_copied result ≡ last_named self.now name.now }
         ensures named { IfSome result (λ symbol. symbol.now.name ≡ Some name.now) }

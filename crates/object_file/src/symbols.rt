@@ -14,7 +14,7 @@ use elf64::ElfFile;
 use std::alloc::{AllocError, Global};
 use std::collections::BTreeMap;
 
-/// The symbols of a file, and those that lie in a section by the section's index.
+/// The symbols of a file, and the symbols in each section by the section's index.
 #[derive(Debug)]
 pub(crate) struct SymbolTable<'a> {
     pub(crate) all: Vec<ReadSymbol<'a>>,
@@ -22,7 +22,7 @@ pub(crate) struct SymbolTable<'a> {
 }
 
 impl<'a> Drop for SymbolTable<'a> {
-    // One call wherever it is dropped, in place of one for each part.
+    // A single call where a value is dropped, instead of one call per field.
     fn drop(self) {
         let SymbolTable {
             all: _all,
@@ -34,7 +34,7 @@ impl<'a> Drop for SymbolTable<'a> {
 impl<'a> SymbolTable<'a> {
     ghost use Rattle.object_file.specs.SymbolTable.{symbols_at, AreSymbolsOf, AddsSymbol};
 
-    /// The symbols of a file, whose names these are.
+    /// The symbols of a file, with their names from `names`.
     fn read(
         alloc: Global,
         elf: &ElfFile<'a>,
@@ -87,7 +87,7 @@ impl<'a> SymbolTable<'a> {
         Ok(())
     }
 
-    /// The symbols that lie in the section of an index, in order, if there are any.
+    /// The symbols in the section at an index, in order, if there are any.
     pub(crate) fn in_section(&self, index: usize) -> Option<&Vec<ReadSymbol<'a>>>
         ensures { option_map_or (λ v. v.now.items) result [] ≡ symbols_at self.now index }
     {

@@ -8,10 +8,10 @@ use btf_records::{Endianness, word};
 use ebpf_items::ParseError;
 use std::alloc::Global;
 
-/// The number that stands for any version.
+/// The number that means any version.
 const ANY_VERSION: u32 = 0xffff_fffe;
 
-/// The version that a section's bytes name, or `None` for any.
+/// The version in a section's bytes, or `None` for any version.
 pub(crate) fn parse_version(
     alloc: Global,
     order: Endianness,

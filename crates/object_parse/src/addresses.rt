@@ -18,7 +18,7 @@ fn is_text_definition(symbol: &ReadSymbol<'_>) -> bool
     symbol.view().kind() == SymbolKind::Text && symbol.view().is_definition()
 }
 
-/// Adds the address of a symbol that defines a function, and says whether it was there before.
+/// Adds the address of a symbol that defines a function, and returns whether it was added before.
 fn is_repeated(addresses: &mut BTreeSet<u64>, symbol: &ReadSymbol<'_>) -> Result<bool, AllocError>
     ensures { IfOk result (λ r. AddsAddress addresses.old addresses.new symbol.now r) }
 {
@@ -28,7 +28,7 @@ fn is_repeated(addresses: &mut BTreeSet<u64>, symbol: &ReadSymbol<'_>) -> Result
     Ok(!addresses.insert(symbol.view().address())?)
 }
 
-/// An address at which symbols define two functions, if there is one.
+/// An address where two symbols define functions, if there is one.
 pub(crate) fn repeated_address(
     alloc: Global,
     symbols: &[ReadSymbol<'_>],
@@ -46,7 +46,7 @@ pub(crate) fn repeated_address(
     Ok(None)
 }
 
-/// Enters a symbol that defines a function under its address, where no other stands there.
+/// Enters a symbol that defines a function under its address, if no other is entered there.
 fn add_definition<'a>(
     definitions: &mut BTreeMap<u64, ReadSymbol<'a>>,
     symbol: &ReadSymbol<'a>,
@@ -61,7 +61,7 @@ fn add_definition<'a>(
     Ok(())
 }
 
-/// The symbols that define functions, by address; of several at one address the first.
+/// The symbols that define functions, by address; the first of several at one address.
 pub(crate) fn by_address<'a>(
     alloc: Global,
     symbols: &[ReadSymbol<'a>],

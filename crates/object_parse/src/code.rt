@@ -7,8 +7,8 @@ ghost use Rattle.object_parse.specs.Programs.{is_function, code_in, code_of, fir
 use elf64::{SymbolKind, SymbolView};
 use object_file::{ReadSection, ReadSymbol};
 
-/// The name of the function that a symbol of a program section is, if it is one: a symbol of kind
-/// Text whose name isn't empty.
+/// The name of a symbol of a program section that is a function: a symbol of kind Text whose name
+/// isn't empty.
 pub fn function_name<'a>(symbol: &ReadSymbol<'a>) -> Option<&'a str>
     ensures found { IsSome result ↔ (is_function symbol.now ≡ true) }
     ensures name { IfSome result (λ name. symbol.now.name ≡ Some name.now) }
@@ -23,7 +23,7 @@ pub fn function_name<'a>(symbol: &ReadSymbol<'a>) -> Option<&'a str>
     Some(name)
 }
 
-/// The code of a symbol, where its range lies in a section's bytes and is whole slots.
+/// The code of a symbol, if its range lies in a section's bytes and is whole slots.
 fn code_in<'a>(bytes: &'a [u8], address: u64, symbol: &SymbolView<'_>) -> Option<&'a [u8]>
     ensures whole { IfSome result (λ code. length code.now % 8 ≡ 0) }
     ensures value { option_copied result ≡ code_in bytes.now address symbol.now }
@@ -36,7 +36,7 @@ fn code_in<'a>(bytes: &'a [u8], address: u64, symbol: &SymbolView<'_>) -> Option
     Some(&bytes[start as usize..end as usize])
 }
 
-/// The code of a symbol of a section, where its range lies in the bytes and is whole slots.
+/// The code of a symbol of a section, if its range lies in the section's bytes and is whole slots.
 pub fn code_of<'a>(section: &ReadSection<'a>, symbol: &ReadSymbol<'_>) -> Option<&'a [u8]>
     ensures value { option_copied result ≡ code_of section.now symbol.now }
     ensures none { is_none result ≡ lacks_code section.now symbol.now }
@@ -45,7 +45,7 @@ pub fn code_of<'a>(section: &ReadSection<'a>, symbol: &ReadSymbol<'_>) -> Option
     code_in(section.bytes(), section.address(), symbol.view())
 }
 
-/// The slot of its section at which a function begins.
+/// The index in slots of a function's first slot in its section.
 pub(crate) fn first_slot(section: &ReadSection<'_>, symbol: &ReadSymbol<'_>) -> u64
     ensures { result ≡ first_slot section.now symbol.now }
 {

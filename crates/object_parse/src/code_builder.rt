@@ -1,11 +1,11 @@
-//! The programs and functions of an object while they are entered.
+//! Building the programs and functions of an object.
 
 ghost use Rattle.std.specs.Prelude.{◌≡◌, [], IfOk};
 
 use object_parts::{Code, Functions, ProgramsBuilder};
 use std::alloc::{AllocError, Global};
 
-/// The programs and functions of an object while they are entered, section by section.
+/// The programs and functions of an object, while they are entered section by section.
 #[derive(Drop)]
 pub(crate) struct CodeBuilder<'a> {
     pub(crate) programs: ProgramsBuilder<'a>,
@@ -24,7 +24,7 @@ impl<'a> CodeBuilder<'a> {
         }
     }
 
-    /// Puts the programs in the order of their names.
+    /// Sorts the programs by name.
     pub(crate) fn build(self, alloc: Global) -> Result<Code<'a>, AllocError>
         ensures programs { IfOk result (λ code. code.programs ≡ self.entry.programs) }
         ensures functions { IfOk result (λ code. code.functions ≡ self.entry.functions) }

@@ -1,4 +1,4 @@
-//! Functions that have no code: the error that stands for one doesn't name it.
+//! Functions without code, which the error `InvalidProgramCode` doesn't name.
 
 ghost use Rattle.std.specs.Prelude.{◌≡◌, ◌==◌, find};
 ghost use Rattle.std.specs.List.{list_any};
@@ -13,7 +13,7 @@ use crate::code::{code_of, function_name};
 use ebpf_items::EbpfSectionKind;
 use object_file::{ObjectFile, ReadSection, ReadSymbol};
 
-/// Whether a symbol of a section is a function that has no code among the section's bytes.
+/// Whether a symbol of a section is a function without code in the section's bytes.
 fn has_no_code(section: &ReadSection<'_>, symbol: &ReadSymbol<'_>) -> bool
     ensures { result ≡ has_no_code section.now symbol.now }
 {
@@ -37,7 +37,7 @@ fn any_without_code(section: &ReadSection<'_>, symbols: &[ReadSymbol<'_>]) -> bo
     symbols.iter().any(|symbol| has_no_code(section, symbol))
 }
 
-/// Whether a section is a program section with a function that has no code.
+/// Whether a section is a program section with a function without code.
 fn lacks_code(file: &ObjectFile<'_>, section: &ReadSection<'_>) -> bool
     ensures { result ≡ has_function_without_code (symbols_of file.now) section.now }
 {
@@ -45,7 +45,7 @@ fn lacks_code(file: &ObjectFile<'_>, section: &ReadSection<'_>) -> bool
         && any_without_code(section, file.symbols_in(section.index()))
 }
 
-/// The first section with a function that has no code.
+/// The first section with a function without code.
 fn section_without_code<'f, 'a>(file: &'f ObjectFile<'a>) -> Option<&'f ReadSection<'a>>
     ensures { option_copied result ≡ section_without_code file.entry.now }
 {
@@ -54,8 +54,8 @@ fn section_without_code<'f, 'a>(file: &'f ObjectFile<'a>) -> Option<&'f ReadSect
         .find(|section| lacks_code(file, section))
 }
 
-/// The first function that has no code, by the index of its section and its name:
-/// `InvalidProgramCode` stands for it. Takes no memory.
+/// The first function without code, which is reported as `InvalidProgramCode`: the index of its
+/// section, and its name. Allocates no memory.
 pub fn function_without_code<'a>(file: &ObjectFile<'a>) -> Option<(usize, &'a str)>
     ensures { option_map (λ p. (p.0, p.1.now)) result ≡ place_without_code file.now }
 {
@@ -64,7 +64,7 @@ pub fn function_without_code<'a>(file: &ObjectFile<'a>) -> Option<(usize, &'a st
     Some((section.index(), symbol.name()))
 }
 
-/// The section of an index, where it is read.
+/// The section at an index, if it is read.
 fn section_at<'f, 'a>(file: &'f ObjectFile<'a>, index: usize) -> Option<&'f ReadSection<'a>>
     ensures { option_copied result ≡ find (λ s. s.index == index) (read_sections file.entry.now) }
 {
@@ -73,7 +73,7 @@ fn section_at<'f, 'a>(file: &'f ObjectFile<'a>, index: usize) -> Option<&'f Read
         .find(|section| section.index() == index)
 }
 
-/// The name of the section of an index, empty where no such section is read.
+/// The name of the section at an index; empty where no such section is read.
 pub fn name_at<'a>(file: &ObjectFile<'a>, index: usize) -> &'a str
     ensures { result.now ≡ name_at file.now index }
 {

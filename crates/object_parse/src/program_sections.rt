@@ -74,7 +74,7 @@ fn program<'a>(
     })
 }
 
-/// Enters a function of a section and the program that it makes, where a symbol is one.
+/// Enters a symbol's function and its program, if the symbol is a function.
 fn add_symbol<'a>(
     alloc: Global,
     file: &ObjectFile<'a>,

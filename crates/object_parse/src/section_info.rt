@@ -1,4 +1,4 @@
-//! What the object's extension says of the functions of a section.
+//! The records of the object's extension for the functions of a section.
 
 ghost use Rattle.std.specs.Prelude.{◌≡◌, IfOk};
 ghost use Rattle.std.specs.Option.{option_copied};
@@ -34,7 +34,7 @@ impl<'e> Model for SectionInfo<'e> {
 }
 
 impl<'e> SectionInfo<'e> {
-    /// What an extension says of a section; nothing where the object has none.
+    /// The records of an extension for a section; none where the object has no extension.
     pub(crate) fn of_section(
         alloc: Global,
         extension: Option<&'e BtfExt<'e>>,
@@ -57,22 +57,22 @@ impl<'e> SectionInfo<'e> {
     }
 }
 
-/// What an extension says of sections of a name.
+/// The records of an extension for sections with this name.
 #[derive(Drop)]
 pub(crate) struct KnownInfo<'a, 'e> {
     pub(crate) name: &'a str,
     pub(crate) info: SectionInfo<'e>,
 }
 
-/// What an extension says of sections, read once for each name. Names are told apart by their
-/// lengths first: those that are ends of one long text are costly to compare.
+/// The records of an extension for sections, read once for each name. Names are compared by their
+/// lengths first, since names that are suffixes of one long text are costly to compare.
 pub(crate) struct SectionInfos<'a, 'e> {
     extension: Option<&'e BtfExt<'e>>,
     known: BTreeMap<(usize, &'a str), KnownInfo<'a, 'e>>,
 }
 
 impl<'a, 'e> Drop for SectionInfos<'a, 'e> {
-    // One call wherever it is dropped, in place of one for each part.
+    // A single call where a value is dropped, instead of one call per field.
     fn drop(self) {
         let SectionInfos {
             extension: _extension,
@@ -106,8 +106,8 @@ impl<'a, 'e> SectionInfos<'a, 'e> {
         }
     }
 
-    /// What the extension says of a section: what is kept for its name, which no longer is then, or
-    /// else read anew.
+    /// The records of the extension for a section: those that are kept for its name, which are then
+    /// removed, or else newly read ones.
     pub(crate) fn take(
         &mut self,
         alloc: Global,
@@ -125,7 +125,7 @@ impl<'a, 'e> SectionInfos<'a, 'e> {
         SectionInfo::of_section(alloc, self.extension, section)
     }
 
-    /// Keeps what the extension says of a section for those of its name.
+    /// Keeps the records of a section for other sections with its name.
     pub(crate) fn keep(
         &mut self,
         section: &ReadSection<'a>,

@@ -1,4 +1,4 @@
-//! The records of a section, by the slot that they begin at.
+//! The records of a section, by their first slots.
 
 ghost use Rattle.std.specs.Prelude.{◌≡◌, [], filter_map, map, slice_get, IfOk};
 ghost use Rattle.object_parse.specs.Kept.{kept_functions, kept_lines, moved, moved_function, moved_line, section_content};
@@ -9,8 +9,8 @@ use btf_ext::{BtfExt, FuncSecInfo, LineSecInfo, bpf_func_info, bpf_line_info};
 use std::alloc::{AllocError, Global};
 use std::marker::Model;
 
-/// What an extension says of a section of instructions. A function finds its own records without
-/// looking at the others, in whatever order they stand.
+/// The records of an extension for a section of instructions. A function's records are found
+/// without reading the others, in whatever order they are.
 #[derive(Debug, Drop)]
 pub struct SectionRecords<'e> {
     functions: FuncSecInfo<'e>,
@@ -33,7 +33,7 @@ impl<'e> Model for SectionRecords<'e> {
         × AreBySlot (map (λ r. r.insn_off) s.lines) s.line_slots.items };
 }
 
-/// The slots that functions begin at.
+/// The first slots of function records, sorted.
 fn slots_of_functions(
     alloc: Global,
     records: &FuncSecInfo<'_>,
@@ -53,7 +53,7 @@ fn slots_of_functions(
     Ok(places)
 }
 
-/// The slots that lines begin at.
+/// The first slots of line records, sorted.
 fn slots_of_lines(alloc: Global, records: &LineSecInfo<'_>) -> Result<Vec<IndexedSlot>, AllocError>
     ensures { IfOk result (λ places. AreBySlot (map (λ r. r.insn_off) records.now) places.items) }
 {
@@ -70,7 +70,7 @@ fn slots_of_lines(alloc: Global, records: &LineSecInfo<'_>) -> Result<Vec<Indexe
     Ok(places)
 }
 
-/// A slot of the section, counted from a function's start or as it is.
+/// A slot of the section. If `relative` is set, it is counted from a function's start.
 fn moved(relative: bool, start: u64, slot: u32) -> u32
     ensures { result ≡ moved relative start slot }
 {
@@ -81,7 +81,7 @@ fn moved(relative: bool, start: u64, slot: u32) -> u32
     }
 }
 
-/// The records of functions at some indexes.
+/// The function records at some indexes.
 fn functions_of(
     alloc: Global,
     records: &FuncSecInfo<'_>,
@@ -105,7 +105,7 @@ fn functions_of(
     Ok(kept)
 }
 
-/// The records of lines at some indexes.
+/// The line records at some indexes.
 fn lines_of(
     alloc: Global,
     records: &LineSecInfo<'_>,
@@ -155,7 +155,8 @@ impl<'e> SectionRecords<'e> {
         SectionRecords::of_records(alloc, functions, lines)
     }
 
-    /// What an extension says of the section of a name; nothing, where no section info is of its name.
+    /// The records of an extension for the section with this name; none where no section info has
+    /// its name.
     pub fn new(
         alloc: Global,
         extension: &'e BtfExt<'e>,
@@ -174,8 +175,8 @@ impl<'e> SectionRecords<'e> {
         SectionRecords::of_records(alloc, functions, lines)
     }
 
-    /// The records of functions that begin at a slot, in order; their slots are counted from that
-    /// one where they are to be relative, else from the section's start.
+    /// The function records of the slot `start`, in order. If `relative` is set, their slots are
+    /// counted from `start`, else from the section's start.
     pub fn functions_at<'a>(
         &self,
         alloc: Global,
@@ -185,15 +186,14 @@ impl<'e> SectionRecords<'e> {
         ensures { IfOk result (λ kept. kept ≡ kept_functions relative start self.now.functions) }
     {
         let indexes = indexes_within(alloc, self.function_slots.as_slice(), start, 1)?;
-        // There are no more records than 32 bits can count.
+        // The number of records fits in 32 bits.
         let _count = self.functions.num_info();
         let kept = functions_of(alloc, &self.functions, indexes.as_slice(), relative, start)?;
         Ok(FuncSecInfo::from_records(kept))
     }
 
-    /// The records of lines that begin at one of a number of slots from one on, in order; their
-    /// slots are counted from that one where they are to be relative, else from the section's
-    /// start.
+    /// The line records of the `slots` slots from `start` on, in order. If `relative` is set, their
+    /// slots are counted from `start`, else from the section's start.
     pub fn lines_in<'a>(
         &self,
         alloc: Global,
@@ -204,7 +204,7 @@ impl<'e> SectionRecords<'e> {
         ensures { IfOk result (λ kept. kept ≡ kept_lines relative start slots self.now.lines) }
     {
         let indexes = indexes_within(alloc, self.line_slots.as_slice(), start, slots)?;
-        // There are no more records than 32 bits can count.
+        // The number of records fits in 32 bits.
         let _count = self.lines.num_info();
         let kept = lines_of(alloc, &self.lines, indexes.as_slice(), relative, start)?;
         Ok(LineSecInfo::from_records(kept))

@@ -84,16 +84,15 @@ fn add_sections<'a>(
     Ok(())
 }
 
-/// The programs and functions of a file, with the records that an extension of its types has for
-/// them.
+/// The programs and functions of a file, with their records in the extension of its types.
 ///
 /// # Errors
 ///
-/// `InvalidProgramSection` for a program section of an unknown kind, `NoSymbolsForSection` for
-/// one in which no symbol lies, `InvalidProgramCode` for a function whose bytes aren't whole
-/// slots of its section, `SymbolTableConflict` for two functions of a `.text` section at one
-/// address, `UnknownSymbol` where no symbol defines the function at its beginning or after one
-/// of its functions, `InvalidSymbol` where that function's size is 0, and `OutOfMemory`.
+/// `InvalidProgramSection` for a program section of an unknown kind, `NoSymbolsForSection` for one
+/// without symbols, `InvalidProgramCode` for a function whose bytes aren't whole slots of its
+/// section, `SymbolTableConflict` for two functions of a `.text` section at the same address,
+/// `UnknownSymbol` where no symbol defines the function at its beginning or after one of its
+/// functions, `InvalidSymbol` where that function's size is 0, and `OutOfMemory`.
 #[tactic(auto, using(crate::proofs::Complete::complete_with))]
 pub fn read_code<'a, 'e>(
     alloc: Global,

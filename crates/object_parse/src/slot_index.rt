@@ -1,4 +1,4 @@
-//! Records by the slot that they begin at.
+//! Records by their first slots.
 
 ghost use Rattle.std.specs.Prelude.{◌≡◌, ℕ, List, filter, map, IfOk, OnOk};
 ghost use Rattle.std.specs.List.Sorted.{IsNonDecreasingBy};
@@ -7,14 +7,14 @@ ghost use Rattle.object_parse.specs.SlotIndexes.{AreBySlot, indexes_within, numb
 
 use std::alloc::{AllocError, Global};
 
-/// The slot that a record begins at, and the record's index.
+/// A record's first slot, and the record's index.
 #[derive(Clone, Copy, Debug)]
 pub(crate) struct IndexedSlot {
     pub(crate) slot: u32,
     pub(crate) index: u32,
 }
 
-/// Puts the slots of records in order.
+/// Sorts records by slot.
 pub(crate) fn order_by_slot(places: &mut Vec<IndexedSlot>) -> Result<(), AllocError>
     ensures { OnOk result
         ((slots : List ℕ)
@@ -25,7 +25,7 @@ pub(crate) fn order_by_slot(places: &mut Vec<IndexedSlot>) -> Result<(), AllocEr
     Ok(())
 }
 
-/// The stretch of a number of slots from one on.
+/// The records of the `count` slots from `from` on.
 fn stretch(places: &[IndexedSlot], from: u64, count: u64) -> &[IndexedSlot]
     requires { IsNonDecreasingBy (λ (p : IndexedSlot). p.slot) places.now }
     ensures { result.now ≡ filter (λ p. is_within from count p.slot) places.now }
@@ -37,7 +37,7 @@ fn stretch(places: &[IndexedSlot], from: u64, count: u64) -> &[IndexedSlot]
     stretch
 }
 
-/// The indexes of slots.
+/// The indexes of records.
 fn indexes_of(alloc: Global, places: &[IndexedSlot]) -> Result<Vec<u32>, AllocError>
     ensures { IfOk result (λ indexes. indexes.items ≡ map (λ p. p.index) places.now) }
 {
@@ -48,7 +48,7 @@ fn indexes_of(alloc: Global, places: &[IndexedSlot]) -> Result<Vec<u32>, AllocEr
     Ok(indexes)
 }
 
-/// The indexes of the records that begin at one of a number of slots from one on, rising.
+/// The indexes of the records of the `count` slots from `from` on, in ascending order.
 pub(crate) fn indexes_within(
     alloc: Global,
     places: &[IndexedSlot],

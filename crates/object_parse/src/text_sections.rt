@@ -62,7 +62,7 @@ fn symbol_at<'s, 'a>(
     Ok(symbol)
 }
 
-/// The bytes of a section from an offset on, as many as a symbol's, where they are whole slots.
+/// The bytes of a section from an offset on, of the size of a symbol, if they are whole slots.
 fn code_at<'a>(
     section: &ReadSection<'a>,
     offset: usize,
@@ -122,7 +122,7 @@ fn function<'a>(
     })
 }
 
-/// Enters the function at an offset of a section, and says where it ends.
+/// Enters the function at an offset of a section, and returns the offset of its end.
 fn add_function<'a>(
     alloc: Global,
     section: &ReadSection<'a>,
@@ -149,7 +149,7 @@ fn add_function<'a>(
     Ok(offset + symbol.view().size() as usize)
 }
 
-/// Enters the functions of a section, each where the one before ends.
+/// Enters the functions of a section; each begins where the one before it ends.
 fn add_each<'a>(
     alloc: Global,
     file: &ObjectFile<'a>,

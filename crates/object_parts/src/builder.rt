@@ -1,4 +1,4 @@
-//! Programs that are entered by name one after the other.
+//! Building the programs by name.
 
 ghost use Rattle.std.specs.Prelude.{◌≡◌, [], IfOk, OnErr, OnOk};
 ghost use Rattle.std.specs.BTreeMap.{insert_entry};
@@ -12,14 +12,14 @@ use std::alloc::{AllocError, Global};
 use std::marker::Model;
 use string_map::TextMapBuilder;
 
-/// Programs that are entered by name one after the other, and put in order once.
+/// Programs that are entered by name, and sorted by name once.
 #[derive(Debug)]
 pub struct ProgramsBuilder<'a> {
     entries: TextMapBuilder<'a, Program<'a>>,
 }
 
 impl<'a> Drop for ProgramsBuilder<'a> {
-    // One call wherever it is dropped, in place of one for each part.
+    // A single call where a value is dropped, instead of one call per field.
     fn drop(self) {
         let ProgramsBuilder { entries: _entries } = self;
     }
@@ -44,7 +44,7 @@ impl<'a> ProgramsBuilder<'a> {
         }
     }
 
-    /// Enters a program under a name, in place of an earlier one of that name.
+    /// Enters a program under a name. It replaces an earlier one with that name.
     pub fn insert(&mut self, name: &'a str, program: Program<'a>) -> Result<(), AllocError>
         ensures ok { OnOk result
             (self.new ≡ insert_entry (slice_cmp nat_cmp) self.old name.now program.entry) }
@@ -53,7 +53,7 @@ impl<'a> ProgramsBuilder<'a> {
         self.entries.insert(name, program)
     }
 
-    /// Puts the programs in the order of their names.
+    /// Sorts the programs by name.
     pub fn build(self, alloc: Global) -> Result<Programs<'a>, AllocError>
         ensures { IfOk result (λ programs. programs ≡ self.entry) }
     {

@@ -20,7 +20,7 @@ pub struct Programs<'a> {
 }
 
 impl<'a> Drop for Programs<'a> {
-    // One call wherever it is dropped, in place of one for each part.
+    // A single call where a value is dropped, instead of one call per field.
     fn drop(self) {
         let Programs { entries: _entries } = self;
     }
@@ -46,7 +46,7 @@ impl<'a> Programs<'a> {
         }
     }
 
-    /// How many programs there are.
+    /// The number of programs.
     pub fn len(&self) -> usize
         ensures { result ≡ length self.now }
     {
@@ -60,14 +60,14 @@ impl<'a> Programs<'a> {
         self.entries.is_empty()
     }
 
-    /// The program of a name.
+    /// The program with this name.
     pub fn get(&self, name: &str) -> Option<&Program<'a>>
         ensures { option_copied result ≡ lookup (is_at (slice_cmp nat_cmp name.now)) self.now }
     {
         self.entries.get(name)
     }
 
-    /// The programs with their names, which strictly rise by bytes.
+    /// The programs with their names, in strictly ascending order of the names' bytes.
     pub fn iter(&self) -> Iter<'_, 'a, Program<'a>>
         ensures value { by_bytes result ≡ self.now }
         ensures rising { IsStrictlySortedBy (slice_cmp nat_cmp) (map (λ e. e.0) self.now) }
@@ -75,7 +75,7 @@ impl<'a> Programs<'a> {
         self.entries.iter()
     }
 
-    /// The same programs.
+    /// A copy.
     pub fn try_clone(&self) -> Result<Programs<'a>, AllocError>
         ensures { IfOk result (λ programs. programs ≡ self.now) }
     {

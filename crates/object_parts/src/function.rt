@@ -9,7 +9,7 @@ use ebpf_items::Slots;
 use std::alloc::AllocError;
 use std::marker::Model;
 
-/// The bytes of an instruction slot.
+/// The size of an instruction slot in bytes.
 pub const SLOT_SIZE: u64 = 8;
 
 /// A function of an object.
@@ -21,26 +21,26 @@ pub struct Function<'a> {
     pub name: &'a str,
     /// The index of the function's section.
     pub section_index: usize,
-    /// Where the function begins, in bytes: in a program section the address, in `.text` the
-    /// distance from the section's beginning.
+    /// The offset of the function in bytes: the address in a program section, and the distance from
+    /// the section's beginning in `.text`.
     pub section_offset: usize,
     /// The instruction slots.
     pub instructions: Slots<'a>,
-    /// The records of functions at its beginning.
+    /// The function records at its beginning.
     pub func_info: FuncSecInfo<'a>,
-    /// The records of lines inside it.
+    /// The line records inside it.
     pub line_info: LineSecInfo<'a>,
-    /// The size of a function's record in bytes, as the object gives it; 0 where it has none.
+    /// The size of a function's record in bytes, by the object; 0 where it has no such records.
     pub func_info_rec_size: usize,
-    /// The size of a line's record in bytes, as the object gives it; 0 where it has none.
+    /// The size of a line's record in bytes, by the object; 0 where it has no such records.
     pub line_info_rec_size: usize,
-    /// The kernel tables in which its type relocations have their first matches; of a linked
-    /// program those of all functions that it has copies of.
+    /// The kernel tables in which its type relocations have their first matches. In a linked
+    /// program, these of all functions that it has copies of.
     pub matched_tables: MatchedTables,
 }
 
 impl<'a> Drop for Function<'a> {
-    // One call wherever it is dropped, in place of one for each part.
+    // A single call where a value is dropped, instead of one call per field.
     fn drop(self) {
         let Function {
             address: _,
@@ -85,7 +85,7 @@ impl<'a> Function<'a> {
         (self.section_index, self.address)
     }
 
-    /// Where the function ends in its section, in bytes.
+    /// The offset of the function's end in its section, in bytes.
     pub fn end(&self) -> u128
         ensures value { result ≡ end_of self.now }
         ensures least { self.now.section_offset ≤ result }
@@ -93,7 +93,7 @@ impl<'a> Function<'a> {
         self.section_offset as u128 + SLOT_SIZE as u128 * self.instructions.len() as u128
     }
 
-    /// Whether an offset of its section, in bytes, lies inside the function.
+    /// Whether an offset in its section, in bytes, is inside the function.
     pub fn is_inside(&self, offset: u64) -> bool
         ensures { result ≡ is_inside self.now offset }
     {
@@ -119,7 +119,7 @@ impl<'a> Function<'a> {
         })
     }
 
-    /// The same function. Slots and records that lie in the file stay there.
+    /// A copy; borrowed slots and records stay borrowed.
     pub fn try_clone(&self) -> Result<Function<'a>, AllocError>
         ensures { IfOk result (λ function. function ≡ self.now) }
     {

@@ -24,13 +24,13 @@ pub struct Functions<'a> {
 }
 
 impl<'a> Drop for Functions<'a> {
-    // One call wherever it is dropped, in place of one for each part.
+    // A single call where a value is dropped, instead of one call per field.
     fn drop(self) {
         let Functions { entries: _entries } = self;
     }
 }
 
-/// Whether some slot calls a helper that an older one can stand in for.
+/// Whether some slot calls a helper that an older one can replace.
 fn calls_newer_helper(slots: &Slots<'_>) -> bool
     ensures { result ≡ list_any calls_newer_helper slots.now }
 {
@@ -66,7 +66,7 @@ impl<'a> Functions<'a> {
         }
     }
 
-    /// How many functions there are.
+    /// The number of functions.
     pub fn len(&self) -> usize
         ensures { result ≡ length self.now }
     {
@@ -80,7 +80,7 @@ impl<'a> Functions<'a> {
         self.entries.is_empty()
     }
 
-    /// The function of a key: a section's index and an address in it.
+    /// The function with this key: its section's index and its address.
     pub fn get(&self, key: (usize, u64)) -> Option<&Function<'a>>
         ensures value { option_copied result ≡ lookup (is_at (key_cmp key)) self.now }
         ensures keyed { IfSome result (λ f. key_of f.now ≡ key) }
@@ -96,7 +96,7 @@ impl<'a> Functions<'a> {
         self.entries.iter()
     }
 
-    /// Puts a function in place of that of its key. Takes no memory.
+    /// Replaces the function with the same key. Allocates no memory.
     pub fn replace(&mut self, function: Function<'a>)
         requires { has_function self.old (key_of function) ≡ true }
         ensures { Replaces self.old self.new function.entry }
@@ -106,7 +106,7 @@ impl<'a> Functions<'a> {
         }
     }
 
-    /// Puts functions in place of those of their keys. Takes no memory.
+    /// Replaces the functions with the same keys. Allocates no memory.
     pub fn install(&mut self, list: Vec<Function<'a>>)
         requires { AreThere self.old list.items }
         ensures { Installed self.old self.new list.entry.items }
@@ -117,8 +117,8 @@ impl<'a> Functions<'a> {
         }
     }
 
-    /// Whether some slot of a function calls a helper that an older one can stand in for: number
-    /// 112, 113, 114 or 115.
+    /// Whether some slot of a function calls a helper that an older one can replace: number 112,
+    /// 113, 114 or 115.
     pub fn has_newer_helper(&self) -> bool
         ensures { result ≡ has_newer_helper self.now }
     {
@@ -127,8 +127,8 @@ impl<'a> Functions<'a> {
             .any(|(_, function)| calls_newer_helper(&function.instructions))
     }
 
-    /// Puts the older helper into each slot that calls a newer one. Takes no memory: slots that
-    /// stand in the file stay there.
+    /// Puts the older helper into each slot that calls a newer one. Allocates no memory: borrowed
+    /// slots stay borrowed.
     pub fn rename_helpers(&mut self)
         ensures { self.new ≡ map (λ e. (e.0, with_older_helpers e.1)) self.old }
     {
@@ -138,7 +138,7 @@ impl<'a> Functions<'a> {
         });
     }
 
-    /// Enters a function under its key, in place of an earlier one of that key.
+    /// Enters a function under its key. It replaces an earlier one with that key.
     pub fn insert(&mut self, function: Function<'a>) -> Result<(), AllocError>
         ensures ok { OnOk result
             (self.new
@@ -154,7 +154,7 @@ impl<'a> Functions<'a> {
         Ok(())
     }
 
-    /// The same functions.
+    /// A copy.
     pub fn try_clone(&self) -> Result<Functions<'a>, AllocError>
         ensures { IfOk result (λ functions. functions ≡ self.now) }
     {

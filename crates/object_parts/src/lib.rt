@@ -1,4 +1,4 @@
-//! What an object is made of: its programs by name, and its functions by section and address.
+//! The parts of an object: its programs by name, and its functions by section and address.
 #![tactic(auto)]
 
 mod builder;

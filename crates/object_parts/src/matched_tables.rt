@@ -10,8 +10,8 @@ use std::collections::BTreeSet;
 use std::collections::btree_set::Iter;
 use std::marker::Model;
 
-/// The tables of a kernel in which type relocations have their first matches, by their places in
-/// the list of tables that was searched, from 0: rising, each once.
+/// The tables of a kernel in which type relocations have their first matches, by their indices from
+/// 0 in the list of searched tables: ascending, each once.
 #[derive(Debug, Drop)]
 pub struct MatchedTables {
     places: BTreeSet<u32>,
@@ -35,7 +35,7 @@ impl MatchedTables {
         }
     }
 
-    /// The tables' places, strictly rising.
+    /// The tables' indices, in strictly ascending order.
     pub fn iter(&self) -> Iter<'_, u32>
         ensures value { result ≡ self.now }
         ensures rising { IsStrictlySortedBy nat_cmp self.now }
@@ -43,7 +43,7 @@ impl MatchedTables {
         self.places.iter()
     }
 
-    /// Enters the table of a place, if it isn't there yet.
+    /// Enters the table at the index `place`, if it isn't entered yet.
     pub fn enter(&mut self, place: u32) -> Result<(), AllocError>
         ensures entered { OnOk result (self.new ≡ with_table self.old place) }
         ensures unchanged { OnErr result (self.new ≡ self.old) }
@@ -52,7 +52,7 @@ impl MatchedTables {
         Ok(())
     }
 
-    /// Enters other tables, up to one for which memory is refused.
+    /// Enters other tables, up to the first for which memory runs out.
     pub fn enter_all(&mut self, others: &MatchedTables) -> Result<(), AllocError>
         ensures { OnOk result (self.new ≡ with_tables self.old others.now) }
     {
@@ -62,7 +62,7 @@ impl MatchedTables {
         Ok(())
     }
 
-    /// The same tables.
+    /// A copy.
     pub fn try_clone(&self) -> Result<MatchedTables, AllocError>
         ensures { IfOk result (λ tables. tables ≡ self.now) }
     {

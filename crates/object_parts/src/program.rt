@@ -6,7 +6,7 @@ use ebpf_items::ProgramSection;
 use std::alloc::AllocError;
 use std::marker::Model;
 
-/// A program of an object: a function of a program section, under its name.
+/// A program of an object: a function of a program section.
 #[derive(Debug, Drop)]
 pub struct Program<'a> {
     /// The object's license, without the NUL that ends it.
@@ -44,7 +44,7 @@ impl<'a> Program<'a> {
         (self.section_index, self.address)
     }
 
-    /// The same program.
+    /// A copy.
     pub fn try_clone(&self) -> Result<Program<'a>, AllocError>
         ensures { IfOk result (λ program. program ≡ self.now) }
     {

@@ -212,8 +212,8 @@ impl TryFrom<u32> for bpf_prog_type {
     }
 }
 
-/// Places that programs are attached to: those of `enum bpf_attach_type` that an attach type of
-/// this crate stands for.
+/// Attach types of programs: the values of `enum bpf_attach_type` that attach types of this crate
+/// are converted to.
 #[derive(Clone, Copy, Debug, PartialEq, Eq)]
 pub enum bpf_attach_type {
     BPF_CGROUP_INET_INGRESS = 0,

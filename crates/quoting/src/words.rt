@@ -7,14 +7,14 @@ ghost use Rattle.quoting.specs.Words.{two_digits, hex_word, is_plain, is_plain_b
 
 use std::fmt;
 
-/// Whether a byte stands for itself inside of double quotes.
+/// Whether a byte is printed as it is inside double quotes.
 fn is_printed(byte: u8) -> bool
     ensures { result ≡ is_printed byte }
 {
     byte >= b' ' && byte <= b'~' && byte != b'"' && byte != b'\\'
 }
 
-/// Whether a byte stands for itself without double quotes.
+/// Whether a byte is printed as it is without double quotes.
 fn is_plain_byte(byte: u8) -> bool
     ensures { result ≡ is_plain_byte byte }
 {
