@@ -38,8 +38,8 @@ fn names_in<'o>(
     without_number(alloc, &maps, settings).ok()
 }
 
-/// The same of an object, where it can be read. Where its symbols' names share bytes, the maps
-/// aren't read again.
+/// The same for an object, where it can be read. The maps aren't read again where its symbols'
+/// names share bytes.
 fn names_of<'o>(alloc: Global, object: &'o [u8], settings: &Settings) -> Option<FirstNames<'o>> {
     let file = ObjectFile::parse(alloc, object).ok()?;
     if share_bytes(file.symbols(), object) {
@@ -49,7 +49,8 @@ fn names_of<'o>(alloc: Global, object: &'o [u8], settings: &Settings) -> Option<
     names_in(alloc, &file, table.as_ref(), settings)
 }
 
-/// What is told where the map of a name has no number: which maps have none, and how maps get them.
+/// The message where the map with a name has no number: which maps have none, and how maps get
+/// them.
 pub(crate) fn missing_numbers_text(
     alloc: Global,
     object: &[u8],
