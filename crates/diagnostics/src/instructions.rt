@@ -89,7 +89,7 @@ fn relocation_in<'a>(
 }
 
 /// The instruction whose relocation an error is about. It is in the function that the error names;
-/// for a symbol that isn't known it may be in a function that this one reaches.
+/// for a symbol that isn't known, it may also be in another function.
 fn relocation_at<'a>(
     file: &ObjectFile<'a>,
     functions: &Functions<'a>,

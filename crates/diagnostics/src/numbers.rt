@@ -27,7 +27,8 @@ fn without_number<'a>(
     Ok(names)
 }
 
-/// The names of the maps of a file with these types that have no number, where the maps can be read.
+/// The names of the maps of a file with these types that have no number, where the maps can be
+/// read.
 fn names_in<'o>(
     alloc: Global,
     file: &ObjectFile<'o>,

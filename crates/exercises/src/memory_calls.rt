@@ -163,7 +163,7 @@ fn print_made_table(rt: &HostRuntime) -> Result<(), BtfError> {
     print_table(rt, section.as_slice())
 }
 
-/// Prints the results of the calls on types, and returns whether memory sufficed.
+/// Prints the results of the calls on types.
 fn print_types(rt: &HostRuntime) -> Result<(), BtfError> {
     print_made_table(rt)?;
     print_records(rt)
