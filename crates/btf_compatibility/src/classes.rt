@@ -1,4 +1,4 @@
-//! Ids of two tables in classes.
+//! Classes of ids of two tables.
 
 ghost use Rattle.std.specs.Prelude.{◌≡◌, ◌+◌, [], ◌∷◌, length, IsTrue, OnOk};
 ghost use Rattle.btf_compatibility.specs.Classes.{AreClassesOf, AreJoined, AreLinked, AreMerged};
@@ -33,7 +33,7 @@ impl Side {
         self.classes.get(&id).copied()
     }
 
-    /// How many ids are in a class.
+    /// The number of ids in a class.
     fn size(&self, class: u32) -> usize
         ensures { result ≡ length (members_of self.now class) }
     {
@@ -43,7 +43,7 @@ impl Side {
         }
     }
 
-    /// Puts an id into a class.
+    /// Adds an id to a class.
     fn enter(&mut self, id: u32, class: u32) -> Result<(), AllocError>
         ensures { OnOk result (AreEntered self.old self.new (id ∷ []) class) }
     {
@@ -52,7 +52,7 @@ impl Side {
         Ok(())
     }
 
-    /// Puts ids into a class.
+    /// Adds ids to a class.
     fn enter_all(&mut self, ids: &[u32], class: u32) -> Result<(), AllocError>
         ensures { OnOk result (AreEntered self.old self.new ids.now class) }
     {
@@ -62,7 +62,7 @@ impl Side {
         Ok(())
     }
 
-    /// Puts the ids of a class into another.
+    /// Moves the ids of the class `from` to the class `to`.
     fn move_members(&mut self, from: u32, to: u32) -> Result<(), AllocError>
         ensures { OnOk result (AreMoved self.old self.new from to) }
     {
@@ -73,16 +73,16 @@ impl Side {
     }
 }
 
-/// Ids of a local table and of another in classes: those that joined pairs link. These are disjoint
-/// sets, each named by a local id. Where two become one, the smaller takes the name of the larger,
-/// so that an id gets another class no more than log n times in n joins.
+/// Classes of ids of a local table and of another: the ids that joined pairs link. The classes are
+/// disjoint sets, each named by a local id. Where two classes are merged, the smaller takes the
+/// name of the larger, so that an id changes its class at most log n times in n joins.
 pub(crate) struct Classes {
     left: Side,
     right: Side,
 }
 
 impl Drop for Classes {
-    // One call wherever it is dropped, in place of one for each part.
+    // A single call where a value is dropped, instead of one call per field.
     fn drop(self) {
         let Classes {
             left: _left,
@@ -111,7 +111,7 @@ impl Classes {
         }
     }
 
-    /// How many ids are in a class.
+    /// The number of ids in a class.
     fn size(&self, class: u32) -> usize
         ensures { result
             ≡ length (members_of self.now.left class) + length (members_of self.now.right class) }
@@ -119,7 +119,7 @@ impl Classes {
         self.left.size(class) + self.right.size(class)
     }
 
-    /// Puts the ids of a class into another.
+    /// Moves the ids of the class `from` to the class `to`.
     fn move_members(&mut self, from: u32, to: u32) -> Result<(), AllocError>
         ensures left { OnOk result (AreMoved self.old.left self.new.left from to) }
         ensures right { OnOk result (AreMoved self.old.right self.new.right from to) }
@@ -128,7 +128,7 @@ impl Classes {
         self.right.move_members(from, to)
     }
 
-    /// Makes one class of two.
+    /// Merges two classes.
     fn merge(&mut self, one: u32, other: u32) -> Result<(), AllocError>
         ensures { OnOk result (AreMerged self.old self.new one other) }
     {
@@ -142,7 +142,7 @@ impl Classes {
         }
     }
 
-    /// Makes one class of those of a local id and of one of the other table.
+    /// Merges the classes of a local id and of an id of the other table.
     pub(crate) fn join(&mut self, left: u32, right: u32) -> Result<(), AllocError>
         ensures { OnOk result (AreJoined self.old self.new left right) }
     {

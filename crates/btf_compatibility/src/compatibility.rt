@@ -12,7 +12,7 @@ use btf_encoding::TypeRef;
 use btf_records::{BtfError, BtfKind};
 use btf_tables::Btf;
 
-/// The record of an id; void where the table has none.
+/// The record of an id; void where it is missing.
 pub(crate) fn record_at<'t>(table: &'t Btf<'_>, id: u32) -> TypeRef<'t>
     ensures { result ≡ record_at table.now id }
 {
@@ -22,7 +22,7 @@ pub(crate) fn record_at<'t>(table: &'t Btf<'_>, id: u32) -> TypeRef<'t>
     }
 }
 
-/// A function prototype's parameters, and then what it returns.
+/// The type at an index among a function prototype's parameters and, after these, its return type.
 #[tactic(auto, using(crate::proofs::Parts::param_at, crate::proofs::Parts::returned_at, crate::proofs::Parts::past_returned))]
 fn func_proto_part(t: &TypeRef<'_>, index: usize) -> Option<u32>
     requires { kind_of_type t.now ≡ BtfKind.FuncProto }
@@ -39,7 +39,7 @@ fn func_proto_part(t: &TypeRef<'_>, index: usize) -> Option<u32>
     }
 }
 
-/// Of the types that a record is made of the one at an index.
+/// The type at an index among the types that a record is made of.
 fn part(t: &TypeRef<'_>, index: usize) -> Option<u32>
     ensures value { result ≡ slice_get (parts_of t.now) index }
     ensures within { IfSome result (λ _. index < 65536) }
@@ -52,7 +52,7 @@ fn part(t: &TypeRef<'_>, index: usize) -> Option<u32>
     }
 }
 
-/// The next parts of a pair of types.
+/// The next part of each type of a pair.
 #[tactic(auto, using(crate::proofs::Parts::both_parts, crate::proofs::Parts::no_left_part, crate::proofs::Parts::no_right_part))]
 fn next_parts(local: &Btf<'_>, target: &Btf<'_>, pair: OpenPair) -> Option<(u32, u32)>
     ensures value { result
@@ -64,7 +64,7 @@ fn next_parts(local: &Btf<'_>, target: &Btf<'_>, pair: OpenPair) -> Option<(u32,
     Some((left, right))
 }
 
-/// Whether a record is no integer that begins after its first bit.
+/// Whether a record isn't an integer with a nonzero bit offset.
 pub(crate) fn has_no_bit_offset(t: &TypeRef<'_>) -> bool
     ensures { result ≡ has_no_bit_offset t.now }
 {
@@ -74,7 +74,7 @@ pub(crate) fn has_no_bit_offset(t: &TypeRef<'_>) -> bool
     }
 }
 
-/// What two records say by themselves, the local one of this id.
+/// Whether two records agree without their parts. `left` is the id of the local one.
 fn verdict(left: u32, a: &TypeRef<'_>, b: &TypeRef<'_>) -> Result<bool, BtfError>
     ensures { result ≡ verdict left a.now b.now }
 {
@@ -91,7 +91,7 @@ fn verdict(left: u32, a: &TypeRef<'_>, b: &TypeRef<'_>) -> Result<bool, BtfError
     }
 }
 
-/// Opens a pair of types unless what their records say by themselves ends the comparison.
+/// Opens a pair of types, unless their records alone end the comparison.
 fn enter(
     local: &Btf<'_>,
     target: &Btf<'_>,
@@ -118,19 +118,21 @@ fn enter(
     Ok(agree)
 }
 
-/// With more pairs open than this before a pair is looked at, the answer is that it is too deep.
+/// The greatest number of open pairs before a pair is compared. With more, the comparison is too
+/// deep.
 ///
-/// What is compatible leads no further than its table has types, so where as many pairs are open,
-/// each of the first types has one part under way wherever it stands. Of the first pairs one joins
-/// two types that the pairs before it join already. There the comparison goes on as it went before.
+/// A chain of parts that ends has no more types than its table. So where this many pairs are open,
+/// each type in the first pairs has the same part open wherever it occurs. One of the first pairs
+/// links two types that the pairs before it link already. From there on the comparison repeats
+/// itself.
 fn most_open_pairs(local: &Btf<'_>, target: &Btf<'_>) -> usize
     ensures { result ≡ 2 * (length local.now.types + length target.now.types) + 2 }
 {
     2 * (local.len() + target.len()) + 2
 }
 
-/// Whether the types after two chains of modifiers are compatible, as a part of a question about
-/// another id.
+/// Whether the types at the ends of two chains of modifiers are compatible, for a query about the
+/// id `asked`.
 fn ends_are_compatible(
     local: &Btf<'_>,
     target: &Btf<'_>,
@@ -178,8 +180,8 @@ fn ends_are_compatible(
     Ok(true)
 }
 
-/// Whether types of equal kinds are compatible, past the modifiers that lead to them; types of
-/// other kinds aren't.
+/// Whether types of equal kinds are compatible, after their modifiers; types of different kinds
+/// aren't.
 fn compared<'t>(
     local: &Btf<'t>,
     local_id: u32,
@@ -200,17 +202,17 @@ fn compared<'t>(
     ends_are_compatible(local, target, local_id, local_id, target_id)
 }
 
-/// Whether a type is compatible with a type of another table, as libbpf asks of the types that a
-/// program was compiled against and those of a kernel (`bpf_core_types_are_compat`,
+/// Whether a type is compatible with a type of another table, as libbpf compares the types that a
+/// program was compiled against with those of the kernel (`bpf_core_types_are_compat`,
 /// tools/lib/bpf/relo_core.c).
 ///
-/// Both are of one kind, and so are the ends of their chains of modifiers and, in turn, what these
-/// point to, hold, take and return. Function prototypes take as many parameters, and integers begin with
-/// their first bit.
+/// Both types have the same kind. The ends of their chains of modifiers have the same kind, and so,
+/// in turn, have their pointees, array elements, parameters and return types. Function prototypes
+/// have equally many parameters, and integers have the bit offset 0.
 ///
-/// `UnknownBtfType` where a type isn't there, `UnexpectedBtfType` where functions, variables,
+/// `UnknownBtfType` where a type is missing, `UnexpectedBtfType` where functions, variables,
 /// sections or declaration tags are compared, `MaximumTypeDepthReached` with the local id where a
-/// pair of types is met inside itself or a chain of modifiers is too long.
+/// pair of types contains itself or a chain of modifiers is too long.
 #[tactic(auto, using(crate::proofs::Held::compared_are_held))]
 pub fn types_are_compatible<'t>(
     local: &Btf<'t>,

@@ -12,10 +12,10 @@ use btf_encoding::TypeRef;
 use btf_records::{BtfError, BtfKind};
 use btf_tables::{Btf, essential_name};
 
-/// Two arrays are followed into their elements in fewer rounds than this.
+/// The greatest number of rounds; each is one step into the elements of two arrays.
 const MAX_ROUNDS: usize = 32;
 
-/// Whether the names of two records are the same without flavours.
+/// Whether the names of two records are equal without their flavours.
 fn same_names(
     local: &Btf<'_>,
     target: &Btf<'_>,
@@ -35,7 +35,7 @@ fn is_composite(t: &TypeRef<'_>) -> bool
     matches!(t.kind(), BtfKind::Struct | BtfKind::Union)
 }
 
-/// What two records say without a look at the elements of arrays, the local one of this id.
+/// Whether two records agree, which aren't both arrays. `left` is the id of the local one.
 fn field_verdict(
     local: &Btf<'_>,
     target: &Btf<'_>,
@@ -61,7 +61,7 @@ fn field_verdict(
     }
 }
 
-/// The elements of two arrays.
+/// The element types of two arrays.
 fn elements(a: &TypeRef<'_>, b: &TypeRef<'_>) -> Option<(u32, u32)>
     ensures { result
         ≡ option_zip (option_map (λ array. array.element_type) (array_of a.now))
@@ -70,7 +70,7 @@ fn elements(a: &TypeRef<'_>, b: &TypeRef<'_>) -> Option<(u32, u32)>
     Some((a.array()?.element_type, b.array()?.element_type))
 }
 
-/// The answer for two members' types, round by round after modifiers and then into an array.
+/// Whether two members' types are compatible. Each round skips modifiers and enters an array.
 #[tactic(auto, using(crate::proofs::FieldRounds::rounds_over, crate::proofs::FieldRounds::round_left, crate::proofs::FieldRounds::round_right))]
 fn compare_fields(
     local: &Btf<'_>,
@@ -97,16 +97,17 @@ fn compare_fields(
 }
 
 /// Whether the type of a member is compatible with that of a member of a type of another table, as
-/// libbpf asks where it moves an access to a kernel's place of a member
-/// (`bpf_core_fields_are_compat`, tools/lib/bpf/relo_core.c).
+/// libbpf compares them where it relocates an access to a member (`bpf_core_fields_are_compat`,
+/// tools/lib/bpf/relo_core.c).
 ///
-/// After modifiers, structs and unions are; so are floats, pointers and integers that begin with
-/// their first bit, each with its kind, arrays with compatible elements, and enums and forward
-/// declarations with the same name. A name's flavour, from its first `___` on, doesn't count.
+/// Modifiers are skipped. Any two structs or unions are compatible; so are two floats, two
+/// pointers, two integers with the bit offset 0, two arrays with compatible elements, and two
+/// enums, two 64-bit enums or two forward declarations with the same name. A name's flavour, from
+/// its first `___` on, is ignored.
 ///
-/// `UnknownBtfType` where a type isn't there, `UnexpectedBtfType` where other kinds are compared,
-/// `InvalidStringOffset` where a name can't be read, `MaximumTypeDepthReached` with the local id
-/// where arrays are nested more than 31 deep or a chain of modifiers is too long.
+/// `UnknownBtfType` where a type is missing, `UnexpectedBtfType` where two types of another kind
+/// are compared, `InvalidStringOffset` where a name can't be read, `MaximumTypeDepthReached` with
+/// the local id where arrays are nested more than 31 deep or a chain of modifiers is too long.
 pub fn fields_are_compatible<'t>(
     local: &Btf<'t>,
     local_id: u32,

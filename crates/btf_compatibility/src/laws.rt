@@ -2,8 +2,8 @@
 
 ghost use Rattle.btf_compatibility.specs.Laws.{ComparisonsRest};
 
-/// A comparison rests, of the local table, on the records that are reached from the local type, and
-/// on their texts.
+/// A comparison depends, in the local table, only on the records that are reached from the local
+/// type, and on their texts.
 pub fn comparisons_rest()
     ensures { ComparisonsRest }
 {}

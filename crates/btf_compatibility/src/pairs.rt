@@ -1,4 +1,4 @@
-//! The pairs of types that a comparison has met.
+//! The pairs of types of a comparison.
 
 ghost use Rattle.std.specs.Prelude.{◌≡◌, ◌+◌, ◌<◌, ◌^◌, [], ◌∷◌, ◌++◌, OnOk};
 ghost use Rattle.btf_compatibility.specs.Classes.{AreClassesOf, AreJoined};
@@ -13,11 +13,11 @@ use std::collections::BTreeMap;
 pub(crate) struct OpenPair {
     pub(crate) left: u32,
     pub(crate) right: u32,
-    /// Which of its parts is the next.
+    /// The index of its next part.
     pub(crate) next: usize,
 }
 
-/// How far the comparison of a pair has come.
+/// The state of the comparison of a pair.
 #[derive(Clone, Copy)]
 pub(crate) enum PairState {
     Open,
@@ -25,12 +25,12 @@ pub(crate) enum PairState {
     Settled,
 }
 
-/// The pairs that have been met, and those that are open, each a part of the one before.
+/// The pairs that were entered, and the open ones, each a part of the one before.
 #[derive(Drop)]
 pub(crate) struct Pairs {
     pub(crate) open: Vec<OpenPair>,
     pub(crate) states: BTreeMap<(u32, u32), PairState>,
-    /// Of the settled pairs.
+    /// The classes of the settled pairs.
     pub(crate) classes: Classes,
 }
 
@@ -54,7 +54,7 @@ impl Pairs {
         self.states.get(&(left, right)).copied()
     }
 
-    /// Opens a pair that hasn't been met.
+    /// Opens a pair that wasn't entered yet.
     pub(crate) fn open(&mut self, left: u32, right: u32) -> Result<(), AllocError>
         ensures pushed { OnOk result
             (self.new.open.items
@@ -88,7 +88,7 @@ impl Pairs {
         Ok(())
     }
 
-    /// Remembers that a pair is compatible.
+    /// Records that a pair is compatible.
     pub(crate) fn settle(&mut self, left: u32, right: u32) -> Result<(), AllocError>
         ensures open { self.new.open.items ≡ self.old.open.items }
         ensures state { OnOk result

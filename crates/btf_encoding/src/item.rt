@@ -10,8 +10,8 @@ use btf_records::{
 };
 use std::alloc::AllocError;
 
-/// What is spelled by a fixed number of words after a record's first three: an item of its list,
-/// or its array.
+/// A part of a record after its first three words that has a fixed number of words: an item of its
+/// list, or its array.
 pub(crate) trait Item: Copy {
     ghost SIZE: { ℕ };
 
@@ -19,14 +19,14 @@ pub(crate) trait Item: Copy {
 
     ghost words: { Self → List ℕ };
 
-    /// Bytes of an item.
+    /// The size of an item in bytes.
     const SIZE: usize;
 
     fn read(order: Endianness, bytes: &[u8]) -> Self
         requires { SIZE ≤ length bytes.now }
         ensures { result ≡ item_in order bytes.now };
 
-    /// Writes the item after what is there.
+    /// Appends the item.
     fn write(self, order: Endianness, out: &mut Vec<u8>) -> Result<(), AllocError>
         ensures ok { OnOk result (out.new.items ≡ out.old.items ++ words_bytes order (words self)) }
         ensures err { OnErr result (take (length out.old.items) out.new.items ≡ out.old.items) }

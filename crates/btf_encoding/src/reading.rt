@@ -1,4 +1,4 @@
-//! Records from bytes.
+//! Reading records from bytes.
 
 ghost use Rattle.std.specs.Prelude.{◌≡◌, ◌+◌, ◌*◌, ◌<◌, ◌≤◌, ◌^◌, IfOk, IfErr, OnOk, IfSome, Option, Some, None, drop, length, slice_get};
 ghost use Rattle.btf_encoding.specs.Items.{items_in};
@@ -21,16 +21,16 @@ pub fn after(bytes: &[u8], len: usize) -> &[u8]
     bytes.split_at(len).1
 }
 
-/// The bytes after a record's first three words, those of its list aside, by the number of its
-/// kind.
+/// The number of bytes after a record's first three words, except those of its list, by the number
+/// of its kind.
 const FIXED_LEN: [usize; 20] = [0, 4, 0, 12, 0, 0, 0, 0, 0, 0, 0, 0, 0, 0, 4, 0, 0, 4, 0, 0];
 
-/// The bytes of an item of a record's list, by the number of its kind.
+/// The size in bytes of an item of a record's list, by the number of the record's kind.
 const ITEM_LEN: [usize; 20] = [
     0, 0, 0, 0, 12, 12, 8, 0, 0, 0, 0, 0, 0, 8, 0, 12, 0, 0, 0, 12,
 ];
 
-/// The bytes of a record of a kind after its first three words.
+/// The number of bytes after the first three words of a record of a kind and a count.
 pub(crate) fn len_after(kind: BtfKind, count: usize) -> usize
     requires { count < 65536 }
     ensures value { result ≡ len_after kind count }
@@ -41,7 +41,7 @@ pub(crate) fn len_after(kind: BtfKind, count: usize) -> usize
 
 /// The number of bytes of the record that the bytes begin with.
 ///
-/// `InvalidTypeInfo` where they are cut off, `InvalidTypeKind` where no record has the kind.
+/// `InvalidTypeInfo` where it is cut off, `InvalidTypeKind` where no record has the kind.
 #[tactic(auto, using(crate::proofs::WhateverFollows::reads_same))]
 pub fn record_len(order: Endianness, bytes: &[u8]) -> Result<usize, BtfError>
     ensures value { IfOk result (λ len. len ≡ record_len order bytes.now) }
@@ -61,7 +61,7 @@ pub fn record_len(order: Endianness, bytes: &[u8]) -> Result<usize, BtfError>
     Ok(len)
 }
 
-/// The item at a place in the list after a record's first three words.
+/// The item at an index of the list after a record's first three words.
 pub(crate) fn item<T: Item>(order: Endianness, bytes: &[u8], index: usize) -> Option<T>
     requires head { 12 ≤ length bytes.now }
     requires whole { 12 + T.SIZE * count_at order bytes.now ≤ length bytes.now }

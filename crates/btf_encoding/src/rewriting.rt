@@ -1,4 +1,4 @@
-//! Records written as they were read.
+//! Writing records from the bytes that they are read from.
 
 ghost use Rattle.std.specs.Prelude.{◌≡◌, ◌<◌, ◌≤◌, ◌⊎◌, ◌++◌, [], IfOk, OnErr, OnOk, length, take};
 ghost use Rattle.btf_encoding.specs.Records.{HasRecord, ReadsBack, kind_at, record_bytes, record_len, type_in};
@@ -27,7 +27,7 @@ fn is_zero(order: Endianness, bytes: &[u8]) -> bool
     word(order, bytes, 0) == 0 && word(order, bytes, 4) == 0 && word(order, bytes, 8) == 0
 }
 
-/// Whether the record that the bytes begin with is written as the bytes that it is read from.
+/// Whether the record that the bytes begin with is written as the same bytes.
 fn is_kept(order: Endianness, bytes: &[u8]) -> bool
     requires { HasRecord order bytes.now }
     ensures { result ≡ is_kept (kind_at order bytes.now) order bytes.now }
@@ -40,7 +40,8 @@ fn is_kept(order: Endianness, bytes: &[u8]) -> bool
     }
 }
 
-/// The bytes of the first records as far as these are written as they are read, and the rest.
+/// The bytes of the first records, up to the first that isn't written as the same bytes, and the
+/// rest.
 #[tactic(auto, using(crate::proofs::ManyTypes::first_record, crate::proofs::Rewritten::records_left))]
 fn split_kept(order: Endianness, bytes: &[u8]) -> (&[u8], &[u8])
     requires { AreRecords order bytes.now }
@@ -57,7 +58,7 @@ fn split_kept(order: Endianness, bytes: &[u8]) -> (&[u8], &[u8])
     bytes.split_at(bytes.len() - rest.len())
 }
 
-/// Writes the first record, where there is one, by its fields, and answers the bytes after it.
+/// Appends the first record, if there is one, field by field, and returns the bytes after it.
 #[tactic(auto, using(crate::proofs::ManyTypes::first_record, crate::proofs::Rewritten::none_yet, crate::proofs::Rewritten::pushed))]
 fn push_first<'a>(
     out: &mut Vec<u8>,
@@ -79,7 +80,7 @@ fn push_first<'a>(
     Ok(after(bytes, len_of(order, bytes)))
 }
 
-/// Writes records after what is there, as far as memory reaches.
+/// Appends records. When out of memory, a part of them may be appended.
 #[tactic(auto, using(crate::proofs::Rewritten::none_yet))]
 fn push_records(out: &mut Vec<u8>, order: Endianness, bytes: &[u8]) -> Result<(), AllocError>
     requires { AreRecords order bytes.now }
@@ -95,8 +96,8 @@ fn push_records(out: &mut Vec<u8>, order: Endianness, bytes: &[u8]) -> Result<()
     Ok(())
 }
 
-/// After what is there, writes the records that the bytes are, each as `push_type` writes it. Those
-/// that are written as they are read are copied, as many at once as stand side by side.
+/// Appends the records in `bytes`, each as `push_type` writes it. Adjacent records that are written
+/// as the same bytes are copied together.
 #[tactic(auto, using(crate::proofs::Rewritten::all_again))]
 pub fn push_types(out: &mut Vec<u8>, order: Endianness, bytes: &[u8]) -> Result<(), AllocError>
     requires { AreRecords order bytes.now }
@@ -113,7 +114,7 @@ pub fn push_types(out: &mut Vec<u8>, order: Endianness, bytes: &[u8]) -> Result<
     }
 }
 
-/// After what is there, writes the record that the bytes begin with, as `push_type` writes it.
+/// Appends the record that the bytes begin with, as `push_type` writes it.
 fn push_read(out: &mut Vec<u8>, order: Endianness, bytes: &[u8]) -> Result<(), AllocError>
     requires { HasRecord order bytes.now }
     ensures ok { OnOk result
@@ -131,8 +132,8 @@ fn push_read(out: &mut Vec<u8>, order: Endianness, bytes: &[u8]) -> Result<(), A
 }
 
 impl<'a> TypeRef<'a> {
-    /// Writes the record's bytes after what is there, in an order, as `push_type` writes the
-    /// record. One that is written as it was read is copied.
+    /// Appends the record's bytes in a byte order, as `push_type` writes the record. A record that
+    /// is written as the same bytes is copied.
     #[tactic(auto, using(crate::proofs::CopiedBack::bytes_with))]
     pub fn push_to(&self, out: &mut Vec<u8>, order: Endianness) -> Result<(), AllocError>
         ensures ok { OnOk result (out.new.items ≡ out.old.items ++ record_bytes order self.now) }

@@ -1,4 +1,4 @@
-//! Records read where they lie.
+//! Views of records over their bytes.
 
 ghost use Rattle.std.specs.Prelude.{◌≡◌, ◌<◌, IfOk, IfErr, OnOk, Option, Some, None, slice_get};
 ghost use Rattle.std.specs.Option.{option_copied};
@@ -14,7 +14,7 @@ use btf_records::{
 use std::alloc::{AllocError, Global};
 use std::marker::Model;
 
-/// A type record, read where it lies.
+/// A view of a type record over its bytes.
 #[derive(Debug, Drop)]
 pub struct TypeRef<'a> {
     pub(crate) order: Endianness,
@@ -50,7 +50,8 @@ impl<'a> TypeRef<'a> {
         }
     }
 
-    /// The record that the bytes are known to begin with; what follows it doesn't count.
+    /// The record that the bytes begin with, where they are known to begin with one. Bytes after it
+    /// are ignored.
     pub fn new(order: Endianness, bytes: &'a [u8]) -> TypeRef<'a>
         requires { HasRecord order bytes.now }
         ensures { result ≡ type_in order bytes.now }
@@ -62,7 +63,7 @@ impl<'a> TypeRef<'a> {
         }
     }
 
-    /// The record that the bytes begin with; what follows it doesn't count.
+    /// The record that the bytes begin with. Bytes after it are ignored.
     ///
     /// `InvalidTypeInfo` where it is cut off, `InvalidTypeKind` where no record has its kind.
     pub fn read(order: Endianness, bytes: &'a [u8]) -> Result<TypeRef<'a>, BtfError>
@@ -74,7 +75,7 @@ impl<'a> TypeRef<'a> {
         Ok(TypeRef::new(order, bytes))
     }
 
-    /// The same union, which stands for this enum; a record of another kind stays as it is.
+    /// The same union, with the enum that it stands for; a record of another kind is unchanged.
     pub fn with_fallback(self, fallback: &'a Enum64Fallback) -> TypeRef<'a>
         ensures { result ≡ with_fallback (Some fallback.now) self.entry }
     {
@@ -118,7 +119,7 @@ impl<'a> TypeRef<'a> {
         self.info().flag
     }
 
-    /// The count of its info word: of a kind with a list the list's length.
+    /// The count of its info word; for a kind with a list, the list's length.
     pub fn count(&self) -> usize
         ensures value { result ≡ count_of self.now }
         ensures bounded { result < 65536 }
@@ -135,7 +136,7 @@ impl<'a> TypeRef<'a> {
         }
     }
 
-    /// Its own size in bytes, of the kinds that give one.
+    /// Its size in bytes, for the kinds with a size field.
     pub fn size(&self) -> Option<u32>
         ensures { result ≡ size_of self.now }
     {
@@ -151,7 +152,7 @@ impl<'a> TypeRef<'a> {
         }
     }
 
-    /// The id that its third word holds, of the kinds that name a type there.
+    /// The type id in its third word, for the kinds that have one there.
     pub fn btf_type(&self) -> Option<u32>
         ensures { result ≡ type_of self.now }
     {
@@ -230,7 +231,7 @@ impl<'a> TypeRef<'a> {
         }
     }
 
-    /// The integer that this record is.
+    /// This record as an integer, if it is one.
     pub fn int(&self) -> Option<Int>
         ensures { result ≡ int_of self.now }
     {
@@ -246,7 +247,7 @@ impl<'a> TypeRef<'a> {
         }
     }
 
-    /// The function that this record is.
+    /// This record as a function, if it is one.
     pub fn func(&self) -> Option<Func>
         ensures { result ≡ func_of self.now }
     {
@@ -261,7 +262,7 @@ impl<'a> TypeRef<'a> {
         }
     }
 
-    /// The variable that this record is.
+    /// This record as a variable, if it is one.
     pub fn var(&self) -> Option<Var>
         ensures { result ≡ var_of self.now }
     {
@@ -277,7 +278,7 @@ impl<'a> TypeRef<'a> {
         }
     }
 
-    /// The tag that this record is.
+    /// This record as a declaration tag, if it is one.
     pub fn decl_tag(&self) -> Option<DeclTag>
         ensures { result ≡ decl_tag_of self.now }
     {
@@ -303,7 +304,7 @@ impl<'a> TypeRef<'a> {
         }
     }
 
-    /// The record by itself.
+    /// The record, copied out of its bytes.
     pub fn to_type(&self, alloc: Global) -> Result<BtfType, AllocError>
         ensures { IfOk result (λ t. t ≡ self.now) }
     {

@@ -1,4 +1,4 @@
-//! Records to bytes.
+//! Writing records to bytes.
 
 ghost use Rattle.std.specs.Prelude.{◌≡◌, ◌++◌, ◌<◌, ◌^◌, All, length, take, OnOk, OnErr, IfOk};
 ghost use Rattle.std.specs.List.{flat_map};
@@ -9,7 +9,7 @@ use crate::item::Item;
 use btf_records::{BtfType, Endianness, Items, push_word};
 use std::alloc::AllocError;
 
-/// Writes words after what is there.
+/// Appends words.
 fn push_words(out: &mut Vec<u8>, order: Endianness, words: &[u32]) -> Result<(), AllocError>
     ensures ok { OnOk result (out.new.items ≡ out.old.items ++ words_bytes order words.now) }
     ensures fits { OnOk result (All (λ w. w < 2 ^ 32) words.now) }
@@ -21,7 +21,7 @@ fn push_words(out: &mut Vec<u8>, order: Endianness, words: &[u32]) -> Result<(),
     Ok(())
 }
 
-/// Writes items after what is there.
+/// Appends items.
 fn push_items<T: Item>(out: &mut Vec<u8>, order: Endianness, items: &[T]) -> Result<(), AllocError>
     ensures ok { OnOk result
         (out.new.items ≡ out.old.items ++ words_bytes order (flat_map T.words items.now)) }
@@ -34,7 +34,7 @@ fn push_items<T: Item>(out: &mut Vec<u8>, order: Endianness, items: &[T]) -> Res
     Ok(())
 }
 
-/// The count of a list, which fits its word.
+/// The count of a list, which fits in 16 bits.
 fn count<T: Copy>(items: &Items<T>) -> u16
     ensures value { result ≡ length items.now }
     ensures bounded { length items.now < 65536 }
@@ -77,7 +77,7 @@ fn head_words(t: &BtfType) -> [u32; 3]
     }
 }
 
-/// Writes the words of a record after its first three.
+/// Appends the words of a record after its first three.
 fn push_tail(out: &mut Vec<u8>, order: Endianness, t: &BtfType) -> Result<(), AllocError>
     ensures ok { OnOk result (out.new.items ≡ out.old.items ++ words_bytes order (words_after t.now)) }
     ensures err { OnErr result (take (length out.old.items) out.new.items ≡ out.old.items) }
@@ -98,7 +98,7 @@ fn push_tail(out: &mut Vec<u8>, order: Endianness, t: &BtfType) -> Result<(), Al
     }
 }
 
-/// Writes a record's words after what is there, as far as memory reaches.
+/// Appends a record's words. When out of memory, a part of them may be appended.
 #[tactic(auto, unfolding(crate::specs::Records::record_bytes))]
 fn push_fields(out: &mut Vec<u8>, order: Endianness, t: &BtfType) -> Result<(), AllocError>
     ensures ok { OnOk result (out.new.items ≡ out.old.items ++ record_bytes order t.now) }
@@ -112,8 +112,8 @@ fn push_fields(out: &mut Vec<u8>, order: Endianness, t: &BtfType) -> Result<(), 
     push_tail(out, order, t)
 }
 
-/// Writes a record's bytes after what is there: the third word of `BTF_KIND_FWD` and
-/// `BTF_KIND_ARRAY` as 0, an unknown linkage of a `BTF_KIND_VAR` as 3, `BTF_KIND_UNKN` as zeros.
+/// Appends a record's bytes. The third word of `BTF_KIND_FWD` and `BTF_KIND_ARRAY` is written as 0,
+/// an unknown linkage of a `BTF_KIND_VAR` as 3, and `BTF_KIND_UNKN` as zeros.
 pub fn push_type(out: &mut Vec<u8>, order: Endianness, t: &BtfType) -> Result<(), AllocError>
     ensures ok { OnOk result (out.new.items ≡ out.old.items ++ record_bytes order t.now) }
     ensures read_back { OnOk result (ReadsBack order t.now) }

@@ -17,8 +17,7 @@ use btf_tables::{Btf, Strings};
 use std::alloc::{AllocError, Global};
 use std::marker::Model;
 
-/// What a `.BTF.ext` section says, over the section's bytes: records are read where they are asked
-/// for.
+/// A `.BTF.ext` section over its bytes. Records are read on demand.
 #[derive(Debug)]
 pub struct BtfExt<'a> {
     /// The table's strings, which name the section infos.
@@ -31,7 +30,7 @@ pub struct BtfExt<'a> {
 }
 
 impl<'a> Drop for BtfExt<'a> {
-    // One call wherever it is dropped, in place of one for each part.
+    // A single call where a value is dropped, instead of one call per field.
     fn drop(self) {
         let BtfExt {
             strings: _strings,
@@ -63,15 +62,16 @@ impl<'a> Model for BtfExt<'a> {
 }
 
 impl<'a> BtfExt<'a> {
-    /// What a section says, in this byte order, whose section infos this table names. Neither magic nor
-    /// version is checked; bytes of the header past its length count as 0.
+    /// The extension in a section, in this byte order; `table` has the names of its section infos.
+    /// Neither the magic number nor the version is checked. Header fields past the header's length
+    /// are read as 0.
     ///
     /// `InvalidHeader` where the header is shorter than 8 bytes, or cut off; `InvalidInfo` where a
-    /// region goes past the end or has no room for the size of its records; `InvalidInfo`,
+    /// region reaches past the end or is too short for the size of its records; `InvalidInfo`,
     /// `InvalidLineInfo` and `InvalidRelocationInfo` where records of functions, lines or
-    /// relocations are too short or a section info of them is cut off; `InvalidStringOffset` where the
-    /// name of a section info of functions or lines can't be read; `InvalidRelocationKind` where a
-    /// relocation's kind is above 11.
+    /// relocations are too short or a section info of them is cut off; `InvalidStringOffset` where
+    /// the name of a section info of functions or lines can't be read; `InvalidRelocationKind`
+    /// where a relocation's kind is above 11.
     pub fn parse(
         alloc: Global,
         section: &'a [u8],
@@ -100,14 +100,14 @@ impl<'a> BtfExt<'a> {
         })
     }
 
-    /// The size of a function's record in bytes, as the section gives it; 0 where it has none.
+    /// The size of a function's record in bytes, by the section; 0 where it has no such records.
     pub fn func_info_rec_size(&self) -> usize
         ensures { result ≡ self.now.func_size }
     {
         self.functions.size
     }
 
-    /// The size of a line's record in bytes, as the section gives it; 0 where it has none.
+    /// The size of a line's record in bytes, by the section; 0 where it has no such records.
     pub fn line_info_rec_size(&self) -> usize
         ensures { result ≡ self.now.line_size }
     {
@@ -121,7 +121,7 @@ impl<'a> BtfExt<'a> {
         FuncInfo { extension: self }
     }
 
-    /// The records of the functions of a section of instructions.
+    /// The function records of a section of instructions, of the last section info with its name.
     fn functions_of(&self, name: &str) -> Option<FuncSecInfo<'_>>
         ensures { result ≡ records_of self.now.strings name.now self.now.functions }
     {
@@ -134,8 +134,7 @@ impl<'a> BtfExt<'a> {
         }
     }
 
-    /// The records of the lines of a section of instructions; of several section infos of its name the
-    /// last counts.
+    /// The line records of a section of instructions, of the last section info with its name.
     pub fn line_info(&self, name: &str) -> Option<LineSecInfo<'_>>
         ensures { result ≡ records_of self.now.strings name.now self.now.lines }
     {
@@ -153,7 +152,7 @@ impl<'a> BtfExt<'a> {
         SecInfoIter::new(&self.relocations)
     }
 
-    /// The same section.
+    /// A copy.
     pub fn try_clone(&self) -> Result<BtfExt<'a>, AllocError>
         ensures { IfOk result (λ extension. extension ≡ self.now) }
     {
@@ -168,7 +167,7 @@ impl<'a> BtfExt<'a> {
     }
 }
 
-/// The records of functions, by the name of their section.
+/// The function records, by the name of their section.
 #[derive(Debug, Drop)]
 pub struct FuncInfo<'e> {
     extension: &'e BtfExt<'e>,
@@ -183,8 +182,7 @@ impl<'e> Model for FuncInfo<'e> {
 }
 
 impl<'e> FuncInfo<'e> {
-    /// The records of the functions of a section of instructions; of several section infos of its name the
-    /// last counts.
+    /// The function records of a section of instructions, of the last section info with its name.
     pub fn get(&self, name: &str) -> Option<FuncSecInfo<'e>>
         ensures { result ≡ records_of self.now.strings name.now self.now.functions }
     {

@@ -8,7 +8,7 @@ ghost use Rattle.btf_ext.specs.Regions.{HasHeader, IsHeaderCut, IsWithin, header
 use crate::region::{Place, RegionKind};
 use btf_records::{BtfError, Endianness, word};
 
-/// The least bytes of a header: they give its length.
+/// The least size of a header in bytes; its length is in these bytes.
 const LEAST_LEN: usize = 8;
 
 /// A region and its bytes.
@@ -29,7 +29,7 @@ fn padded_byte(header: &[u8], at: usize) -> u8
     }
 }
 
-/// The word at an offset of the header, whose bytes past the end are 0.
+/// The word at an offset of the header; bytes past its end are read as 0.
 fn padded_word(order: Endianness, header: &[u8], at: usize) -> u32
     requires { at < 2 ^ 16 }
     ensures { result ≡ padded_word order header.now at }
@@ -62,7 +62,7 @@ pub(crate) fn header(order: Endianness, section: &[u8]) -> Result<&[u8], BtfErro
     }
 }
 
-/// Where the header says that a region lies.
+/// The region's offset and length, by the header.
 fn region_place(kind: RegionKind, order: Endianness, section: &[u8], header: &[u8]) -> Place
     requires head { HasHeader order section.now }
     requires header { header.now ≡ header_in order section.now }

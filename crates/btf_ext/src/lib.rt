@@ -1,5 +1,5 @@
-//! What a `.BTF.ext` section says of the instructions of an object beside its table of types: the
-//! functions and the lines that they come from, and the type relocations in them
+//! The section `.BTF.ext`, which describes the instructions of an object: the functions and the
+//! lines that they come from, and the type relocations that apply to them
 //! (Documentation/bpf/btf.rst, "BTF.ext section").
 #![tactic(auto)]
 

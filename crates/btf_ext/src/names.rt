@@ -12,13 +12,13 @@ use std::alloc::{AllocError, Global};
 use std::collections::BTreeMap;
 use string_table::name_hash;
 
-/// Where the last section info of each hash of a name begins.
+/// The offset of the last section info with each hash of a name.
 #[derive(Debug, Drop)]
 pub(crate) struct SectionInfoNames {
     pub(crate) last: BTreeMap<u64, u32>,
 }
 
-/// The hash of the name of the section info at a place.
+/// The hash of the name of the section info at the offset `place`; 0 where the name can't be read.
 fn place_hash(strings: &Strings<'_>, section_infos: &SectionInfoList<'_>, place: u32) -> u64
     requires { IsSectionInfo section_infos.now.order section_infos.now.size (drop place section_infos.now.bytes.now) }
     ensures { result ≡ place_hash strings.now section_infos.now place }
@@ -29,7 +29,7 @@ fn place_hash(strings: &Strings<'_>, section_infos: &SectionInfoList<'_>, place:
     }
 }
 
-/// Keeps a place for a hash.
+/// Stores the offset `place` for a hash.
 fn keep(last: &mut BTreeMap<u64, u32>, hash: u64, place: u32) -> Result<(), AllocError>
     ensures { OnOk result (IsKept last.old.entries last.new.entries hash place) }
 {
@@ -37,7 +37,7 @@ fn keep(last: &mut BTreeMap<u64, u32>, hash: u64, place: u32) -> Result<(), Allo
     Ok(())
 }
 
-/// The place that is kept for a hash.
+/// The offset that is stored for a hash.
 fn place_by(last: &BTreeMap<u64, u32>, hash: u64) -> Option<u32>
     ensures { result ≡ place_by last.now.entries hash }
 {
@@ -64,8 +64,8 @@ impl SectionInfoNames {
         Ok(SectionInfoNames { last })
     }
 
-    /// The place of the last section info of a name. Looks at one section info, unless a later one has another
-    /// name of the same hash.
+    /// The offset of the last section info with this name. Reads one section info, unless a later
+    /// one has another name with the same hash.
     #[tactic(auto, using(crate::proofs::NameHashes::last_of_hash, crate::proofs::NameHashes::none_of_hash))]
     pub(crate) fn last_named(
         &self,
@@ -87,7 +87,7 @@ impl SectionInfoNames {
         section_infos.last_named(strings, name)
     }
 
-    /// The same names.
+    /// A copy.
     pub(crate) fn try_clone(&self) -> Result<SectionInfoNames, AllocError>
         ensures { IfOk result (λ names. names.last.entries ≡ self.now.last.entries) }
     {

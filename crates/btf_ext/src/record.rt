@@ -12,7 +12,7 @@ use std::alloc::AllocError;
 /// A function.
 #[derive(Clone, Copy, Debug, PartialEq, Eq)]
 pub struct bpf_func_info {
-    /// Its first instruction, in slots of 8 bytes.
+    /// The index of its first instruction, in slots of 8 bytes.
     pub insn_off: u32,
     /// The id of its `BTF_KIND_FUNC`.
     pub type_id: u32,
@@ -21,7 +21,7 @@ pub struct bpf_func_info {
 /// A line of a source file.
 #[derive(Clone, Copy, Debug, PartialEq, Eq)]
 pub struct bpf_line_info {
-    /// The first instruction that comes from it, in slots of 8 bytes.
+    /// The index of the first instruction that comes from it, in slots of 8 bytes.
     pub insn_off: u32,
     /// The offset of the file's name in the strings.
     pub file_name_off: u32,
@@ -44,13 +44,13 @@ pub struct bpf_core_relo {
     pub kind: u32,
 }
 
-/// What begins each record of a section info.
+/// The fields at the beginning of each record of a section info.
 pub(crate) trait Record: Copy {
     ghost SIZE: { ℕ };
 
     ghost record_in: { Endianness → List ℕ → Self };
 
-    /// Bytes that are read.
+    /// The number of bytes that are read.
     const SIZE: usize;
 
     fn read(order: Endianness, bytes: &[u8]) -> Self
@@ -58,7 +58,8 @@ pub(crate) trait Record: Copy {
         ensures { result ≡ record_in order bytes.now };
 }
 
-/// The slot of an instruction whose offset in bytes begins a record.
+/// The index in slots of 8 bytes of an instruction, from its offset in bytes at the beginning of a
+/// record.
 fn slot(order: Endianness, bytes: &[u8]) -> u32
     requires { 4 ≤ length bytes.now }
     ensures { result ≡ slot_at order bytes.now }
@@ -116,7 +117,7 @@ impl Record for bpf_core_relo {
 }
 
 impl bpf_func_info {
-    /// Writes its words after what is there, little-endian.
+    /// Appends its words, little-endian.
     pub(crate) fn write(self, out: &mut Vec<u8>) -> Result<(), AllocError>
         ensures { OnOk result
             (out.new.items ≡ out.old.items ++ words_bytes Little (func_words self)) }
@@ -127,7 +128,7 @@ impl bpf_func_info {
 }
 
 impl bpf_line_info {
-    /// Writes its words after what is there, little-endian.
+    /// Appends its words, little-endian.
     pub(crate) fn write(self, out: &mut Vec<u8>) -> Result<(), AllocError>
         ensures { OnOk result
             (out.new.items ≡ out.old.items ++ words_bytes Little (line_words self)) }

@@ -6,7 +6,7 @@ ghost use Rattle.btf_ext.specs.Regions.{field_of, least_size};
 
 use btf_records::BtfError;
 
-/// What a region's records say.
+/// The kind of a region's records.
 #[derive(Clone, Copy, PartialEq, Eq)]
 pub(crate) enum RegionKind {
     Functions,
@@ -14,7 +14,7 @@ pub(crate) enum RegionKind {
     Relocations,
 }
 
-/// Where a region lies, in bytes from the section's start.
+/// A region's offset in its section and its length, and the section's length, in bytes.
 #[derive(Clone, Copy)]
 pub(crate) struct Place {
     pub(crate) offset: usize,
@@ -23,7 +23,7 @@ pub(crate) struct Place {
 }
 
 impl RegionKind {
-    /// Where the header names the region.
+    /// The offset in the header of the region's fields.
     pub(crate) fn field(self) -> usize
         ensures { result ≡ field_of self }
     {
@@ -47,7 +47,7 @@ impl RegionKind {
 }
 
 impl Place {
-    /// The error of a region that the section has no room for.
+    /// The error for a region that reaches past the end of the section or is too short.
     pub(crate) fn misplaced(self) -> BtfError
         ensures { result ≡ misplaced self }
     {
@@ -58,7 +58,7 @@ impl Place {
         }
     }
 
-    /// The error of a region whose records are too short or cut off.
+    /// The error for a region whose records are too short or cut off.
     pub(crate) fn bad_records(self, kind: RegionKind) -> BtfError
         ensures { result ≡ bad_records kind self }
     {

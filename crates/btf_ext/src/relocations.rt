@@ -11,7 +11,7 @@ use crate::sec_info::{SectionInfoRecords, record_at};
 use crate::section_info_list::SectionInfoList;
 use std::marker::Model;
 
-/// A section info of type relocations: those of one section of instructions.
+/// A section info of type relocations: the relocations of one section of instructions.
 #[derive(Debug, Drop)]
 pub struct SecInfo<'e> {
     name_offset: u32,
@@ -40,7 +40,7 @@ impl<'e> SecInfo<'e> {
         self.name_offset
     }
 
-    /// How many relocations there are.
+    /// The number of relocations.
     #[tactic(auto, using(crate::proofs::Items::length_items_in))]
     pub fn num_info(&self) -> u32
         ensures { result ≡ length self.now.records }

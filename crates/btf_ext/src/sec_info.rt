@@ -10,11 +10,11 @@ use btf_records::Endianness;
 use std::alloc::{AllocError, Global};
 use std::marker::Model;
 
-/// The records of a section info, as they lie in the section.
+/// The records of a section info, over the section's bytes.
 #[derive(Clone, Copy, Debug)]
 pub(crate) struct SectionInfoRecords<'a> {
     pub(crate) order: Endianness,
-    /// Bytes of a record.
+    /// The size of a record in bytes.
     pub(crate) size: usize,
     pub(crate) count: u32,
     pub(crate) bytes: &'a [u8],
@@ -48,7 +48,7 @@ enum FuncRecords<'a> {
     List(Vec<bpf_func_info>),
 }
 
-/// Records of functions: those of a section info, or a list by itself.
+/// Function records: those of a section info, or a list.
 #[derive(Debug, Drop)]
 pub struct FuncSecInfo<'a> {
     records: FuncRecords<'a>,
@@ -80,7 +80,7 @@ impl<'a> FuncSecInfo<'a> {
         }
     }
 
-    /// These records.
+    /// The records of a list.
     pub fn from_records(records: Vec<bpf_func_info>) -> FuncSecInfo<'a>
         requires { length records.items < 2 ^ 32 }
         ensures { result ≡ records.items }
@@ -90,7 +90,7 @@ impl<'a> FuncSecInfo<'a> {
         }
     }
 
-    /// How many records there are.
+    /// The number of records.
     #[tactic(auto, using(crate::proofs::Items::length_items_in))]
     pub fn num_info(&self) -> u32
         ensures { result ≡ length self.now }
@@ -101,7 +101,7 @@ impl<'a> FuncSecInfo<'a> {
         }
     }
 
-    /// The bytes of `func_info_bytes`.
+    /// The number of bytes of `func_info_bytes`.
     pub fn len(&self) -> usize
         ensures { result ≡ 8 * length self.now }
     {
@@ -121,7 +121,7 @@ impl<'a> FuncSecInfo<'a> {
         }
     }
 
-    /// The same records; those of a section info stay where they lie.
+    /// A copy; the records of a section info stay borrowed.
     pub fn try_clone(&self) -> Result<FuncSecInfo<'a>, AllocError>
         ensures { IfOk result (λ records. records ≡ self.now) }
     {
@@ -136,7 +136,7 @@ impl<'a> FuncSecInfo<'a> {
         }
     }
 
-    /// The records as the kernel takes them: two little-endian words each.
+    /// The records in the kernel's format: two little-endian words each.
     pub fn func_info_bytes(&self, alloc: Global) -> Result<Vec<u8>, AllocError>
         ensures { IfOk result (λ bytes. bytes.items ≡ func_bytes self.now) }
     {
@@ -156,7 +156,7 @@ enum LineRecords<'a> {
     List(Vec<bpf_line_info>),
 }
 
-/// Records of lines: those of a section info, or a list by itself.
+/// Line records: those of a section info, or a list.
 #[derive(Debug, Drop)]
 pub struct LineSecInfo<'a> {
     records: LineRecords<'a>,
@@ -188,7 +188,7 @@ impl<'a> LineSecInfo<'a> {
         }
     }
 
-    /// These records.
+    /// The records of a list.
     pub fn from_records(records: Vec<bpf_line_info>) -> LineSecInfo<'a>
         requires { length records.items < 2 ^ 32 }
         ensures { result ≡ records.items }
@@ -198,7 +198,7 @@ impl<'a> LineSecInfo<'a> {
         }
     }
 
-    /// How many records there are.
+    /// The number of records.
     #[tactic(auto, using(crate::proofs::Items::length_items_in))]
     pub fn num_info(&self) -> u32
         ensures { result ≡ length self.now }
@@ -209,7 +209,7 @@ impl<'a> LineSecInfo<'a> {
         }
     }
 
-    /// The bytes of `line_info_bytes`.
+    /// The number of bytes of `line_info_bytes`.
     pub fn len(&self) -> usize
         ensures { result ≡ 16 * length self.now }
     {
@@ -229,7 +229,7 @@ impl<'a> LineSecInfo<'a> {
         }
     }
 
-    /// The same records; those of a section info stay where they lie.
+    /// A copy; the records of a section info stay borrowed.
     pub fn try_clone(&self) -> Result<LineSecInfo<'a>, AllocError>
         ensures { IfOk result (λ records. records ≡ self.now) }
     {
@@ -244,7 +244,7 @@ impl<'a> LineSecInfo<'a> {
         }
     }
 
-    /// The records as the kernel takes them: four little-endian words each.
+    /// The records in the kernel's format: four little-endian words each.
     pub fn line_info_bytes(&self, alloc: Global) -> Result<Vec<u8>, AllocError>
         ensures { IfOk result (λ bytes. bytes.items ≡ line_bytes self.now) }
     {

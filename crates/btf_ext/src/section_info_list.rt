@@ -1,4 +1,4 @@
-//! The section infos of a region, and where they begin.
+//! The section infos of a region, and their offsets.
 
 ghost use Rattle.std.specs.Prelude.{◌≡◌, ◌≢◌, ◌≤◌, ◌<◌, ◌+◌, ◌*◌, ◌^◌, ◌⊎◌, All, length, drop, find, reverse, IfErr, IfOk, IfSome, IsSome, OnOk, MatchOption, slice_get};
 ghost use Rattle.btf_records.specs.Words.{word_at};
@@ -21,20 +21,20 @@ use std::alloc::{AllocError, Global};
 #[derive(Debug, Drop)]
 pub(crate) struct SectionInfoList<'a> {
     pub(crate) order: Endianness,
-    /// Bytes of a record.
+    /// The size of a record in bytes.
     pub(crate) size: usize,
     pub(crate) bytes: &'a [u8],
-    /// Where each section info begins in the bytes.
+    /// The offset of each section info in the bytes.
     pub(crate) places: Vec<u32>,
 }
 
-/// The last bytes of a region that are too few for a section info.
+/// The greatest number of bytes at the end of a region that are too few for a section info.
 const REST_LEN: usize = 8;
 
 /// The number of the kinds of relocations.
 const KIND_COUNT: u32 = 12;
 
-/// The bytes of the section info that the bytes begin with, where it is whole.
+/// The size in bytes of the section info that the bytes begin with, if it isn't cut off.
 #[tactic(auto, using(crate::proofs::SectionInfos::product_fits))]
 fn section_info_len(order: Endianness, size: usize, bytes: &[u8]) -> Option<usize>
     requires head { 8 < length bytes.now }
@@ -57,7 +57,7 @@ fn kind_at(order: Endianness, size: usize, section_info: &[u8], index: usize) ->
     word(order, after(after(section_info, 8), size * index), 12)
 }
 
-/// Looks for a relocation of an unknown kind.
+/// Refuses a section info with a relocation of an unknown kind.
 fn check_kinds(order: Endianness, size: usize, section_info: &[u8]) -> Result<(), BtfError>
     requires whole { IsSectionInfo order size section_info.now }
     requires sized { 16 ≤ size }
@@ -74,7 +74,7 @@ fn check_kinds(order: Endianness, size: usize, section_info: &[u8]) -> Result<()
     Ok(())
 }
 
-/// Reads the name of a section info.
+/// Refuses a section info whose name can't be read.
 fn check_name(order: Endianness, table: &Btf<'_>, section_info: &[u8]) -> Result<(), BtfError>
     requires { 8 < length section_info.now }
     ensures good { OnOk result (IsSome (text_at table.now.strings (word_at order section_info.now 0))) }
@@ -84,7 +84,7 @@ fn check_name(order: Endianness, table: &Btf<'_>, section_info: &[u8]) -> Result
     Ok(())
 }
 
-/// Looks for what is wrong with a whole section info.
+/// Checks a section info that isn't cut off.
 #[tactic(auto, using(crate::proofs::Faults::named_function, crate::proofs::Faults::named_line, crate::proofs::Faults::known_kinds))]
 fn check_section_info(
     kind: RegionKind,
@@ -105,7 +105,7 @@ fn check_section_info(
     }
 }
 
-/// The bytes of the section info that the bytes begin with, where nothing is wrong with it.
+/// The size in bytes of the section info that the bytes begin with, after it is checked.
 fn checked_len(
     region: Region<'_>,
     order: Endianness,
@@ -130,7 +130,7 @@ fn checked_len(
     Ok(len)
 }
 
-/// Where the section infos begin that the bytes are.
+/// The offsets of the section infos in `bytes`.
 #[tactic(auto, using(crate::proofs::SectionInfos::reach_none, crate::proofs::SectionInfos::reach_more))]
 fn places(
     alloc: Global,
@@ -163,7 +163,7 @@ fn places(
 }
 
 impl<'a> SectionInfoList<'a> {
-    /// Where the section info at an index begins.
+    /// The offset of the section info at an index.
     pub(crate) fn place(&self, index: usize) -> Option<u32>
         requires { AreWhole self.now }
         ensures value { result ≡ slice_get self.now.places.items index }
@@ -174,7 +174,7 @@ impl<'a> SectionInfoList<'a> {
         self.places.get(index).copied()
     }
 
-    /// The name offset of the section info at a place.
+    /// The name offset of the section info at the offset `place`.
     #[tactic(auto, using(crate::proofs::SectionInfos::place_within))]
     pub(crate) fn name_offset(&self, place: u32) -> u32
         requires { IsSectionInfo self.now.order self.now.size (drop place self.now.bytes.now) }
@@ -183,7 +183,7 @@ impl<'a> SectionInfoList<'a> {
         word(self.order, after(self.bytes, place as usize), 0)
     }
 
-    /// Whether the section info at a place has this name.
+    /// Whether the section info at the offset `place` has this name.
     pub(crate) fn is_named(&self, strings: &Strings<'_>, place: u32, name: &str) -> bool
         requires { IsSectionInfo self.now.order self.now.size (drop place self.now.bytes.now) }
         ensures { result ≡ is_named strings.now name.now self.now place }
@@ -194,7 +194,7 @@ impl<'a> SectionInfoList<'a> {
         }
     }
 
-    /// The records of the section info at a place.
+    /// The records of the section info at the offset `place`.
     #[tactic(auto, using(crate::proofs::SectionInfos::place_within, crate::proofs::SectionInfos::records_there))]
     pub(crate) fn records(&self, place: u32) -> SectionInfoRecords<'a>
         requires { IsSectionInfo self.now.order self.now.size (drop place self.now.bytes.now) }
@@ -210,7 +210,7 @@ impl<'a> SectionInfoList<'a> {
         }
     }
 
-    /// The place of the last section info of a name, by a look at each.
+    /// The offset of the last section info with this name; a linear search.
     pub(crate) fn last_named(&self, strings: &Strings<'_>, name: &str) -> Option<u32>
         requires { AreWhole self.now }
         ensures value { result
@@ -229,7 +229,7 @@ impl<'a> SectionInfoList<'a> {
         None
     }
 
-    /// The same section infos.
+    /// A copy.
     pub(crate) fn try_clone(&self) -> Result<SectionInfoList<'a>, AllocError>
         ensures { IfOk result (AreSameSectionInfos self.now) }
     {
@@ -244,9 +244,9 @@ impl<'a> SectionInfoList<'a> {
     /// The section infos of a region.
     ///
     /// `InvalidInfo`, `InvalidLineInfo` or `InvalidRelocationInfo`, by the region's kind, where its
-    /// records are too short or a section info is cut off; `InvalidStringOffset` where the name of a section info
-    /// of functions or lines can't be read; `InvalidRelocationKind` where a relocation's kind is
-    /// above 11.
+    /// records are too short or a section info is cut off; `InvalidStringOffset` where the name of
+    /// a section info of functions or lines can't be read; `InvalidRelocationKind` where a
+    /// relocation's kind is above 11.
     pub(crate) fn read(
         alloc: Global,
         order: Endianness,

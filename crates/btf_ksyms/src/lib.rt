@@ -1,5 +1,6 @@
-//! The section `.ksyms` of a type table, whose entries a kernel resolves by name, made such as a
-//! kernel takes it, as libbpf collects externs (tools/lib/bpf/libbpf.c).
+//! The section `.ksyms` of a type table, whose entries the kernel resolves by name. The section is
+//! rewritten to a form that the kernel accepts, as libbpf collects externs
+//! (tools/lib/bpf/libbpf.c).
 #![tactic(auto)]
 
 mod section;

@@ -1,4 +1,4 @@
-//! The section `.ksyms`, whose entries a kernel resolves by name.
+//! The section `.ksyms`, whose entries the kernel resolves by name.
 
 ghost use Rattle.std.specs.Prelude.{◌≡◌, ◌≢◌, ◌≤◌, ◌<◌, ◌∷◌, [], Any, IfErr, IfOk, OnOk, length, set, true};
 ghost use Rattle.std.specs.List.{list_any};
@@ -14,11 +14,12 @@ use btf_records::{BtfError, BtfKind, DataSecEntry};
 use btf_storage::{Strings, TypeRecords};
 use std::alloc::{AllocError, Global};
 
-/// The id of the section `.ksyms`, and of the variable that stands in it for each function, where
-/// there is one.
+/// The id of the section `.ksyms`, and the id of the placeholder variable that replaces functions
+/// in it, if there is one.
 pub type KsymsIds = (u32, Option<u32>);
 
-/// A section of a table, by id, and the id of the variable that stands in it for each function.
+/// A section of a table, by id, and the id of the placeholder variable that replaces functions in
+/// it.
 #[derive(Debug, Drop)]
 pub struct KsymsSection<'t> {
     pub types: &'t TypeRecords<'t>,
@@ -27,7 +28,7 @@ pub struct KsymsSection<'t> {
     pub placeholder: Option<u32>,
 }
 
-/// An entry at its place in the section, with the placeholder where it names a function; and
+/// An entry of 4 bytes at 4 times its index, with the placeholder where it names a function; and
 /// whether it names a variable.
 fn placed_entry(
     k: &KsymsSection<'_>,
@@ -57,14 +58,15 @@ fn placed_entry(
     Ok((placed, is_variable))
 }
 
-/// The entries of the section, each at its place, and whether one of them names a variable.
+/// The entries of the section, each of 4 bytes at 4 times its index, and whether one of them names
+/// a variable.
 #[derive(Drop)]
 pub(crate) struct PlacedEntries {
     pub(crate) entries: Vec<DataSecEntry>,
     pub(crate) has_variables: bool,
 }
 
-/// The entries of the section, each at its place.
+/// The entries of the section, each of 4 bytes at 4 times its index.
 pub(crate) fn placed_entries(
     alloc: Global,
     k: &KsymsSection<'_>,
@@ -119,7 +121,7 @@ pub(crate) fn int4_id(types: &TypeRecords<'_>) -> Option<u32>
     None
 }
 
-/// Marks an id, where the marks reach so far.
+/// Marks an id, if it is less than the number of marks.
 fn mark(marks: &mut Vec<bool>, id: usize)
     ensures len { length marks.new.items ≡ length marks.old.items }
     ensures within { id < length marks.old.items → marks.new.items ≡ set marks.old.items id true }
@@ -130,7 +132,7 @@ fn mark(marks: &mut Vec<bool>, id: usize)
     }
 }
 
-/// For each id below a count whether an entry names it.
+/// For each id below `count`, whether an entry names it.
 #[tactic(auto, using(crate::proofs::Marks::no_marks, crate::proofs::Marks::marked_within, crate::proofs::Marks::marked_past, crate::proofs::Marks::all_marks))]
 pub(crate) fn marks(
     alloc: Global,

@@ -1,4 +1,4 @@
-//! The step on the section `.ksyms` of a table.
+//! The rewriting of the section `.ksyms` of a table.
 
 ghost use Rattle.std.specs.Prelude.{◌≡◌, ◌≢◌, ◌+◌, ◌<◌, ◌++◌, ◌^◌, ◌∷◌, ◌⊎◌, [], Any, false, IfErr, IfOk, OnOk, length};
 ghost use Rattle.std.proofs.Math.ListN.{get_or};
@@ -17,21 +17,21 @@ use btf_records::{
 use btf_storage::{MOST, TypeRecords};
 use std::alloc::{AllocError, Global};
 
-/// What a table's records become, and the text after its strings.
+/// A table's rewritten records, and the text that follows its strings.
 #[derive(Debug, Drop)]
 pub struct SteppedTable<'a> {
     pub records: TypeRecords<'a>,
     pub texts: Vec<u8>,
 }
 
-/// What the records of a table are rewritten by.
+/// The data that the records of a table are rewritten with.
 #[derive(Drop)]
 pub(crate) struct KsymsStep {
-    /// The section's entries, each at its place.
+    /// The section's entries, each of 4 bytes at 4 times its index.
     entries: Items<DataSecEntry>,
-    /// For each id whether the section names it.
+    /// For each id, whether the section names it.
     marks: Vec<bool>,
-    /// The integer that its variables are of.
+    /// The id of the integer that its variables have as their type.
     int: u32,
     has_variables: bool,
 }
@@ -46,7 +46,7 @@ fn is_marked(marks: &[bool], id: usize) -> bool
     }
 }
 
-/// What becomes of the record of an id.
+/// The rewritten record of an id.
 fn stepped(
     k: &KsymsSection<'_>,
     step: &KsymsStep,
@@ -75,7 +75,7 @@ fn stepped(
     }
 }
 
-/// Whether the step leaves the record of an id as it is.
+/// Whether the record of an id stays as it is.
 fn leaves(k: &KsymsSection<'_>, step: &KsymsStep, id: usize, t: &TypeRef<'_>) -> bool
     requires step { IsStep (ksyms_of k.now) step.now }
     requires within { id < length step.now.marks.items }
@@ -88,7 +88,7 @@ fn leaves(k: &KsymsSection<'_>, step: &KsymsStep, id: usize, t: &TypeRef<'_>) ->
     }
 }
 
-/// Writes what becomes of a record after what becomes of those before it.
+/// Appends the rewritten record of an id.
 #[tactic(auto, using(crate::proofs::Left::left_alone))]
 fn step_next(
     alloc: Global,
@@ -118,7 +118,7 @@ fn step_next(
     records.push(t)
 }
 
-/// Writes what becomes of each record.
+/// Appends each rewritten record.
 fn step_all(
     alloc: Global,
     k: &KsymsSection<'_>,
@@ -161,7 +161,8 @@ fn section_entries(alloc: Global, k: &KsymsSection<'_>) -> Result<Items<DataSecE
     }
 }
 
-/// What the records of the table are rewritten by, where its integer of 4 bytes is this.
+/// The data that the records of the table are rewritten with. `int` is the table's first integer of
+/// 4 bytes, if it has one.
 fn step_of(
     alloc: Global,
     k: &KsymsSection<'_>,
@@ -189,14 +190,14 @@ fn step_of(
     })
 }
 
-/// The integer that is appended for variables where the table has none of 4 bytes.
+/// The integer that is appended for variables where the table has no integer of 4 bytes.
 fn signed_int(name_offset: u32) -> BtfType
     ensures { result ≡ signed_int name_offset }
 {
     BtfType::Int(Int::new(name_offset, 4, IntEncoding::Signed, 0))
 }
 
-/// Appends that integer, and answers its name's text.
+/// Appends that integer, and returns the text of its name.
 fn add_int(
     alloc: Global,
     string_len: usize,
@@ -223,7 +224,7 @@ fn add_int(
     Ok(Vec::from_slice(alloc, text)?)
 }
 
-/// The stepped records, and after them the integer where it is wanted.
+/// The rewritten records, and after them the integer if it is added.
 fn with_int<'a>(
     alloc: Global,
     k: &KsymsSection<'_>,
@@ -251,7 +252,7 @@ fn with_int<'a>(
     Ok(SteppedTable { records, texts })
 }
 
-/// What the records become, with the integer and its name where these are added.
+/// The rewritten records, with the integer and its name where these are added.
 fn stepped_table<'a>(alloc: Global, k: &KsymsSection<'_>) -> Result<SteppedTable<'a>, BtfError>
     requires { length (ksyms_of k.now).strings < 2 ^ 32 }
     ensures types { IfOk result (λ s. s.records.types ≡ stepped_types (ksyms_of k.now)) }
@@ -272,15 +273,15 @@ fn stepped_table<'a>(alloc: Global, k: &KsymsSection<'_>) -> Result<SteppedTable
     Ok(table)
 }
 
-/// The records of a table after the step on its section `.ksyms`, and the text after its strings:
-/// each entry gets a place of 4 bytes and, where it names a function, names the placeholder; the
-/// functions and variables that it names become global, the variables of the least integer of 4
-/// bytes, which is appended where there is none.
+/// The records of a table after its section `.ksyms` is rewritten, and the text that follows its
+/// strings. Each entry gets 4 bytes at 4 times its index. An entry that names a function names the
+/// placeholder instead. The functions and variables that the section names become global. The
+/// variables get the first integer of 4 bytes as their type; it is appended where there is none.
 ///
-/// `UnknownBtfType` where the section or an entry is of an id that no type has, `UnexpectedBtfType`
-/// where the id is of no section, `InvalidDatasec` where an entry names neither a function nor a
-/// variable, or a function and there is no placeholder, `InvalidTypeInfo` where the table gets
-/// greater than 32 bits can count.
+/// `UnknownBtfType` where no type has the id of the section or of an entry, `UnexpectedBtfType`
+/// where the id isn't that of a section, `InvalidDatasec` where an entry names neither a function
+/// nor a variable, or names a function and there is no placeholder, `InvalidTypeInfo` where the
+/// size of the table overflows 32 bits.
 pub fn fixup_ksyms<'a>(alloc: Global, k: &KsymsSection<'_>) -> Result<SteppedTable<'a>, BtfError>
     requires { length (ksyms_of k.now).strings < 2 ^ 32 }
     ensures types { IfOk result (λ s. s.records.types ≡ stepped_types (ksyms_of k.now)) }

@@ -82,7 +82,7 @@ pub struct Union {
     /// Its size in bytes.
     pub size: u32,
     pub members: Items<BtfMember>,
-    /// The enum that this union stands for; it has no bytes.
+    /// The 64-bit enum that this union stands for, if any; it isn't encoded.
     pub fallback: Option<Enum64Fallback>,
 }
 
@@ -122,7 +122,7 @@ pub struct Enum64Fallback {
     pub variants: Items<BtfEnum64>,
 }
 
-/// A `BTF_KIND_FWD`: a struct that is declared alone, or a union where the flag is set.
+/// A `BTF_KIND_FWD`: a forward declaration of a struct, or of a union if the flag is set.
 #[derive(Clone, Copy, Debug)]
 pub struct Fwd {
     /// The offset of its name in the strings.
@@ -133,7 +133,7 @@ pub struct Fwd {
 }
 
 impl Fwd {
-    /// A struct that is declared alone.
+    /// A forward declaration of a struct.
     pub fn new(name_offset: u32) -> Fwd
         ensures { result ≡ record { name_offset = name_offset; vlen = 0; info = flagged false } }
     {

@@ -1,4 +1,4 @@
-//! Linkages, and how an integer is to be read.
+//! Linkages, and the encodings of integers.
 
 ghost use Rattle.std.specs.Prelude.{◌≡◌};
 ghost use Rattle.btf_records.specs.Encodings.{encoding_of, func_linkage_of, number_of_encoding, number_of_func_linkage, number_of_var_linkage, var_linkage_of};
@@ -9,8 +9,8 @@ pub enum FuncLinkage {
     Static,
     Global,
     Extern,
-    /// Any number above 2; a function made with it is written with 3, one that was read as it
-    /// was.
+    /// Any number above 2. A new function with this linkage is written with 3; a function that was
+    /// read keeps its number.
     Unknown,
 }
 
@@ -46,7 +46,7 @@ pub enum VarLinkage {
 }
 
 impl VarLinkage {
-    /// The number that stands for this linkage; 3 for an unknown one.
+    /// The number of this linkage; 3 for an unknown one.
     pub fn number(self) -> u32
         ensures { result ≡ number_of_var_linkage self }
     {
@@ -74,7 +74,8 @@ pub enum IntEncoding {
     Signed,
     Char,
     Bool = 4,
-    /// Any other number; an integer made with it is written with 5, one that was read as it was.
+    /// Any other number. A new integer with this encoding is written with 5; an integer that was
+    /// read keeps its number.
     Unknown,
 }
 

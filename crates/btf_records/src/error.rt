@@ -1,4 +1,4 @@
-//! What is wrong with type information.
+//! The errors of type information.
 
 ghost use Rattle.std.specs.Prelude.{◌≡◌};
 ghost use Rattle.btf_records.specs.declared.error.BtfError.TheVariants.{OutOfMemory};
@@ -7,13 +7,14 @@ use std::alloc::{AllocError, AllocFailed};
 use std::error::Error;
 use std::fmt;
 
-/// Why type information, or a question about it, is refused.
+/// Why type information, or a query of it, is refused.
 #[derive(Debug, Drop)]
 pub enum BtfError {
     /// The header, or the strings that it names, reach past the end of the section.
     InvalidHeader,
-    /// A type record is cut off; the types reach past the end of the section; they are more than
-    /// 2^32 - 1, or more than 2^32 - 1 bytes; or a product or a shift doesn't fit its integer.
+    /// A type record is cut off; the types reach past the end of the section; there are more than
+    /// 2^32 - 1 types, or more than 2^32 - 1 bytes of types; or a product or a shift overflows its
+    /// integer.
     InvalidTypeInfo,
     /// A type relocation record is cut off.
     InvalidRelocationInfo,
@@ -46,7 +47,7 @@ pub enum BtfError {
     UnknownBtfType {
         type_id: u32,
     },
-    /// The type of this id is of a kind that can't stand here.
+    /// The type of this id is of a kind that isn't allowed here.
     UnexpectedBtfType {
         type_id: u32,
     },
@@ -62,7 +63,8 @@ pub enum BtfError {
     SymbolOffsetNotFound {
         symbol_name: String,
     },
-    /// An entry of a section record names what can't stand there.
+    /// An entry of a section record refers to a record that isn't allowed there, or its offset is
+    /// too great.
     InvalidDatasec,
     /// A section record names a section that the object doesn't have.
     UnknownSectionSize {
@@ -78,7 +80,7 @@ pub enum BtfError {
     MultiLevelMapInMapNotSupported {
         name: String,
     },
-    /// The member `values` of a map definition is of an unknown shape.
+    /// The member `values` of a map definition has an unknown form.
     InvalidValuesSpec {
         name: String,
     },
@@ -86,18 +88,18 @@ pub enum BtfError {
     OutOfMemory,
 }
 
-/// The forms that the texts of faults have.
+/// The forms of the error messages.
 enum Form<'a> {
     Text(&'a str),
     /// A text before a number, and one after it.
     Number(&'a str, u64, &'a str),
     /// A text before a name, and one after it.
     Name(&'a str, &'a str, &'a str),
-    /// A text, and where a region stands in its section.
+    /// A text, the offset and length of a region, and the length of its section.
     Region(&'a str, usize, usize, usize),
 }
 
-/// The text of a fault, in its form.
+/// The message of an error, in its form.
 fn form_of(error: &BtfError) -> Form<'_> {
     match error {
         BtfError::InvalidHeader => Form::Text("invalid BTF header"),

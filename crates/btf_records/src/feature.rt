@@ -1,6 +1,6 @@
-//! What a kernel may lack.
+//! Features of BTF that a kernel may lack.
 
-/// A part of BTF that not every kernel reads.
+/// A part of BTF that some kernels don't support.
 #[derive(Clone, Copy, Debug, Default, PartialEq, Eq)]
 pub enum BtfFeature {
     /// `BTF_KIND_FUNC` and `BTF_KIND_FUNC_PROTO`.

@@ -68,7 +68,7 @@ pub struct FuncProto {
 }
 
 impl FuncProto {
-    /// It has no name.
+    /// A function prototype without a name.
     pub fn new(params: Vec<BtfParam>, return_type: u32) -> FuncProto
         requires { length params.items < 65536 }
         ensures { result

@@ -20,7 +20,7 @@ pub struct InfoBits {
 }
 
 impl InfoBits {
-    /// No bit but, where asked for, the flag.
+    /// No bits except the flag, if `flag` is true.
     pub fn flagged(flag: bool) -> InfoBits
         ensures { result ≡ flagged flag }
     {

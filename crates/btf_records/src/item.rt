@@ -1,4 +1,4 @@
-//! What the lists of type records hold.
+//! The items in the lists of type records.
 
 ghost use Rattle.std.specs.Prelude.{◌≡◌, ◌+◌, ◌*◌, ◌/◌, ◌%◌, ◌^◌};
 ghost use Rattle.btf_records.specs.Items.{bit_offset_of, bit_size_of, value_of};
@@ -16,7 +16,7 @@ pub struct BtfMember {
 }
 
 impl BtfMember {
-    /// Its offset in bits, by its record's flag.
+    /// Its offset in bits, given its record's flag.
     pub fn bit_offset(self, flag: bool) -> u32
         ensures { result ≡ bit_offset_of flag self }
     {
@@ -27,7 +27,7 @@ impl BtfMember {
         }
     }
 
-    /// The bits of its bit field, by its record's flag; 0 if it is none.
+    /// The size of its bit field in bits, given its record's flag; 0 if it isn't a bit field.
     pub fn bit_size(self, flag: bool) -> u32
         ensures { result ≡ bit_size_of flag self }
     {
@@ -81,7 +81,7 @@ impl BtfEnum64 {
         }
     }
 
-    /// The value of 64 bits.
+    /// The 64-bit value.
     pub fn value(self) -> u64
         ensures { result ≡ value_of self }
     {

@@ -5,7 +5,7 @@ ghost use Rattle.std.specs.Prelude.{◌≡◌, ◌+◌, ◌<◌, ◌==◌, ◌++
 use std::alloc::{AllocError, AllocFailed, Global};
 use std::marker::Model;
 
-/// At most 65535 items in order: as many as the count of a record's info word can say.
+/// A list of at most 65535 items, the greatest count of a record's info word.
 #[derive(Debug, Drop)]
 pub struct Items<T> {
     items: Vec<T>,

@@ -58,7 +58,7 @@ const KINDS: [BtfKind; 20] = [
 ];
 
 impl BtfKind {
-    /// The number that stands for this kind in a record's info word.
+    /// The number of this kind in a record's info word.
     pub(crate) fn number(self) -> u32
         ensures value { result ≡ number_of self }
         ensures bounded { result < kind_count }
@@ -111,7 +111,7 @@ impl TryFrom<u32> for BtfKind {
     }
 }
 
-/// The documentation's name in brackets, as `[FUNC_PROTO]`.
+/// The documentation's name in brackets, such as `[FUNC_PROTO]`.
 impl fmt::Display for BtfKind {
     ghost output = { λ kind. Some (text_of kind) };
 

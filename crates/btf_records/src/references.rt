@@ -72,7 +72,7 @@ pub struct Volatile {
 }
 
 impl Volatile {
-    /// It has no name.
+    /// A qualifier without a name.
     pub fn new(id: u32) -> Volatile
         ensures { result
             ≡ record { name_offset = 0; vlen = 0; info = flagged false; btf_type = id } }
@@ -99,7 +99,7 @@ pub struct Const {
 }
 
 impl Const {
-    /// It has no name.
+    /// A qualifier without a name.
     pub fn new(id: u32) -> Const
         ensures { result
             ≡ record { name_offset = 0; vlen = 0; info = flagged false; btf_type = id } }
@@ -126,7 +126,7 @@ pub struct Restrict {
 }
 
 impl Restrict {
-    /// It has no name.
+    /// A qualifier without a name.
     pub fn new(id: u32) -> Restrict
         ensures { result
             ≡ record { name_offset = 0; vlen = 0; info = flagged false; btf_type = id } }

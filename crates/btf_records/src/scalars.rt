@@ -25,7 +25,8 @@ pub struct Int {
 }
 
 impl Int {
-    /// Its word holds the offset and 8 times the size modulo 256.
+    /// An integer whose word holds its encoding, its offset, and 8 times its size modulo 256 as its
+    /// number of bits.
     pub fn new(name_offset: u32, size: u32, encoding: IntEncoding, offset: u32) -> Int
         ensures { result
             ≡ record {

@@ -14,7 +14,7 @@ use std::alloc::AllocError;
 /// A type record.
 #[derive(Clone, Debug, Drop)]
 pub enum BtfType {
-    /// `BTF_KIND_UNKN`, as which the id 0, void, counts.
+    /// `BTF_KIND_UNKN`, which is also the record of id 0, void.
     Unknown,
     Fwd(Fwd),
     Const(Const),

@@ -8,9 +8,9 @@ use std::alloc::AllocError;
 /// The order of the bytes of a number.
 #[derive(Clone, Copy, Debug, PartialEq, Eq)]
 pub enum Endianness {
-    /// The lowest byte first.
+    /// The least significant byte first.
     Little,
-    /// The highest byte first.
+    /// The most significant byte first.
     Big,
 }
 
@@ -24,7 +24,7 @@ impl Default for Endianness {
     }
 }
 
-/// The word that the four bytes at an offset stand for.
+/// The word in the four bytes at an offset.
 #[tactic(auto, unfolding(crate::specs::Words::word_at))]
 pub fn word(order: Endianness, bytes: &[u8], offset: usize) -> u32
     requires { offset + 4 ≤ length bytes.now }
@@ -38,7 +38,7 @@ pub fn word(order: Endianness, bytes: &[u8], offset: usize) -> u32
     }
 }
 
-/// Writes a word after what is there.
+/// Appends a word.
 #[tactic(auto, unfolding(crate::specs::Words::word_bytes))]
 pub fn push_word(out: &mut Vec<u8>, order: Endianness, word: u32) -> Result<(), AllocError>
     ensures ok { OnOk result (out.new.items ≡ out.old.items ++ word_bytes order word) }
@@ -50,7 +50,7 @@ pub fn push_word(out: &mut Vec<u8>, order: Endianness, word: u32) -> Result<(), 
     }
 }
 
-/// The half word that the two bytes at an offset stand for.
+/// The half word in the two bytes at an offset.
 #[tactic(auto, unfolding(crate::specs::Words::half_at))]
 pub fn half_word(order: Endianness, bytes: &[u8], offset: usize) -> u16
     requires { offset + 2 ≤ length bytes.now }
@@ -64,7 +64,7 @@ pub fn half_word(order: Endianness, bytes: &[u8], offset: usize) -> u16
     }
 }
 
-/// Writes a half word after what is there.
+/// Appends a half word.
 #[tactic(auto, unfolding(crate::specs::Words::half_bytes))]
 pub fn push_half_word(out: &mut Vec<u8>, order: Endianness, half: u16) -> Result<(), AllocError>
     ensures ok { OnOk result (out.new.items ≡ out.old.items ++ half_bytes order half) }

@@ -1,5 +1,6 @@
-//! Type tables rewritten for one kernel: their section `.ksyms`, and what that kernel doesn't grant
-//! (`bpf_object__sanitize_btf` and `bpf_object__collect_externs`, tools/lib/bpf/libbpf.c).
+//! Type tables rewritten for one kernel: their section `.ksyms`, and the features that the kernel
+//! doesn't support (`bpf_object__sanitize_btf` and `bpf_object__collect_externs`,
+//! tools/lib/bpf/libbpf.c).
 #![tactic(auto)]
 
 mod rewriting;

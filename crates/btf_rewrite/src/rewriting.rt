@@ -1,4 +1,4 @@
-//! Tables of which only the features are left that a kernel grants.
+//! Tables rewritten to use only the features that a kernel grants.
 
 ghost use Rattle.std.specs.Prelude.{◌≡◌, ◌≢◌, ◌⊎◌, IfErr, IfOk, OnErr, OnOk};
 ghost use Rattle.btf_records.specs.declared.error.BtfError.TheVariants.{OutOfMemory};
@@ -16,14 +16,14 @@ use btf_sanitize::{Answers, Known, ask_all, sanitize};
 use btf_tables::Btf;
 use string_map::TextMap;
 
-/// A table after a rewriting, and the answers that it rests on.
+/// A rewritten table, and the answers that it depends on.
 #[derive(Drop)]
 struct Rewritten<'a> {
     answers: Answers,
     table: Btf<'a>,
 }
 
-/// The table after the step on a section of externs.
+/// The table after its section `.ksyms` is rewritten.
 fn with_ksyms<'a>(
     table: &Btf<'a>,
     section: u32,
@@ -51,15 +51,15 @@ fn with_ksyms<'a>(
     Ok(stepped)
 }
 
-/// Rewrites the section `.ksyms`, of this id, and what it names: each entry gets a place of 4
-/// bytes and, where it names a function, names the placeholder; these functions and variables
-/// become global, the variables of the least integer of 4 bytes, which is added where there is
-/// none.
+/// Rewrites the section `.ksyms`, of this id, and the records that it names. Each entry gets 4
+/// bytes at 4 times its index. An entry that names a function names the placeholder instead. These
+/// functions and variables become global. The variables get the first integer of 4 bytes as their
+/// type; it is added where there is none.
 ///
 /// `UnknownBtfType` where no type has the id of the section or of an entry, `UnexpectedBtfType`
-/// where the id is of no section, `InvalidDatasec` where an entry names neither a function nor
-/// a variable, or a function and there is no placeholder, `InvalidTypeInfo` where the table
-/// would get greater than 32 bits can count.
+/// where the id isn't that of a section, `InvalidDatasec` where an entry names neither a function
+/// nor a variable, or names a function and there is no placeholder, `InvalidTypeInfo` where the
+/// size of the table overflows 32 bits.
 pub fn fixup_ksyms_datasec(
     table: &mut Btf<'_>,
     section: u32,
@@ -82,7 +82,7 @@ pub fn fixup_ksyms_datasec(
     Ok(())
 }
 
-/// The table of which only granted features are left, and the answers.
+/// The table rewritten to use only granted features, and the answers.
 fn granted_table<'a, 'm, 'n, F: FnMut(BtfFeature) -> bool>(
     table: &Btf<'a>,
     sizes: &'m TextMap<'n, u64>,
@@ -125,7 +125,7 @@ fn granted_table<'a, 'm, 'n, F: FnMut(BtfFeature) -> bool>(
     Ok(Rewritten { answers, table })
 }
 
-/// The same after the step on the section of these ids.
+/// The same, after the section `.ksyms` of these ids is rewritten.
 #[tactic(auto, using(crate::proofs::Sanitized::texts_then))]
 fn granted_table_after<'a, 'm, 'n, F: FnMut(BtfFeature) -> bool>(
     table: &Btf<'a>,
@@ -166,16 +166,17 @@ fn granted_table_after<'a, 'm, 'n, F: FnMut(BtfFeature) -> bool>(
     Ok(rewritten)
 }
 
-/// Rewrites the table to the features that a kernel grants, as the predicate tells: first the
-/// section `.ksyms` of these ids, as `fixup_ksyms_datasec` does, then each record. What a
-/// record needs that isn't granted is replaced by records that every kernel reads; where
-/// sections are granted, those without a size get that of the object's section of their name,
-/// and their variables the offsets of their symbols. Answers the features that were asked
-/// about, each once, in the order in which records need them, with their answers.
+/// Rewrites the table to use only the features that a kernel grants, by the predicate: first the
+/// section `.ksyms` of these ids, as `fixup_ksyms_datasec` does, then each record. A record that
+/// needs a feature that isn't granted is replaced by records that every kernel supports. Where
+/// sections are granted, a section without a size gets the size of the object's section of that
+/// name, and its variables get the offsets of their symbols. Returns the features that were asked
+/// about with the answers, each once, in the order in which records need them.
 ///
-/// The errors of `fixup_ksyms_datasec`; `InvalidStringOffset` where a name that counts can't be
-/// read, `UnknownSectionSize` and `SymbolOffsetNotFound` where the object doesn't have what a
-/// section lacks, `InvalidDatasec` where an entry of it names no variable or lies too far.
+/// The errors of `fixup_ksyms_datasec`; `InvalidStringOffset` where a needed name can't be read,
+/// `UnknownSectionSize` and `SymbolOffsetNotFound` where a section lacks a size or an offset that
+/// the object doesn't give, `InvalidDatasec` where an entry of a section names no variable or its
+/// offset is too great.
 pub fn fixup_and_sanitize<'m, 'n, F: FnMut(BtfFeature) -> bool>(
     table: &mut Btf<'_>,
     sizes: &'m TextMap<'n, u64>,

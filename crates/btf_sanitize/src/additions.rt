@@ -1,4 +1,4 @@
-//! What a rewriting appends to a table.
+//! The texts and types that are appended to a table.
 
 ghost use Rattle.std.specs.Prelude.{◌≡◌, ◌≢◌, ◌+◌, ◌<◌, ◌^◌, IfErr, IfOk, OnOk, Some, length};
 ghost use Rattle.btf_records.specs.declared.error.BtfError.TheVariants.{InvalidTypeInfo, OutOfMemory};
@@ -45,7 +45,7 @@ impl Model for Additions {
 }
 
 impl Additions {
-    /// Nothing, after as many bytes of strings and as many types as given.
+    /// No additions to a table with `string_len` bytes of strings and `type_count` types.
     pub fn new(alloc: Global, string_len: usize, type_count: usize) -> Additions
         requires strings { string_len < 2 ^ 32 }
         requires types { type_count < 2 ^ 32 }
@@ -61,7 +61,7 @@ impl Additions {
         }
     }
 
-    /// The texts, one after the other, and the types.
+    /// The texts, each with its NUL, and the types.
     pub(crate) fn into_parts(self) -> (Vec<u8>, Vec<BtfType>)
         ensures texts { result.0.items ≡ self.texts }
         ensures types { result.1.items ≡ self.types }
@@ -76,7 +76,7 @@ impl Additions {
         *self.texts.allocator()
     }
 
-    /// Appends a text and a NUL, and answers the text's offset.
+    /// Appends a text and a NUL, and returns the text's offset.
     pub(crate) fn add_text(&mut self, text: &[u8]) -> Result<u32, BtfError>
         ensures offset { IfOk result (λ offset. offset ≡ next_offset self.old) }
         ensures added { OnOk result (self.new ≡ with_text text.now self.old) }
@@ -92,7 +92,7 @@ impl Additions {
         Ok(offset as u32)
     }
 
-    /// Appends a type, and answers its id.
+    /// Appends a type, and returns its id.
     pub(crate) fn add_type(&mut self, t: BtfType) -> Result<u32, BtfError>
         ensures id { IfOk result (λ id. id ≡ next_id self.old) }
         ensures added { OnOk result (self.new ≡ with_type t self.old) }
@@ -106,8 +106,8 @@ impl Additions {
         Ok(id as u32)
     }
 
-    /// Appends a name with one byte in the place of another, and answers its offset; the name's own
-    /// where it doesn't have that byte.
+    /// Appends a name with one byte replaced by another, and returns its offset. Returns
+    /// `name_offset` where the name doesn't have that byte.
     pub(crate) fn rename(
         &mut self,
         name: &str,
@@ -128,8 +128,8 @@ impl Additions {
         self.add_text(text.as_slice())
     }
 
-    /// The id of the integer of one byte that the members of a rewritten 64-bit enum are of, which
-    /// is appended where it isn't there yet.
+    /// The id of the integer of one byte that the members of a rewritten 64-bit enum have as their
+    /// type. It is appended at the first call.
     pub(crate) fn placeholder(&mut self) -> Result<u32, BtfError>
         ensures id { IfOk result (λ id. id ≡ placeholder_id self.old) }
         ensures added { OnOk result (self.new ≡ with_placeholder self.old) }
@@ -145,8 +145,8 @@ impl Additions {
         Ok(id)
     }
 
-    /// The id of the variable that stands in a section without variables, which is appended with
-    /// its integer where it isn't there yet.
+    /// The id of the variable that is put into a section without variables. It is appended with its
+    /// integer at the first call.
     pub(crate) fn filler(&mut self) -> Result<u32, BtfError>
         ensures id { IfOk result (λ id. id ≡ filler_id self.old) }
         ensures added { OnOk result (self.new ≡ with_filler self.old) }

@@ -1,4 +1,4 @@
-//! Questions about a kernel's features, each asked once.
+//! Queries of a kernel's features, each made once.
 
 ghost use Rattle.std.specs.Prelude.{◌≡◌, ◌∷◌, [], if◌then◌else◌};
 ghost use Rattle.btf_sanitize.specs.Answers.{answer_to, features, granted, noted, noted_all, feature_number, AreDistinct, AreGiven, Settles};
@@ -11,10 +11,10 @@ use btf_encoding::TypeRef;
 use btf_records::{BtfFeature, BtfKind};
 use btf_storage::{Strings, TypeRecords};
 
-/// The questions that were asked, each with its answer.
+/// The features that were asked about, each with the answer.
 pub type Answers = ArrayVec<(BtfFeature, bool), 8>;
 
-/// Its place in the list of features.
+/// The index of a feature in the list of features.
 fn feature_number(feature: BtfFeature) -> u8
     ensures { result ≡ feature_number feature }
 {
@@ -30,7 +30,7 @@ fn feature_number(feature: BtfFeature) -> u8
     }
 }
 
-/// The answer to a question, where it was asked.
+/// The answer about a feature, if it was asked about.
 fn answer_to(answers: &Answers, feature: BtfFeature) -> Option<bool>
     ensures { result ≡ answer_to answers.now.items feature }
 {
@@ -42,14 +42,14 @@ fn answer_to(answers: &Answers, feature: BtfFeature) -> Option<bool>
     None
 }
 
-/// Whether a feature is granted. One that wasn't asked isn't.
+/// Whether a feature is granted. A feature that wasn't asked about isn't.
 pub fn is_granted(answers: &Answers, feature: BtfFeature) -> bool
     ensures { result ≡ granted answers.now.items feature }
 {
     answer_to(answers, feature).unwrap_or(false)
 }
 
-/// The answer about a feature: the one that is known, or the predicate's, which is then kept.
+/// The answer about a feature: the known one, or the predicate's, which is then stored.
 fn ask<F: FnMut(BtfFeature) -> bool>(
     answers: &mut Answers,
     predicate: &mut F,
@@ -93,7 +93,7 @@ fn ask_one<F: FnMut(BtfFeature) -> bool>(
     }
 }
 
-/// Asks about a feature, and where it is granted and more is needed, about another.
+/// Asks about the feature `first`, and if it is granted and `more` is set, about `second`.
 fn ask_both<F: FnMut(BtfFeature) -> bool>(
     answers: &mut Answers,
     predicate: &mut F,
@@ -117,8 +117,8 @@ fn ask_both<F: FnMut(BtfFeature) -> bool>(
     }
 }
 
-/// Whether a function may stay global: it is, and its name can be read and isn't a memory
-/// function's.
+/// Whether a function may stay global: it is global, and its name can be read and isn't that of a
+/// memory function.
 pub(crate) fn stays_global(strings: &Strings<'_>, name_offset: u32, linkage: usize) -> bool
     ensures { result ≡ stays_global (text_at strings.now name_offset) linkage }
 {
@@ -138,7 +138,7 @@ fn is_empty_section(t: &TypeRef<'_>) -> bool
     t.size() == Some(0) && t.count() == 0
 }
 
-/// Asks about the features that a record needs and that weren't asked about before.
+/// Asks about the features that a record needs, except those that were asked about before.
 fn ask_for<F: FnMut(BtfFeature) -> bool>(
     answers: &mut Answers,
     predicate: &mut F,
@@ -185,7 +185,8 @@ fn ask_for<F: FnMut(BtfFeature) -> bool>(
     }
 }
 
-/// Asks about the features that the records of a table need, each once, in the order of need.
+/// Asks about the features that the records of a table need, each once, in the order in which the
+/// records need them.
 pub fn ask_all<F: FnMut(BtfFeature) -> bool>(
     predicate: &mut F,
     strings: &Strings<'_>,

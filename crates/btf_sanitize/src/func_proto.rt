@@ -11,7 +11,7 @@ use crate::names::{is_nameless, param_name};
 use btf_records::{BtfError, BtfParam};
 use std::alloc::Global;
 
-/// A parameter with the name that is made for its place, where it has a type and no name.
+/// A parameter. If it has a type and no name, it gets the name of its index.
 fn named_param(
     additions: &mut Additions,
     index: usize,
@@ -40,7 +40,8 @@ fn named_param(
     })
 }
 
-/// The parameters of a function prototype, those without a name named by their places from 0 on.
+/// The parameters of a function prototype. Those with a type and no name are named by their indices
+/// from 0.
 pub(crate) fn named_params(
     alloc: Global,
     additions: &mut Additions,

@@ -1,4 +1,4 @@
-//! Items of a record of one kind as those of another.
+//! Items of a record of one kind, converted to those of another.
 
 ghost use Rattle.std.specs.Prelude.{◌≡◌, IfOk, length, map};
 ghost use Rattle.btf_sanitize.specs.Rewritten.{member_of_variant, variant_of_param};

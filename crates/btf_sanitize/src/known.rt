@@ -1,4 +1,4 @@
-//! What a rewriting knows.
+//! The input of a rewriting.
 
 ghost use Rattle.std.specs.Prelude.{◌≡◌, IfErr, IfOk, OnOk, Some};
 ghost use Rattle.std.specs.Option.{option_copied};
@@ -14,8 +14,8 @@ use btf_records::{BtfError, BtfFeature};
 use btf_storage::{Strings, TypeRecords};
 use string_map::TextMap;
 
-/// What is granted, the table's strings and types, and what an object says of its sections and
-/// symbols.
+/// The granted features, the table's strings and types, and the sizes and offsets of an object's
+/// sections and symbols.
 #[derive(Debug, Drop)]
 pub struct Known<'t, 'm, 'n> {
     pub answers: &'t Answers,
@@ -27,7 +27,7 @@ pub struct Known<'t, 'm, 'n> {
     pub offsets: &'m TextMap<'n, u64>,
 }
 
-/// The number under a name.
+/// The number of a name.
 fn number_named(numbers: &TextMap<'_, u64>, name: &str) -> Option<u64>
     ensures { result ≡ number_named numbers.now name.now }
 {
@@ -48,7 +48,7 @@ impl<'t, 'm, 'n> Known<'t, 'm, 'n> {
         self.strings.text_at(offset)
     }
 
-    /// The record of an id; that of id 0 is void.
+    /// The record of an id; id 0 is void.
     pub(crate) fn type_at(&self, id: u32) -> Option<TypeRef<'t>>
         ensures { result ≡ type_at (facts_of self.now) id }
     {
@@ -67,7 +67,7 @@ impl<'t, 'm, 'n> Known<'t, 'm, 'n> {
         number_named(self.offsets, symbol)
     }
 
-    /// The name at an offset of the strings, where it must be read.
+    /// The name at an offset of the strings; an error where it can't be read.
     pub(crate) fn name_at(&self, offset: u32) -> Result<&'t str, BtfError>
         ensures value { IfOk result (λ name.
             text_at (facts_of self.now).strings offset ≡ Some name.now) }

@@ -1,4 +1,4 @@
-//! Texts that sections get for their names.
+//! The texts of the rewritten names of sections.
 
 ghost use Rattle.std.specs.Prelude.{◌≡◌, ◌+◌, ◌<◌, ◌^◌, false, length, true};
 ghost use Rattle.btf_storage.specs.Growth.{TooMany};
@@ -12,7 +12,7 @@ use btf_encoding::TypeRef;
 use btf_records::{BtfFeature, BtfKind};
 use btf_storage::MOST;
 
-/// The byte that isn't left in names of sections.
+/// The byte that is replaced in names of sections.
 fn sought(known: &Known<'_, '_, '_>) -> u8
     ensures { result ≡ sought (facts_of known.now) }
 {
@@ -23,8 +23,8 @@ fn sought(known: &Known<'_, '_, '_>) -> u8
     }
 }
 
-/// How many bytes the text has that a record's name becomes, with its NUL; 0 where the record
-/// isn't a section or its name stays.
+/// The number of bytes of a record's rewritten name, with its NUL; 0 where the record isn't a
+/// section or its name stays.
 fn own_text_len(known: &Known<'_, '_, '_>, t: &TypeRef<'_>) -> usize
     ensures { result ≡ own_text (facts_of known.now) t.now }
 {
@@ -40,9 +40,9 @@ fn own_text_len(known: &Known<'_, '_, '_>, t: &TypeRef<'_>) -> usize
     name.len() + 1
 }
 
-/// Whether 32 bits can count the bytes of the strings and of the texts that sections get for their
-/// names. Many sections may have one long name, of which each gets a copy, so this is asked before
-/// the first is written.
+/// Whether the number of bytes of the strings and of the rewritten names of sections fits in 32
+/// bits. Many sections may have one long name, and each gets a copy of it, so this is checked
+/// before the first copy is written.
 pub(crate) fn own_texts_fit(known: &Known<'_, '_, '_>) -> bool
     requires { length (facts_of known.now).strings < 2 ^ 32 }
     ensures fit { result ≡ true

@@ -1,4 +1,4 @@
-//! What becomes of a record of each kind.
+//! The rewriting of a record, by its kind.
 
 ghost use Rattle.std.specs.Prelude.{◌≡◌, ◌≢◌, ◌⊎◌, IfErr, IfOk, OnOk, Some, false, map, true};
 ghost use Rattle.btf_records.specs.Info.{flagged};
@@ -24,7 +24,7 @@ use std::alloc::{AllocError, Global};
 /// The number of global linkage.
 const GLOBAL: u16 = 1;
 
-/// What becomes of a `BTF_KIND_FUNC`.
+/// The rewritten record of a `BTF_KIND_FUNC`.
 pub(crate) fn rewritten_func(known: &Known<'_, '_, '_>, t: Func) -> Result<BtfType, BtfError>
     ensures value { IfOk result (λ r. r ≡ rewritten_func (facts_of known.now) t) }
     ensures refused { IfErr result (KindFault (facts_of known.now) (types.Func t)) }
@@ -43,7 +43,7 @@ pub(crate) fn rewritten_func(known: &Known<'_, '_, '_>, t: Func) -> Result<BtfTy
     Ok(BtfType::Func(t.with_linkage(FuncLinkage::Static)))
 }
 
-/// The enum that stands for a `BTF_KIND_FUNC_PROTO` where the kernel has none.
+/// The enum that replaces a `BTF_KIND_FUNC_PROTO` where the kernel doesn't support that kind.
 pub(crate) fn enum_of_func_proto(alloc: Global, t: &FuncProto) -> Result<Enum, AllocError>
     ensures { IfOk result (λ r.
         r
@@ -58,8 +58,8 @@ pub(crate) fn enum_of_func_proto(alloc: Global, t: &FuncProto) -> Result<Enum, A
     Ok(Enum::new(t.name_offset, false, variants))
 }
 
-/// The union that stands for a `BTF_KIND_ENUM64` where the kernel has none, of members of the
-/// placeholder's type; it keeps the enum aside.
+/// The union that replaces a `BTF_KIND_ENUM64` where the kernel doesn't support that kind. Its
+/// members have the placeholder's type. It keeps the enum as its fallback.
 pub(crate) fn union_of_enum64(
     alloc: Global,
     placeholder: u32,
@@ -85,7 +85,7 @@ pub(crate) fn union_of_enum64(
     })
 }
 
-/// What becomes of a `BTF_KIND_FUNC_PROTO`.
+/// The rewritten record of a `BTF_KIND_FUNC_PROTO`.
 fn rewritten_func_proto(
     alloc: Global,
     known: &Known<'_, '_, '_>,
@@ -109,7 +109,7 @@ fn rewritten_func_proto(
     }))
 }
 
-/// What becomes of a `BTF_KIND_ENUM64`.
+/// The rewritten record of a `BTF_KIND_ENUM64`.
 fn rewritten_enum64(
     alloc: Global,
     known: &Known<'_, '_, '_>,
@@ -128,7 +128,7 @@ fn rewritten_enum64(
     Ok(BtfType::Union(union_of_enum64(alloc, placeholder, t)?))
 }
 
-/// What becomes of a record of a kind that needs neither its name nor other records.
+/// The rewritten record, for the kinds whose rewriting needs neither the name nor other records.
 fn rewritten_alone(known: &Known<'_, '_, '_>, additions: &Additions, t: BtfType) -> BtfType
     requires { is_alone t ≡ true }
     ensures value { result ≡ rewritten (facts_of known.now) additions.now t }
@@ -159,12 +159,12 @@ fn rewritten_alone(known: &Known<'_, '_, '_>, additions: &Additions, t: BtfType)
     }
 }
 
-/// What becomes of a record, after what is added before it.
+/// The rewritten record, with `additions` for the records before it.
 ///
-/// `InvalidStringOffset` where a name must be read and can't be, `UnknownBtfType` and
-/// `InvalidDatasec` where an entry of a section names no type, no variable or one too far away,
-/// `UnknownSectionSize` and `SymbolOffsetNotFound` where the object doesn't say what a section
-/// lacks, `InvalidTypeInfo` where more is added than 32 bits can count.
+/// `InvalidStringOffset` where a needed name can't be read, `UnknownBtfType` where an entry of a
+/// section names no type, `InvalidDatasec` where it names no variable or its offset is too great,
+/// `UnknownSectionSize` and `SymbolOffsetNotFound` where a section lacks a size or an offset that
+/// the object doesn't give, `InvalidTypeInfo` where the additions overflow 32 bits.
 pub fn rewritten(
     alloc: Global,
     known: &Known<'_, '_, '_>,

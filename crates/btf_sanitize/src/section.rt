@@ -16,7 +16,7 @@ use btf_records::{
 };
 use std::alloc::{AllocError, Global};
 
-/// The member that stands for an entry: its type's name, its type, and its offset in bits.
+/// The member that replaces an entry: its type's name, its type, and its offset in bits.
 fn member_of_entry(known: &Known<'_, '_, '_>, entry: DataSecEntry) -> Result<BtfMember, BtfError>
     ensures value { IfOk result (λ m. m ≡ member_of_entry (facts_of known.now) entry) }
     ensures refused { IfErr result (MemberFault (facts_of known.now) entry) }
@@ -57,7 +57,7 @@ pub(crate) fn members_of_entries(
     Ok(members)
 }
 
-/// An entry at its symbol's offset, where its variable isn't static.
+/// An entry; at its symbol's offset, unless its variable is static.
 fn placed(
     alloc: Global,
     known: &Known<'_, '_, '_>,
@@ -94,7 +94,7 @@ fn placed(
     }
 }
 
-/// The entries of a section, each at its symbol's offset.
+/// The entries of a section, each at its symbol's offset, unless its variable is static.
 pub(crate) fn placed_entries(
     alloc: Global,
     known: &Known<'_, '_, '_>,
@@ -133,7 +133,7 @@ pub(crate) fn section_size(
     u32::try_from(size).map_err(|_| BtfError::InvalidDatasec)
 }
 
-/// The struct that stands for a section where the kernel has none.
+/// The struct that replaces a section where the kernel doesn't support sections.
 fn struct_of_section(
     alloc: Global,
     known: &Known<'_, '_, '_>,
@@ -156,7 +156,8 @@ fn struct_of_section(
     Ok(Struct::new(name_offset, members, t.entries.len() as u32))
 }
 
-/// A section with its size and the places of its variables, where the record doesn't give them.
+/// A section with its size and the offsets of its variables. They are filled in where the record's
+/// size is 0.
 fn sized(
     alloc: Global,
     known: &Known<'_, '_, '_>,
@@ -182,7 +183,7 @@ fn sized(
     })
 }
 
-/// The one entry of a section that has no variables.
+/// The one entry of a section that had no variables.
 fn filler_entries(alloc: Global, filler: u32) -> Result<Items<DataSecEntry>, AllocError>
     ensures { IfOk result (λ entries. entries ≡ filler_entry filler ∷ []) }
 {
@@ -195,7 +196,7 @@ fn filler_entries(alloc: Global, filler: u32) -> Result<Items<DataSecEntry>, All
     Ok(entries)
 }
 
-/// A section as it stands where the kernel has sections.
+/// The rewritten section where the kernel supports sections.
 fn granted_section(
     alloc: Global,
     known: &Known<'_, '_, '_>,
@@ -232,7 +233,7 @@ fn granted_section(
     })
 }
 
-/// What becomes of a `BTF_KIND_DATASEC`.
+/// The rewritten record of a `BTF_KIND_DATASEC`.
 pub(crate) fn rewritten_section(
     alloc: Global,
     known: &Known<'_, '_, '_>,

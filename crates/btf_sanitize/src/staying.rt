@@ -27,8 +27,8 @@ fn has_nameless(t: &TypeRef<'_>) -> bool
     false
 }
 
-/// Whether a record stays as it is, with nothing added for it, as its first words and its
-/// parameters tell.
+/// Whether a record is known to stay as it is, with nothing added for it, by its first words and
+/// its parameters.
 pub(crate) fn stays(known: &Known<'_, '_, '_>, t: &TypeRef<'_>) -> bool
     ensures { result ≡ stays (facts_of known.now) t.now }
 {

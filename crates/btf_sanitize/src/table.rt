@@ -1,4 +1,4 @@
-//! The records of a table, one after the other.
+//! The rewriting of the records of a table, in order.
 
 ghost use Rattle.std.specs.Prelude.{◌≡◌, ◌≢◌, ◌<◌, ◌++◌, ◌^◌, ◌∷◌, [], Any, IfErr, IfOk, OnOk, length, true};
 ghost use Rattle.btf_records.specs.declared.error.BtfError.TheVariants.{InvalidTypeInfo, OutOfMemory};
@@ -21,7 +21,7 @@ use btf_records::{BtfError, BtfType};
 use btf_storage::TypeRecords;
 use std::alloc::Global;
 
-/// Copies a record that stays, after what becomes of those before it.
+/// Appends a copy of a record that stays as it is.
 #[tactic(auto, using(crate::proofs::Stays::stays_alone))]
 fn keep(
     known: &Known<'_, '_, '_>,
@@ -44,7 +44,7 @@ fn keep(
     Ok(())
 }
 
-/// Writes what becomes of a record after what becomes of those before it.
+/// Appends a rewritten record.
 fn rewrite_next(
     alloc: Global,
     known: &Known<'_, '_, '_>,
@@ -70,7 +70,7 @@ fn rewrite_next(
     records.push(t)
 }
 
-/// Writes what becomes of each record.
+/// Appends each rewritten record.
 #[tactic(auto, using(crate::proofs::Passes::refused_here))]
 fn rewrite_all(
     alloc: Global,
@@ -100,7 +100,7 @@ fn rewrite_all(
     Ok(())
 }
 
-/// Adds types after the others.
+/// Appends types.
 #[tactic(auto, using(crate::proofs::Passes::too_many_next))]
 fn push_all(records: &mut TypeRecords<'_>, types: Vec<BtfType>) -> Result<(), BtfError>
     requires { AreFew records.old.order records.old.types }
@@ -117,14 +117,14 @@ fn push_all(records: &mut TypeRecords<'_>, types: Vec<BtfType>) -> Result<(), Bt
     Ok(())
 }
 
-/// What a table's records become, and the texts after its strings.
+/// A table's rewritten records, and the texts that follow its strings.
 #[derive(Debug, Drop)]
 pub struct SanitizedTable<'a> {
     pub records: TypeRecords<'a>,
     pub texts: Vec<u8>,
 }
 
-/// What the records become, with the types and the texts that are added.
+/// The rewritten records, with the types and the texts that are added.
 fn rewritten_table<'a>(
     alloc: Global,
     known: &Known<'_, '_, '_>,
@@ -150,15 +150,15 @@ fn rewritten_table<'a>(
     Ok(SanitizedTable { records, texts })
 }
 
-/// The records of a table of which only granted features are left, each under its id, and after
-/// them the types that are added; the texts that are added after its strings. What is left needs
-/// granted features alone.
+/// The records of a table, each rewritten under its id, and after them the types that are added;
+/// and the texts that are added after the table's strings. The rewritten records need only granted
+/// features.
 ///
-/// `InvalidStringOffset` where a name must be read and can't be, `UnknownBtfType` and
-/// `InvalidDatasec` where an entry of a section names no type, no variable or one too far away,
-/// `UnknownSectionSize` and `SymbolOffsetNotFound` where the object doesn't say what a section
-/// lacks, `InvalidTypeInfo` where the strings, the types, or their bytes are more than 32 bits can
-/// count.
+/// `InvalidStringOffset` where a needed name can't be read, `UnknownBtfType` where an entry of a
+/// section names no type, `InvalidDatasec` where it names no variable or its offset is too great,
+/// `UnknownSectionSize` and `SymbolOffsetNotFound` where a section lacks a size or an offset that
+/// the object doesn't give, `InvalidTypeInfo` where the number of bytes of the strings, of types,
+/// or of bytes of the types overflows 32 bits.
 pub fn sanitize<'a>(
     alloc: Global,
     known: &Known<'_, '_, '_>,

@@ -15,14 +15,14 @@ enum Body<'a> {
     Own(Vec<u8>),
 }
 
-/// Bytes of a section until some are added, and from then on a list of the table's own.
+/// Bytes borrowed from a section until some are added, and from then on a list of the table's own.
 #[derive(Debug)]
 pub struct ByteList<'a> {
     body: Body<'a>,
 }
 
 impl<'a> Drop for ByteList<'a> {
-    // One call wherever it is dropped, in place of one for each part.
+    // A single call where a value is dropped, instead of one call per field.
     fn drop(self) {
         let ByteList { body: _body } = self;
     }
@@ -37,7 +37,7 @@ impl<'a> Model for ByteList<'a> {
     ghost view = { λ b. body_bytes b.body };
 }
 
-/// Writes a text and a NUL after what is there.
+/// Appends a text and a NUL.
 fn push_text(bytes: &mut Vec<u8>, text: &str) -> Result<(), AllocError>
     ensures ok { OnOk result (bytes.new.items ≡ bytes.old.items ++ text.now ++ 0 ∷ []) }
     ensures err { OnErr result (bytes.new.items ≡ bytes.old.items) }
@@ -85,7 +85,7 @@ impl<'a> ByteList<'a> {
         self.as_slice().len()
     }
 
-    /// Leaves that many bytes, the first ones.
+    /// Keeps the first `len` bytes.
     pub fn truncate(&mut self, len: usize)
         ensures { self.new ≡ take len self.old }
     {
@@ -99,7 +99,7 @@ impl<'a> ByteList<'a> {
         }
     }
 
-    /// Writes a record's bytes after what is there.
+    /// Appends a record's bytes.
     pub fn push_record(
         &mut self,
         alloc: Global,
@@ -121,7 +121,7 @@ impl<'a> ByteList<'a> {
         }
     }
 
-    /// Writes a text and a NUL after what is there.
+    /// Appends a text and a NUL.
     pub fn push_text(&mut self, alloc: Global, text: &str) -> Result<(), AllocError>
         ensures ok { OnOk result (self.new ≡ self.old ++ text.now ++ 0 ∷ []) }
         ensures err { OnErr result (self.new ≡ self.old) }
@@ -137,7 +137,7 @@ impl<'a> ByteList<'a> {
         }
     }
 
-    /// The same bytes; those that are borrowed stay so.
+    /// A copy; borrowed bytes stay borrowed.
     pub fn try_clone(&self) -> Result<ByteList<'a>, AllocError>
         ensures { IfOk result (λ b. b ≡ self.now) }
     {

@@ -1,5 +1,5 @@
-//! What a type table is made of: its records and its strings, over the bytes of the section that
-//! they were read from (Documentation/bpf/btf.rst, "BTF Type and String Encoding").
+//! The parts of a type table: its records and its strings, over the bytes of the section that they
+//! were read from (Documentation/bpf/btf.rst, "BTF Type and String Encoding").
 #![tactic(auto)]
 
 mod byte_list;

@@ -9,14 +9,14 @@ use btf_encoding::{TypeRef, push_type};
 use btf_records::{BtfKind, BtfType, Endianness, Enum64Fallback, Union};
 use std::alloc::AllocError;
 
-/// A record by itself, or one that is copied from where it lies.
+/// A record by value, or a view of a record whose bytes are copied.
 #[derive(Drop)]
 pub(crate) enum NewRecord<'t> {
     Own(BtfType),
     Copied(&'t TypeRef<'t>),
 }
 
-/// The enum that a record by itself stands for.
+/// The enum that a record by value stands for.
 fn own_fallback(t: BtfType) -> Option<Enum64Fallback>
     ensures { result ≡ fallback_of t }
 {
@@ -27,7 +27,7 @@ fn own_fallback(t: BtfType) -> Option<Enum64Fallback>
     fallback
 }
 
-/// The enum that a record where it lies stands for.
+/// The enum that a viewed record stands for.
 fn copied_fallback(t: &TypeRef<'_>) -> Result<Option<Enum64Fallback>, AllocError>
     ensures { IfOk result (λ fallback. fallback ≡ fallback_of t.now) }
 {
@@ -58,7 +58,7 @@ impl<'t> NewRecord<'t> {
         }
     }
 
-    /// Writes its bytes after what is there.
+    /// Appends its bytes.
     pub fn push_to(&self, out: &mut Vec<u8>, order: Endianness) -> Result<(), AllocError>
         ensures ok { OnOk result
             (out.new.items ≡ out.old.items ++ record_bytes order (record_of self.now)) }

@@ -18,23 +18,23 @@ use std::alloc::{AllocError, Global};
 use std::collections::BTreeMap;
 use std::marker::Model;
 
-/// The records of the ids from 1 on, one after the other.
+/// The records of the ids from 1 on, in order.
 #[derive(Debug)]
 pub struct TypeRecords<'a> {
     order: Endianness,
     bytes: ByteList<'a>,
-    /// Where the record of each id begins.
+    /// The offset of the record of each id.
     places: Vec<u32>,
-    /// The kind of each.
+    /// The kind of each record.
     kinds: Vec<BtfKind>,
-    /// The offset of the name of each.
+    /// The name offset of each record.
     name_offsets: Vec<u32>,
     /// The enums that unions stand for, by id.
     fallbacks: BTreeMap<u32, Enum64Fallback>,
 }
 
 impl<'a> Drop for TypeRecords<'a> {
-    // One call wherever it is dropped, in place of one for each part.
+    // A single call where a value is dropped, instead of one call per field.
     fn drop(self) {
         let TypeRecords {
             order: _,
@@ -69,10 +69,10 @@ fn fallback_by_id(fallbacks: &BTreeMap<u32, Enum64Fallback>, id: u32) -> Option<
     fallbacks.get(&id)
 }
 
-/// As many bytes, and as many types, as 32 bits can count.
+/// The greatest number of bytes, and of types, that fits in 32 bits.
 pub const MOST: usize = u32::MAX as usize;
 
-/// Enters the enum that the record of an id stands for, where there is one.
+/// Enters the enum that the record of an id stands for, if there is one.
 fn enter_fallback(
     fallbacks: &mut BTreeMap<u32, Enum64Fallback>,
     id: u32,
@@ -90,7 +90,8 @@ fn enter_fallback(
     Ok(())
 }
 
-/// Notes the place, kind and name of a record after those of the others, as far as memory reaches.
+/// Appends the offset, kind and name offset of a record. When out of memory, a part of them may be
+/// appended.
 fn push_entry(
     places: &mut Vec<u32>,
     kinds: &mut Vec<BtfKind>,
@@ -116,7 +117,7 @@ fn push_entry(
     Ok(())
 }
 
-/// Writes a record after the others, as far as memory reaches.
+/// Appends a record. When out of memory, a part of it may be appended.
 fn append(
     bytes: &mut ByteList<'_>,
     places: &mut Vec<u32>,
@@ -175,7 +176,7 @@ fn append(
     Ok(())
 }
 
-/// Where the record at an index begins.
+/// The offset of the record at an index.
 fn place_at(places: &[u32], index: usize) -> Option<u32>
     ensures value { result ≡ slice_get places.now index }
     ensures within { IfSome result (λ _. index < length places.now) }
@@ -183,7 +184,7 @@ fn place_at(places: &[u32], index: usize) -> Option<u32>
     places.get(index).copied()
 }
 
-/// The record that begins at a place.
+/// The record at an offset of the bytes.
 #[tactic(auto, using(crate::proofs::Places::within_bytes))]
 fn record_at(order: Endianness, bytes: &[u8], place: u32) -> TypeRef<'_>
     requires { HasRecord order (drop place bytes.now) }
@@ -192,7 +193,7 @@ fn record_at(order: Endianness, bytes: &[u8], place: u32) -> TypeRef<'_>
     TypeRef::new(order, after(bytes, place as usize))
 }
 
-/// The union that stands for this enum, where there is one.
+/// The record with the enum that it stands for, if there is one.
 fn with_fallback<'a>(t: TypeRef<'a>, fallback: Option<&'a Enum64Fallback>) -> TypeRef<'a>
     ensures { result
         ≡ option_map_or (λ f. with_fallback (Some f) t.entry) (option_copied fallback.entry)
@@ -212,7 +213,7 @@ fn kind_in(order: Endianness, bytes: &[u8]) -> BtfKind
     TypeRef::new(order, bytes).kind()
 }
 
-/// The offset of the name of the record that the bytes begin with.
+/// The name offset of the record that the bytes begin with.
 fn name_offset_in(order: Endianness, bytes: &[u8]) -> u32
     requires { HasRecord order bytes.now }
     ensures { result ≡ name_offset_of (type_in order bytes.now) }
@@ -220,10 +221,10 @@ fn name_offset_in(order: Endianness, bytes: &[u8]) -> u32
     TypeRef::new(order, bytes).name_offset()
 }
 
-/// The least bytes of a record.
+/// The least size of a record in bytes.
 const LEAST_LEN: usize = 12;
 
-/// Where records begin, their kinds and the offsets of their names.
+/// The offsets of records, their kinds and their name offsets.
 #[derive(Drop)]
 struct RecordIndex {
     places: Vec<u32>,
@@ -231,7 +232,7 @@ struct RecordIndex {
     name_offsets: Vec<u32>,
 }
 
-/// Where the records begin that the bytes are, their kinds and the offsets of their names.
+/// The offsets of the records in `bytes`, their kinds and their name offsets.
 #[tactic(auto, using(crate::proofs::Reading::no_places, crate::proofs::Reading::one_more_place, crate::proofs::Reading::fault_after, crate::proofs::Reading::all_places))]
 fn index_of(alloc: Global, order: Endianness, bytes: &[u8]) -> Result<RecordIndex, BtfError>
     requires { length bytes.now < 2 ^ 32 }
@@ -265,7 +266,7 @@ fn index_of(alloc: Global, order: Endianness, bytes: &[u8]) -> Result<RecordInde
 }
 
 impl<'a> TypeRecords<'a> {
-    /// The records that the bytes are.
+    /// The records in `bytes`.
     ///
     /// `InvalidTypeInfo` where one of them is cut off, `InvalidTypeKind` where its kind is above
     /// 19.
@@ -310,7 +311,7 @@ impl<'a> TypeRecords<'a> {
         }
     }
 
-    /// How many records there are.
+    /// The number of records.
     #[tactic(auto, using(crate::proofs::Places::length_types_at))]
     pub fn len(&self) -> usize
         ensures value { result ≡ length self.now.types }
@@ -339,7 +340,7 @@ impl<'a> TypeRecords<'a> {
         self.kinds.as_slice()
     }
 
-    /// The offsets of the names of the records, by index.
+    /// The name offsets of the records, by index.
     pub fn name_offsets(&self) -> &[u32]
         ensures { result.now ≡ map name_offset_of self.now.types }
     {
@@ -373,7 +374,7 @@ impl<'a> TypeRecords<'a> {
         self.get(id - 1)
     }
 
-    /// How many bytes the records are.
+    /// The number of bytes of the records.
     pub fn byte_len(&self) -> usize
         ensures value { result ≡ length (flat_map (record_bytes self.now.order) self.now.types) }
         ensures bounded { result < 2 ^ 32 }
@@ -381,7 +382,7 @@ impl<'a> TypeRecords<'a> {
         self.bytes.len()
     }
 
-    /// Adds a record after the others.
+    /// Appends a record.
     fn push_record(&mut self, t: NewRecord<'_>) -> Result<(), BtfError>
         ensures order { OnOk result (self.new.order ≡ self.old.order) }
         ensures types { OnOk result (self.new.types ≡ self.old.types ++ record_of t.entry ∷ []) }
@@ -421,9 +422,10 @@ impl<'a> TypeRecords<'a> {
         }
     }
 
-    /// Adds a record after the others.
+    /// Appends a record.
     ///
-    /// `InvalidTypeInfo` where they would be more than 2^32 - 1, or more than 2^32 - 1 bytes.
+    /// `InvalidTypeInfo` where there would be more than 2^32 - 1 records, or more than 2^32 - 1
+    /// bytes.
     pub fn push(&mut self, t: BtfType) -> Result<(), BtfError>
         ensures order { OnOk result (self.new.order ≡ self.old.order) }
         ensures types { OnOk result (self.new.types ≡ self.old.types ++ t ∷ []) }
@@ -440,8 +442,8 @@ impl<'a> TypeRecords<'a> {
         self.push_record(NewRecord::Own(t))
     }
 
-    /// Adds the copy of a record after the others. Where it would be written as it lies there its
-    /// bytes are copied.
+    /// Appends a copy of a record. Where the record would be written as the same bytes, its bytes
+    /// are copied.
     ///
     /// `InvalidTypeInfo` as for `push`.
     pub fn push_copy(&mut self, t: &TypeRef<'_>) -> Result<(), BtfError>
@@ -461,7 +463,7 @@ impl<'a> TypeRecords<'a> {
         self.push_record(NewRecord::Copied(t))
     }
 
-    /// Writes the bytes of the records after what is there.
+    /// Appends the bytes of the records to `out`.
     pub fn write(&self, out: &mut Vec<u8>) -> Result<(), AllocError>
         ensures written { OnOk result
             (out.new.items
@@ -473,7 +475,7 @@ impl<'a> TypeRecords<'a> {
         push_types(out, self.order, self.bytes.as_slice())
     }
 
-    /// The same records.
+    /// A copy.
     pub fn try_clone(&self) -> Result<TypeRecords<'a>, AllocError>
         ensures { IfOk result (λ r. r ≡ self.now) }
     {

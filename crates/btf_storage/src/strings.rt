@@ -12,17 +12,17 @@ use std::marker::Model;
 use string_table::{LongTexts, are_texts};
 
 /// The strings of a table: its texts by offset, each ended by a NUL. The bytes are borrowed from
-/// the section until some are added, and a text is found without a look at more than 256 bytes.
+/// the section until some are added. A text is found by reading at most 257 bytes.
 #[derive(Debug)]
 pub struct Strings<'a> {
     bytes: ByteList<'a>,
     long_texts: LongTexts,
-    /// Whether each byte is known to begin a text.
+    /// Whether a text is known to begin at each byte.
     are_texts: bool,
 }
 
 impl<'a> Drop for Strings<'a> {
-    // One call wherever it is dropped, in place of one for each part.
+    // A single call where a value is dropped, instead of one call per field.
     fn drop(self) {
         let Strings {
             bytes: _bytes,
@@ -45,8 +45,8 @@ impl<'a> Model for Strings<'a> {
         × (s.are_texts ≡ true → AreTexts s.bytes) };
 }
 
-/// Enters the long texts after the first `len` bytes. A text that isn't entered is looked at
-/// again each time it is read.
+/// Enters the long texts after the first `len` bytes. A long text that isn't entered, because
+/// memory ran out, is searched again each time it is read.
 fn enter_long_texts(long_texts: &mut LongTexts, bytes: &ByteList<'_>, len: usize)
     requires within { len ≤ length bytes.now }
     requires before { AreLongTextsOf (take len bytes.now) long_texts.old }
@@ -92,23 +92,22 @@ impl<'a> Strings<'a> {
         self.bytes.len()
     }
 
-    /// Whether each byte is known to begin a text; of strings to which texts were added that isn't
-    /// known.
+    /// Whether a text is known to begin at each byte; false after texts were added.
     pub fn are_texts(&self) -> bool
         ensures { result ≡ true → AreTexts self.now }
     {
         self.are_texts
     }
 
-    /// The text at an offset; none where that lies past the end, no NUL ends the text, or it isn't
-    /// UTF-8.
+    /// The text at an offset; none where the offset is past the end, no NUL ends the text, or it
+    /// isn't UTF-8.
     pub fn text_at(&self, offset: u32) -> Option<&str>
         ensures { option_copied result ≡ text_at self.now offset }
     {
         self.long_texts.text_at(self.bytes.as_slice(), offset)
     }
 
-    /// Writes a text and a NUL after the others.
+    /// Appends a text and a NUL.
     pub fn push(&mut self, alloc: Global, text: &str) -> Result<(), AllocError>
         ensures ok { OnOk result (self.new ≡ self.old ++ text.now ++ 0 ∷ []) }
         ensures err { OnErr result (self.new ≡ self.old) }
@@ -120,7 +119,7 @@ impl<'a> Strings<'a> {
         Ok(())
     }
 
-    /// These strings with more after them; without any, bytes that are borrowed stay so.
+    /// These strings with `texts` after them. If `texts` is empty, borrowed bytes stay borrowed.
     pub fn with_texts(&self, alloc: Global, texts: &[u8]) -> Result<Strings<'a>, AllocError>
         ensures { IfOk result (λ strings. strings ≡ self.now ++ texts.now) }
     {
@@ -141,7 +140,7 @@ impl<'a> Strings<'a> {
         })
     }
 
-    /// The same strings; bytes that are borrowed stay so.
+    /// A copy; borrowed bytes stay borrowed.
     pub fn try_clone(&self) -> Result<Strings<'a>, AllocError>
         ensures { IfOk result (λ strings. strings ≡ self.now) }
     {

@@ -1,4 +1,4 @@
-//! New tables, and what is added to a table.
+//! New tables, and additions to a table.
 
 ghost use Rattle.std.specs.Prelude.{◌≡◌, ◌≢◌, ◌+◌, ◌<◌, ◌^◌, ◌∷◌, ◌++◌, [], All, IfErr, IfOk, OnErr, OnOk, Some, length};
 ghost use Rattle.btf_tables.specs.GrownTables.{IsFull, TextsStay, TypesStay, with_records, with_string, with_type};
@@ -18,7 +18,7 @@ const MAGIC: u16 = 0xeb9f;
 const VERSION: u8 = 1;
 
 impl<'a> Btf<'a> {
-    /// A table without types but void, whose one string is the empty text.
+    /// A table with no types except void, whose one string is the empty text.
     pub fn new(alloc: Global) -> Result<Btf<'a>, AllocError>
         ensures { IfOk result (λ table. table ≡ new_table) }
     {
@@ -31,7 +31,7 @@ impl<'a> Btf<'a> {
         })
     }
 
-    /// A table with the same content. What this one borrows, the other borrows too.
+    /// A copy; borrowed bytes stay borrowed.
     pub fn try_clone(&self) -> Result<Btf<'a>, AllocError>
         ensures { IfOk result (λ table. table ≡ self.now) }
     {
@@ -44,8 +44,8 @@ impl<'a> Btf<'a> {
         })
     }
 
-    /// A table of other records, with some bytes after the strings, which are less than 2^32 with
-    /// these.
+    /// The table with other records, and with the bytes `texts` after its strings. Together these
+    /// strings have less than 2^32 bytes.
     pub fn with_records(
         &self,
         records: TypeRecords<'a>,
@@ -64,10 +64,10 @@ impl<'a> Btf<'a> {
         })
     }
 
-    /// Adds a text, which holds no NUL, to the strings, and answers its offset. What the table
-    /// holds already stays.
+    /// Adds a text without a NUL to the strings, and returns its offset. Existing types and strings
+    /// stay as they are.
     ///
-    /// `InvalidTypeInfo` where the strings would be more than 2^32 - 1 bytes.
+    /// `InvalidTypeInfo` where the strings would have more than 2^32 - 1 bytes.
     #[tactic(auto, using(crate::proofs::Texts::texts_stay))]
     pub fn add_string(&mut self, text: &str) -> Result<u32, BtfError>
         requires { All (λ b. b ≢ 0) text.now }
@@ -90,9 +90,10 @@ impl<'a> Btf<'a> {
         Ok(len as u32)
     }
 
-    /// Adds a type, and answers its id. What the table holds already stays.
+    /// Adds a type, and returns its id. Existing types and strings stay as they are.
     ///
-    /// `InvalidTypeInfo` where the types would be more than 2^32 - 1, or more than 2^32 - 1 bytes.
+    /// `InvalidTypeInfo` where there would be more than 2^32 - 1 types, or more than 2^32 - 1 bytes
+    /// of types.
     pub fn add_type(&mut self, t: BtfType) -> Result<u32, BtfError>
         ensures table { OnOk result (self.new ≡ with_type self.old t) }
         ensures id { IfOk result (λ id. id ≡ length self.old.types + 1) }

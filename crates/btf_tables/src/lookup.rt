@@ -1,4 +1,4 @@
-//! How types are found, and their sizes.
+//! Look-up of types, and their sizes.
 
 ghost use Rattle.std.specs.Prelude.{◌≡◌, ◌≢◌, ◌*◌, true, false, ℕ, IfOk, IfErr, MatchOption, Ok, Some, None};
 ghost use Rattle.std.specs.Option.{IsSomeAnd, option_map};
@@ -15,7 +15,7 @@ use crate::table::{Btf, MAX_DEPTH};
 use btf_encoding::TypeRef;
 use btf_records::{BtfError, BtfKind};
 
-/// The size of a record that has one by itself.
+/// The size in bytes of a record that doesn't depend on another type.
 fn own_size(t: &TypeRef<'_>) -> Option<u32>
     ensures { result ≡ own_size t.now }
 {
@@ -25,14 +25,14 @@ fn own_size(t: &TypeRef<'_>) -> Option<u32>
     }
 }
 
-/// How many times the size of another type counts, and its id.
+/// The type that a size is a multiple of, and the factor.
 #[derive(Clone, Copy)]
 struct SizedBy {
     count: u32,
     type_id: u32,
 }
 
-/// What the size of a record without one of its own comes from.
+/// The type that the size of a record depends on, if any.
 fn sized_by(t: &TypeRef<'_>) -> Option<SizedBy>
     ensures { option_map (λ by. (by.count, by.type_id)) result ≡ sized_by t.now }
 {
@@ -46,7 +46,7 @@ fn sized_by(t: &TypeRef<'_>) -> Option<SizedBy>
     }
 }
 
-/// The bytes of a number of items of a size.
+/// The product of a count and a size.
 fn times(count: u32, size: u32) -> u64
     ensures { result ≡ count * size }
 {
@@ -57,7 +57,7 @@ impl<'a> Btf<'a> {
     /// The id at the end of a chain of `BTF_KIND_TYPEDEF`, `BTF_KIND_VOLATILE`, `BTF_KIND_CONST`,
     /// `BTF_KIND_RESTRICT` and `BTF_KIND_TYPE_TAG`.
     ///
-    /// `UnknownBtfType` where a type of the chain isn't there, `MaximumTypeDepthReached` where the
+    /// `UnknownBtfType` where a type of the chain is missing, `MaximumTypeDepthReached` where the
     /// chain, with its end, has more than 32 types.
     pub fn resolve_type(&self, type_id: u32) -> Result<u32, BtfError>
         ensures value { result ≡ resolved_type self.now type_id }
@@ -73,8 +73,8 @@ impl<'a> Btf<'a> {
 
     /// The size of a type in bytes.
     ///
-    /// `UnexpectedBtfType` where the walk to it ends at a type without one, `UnknownBtfType` where
-    /// a type of the walk isn't there, `MaximumTypeDepthReached` where the walk has more than 32
+    /// `UnexpectedBtfType` where the walk ends at a type without a size, `UnknownBtfType` where a
+    /// type of the walk is missing, `MaximumTypeDepthReached` where the walk has more than 32
     /// types, `InvalidTypeInfo` where the lengths of the arrays so far multiply to 2^32 or more.
     #[tactic(auto, using(crate::proofs::Walks::no_size, crate::proofs::Walks::sized_walk))]
     pub fn type_size(&self, type_id: u32) -> Result<u64, BtfError>
@@ -111,9 +111,9 @@ impl<'a> Btf<'a> {
         Err(BtfError::MaximumTypeDepthReached { type_id })
     }
 
-    /// The size of a type in bytes, where 32 bits are to hold it.
+    /// The size of a type in bytes, as a 32-bit number.
     ///
-    /// `InvalidTypeInfo` where they can't; otherwise what `type_size` answers.
+    /// `InvalidTypeInfo` where it doesn't fit; otherwise the result of `type_size`.
     pub fn type_size_u32(&self, type_id: u32) -> Result<u32, BtfError>
         ensures value { result ≡ type_size_in_32_bits self.now type_id }
         ensures rests { RestsOn size_ids self.now type_id (λ table.
@@ -126,9 +126,9 @@ impl<'a> Btf<'a> {
         }
     }
 
-    /// Whether this is the wanted record, by kind and name.
+    /// Whether a record has this kind and name.
     ///
-    /// `InvalidStringOffset` where it is of the kind and its name can't be read.
+    /// `InvalidStringOffset` where it has the kind and its name can't be read.
     fn is_named(&self, t: &TypeRef<'_>, name: &str, kind: BtfKind) -> Result<bool, BtfError>
         ensures named { IfOk result (λ found.
             found ≡ true
@@ -175,7 +175,7 @@ impl<'a> Btf<'a> {
         }
     }
 
-    /// The least id of the types of this kind and name, where there is one.
+    /// The least id of the types of this kind and name, if there is one.
     #[tactic(auto, using(crate::proofs::Named::fault_here, crate::proofs::Named::known_here, crate::proofs::Named::rest_here, crate::proofs::Named::none_more, crate::proofs::Named::none_left))]
     fn first_named(&self, name: &str, kind: BtfKind) -> Result<Option<u32>, BtfError>
         ensures found { IfOk result (λ found.

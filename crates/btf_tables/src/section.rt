@@ -12,16 +12,16 @@ use btf_records::{BtfError, Endianness, half_word, push_half_word, push_word, wo
 use btf_storage::{Strings, TypeRecords};
 use std::alloc::{AllocError, Global};
 
-/// The bytes of the header.
+/// The size of the header in bytes.
 const HEADER_LEN: u32 = 24;
 
-/// Where the header gives the place of the types, and their length after it.
+/// The offset in the header of the types' offset; their length follows it.
 const TYPES: usize = 8;
 
-/// Where the header gives the place of the strings, and their length after it.
+/// The offset in the header of the strings' offset; their length follows it.
 const STRINGS: usize = 16;
 
-/// What a header says of the types and strings right after it.
+/// The fields of a header whose types follow it at once, with the strings after them.
 #[derive(Clone, Copy)]
 struct Header {
     magic: u16,
@@ -31,7 +31,7 @@ struct Header {
     strings_len: u32,
 }
 
-/// The bytes of the region whose place and length the header gives there.
+/// The bytes of the region whose offset and length are in the header at `at`.
 fn region(order: Endianness, bytes: &[u8], at: usize) -> Option<&[u8]>
     requires head { 24 ≤ length bytes.now }
     requires within { at + 8 ≤ 24 }
@@ -51,8 +51,7 @@ fn region(order: Endianness, bytes: &[u8], at: usize) -> Option<&[u8]>
     bytes.get(start..end)
 }
 
-/// Writes the header of a section with types of a number of bytes, and strings of another after
-/// them.
+/// Appends the header of a section.
 fn push_header(out: &mut Vec<u8>, order: Endianness, header: Header) -> Result<(), AllocError>
     ensures written { OnOk result (out.new.items ≡ out.old.items ++ bytes_of_header order header) }
     ensures fits { header.magic < 2 ^ 16 }
@@ -69,12 +68,12 @@ fn push_header(out: &mut Vec<u8>, order: Endianness, header: Header) -> Result<(
 }
 
 impl<'a> Btf<'a> {
-    /// The table that a section holds, in this byte order. Neither magic nor version is checked.
-    /// The table borrows the section's types and strings.
+    /// The table that a section holds, in this byte order. Neither the magic number nor the version
+    /// is checked. The table borrows the section's types and strings.
     ///
-    /// `InvalidHeader` where the header is cut off or the strings go past the end,
-    /// `InvalidTypeInfo` where the types do or a record is cut off, `InvalidTypeKind` where a
-    /// record's kind is above 19.
+    /// `InvalidHeader` where the header is cut off or the strings reach past the end of the
+    /// section, `InvalidTypeInfo` where the types reach past the end or a record is cut off,
+    /// `InvalidTypeKind` where a record's kind is above 19.
     #[tactic(auto, using(crate::proofs::Sections::holds_table, crate::proofs::Sections::types_fault))]
     pub fn parse(alloc: Global, bytes: &'a [u8], order: Endianness) -> Result<Btf<'a>, BtfError>
         ensures holds { IfOk result (λ table. HoldsTable order bytes.now table) }
@@ -98,8 +97,8 @@ impl<'a> Btf<'a> {
         })
     }
 
-    /// The section as which the table is written: the header, the types right after it, and then
-    /// the strings. The enums that unions stand for aren't written.
+    /// The bytes of a section with this table: the header, then the types, then the strings. The
+    /// enums that unions stand for aren't written.
     pub fn to_bytes(&self) -> Result<Vec<u8>, AllocError>
         ensures written { IfOk result (λ section. section.items ≡ table_bytes self.now) }
         ensures holds { IfOk result (λ section.

@@ -13,7 +13,7 @@ use std::alloc::Global;
 use std::marker::Model;
 
 /// A table of types and the strings that name them, over the bytes of the section that it was read
-/// from: types and strings are borrowed, each until some are added.
+/// from. The types are borrowed until a type is added, and the strings until a string is added.
 #[derive(Debug)]
 pub struct Btf<'a> {
     pub(crate) records: TypeRecords<'a>,
@@ -24,7 +24,7 @@ pub struct Btf<'a> {
 }
 
 impl<'a> Drop for Btf<'a> {
-    // One call wherever it is dropped, in place of one for each part.
+    // A single call where a value is dropped, instead of one call per field.
     fn drop(self) {
         let Btf {
             records: _records,
@@ -55,10 +55,10 @@ impl<'a> Model for Btf<'a> {
     ghost invariant = { λ t. length t.strings < 2 ^ 32 };
 }
 
-/// A chain or a walk has at most that many records.
+/// The greatest number of records in a chain or a walk.
 pub(crate) const MAX_DEPTH: usize = 32;
 
-/// The type that a modifier stands before.
+/// The type that a modifier applies to.
 fn modified_type(t: &TypeRef<'_>) -> Option<u32>
     ensures { result ≡ modified_type t.now }
 {
@@ -73,14 +73,14 @@ fn modified_type(t: &TypeRef<'_>) -> Option<u32>
 }
 
 impl<'a> Btf<'a> {
-    /// Whether there is no type but void.
+    /// Whether there is no type except void.
     pub fn is_empty(&self) -> bool
         ensures { result ≡ (length self.now.types == 0) }
     {
         self.records.len() == 0
     }
 
-    /// How many types there are, void aside.
+    /// The number of types, without void.
     pub fn len(&self) -> usize
         ensures value { result ≡ length self.now.types }
         ensures bounded { result < 2 ^ 32 }
@@ -103,7 +103,7 @@ impl<'a> Btf<'a> {
 
     /// The text at an offset of the strings.
     ///
-    /// `InvalidStringOffset` where that lies past their end, no NUL ends the text, or it isn't
+    /// `InvalidStringOffset` where the offset is past their end, no NUL ends the text, or it isn't
     /// UTF-8.
     pub fn string_at(&self, offset: u32) -> Result<&str, BtfError>
         ensures { MatchResult result (λ s. text_at self.now.strings offset ≡ Some s.now) (λ e.
@@ -128,7 +128,7 @@ impl<'a> Btf<'a> {
         self.string_at(t.name_offset())
     }
 
-    /// The records of the types from id 1 on, as they lie in memory.
+    /// The records of the types from id 1 on.
     pub fn records(&self) -> &TypeRecords<'a>
         ensures { result.now
             ≡ record { order = self.now.order; types = self.now.types } }
@@ -151,14 +151,14 @@ impl<'a> Btf<'a> {
         self.records.kinds()
     }
 
-    /// The offsets of the names of the types from id 1 on, in order of id.
+    /// The name offsets of the types from id 1 on, in order of id.
     pub fn name_offsets(&self) -> &[u32]
         ensures { result.now ≡ map name_offset_of self.now.types }
     {
         self.records.name_offsets()
     }
 
-    /// The record of an id; that of id 0 is void.
+    /// The record of an id; id 0 is void.
     ///
     /// `UnknownBtfType` where the table has no such id.
     pub fn type_by_id(&self, id: u32) -> Result<TypeRef<'_>, BtfError>
@@ -171,10 +171,11 @@ impl<'a> Btf<'a> {
         }
     }
 
-    /// The id at the end of a chain of modifiers, as `resolve_type` answers it, for a question that
-    /// was asked about another id: `MaximumTypeDepthReached` names that one.
+    /// The id at the end of a chain of modifiers, as `resolve_type` returns it, for a query about
+    /// the id `asked`.
     ///
-    /// `UnknownBtfType` where a type of the chain isn't there.
+    /// `UnknownBtfType` where a type of the chain is missing, `MaximumTypeDepthReached` with
+    /// `asked` where the chain, with its end, has more than 32 types.
     #[tactic(auto, using(crate::proofs::Chains::chain_over, crate::proofs::Chains::chain_unknown, crate::proofs::Chains::chain_done, crate::proofs::Chains::chain_more))]
     pub fn chain_end(&self, asked: u32, id: u32) -> Result<u32, BtfError>
         ensures { result ≡ chain_end max_depth self.now asked id }
