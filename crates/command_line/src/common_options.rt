@@ -1,4 +1,4 @@
-//! What the command lines of both programs may say.
+//! What the command lines of both programs have in common.
 
 ghost use Rattle.std.specs.Prelude.{◌≡◌, codes, false, IfOk, Some};
 ghost use Rattle.std.specs.Str.{bytes_eq};
@@ -9,7 +9,7 @@ use crate::options::{value, values, with_option};
 use clap::{Arg, ArgAction, Command};
 use std::alloc::{AllocError, Global};
 
-/// What a program's help says of the program.
+/// What a program's help says about the program.
 #[derive(Clone, Copy)]
 pub(crate) struct ProgramTexts<'a> {
     pub(crate) name: &'a str,
@@ -17,7 +17,7 @@ pub(crate) struct ProgramTexts<'a> {
     pub(crate) after_help: &'a str,
 }
 
-/// What a program's help says of the files of kernels.
+/// What a program's help says about the files of kernels.
 #[derive(Clone, Copy)]
 pub(crate) struct KernelFileTexts<'a> {
     pub(crate) types: &'a str,
@@ -25,7 +25,7 @@ pub(crate) struct KernelFileTexts<'a> {
     pub(crate) symbols: &'a str,
 }
 
-/// The command that takes the object's file alone.
+/// The command that takes only the object's file.
 pub(crate) fn with_object<'a>(
     alloc: Global,
     texts: ProgramTexts<'a>,

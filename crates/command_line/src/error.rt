@@ -8,9 +8,9 @@ use std::alloc::AllocError;
 /// Why a command line asks for nothing.
 #[derive(Debug, Drop)]
 pub enum LineError {
-    /// The command line may not have these words: what is wrong with them, in one line.
+    /// The command line is invalid: what is wrong with it, in one line.
     Fault { text: String },
-    /// The words ask for the help or the version: its text.
+    /// The command line asks for the help or the version: its text.
     Asked { text: String },
     OutOfMemory,
 }

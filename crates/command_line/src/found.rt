@@ -1,4 +1,4 @@
-//! What is found in the words of a line.
+//! What is found in the arguments.
 
 ghost use Rattle.std.specs.Prelude.{◌≡◌, codes, map, Some, IfOk, is_some, true};
 ghost use Rattle.std.specs.Option.{option_map};
@@ -12,7 +12,7 @@ use btf_records::Endianness;
 use clap::{ArgMatches, Command};
 use std::alloc::{AllocError, Global};
 
-/// What clap finds in the words, for a command.
+/// What clap finds in the arguments, for a command.
 pub(crate) fn matches_in<'w>(
     alloc: Global,
     command: Command<'w>,
@@ -41,7 +41,7 @@ pub(crate) fn values_of<'w>(
     }
 }
 
-/// The byte order of a name.
+/// The byte order with a name.
 pub(crate) fn order_of(name: Option<&str>) -> Endianness
     ensures { result ≡ order_named (option_map (λ name. name.now) name.entry) }
 {
@@ -51,7 +51,7 @@ pub(crate) fn order_of(name: Option<&str>) -> Endianness
     }
 }
 
-/// The object's file, which the words have to name.
+/// The object's file, which the arguments must name.
 pub(crate) fn object_of<'w>(matches: &ArgMatches<'w>) -> &'w str
     requires { is_some (first_value (found_of matches.now) (codes "OBJECT")) ≡ true }
     ensures { first_value (found_of matches.now) (codes "OBJECT") ≡ Some result.now }

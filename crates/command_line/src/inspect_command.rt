@@ -1,4 +1,4 @@
-//! What the command line of `inspect_object` may say.
+//! The command line of `inspect_object`.
 
 ghost use Rattle.std.specs.Prelude.{◌≡◌, codes, false, IfOk, Some};
 ghost use Rattle.std.specs.Str.{bytes_eq};

@@ -1,4 +1,4 @@
-//! What the words of a command line of `inspect_object` ask for.
+//! What the arguments of `inspect_object` ask for.
 
 ghost use Rattle.std.specs.Prelude.{map, IfOk};
 ghost use Rattle.std.specs.String.{string_bytes};
@@ -11,7 +11,7 @@ use btf_records::Endianness;
 use clap::ArgMatches;
 use std::alloc::Global;
 
-/// What the words of a command line ask for. File names are as the words have them.
+/// What the arguments of a command line ask for. File names are as they are given.
 #[derive(Debug, Drop)]
 pub struct InspectArguments<'w> {
     /// The object's file.
@@ -22,11 +22,11 @@ pub struct InspectArguments<'w> {
     pub types_order: Endianness,
     /// The file with the symbols of all kernels.
     pub symbols: Option<&'w str>,
-    /// Whether a table is wanted in place of lines.
+    /// Whether a table is printed instead of lines.
     pub summary: bool,
 }
 
-/// What clap finds in the words, for the program's command line.
+/// What clap finds in the arguments, for the program's command line.
 fn matches_of<'w>(alloc: Global, words: &'w [String]) -> Result<ArgMatches<'w>, LineError>
     ensures { IfOk result (IsInspectMatch (map string_bytes words.now)) }
 {
@@ -35,12 +35,12 @@ fn matches_of<'w>(alloc: Global, words: &'w [String]) -> Result<ArgMatches<'w>, 
     Ok(matches)
 }
 
-/// What the words of a command line ask for, of which the first is the program's name.
+/// What the arguments of a command line ask for. The first argument is the program's name.
 ///
 /// # Errors
 ///
-/// [`LineError::Fault`] where the words are others, and [`LineError::Asked`] where they ask for the
-/// help or the version.
+/// [`LineError::Fault`] where the arguments are invalid, and [`LineError::Asked`] where they ask
+/// for the help or the version.
 pub fn inspect_arguments<'w>(
     alloc: Global,
     words: &'w [String],

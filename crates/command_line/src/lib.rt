@@ -1,4 +1,4 @@
-//! The words of the command lines of both programs: what may be asked for, and what is.
+//! The command lines of both programs: which arguments they take, and what given arguments ask for.
 #![tactic(auto)]
 
 mod common_options;

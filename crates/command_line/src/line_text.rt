@@ -1,4 +1,4 @@
-//! What a user is told of a line, in one line.
+//! Messages about a command line, in one line.
 
 use crate::error::LineError;
 use clap::Error;
@@ -15,7 +15,7 @@ fn push_words(text: &mut String, line: &str) -> Result<(), AllocError> {
     Ok(())
 }
 
-/// The lines of a text up to the first empty one, in one line.
+/// The lines of a text up to the first empty one, joined to one line.
 pub fn first_paragraph(alloc: Global, text: &str) -> Result<String, AllocError> {
     let mut paragraph = String::new(alloc);
     for line in text.lines() {
@@ -27,14 +27,14 @@ pub fn first_paragraph(alloc: Global, text: &str) -> Result<String, AllocError> 
     Ok(paragraph)
 }
 
-/// What is wrong with a line: the first paragraph of the error's text.
+/// What is wrong with a command line: the first paragraph of the error's text.
 fn fault_text(alloc: Global, error: &Error) -> Result<String, AllocError> {
     let text = format!(in alloc; "{error}")?;
     let said = text.strip_prefix("error: ").unwrap_or(&text);
     first_paragraph(alloc, said)
 }
 
-/// What becomes of words of which clap makes no matches.
+/// The error for arguments that clap refuses.
 pub(crate) fn line_error(alloc: Global, error: &Error) -> Result<LineError, AllocError> {
     if error.use_stderr() {
         return Ok(LineError::Fault {

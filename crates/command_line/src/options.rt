@@ -1,4 +1,4 @@
-//! Options beside the object's file.
+//! Options besides the object's file.
 
 ghost use Rattle.std.specs.Prelude.{◌≡◌, false, IfOk};
 ghost use Rattle.clap.specs.Built.{IsPlainArg};
@@ -47,7 +47,7 @@ pub(crate) fn flag<'a>(alloc: Global, id: &'a str, help: &'a str) -> Arg<'a>
         .action(ArgAction::SetTrue)
 }
 
-/// The command with an option more.
+/// The command with one more option.
 pub(crate) fn with_option<'a>(
     command: Command<'a>,
     option: Arg<'a>,

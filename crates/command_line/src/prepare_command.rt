@@ -1,4 +1,4 @@
-//! What the command line of `bpf_prepare` may say.
+//! The command line of `bpf_prepare`.
 
 ghost use Rattle.std.specs.Prelude.{◌≡◌, codes, false, IfOk, Some};
 ghost use Rattle.std.specs.Str.{bytes_eq};

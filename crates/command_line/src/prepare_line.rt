@@ -1,11 +1,11 @@
-//! What the words of a command line of `bpf_prepare` ask for.
+//! What the arguments of `bpf_prepare` ask for.
 
 use crate::setting_words::{WordError, set_global, set_map};
 use btf_records::{BtfFeature, Endianness};
 use run_settings::RunSettings;
 use std::alloc::Global;
 
-/// What the words of a command line ask for. File names are as the words have them.
+/// What the arguments of a command line ask for. File names are as they are given.
 #[derive(Debug, Drop)]
 pub struct Arguments<'w> {
     /// The object's file.
@@ -18,9 +18,9 @@ pub struct Arguments<'w> {
     pub symbols: Option<&'w str>,
     /// The file of settings.
     pub settings: Option<&'w str>,
-    /// Whether types are rewritten before type relocations are looked up in them.
+    /// Whether types are rewritten before type relocations are resolved in them.
     pub rewrite_first: bool,
-    /// Whether notes on the object are wanted.
+    /// Whether notes on the object are printed.
     pub notes: bool,
     pub(crate) has_older_helpers: bool,
     pub(crate) maps: Vec<&'w str>,
@@ -29,11 +29,11 @@ pub struct Arguments<'w> {
 }
 
 impl<'w> Arguments<'w> {
-    /// Sets what the line sets, over what is set already.
+    /// Sets what the command line sets, over what is already set.
     ///
     /// # Errors
     ///
-    /// The first word that sets nothing, numbers of maps first, then values of variables; and
+    /// The first argument that sets nothing, numbers of maps first, then values of variables; and
     /// `OutOfMemory`.
     pub fn set_over(&self, alloc: Global, settings: &mut RunSettings) -> Result<(), WordError> {
         for word in &self.maps {

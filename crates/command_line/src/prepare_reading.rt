@@ -1,4 +1,4 @@
-//! What a command line of `bpf_prepare` says.
+//! The reading of a command line of `bpf_prepare`.
 
 ghost use Rattle.std.specs.Prelude.{◌≡◌, is_some, map, true, IfOk, Some};
 ghost use Rattle.std.specs.List.{All};
@@ -15,7 +15,7 @@ use clap::ArgMatches;
 use run_settings::feature_named;
 use std::alloc::{AllocError, Global};
 
-/// What clap finds in the words, for the program's command line.
+/// What clap finds in the arguments, for the program's command line.
 fn matches_of<'w>(alloc: Global, words: &'w [String]) -> Result<ArgMatches<'w>, LineError>
     ensures { IfOk result (IsPrepareMatch (map string_bytes words.now)) }
 {
@@ -24,7 +24,7 @@ fn matches_of<'w>(alloc: Global, words: &'w [String]) -> Result<ArgMatches<'w>, 
     Ok(matches)
 }
 
-/// The features of these names.
+/// The features with these names.
 fn features_of(alloc: Global, names: &[&str]) -> Result<Vec<BtfFeature>, AllocError>
     requires { All (λ name. is_some (feature_named name.now) ≡ true) names.now }
     ensures { IfOk result (λ features.
@@ -37,12 +37,12 @@ fn features_of(alloc: Global, names: &[&str]) -> Result<Vec<BtfFeature>, AllocEr
     Ok(features)
 }
 
-/// What the words of a command line ask for, of which the first is the program's name.
+/// What the arguments of a command line ask for. The first argument is the program's name.
 ///
 /// # Errors
 ///
-/// [`LineError::Fault`] where the words are others, and [`LineError::Asked`] where they ask for the
-/// help or the version.
+/// [`LineError::Fault`] where the arguments are invalid, and [`LineError::Asked`] where they ask
+/// for the help or the version.
 pub fn arguments<'w>(alloc: Global, words: &'w [String]) -> Result<Arguments<'w>, LineError>
     ensures { IfOk result (IsPrepareLine (map string_bytes words.now)) }
 {

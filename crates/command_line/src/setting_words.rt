@@ -1,4 +1,4 @@
-//! Words that set something: the number of a map, the bytes of a global variable.
+//! Arguments that set something: the number of a map, or the bytes of a global variable.
 
 ghost use Rattle.std.specs.Prelude.{◌<◌, ◌^◌, IfOk};
 
@@ -7,10 +7,10 @@ use run_settings::RunSettings;
 use std::alloc::{AllocError, Global};
 use thiserror::Error;
 
-/// Why a word sets nothing.
+/// Why an argument sets nothing.
 #[derive(Debug, Drop, Error)]
 pub enum WordError {
-    /// No `=` stands between a name and what is set for it.
+    /// There is no `=` between a name and its value.
     #[error("{word:?} has no '=' after a name")]
     NoSign { word: String },
     /// The number of a map isn't written in decimal digits.
@@ -37,7 +37,7 @@ impl From<AllocError> for WordError {
     }
 }
 
-/// What stands before the last `=` of a word, and what stands after it.
+/// The text before the last `=` of an argument, and the text after it.
 fn name_and_rest(alloc: Global, word: &str) -> Result<(&str, &str), WordError> {
     match word.rsplit_once('=') {
         Some(parts) => Ok(parts),
@@ -51,7 +51,7 @@ fn name_and_rest(alloc: Global, word: &str) -> Result<(&str, &str), WordError> {
 fn number_of(alloc: Global, word: &str, digits: &str) -> Result<u32, WordError>
     ensures { IfOk result (λ number. number < 2 ^ 31) }
 {
-    // A sign would be read too.
+    // A sign would be accepted too.
     if digits.is_empty() || !digits.bytes().all(|digit| digit.is_ascii_digit()) {
         return Err(WordError::NoNumber {
             word: String::from_str(alloc, word)?,

@@ -117,8 +117,8 @@ fn of_match(
     }
 }
 
-/// The cause of a relocation that can't be resolved in the kernel's types, also where memory runs
-/// out.
+/// The cause of a relocation that can't be resolved in the kernel's types, or `OutOfMemory` where
+/// memory runs out.
 pub(crate) fn cause_of_match(
     failed: &FailedRelocation<'_, '_, '_>,
     error: TypeRelocationError,
@@ -166,7 +166,7 @@ fn of_write(alloc: Global, placed: RelocationFault) -> Result<BtfRelocationCause
     }
 }
 
-/// The cause of a value that doesn't fit its instruction, also where memory runs out.
+/// The cause of a value that doesn't fit its instruction, or `OutOfMemory` where memory runs out.
 pub(crate) fn cause_of_write(alloc: Global, placed: RelocationFault) -> BtfRelocationCause
     ensures { result ≢ OutOfMemory → OfWrite placed.fault result }
 {

@@ -1,16 +1,16 @@
-//! What a file seems to hold that is no ELF64 file.
+//! What a file that isn't an ELF64 file seems to hold.
 
 use elf64::ElfError;
 
-/// How a file header begins.
+/// The first bytes of a file header.
 const MAGIC: &[u8] = b"\x7fELF";
 
-/// `EI_CLASS` of a file of 32 bits, and where it stands.
+/// `EI_CLASS` of a file of 32 bits, and its offset.
 const CLASS_32: u8 = 1;
 
 const CLASS_AT: usize = 4;
 
-/// How many bytes at a file's beginning are looked at to tell whether it is text.
+/// The number of bytes at a file's beginning that decide whether it is text.
 const LOOKED_AT: usize = 512;
 
 /// The control character after the printable ones.
@@ -23,12 +23,12 @@ fn is_text_byte(byte: u8) -> bool {
     }
 }
 
-/// Whether a file begins as text does.
+/// Whether a file begins like text.
 fn is_text(bytes: &[u8]) -> bool {
     bytes.iter().take(LOOKED_AT).all(|byte| is_text_byte(*byte))
 }
 
-/// What some bytes are that a file begins with.
+/// What a file is that begins with these bytes.
 fn by_beginning(bytes: &[u8]) -> Option<&'static str> {
     if bytes.starts_with(b"\x1f\x8b") {
         return Some("the file is compressed by gzip");
@@ -54,7 +54,7 @@ fn by_beginning(bytes: &[u8]) -> Option<&'static str> {
     None
 }
 
-/// What a file seems to hold that doesn't begin as an ELF file does.
+/// What a file seems to hold that doesn't begin like an ELF file.
 fn without_header(bytes: &[u8]) -> Option<&'static str> {
     if bytes.is_empty() {
         return Some("the file is empty");
@@ -69,7 +69,7 @@ fn without_header(bytes: &[u8]) -> Option<&'static str> {
     None
 }
 
-/// What a file seems to hold that is refused by an error.
+/// What a file seems to hold that is refused with an error.
 pub(crate) fn contents_hint(bytes: &[u8], error: ElfError) -> Option<&'static str> {
     match error {
         ElfError::NotElf => without_header(bytes),

@@ -1,4 +1,4 @@
-//! Maps that types don't define well.
+//! Maps that types define wrongly.
 
 use crate::members::faulty_member;
 use crate::tables::table_of;
@@ -8,7 +8,7 @@ use btf_tables::Btf;
 use map_definitions::{MapDefinitions, map_variable};
 use std::alloc::{AllocError, Global};
 
-/// How the names of sections of maps begin that types define.
+/// How the names of sections begin whose maps types define.
 const MAPS: &str = ".maps";
 
 /// Whether a type is a section of maps.
@@ -22,7 +22,7 @@ fn is_of_maps(table: &Btf<'_>, t: &TypeRef<'_>) -> bool {
     }
 }
 
-/// Why a variable defines no map.
+/// Why a variable doesn't define a map.
 fn error_of(
     alloc: Global,
     definitions: &mut MapDefinitions<'_, '_>,
@@ -36,7 +36,7 @@ fn error_of(
     }
 }
 
-/// The first variable of a section that defines no map, by its id, and why.
+/// The id of the first variable of a section that doesn't define a map, and why.
 fn first_in(
     alloc: Global,
     definitions: &mut MapDefinitions<'_, '_>,
@@ -51,7 +51,7 @@ fn first_in(
     None
 }
 
-/// The first variable of sections of maps that defines no map, by its id, and why.
+/// The id of the first variable of sections of maps that doesn't define a map, and why.
 fn first_fault(alloc: Global, table: &Btf<'_>) -> Option<(u32, BtfError)> {
     let mut definitions = MapDefinitions::new(alloc, table);
     for t in table.types() {
@@ -66,13 +66,13 @@ fn first_fault(alloc: Global, table: &Btf<'_>) -> Option<(u32, BtfError)> {
     None
 }
 
-/// Whether two errors say the same.
+/// Whether two errors have the same text.
 fn say_the_same(alloc: Global, one: &BtfError, other: &BtfError) -> Result<bool, AllocError> {
     let text = format!(in alloc; "{one}")?;
     Ok(text == format!(in alloc; "{other}")?)
 }
 
-/// The name of the variable of an id, empty where it can't be read.
+/// The name of the variable with an id, empty where it can't be read.
 fn variable_name<'t>(table: &'t Btf<'_>, type_id: u32) -> &'t str {
     let Ok(t) = table.type_by_id(type_id) else {
         return "";
@@ -83,7 +83,7 @@ fn variable_name<'t>(table: &'t Btf<'_>, type_id: u32) -> &'t str {
     table.string_at(variable.name_offset).unwrap_or("")
 }
 
-/// The map of a variable, and its member that is at fault where it is known.
+/// The map of a variable, and its wrong member where it is known.
 fn fault_text(alloc: Global, table: &Btf<'_>, type_id: u32) -> Result<String, AllocError> {
     let name = variable_name(table, type_id);
     let Ok(variable) = map_variable(table, type_id) else {
@@ -100,7 +100,7 @@ fn fault_text(alloc: Global, table: &Btf<'_>, type_id: u32) -> Result<String, Al
     }
 }
 
-/// The first variable of sections of maps that defines no map, by its id, if an error is for it.
+/// The id of the first variable of sections of maps that doesn't define a map, if the error is its.
 fn variable_of(
     alloc: Global,
     table: &Btf<'_>,
@@ -112,7 +112,7 @@ fn variable_of(
     Ok(say_the_same(alloc, &found, error)?.then_some(type_id))
 }
 
-/// The first map that a table doesn't define well, if an error is for it.
+/// The first map that a table defines wrongly, if the error is its.
 fn hint_in(alloc: Global, table: &Btf<'_>, error: &BtfError) -> Result<Option<String>, AllocError> {
     match variable_of(alloc, table, error)? {
         Some(type_id) => Ok(Some(fault_text(alloc, table, type_id)?)),
@@ -120,7 +120,7 @@ fn hint_in(alloc: Global, table: &Btf<'_>, error: &BtfError) -> Result<Option<St
     }
 }
 
-/// The first map that an object's types don't define well, if an error is for it.
+/// The first map that an object's types define wrongly, if the error is its.
 pub(crate) fn definition_hint(
     alloc: Global,
     object: &[u8],

@@ -2,7 +2,7 @@
 
 use elf64::{ElfFile, SymbolKind, SymbolView};
 
-/// Whether a symbol defines a function at an address of the section of an index.
+/// Whether a symbol defines a function at an address of the section with an index.
 fn is_at(symbol: &SymbolView<'_>, section_index: usize, address: u64) -> bool {
     symbol.kind() == SymbolKind::Text
         && symbol.is_definition()
@@ -10,8 +10,8 @@ fn is_at(symbol: &SymbolView<'_>, section_index: usize, address: u64) -> bool {
         && symbol.address() == address
 }
 
-/// The names of the first two functions at an address of the section of an index, empty where they
-/// can't be read.
+/// The names of the first two functions at an address of the section with an index, empty where
+/// they can't be read.
 pub(crate) fn two_at(object: &[u8], section_index: usize, address: u64) -> Option<(&str, &str)> {
     let elf = ElfFile::parse(object).ok()?;
     let mut one = None;

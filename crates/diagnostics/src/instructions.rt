@@ -1,4 +1,4 @@
-//! Instructions at which relocations are refused.
+//! Instructions whose relocations are refused.
 
 use elf64::RelocView;
 use linker::{Target, target_of};
@@ -18,11 +18,11 @@ pub(crate) struct Instruction<'a> {
     pub(crate) distance: u64,
     /// In bytes from the section's beginning.
     pub(crate) offset: u64,
-    /// Its index, where there is a relocation that has one.
+    /// Its index, if there is a relocation that has one.
     pub(crate) symbol: Option<usize>,
 }
 
-/// The addresses that there are.
+/// The number of addresses.
 const ADDRESSES: i128 = 18446744073709551616;
 
 fn instruction_at<'a>(
@@ -39,7 +39,7 @@ fn instruction_at<'a>(
     }
 }
 
-/// Whether a relocation names the symbol of a name.
+/// Whether a relocation names the symbol with a name.
 fn is_named(file: &ObjectFile<'_>, relocation: &RelocView, name: &str) -> bool {
     let Some(index) = relocation.symbol() else {
         return false;
@@ -50,7 +50,7 @@ fn is_named(file: &ObjectFile<'_>, relocation: &RelocView, name: &str) -> bool {
     }
 }
 
-/// Whether a relocation at an offset is one that an error can be for.
+/// Whether an error can be about the relocation at an offset.
 fn is_meant(
     file: &ObjectFile<'_>,
     error: &RelocationError,
@@ -69,7 +69,7 @@ fn is_meant(
     }
 }
 
-/// The first instruction of a function whose relocation an error can be for.
+/// The first instruction of a function whose relocation an error can be about.
 fn relocation_in<'a>(
     file: &ObjectFile<'a>,
     function: &Function<'a>,
@@ -88,8 +88,8 @@ fn relocation_in<'a>(
     None
 }
 
-/// The instruction whose relocation an error is for. It stands in the function that the error
-/// names, or, of a symbol that isn't known, in one that this function leads to.
+/// The instruction whose relocation an error is about. It is in the function that the error names;
+/// for a symbol that isn't known, it may also be in another function.
 fn relocation_at<'a>(
     file: &ObjectFile<'a>,
     functions: &Functions<'a>,
@@ -161,7 +161,7 @@ fn call_in<'a>(
     Some(instruction_at(function, offset, symbol))
 }
 
-/// The instruction of the function of a name that leads to an address.
+/// The instruction of the function with a name that leads to an address.
 fn call_at<'a>(
     alloc: Global,
     file: &ObjectFile<'a>,
@@ -182,7 +182,7 @@ fn call_at<'a>(
     None
 }
 
-/// The instruction that an error is for, where it can be found.
+/// The instruction that an error is about, where it can be found.
 pub(crate) fn instruction_of<'o>(
     alloc: Global,
     object: &'o [u8],

@@ -1,14 +1,14 @@
-//! The files that say what a kernel has.
+//! The files with a kernel's types and symbols.
 
 use crate::quoted::Quoted;
 use std::alloc::{AllocError, Global};
 
-/// The names of the files that say what a kernel has.
+/// The names of the files with a kernel's types and symbols.
 #[derive(Clone, Copy, Debug)]
 pub struct KernelFiles<'k> {
-    /// Those of its types, in order.
+    /// The files of its types, in order.
     pub types: &'k [&'k str],
-    /// That of its symbols.
+    /// The file of its symbols.
     pub symbols: Option<&'k str>,
 }
 
@@ -21,7 +21,7 @@ const NO_SYMBOLS: &str =
     "no kernel symbols are given; --symbols FILE gives them, as --symbols /proc/kallsyms";
 
 impl<'k> KernelFiles<'k> {
-    /// Where types are looked for that externs have.
+    /// Where types of externs are searched.
     pub(crate) fn first_types(&self, alloc: Global) -> Result<String, AllocError> {
         match self.types.first() {
             Some(name) if self.types.len() > 1 => {
@@ -32,7 +32,7 @@ impl<'k> KernelFiles<'k> {
         }
     }
 
-    /// Where types are looked for that type relocations ask for.
+    /// Where types of type relocations are searched.
     pub(crate) fn all_types(&self, alloc: Global) -> Result<String, AllocError> {
         if self.types.is_empty() {
             return String::from_str(alloc, NO_TYPES);
@@ -41,7 +41,7 @@ impl<'k> KernelFiles<'k> {
         format!(in alloc; "looked for in {names}")
     }
 
-    /// Where symbols are looked for.
+    /// Where symbols are searched.
     pub(crate) fn symbols(&self, alloc: Global) -> Result<String, AllocError> {
         match self.symbols {
             Some(name) => {

@@ -1,4 +1,4 @@
-//! What is told of what a kernel lacks.
+//! Messages about what a kernel lacks.
 
 use crate::kernel_files::{KernelFiles, NO_TYPES};
 use crate::names::share_bytes;
@@ -13,8 +13,8 @@ use quoting::FirstNames;
 use relocation_errors::{BtfRelocationCause, BtfRelocationError};
 use std::alloc::{AllocError, Global};
 
-/// The externs of an object, where they can be read. Where its symbols' names share bytes, they
-/// aren't read again.
+/// The externs of an object, where they can be read. They aren't read again where its symbols'
+/// names share bytes.
 fn externs_of<'o>(alloc: Global, object: &'o [u8]) -> Option<Externs<'o>> {
     let file = ObjectFile::parse(alloc, object).ok()?;
     if share_bytes(file.symbols(), object) {
@@ -24,7 +24,7 @@ fn externs_of<'o>(alloc: Global, object: &'o [u8]) -> Option<Externs<'o>> {
     read_externs(alloc, file.symbols(), &mut table).ok()
 }
 
-/// Whether a record is a variable of this name and of void.
+/// Whether a record is a variable of type void with this name.
 fn is_void_variable(table: &Btf<'_>, t: &TypeRef<'_>, name: &str) -> bool {
     t.kind() == BtfKind::Var
         && table
@@ -35,8 +35,8 @@ fn is_void_variable(table: &Btf<'_>, t: &TypeRef<'_>, name: &str) -> bool {
             .is_ok_and(|id| id == 0)
 }
 
-/// Whether the types of an object have a variable of this name and of void: such an extern is looked
-/// for among the kernel's symbols. The externs aren't read again for it.
+/// Whether the types of an object have a variable of type void with this name: such an extern is
+/// searched among the kernel's symbols. The externs aren't read again for it.
 fn has_no_type(alloc: Global, object: &[u8], name: &str) -> bool {
     match table_of(alloc, object) {
         Some(table) => table.types().any(|t| is_void_variable(&table, &t, name)),
@@ -55,7 +55,7 @@ fn typed_names<'a>(alloc: Global, externs: &Externs<'a>) -> Result<FirstNames<'a
     Ok(names)
 }
 
-/// That externs with a type need kernel types, and which these are.
+/// The message that externs with a type need kernel types, and which externs these are.
 fn typed_text(alloc: Global, object: &[u8], error: &KsymsError) -> Result<String, AllocError> {
     let Some(externs) = externs_of(alloc, object) else {
         return format!(in alloc; "{error}: {NO_TYPES}");
@@ -64,7 +64,7 @@ fn typed_text(alloc: Global, object: &[u8], error: &KsymsError) -> Result<String
     format!(in alloc; "{error}, as here {names}: {NO_TYPES}")
 }
 
-/// Where the kernel's variable of a name was looked for.
+/// Where the kernel's variable with a name was searched.
 fn variable_hint(
     alloc: Global,
     object: &[u8],
@@ -107,7 +107,7 @@ fn hint(
     }
 }
 
-/// What is told of an extern that can't be resolved: where it was looked for.
+/// The message for an extern that can't be resolved: where it was searched.
 pub(crate) fn ksyms_text(
     alloc: Global,
     object: &[u8],
@@ -123,12 +123,13 @@ pub(crate) fn ksyms_text(
     }
 }
 
-/// What is told where an object has type relocations and no kernel types are given.
+/// The message where an object has type relocations and no kernel types are given.
 pub(crate) fn required_types_text(alloc: Global) -> Result<String, AllocError> {
     format!(in alloc; "type relocations need kernel types: {NO_TYPES}")
 }
 
-/// What is told of a type relocation that can't be made: which files its types were looked for in.
+/// The message for a type relocation that can't be made: the files in which its types were
+/// searched.
 pub(crate) fn type_relocation_text(
     alloc: Global,
     error: &BtfRelocationError,

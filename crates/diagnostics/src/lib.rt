@@ -1,5 +1,5 @@
-//! What a person is told of a refusal: the error's text with names beside indexes, where the fault
-//! stands, and what helps. An error holds neither; both are looked up again in the object's bytes.
+//! Messages for refusals: the error's text with names next to indexes, the place of the fault, and
+//! what helps. An error holds neither names nor places; both are found again in the object's bytes.
 #![tactic(auto)]
 
 mod contents;

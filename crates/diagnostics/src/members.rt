@@ -3,7 +3,7 @@
 use btf_records::{BtfArray, BtfKind};
 use btf_tables::Btf;
 
-/// A member that doesn't say what its name asks for.
+/// A member whose type isn't the one that its name needs.
 #[derive(Clone, Copy)]
 pub(crate) struct FaultyMember<'t> {
     pub(crate) name: &'t str,
@@ -32,7 +32,8 @@ fn is_struct(table: &Btf<'_>, type_id: u32) -> bool {
     t.kind() == BtfKind::Struct
 }
 
-/// Whether a type gives a number: it is a pointer to an array with this number of elements.
+/// Whether a type gives a number: it is a pointer to an array, whose number of elements is the
+/// number.
 fn is_number(table: &Btf<'_>, type_id: u32) -> bool {
     match target_of(table, type_id) {
         Some(target) => array_at(table, target).is_some(),
@@ -40,7 +41,7 @@ fn is_number(table: &Btf<'_>, type_id: u32) -> bool {
     }
 }
 
-/// Whether a type gives keys or values: as a pointer to their type.
+/// Whether a type gives keys or values: it is a pointer to their type.
 fn is_sized(table: &Btf<'_>, type_id: u32) -> bool {
     match target_of(table, type_id) {
         Some(target) => table.type_size_u32(target).is_ok(),
@@ -48,7 +49,7 @@ fn is_sized(table: &Btf<'_>, type_id: u32) -> bool {
     }
 }
 
-/// The struct of maps to which an array of pointers leads.
+/// The struct of the maps that an array of pointers leads to.
 fn inner_struct(table: &Btf<'_>, type_id: u32) -> Option<u32> {
     let array = array_at(table, type_id)?;
     if array.len != 0 {
@@ -87,7 +88,7 @@ fn fault_of(table: &Btf<'_>, name: &str, type_id: u32) -> Option<&'static str> {
     }
 }
 
-/// Whether each member of the struct of maps inside another says what its name asks for.
+/// Whether each member of the struct of the inner maps has the type that its name needs.
 fn are_members_sound(table: &Btf<'_>, struct_id: u32) -> bool {
     let Ok(t) = table.type_by_id(struct_id) else {
         return false;
@@ -106,7 +107,7 @@ fn are_members_sound(table: &Btf<'_>, struct_id: u32) -> bool {
     true
 }
 
-/// What is wrong with the member that gives the maps inside another.
+/// What is wrong with the member that gives the inner maps.
 fn fault_of_values(table: &Btf<'_>, type_id: u32) -> Option<&'static str> {
     match inner_struct(table, type_id) {
         Some(inner) if are_members_sound(table, inner) => None,
@@ -115,7 +116,7 @@ fn fault_of_values(table: &Btf<'_>, type_id: u32) -> Option<&'static str> {
     }
 }
 
-/// The first member of a map's struct that doesn't say what its name asks for.
+/// The first member of a map's struct whose type isn't the one that its name needs.
 pub(crate) fn faulty_member<'t>(table: &'t Btf<'_>, struct_id: u32) -> Option<FaultyMember<'t>> {
     let t = table.type_by_id(struct_id).ok()?;
     for index in 0..t.count() {

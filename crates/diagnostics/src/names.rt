@@ -18,7 +18,7 @@ pub(crate) struct SymbolName<'a> {
     name: Option<&'a str>,
 }
 
-/// The section of an index.
+/// The section with an index.
 fn section_at<'a>(elf: &ElfFile<'a>, index: usize) -> Option<SectionView<'a>> {
     for section in elf.sections() {
         if section.index() == index {
@@ -28,7 +28,7 @@ fn section_at<'a>(elf: &ElfFile<'a>, index: usize) -> Option<SectionView<'a>> {
     None
 }
 
-/// The symbol of an index.
+/// The symbol with an index.
 fn symbol_at<'a>(elf: &ElfFile<'a>, index: usize) -> Option<SymbolView<'a>> {
     for symbol in elf.symbols() {
         if symbol.index() == index {
@@ -38,8 +38,8 @@ fn symbol_at<'a>(elf: &ElfFile<'a>, index: usize) -> Option<SymbolView<'a>> {
     None
 }
 
-/// Whether the names of an object's symbols have more bytes together than the object, as names that
-/// are ends of one long text. It takes long to put such names in order, only to tell of them.
+/// Whether the names of an object's symbols have more bytes together than the object, like names
+/// that are suffixes of one long text. Sorting such names only for a message takes long.
 pub(crate) fn share_bytes(symbols: &[ReadSymbol<'_>], object: &[u8]) -> bool {
     let mut bytes: usize = 0;
     for symbol in symbols {
@@ -59,7 +59,7 @@ fn symbol_name(object: &[u8], index: usize) -> Option<&str> {
 }
 
 impl<'a> SectionName<'a> {
-    /// The section of an index of an object.
+    /// The section of an object with an index.
     pub(crate) fn of(object: &'a [u8], index: usize) -> SectionName<'a> {
         SectionName {
             index,
@@ -69,7 +69,7 @@ impl<'a> SectionName<'a> {
 }
 
 impl<'a> SymbolName<'a> {
-    /// The symbol of an index of an object.
+    /// The symbol of an object with an index.
     pub(crate) fn of(object: &'a [u8], index: usize) -> SymbolName<'a> {
         SymbolName {
             index,

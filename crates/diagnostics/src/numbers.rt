@@ -27,7 +27,8 @@ fn without_number<'a>(
     Ok(names)
 }
 
-/// The names of the maps of a file with these types that have no number, where the maps can be read.
+/// The names of the maps of a file with these types that have no number, where the maps can be
+/// read.
 fn names_in<'o>(
     alloc: Global,
     file: &ObjectFile<'o>,
@@ -38,8 +39,8 @@ fn names_in<'o>(
     without_number(alloc, &maps, settings).ok()
 }
 
-/// The same of an object, where it can be read. Where its symbols' names share bytes, the maps
-/// aren't read again.
+/// The same for an object, where it can be read. The maps aren't read again where its symbols'
+/// names share bytes.
 fn names_of<'o>(alloc: Global, object: &'o [u8], settings: &Settings) -> Option<FirstNames<'o>> {
     let file = ObjectFile::parse(alloc, object).ok()?;
     if share_bytes(file.symbols(), object) {
@@ -49,7 +50,8 @@ fn names_of<'o>(alloc: Global, object: &'o [u8], settings: &Settings) -> Option<
     names_in(alloc, &file, table.as_ref(), settings)
 }
 
-/// What is told where the map of a name has no number: which maps have none, and how maps get them.
+/// The message where the map with a name has no number: which maps have none, and how maps get
+/// them.
 pub(crate) fn missing_numbers_text(
     alloc: Global,
     object: &[u8],

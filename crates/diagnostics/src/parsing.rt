@@ -1,4 +1,4 @@
-//! What is told of an object that can't be parsed.
+//! Messages for objects that can't be parsed.
 
 use crate::contents::contents_hint;
 use crate::definitions::definition_hint;
@@ -11,7 +11,7 @@ use btf_records::BtfError;
 use ebpf_items::ParseError;
 use std::alloc::{AllocError, Global};
 
-/// That two functions stand at an address.
+/// The message that two functions have the same address.
 fn conflict_text(
     alloc: Global,
     object: &[u8],
@@ -29,7 +29,7 @@ fn conflict_text(
     }
 }
 
-/// Where a fault stands.
+/// The place of a fault.
 fn place_hint(
     alloc: Global,
     object: &[u8],
@@ -41,7 +41,7 @@ fn place_hint(
     }
 }
 
-/// A text of its own.
+/// A text in its own memory.
 fn owned(alloc: Global, text: Option<&str>) -> Result<Option<String>, AllocError> {
     match text {
         Some(text) => Ok(Some(String::from_str(alloc, text)?)),
@@ -49,7 +49,7 @@ fn owned(alloc: Global, text: Option<&str>) -> Result<Option<String>, AllocError
     }
 }
 
-/// What an error doesn't say by itself.
+/// What an error alone doesn't say.
 fn hint(alloc: Global, object: &[u8], error: &ParseError) -> Result<Option<String>, AllocError> {
     match error {
         ParseError::ElfError(error) => owned(alloc, contents_hint(object, *error)),
@@ -63,7 +63,7 @@ fn hint(alloc: Global, object: &[u8], error: &ParseError) -> Result<Option<Strin
     }
 }
 
-/// An error's text, and what it doesn't say by itself.
+/// An error's text, and what it alone doesn't say.
 fn text_with_hint(alloc: Global, object: &[u8], error: &ParseError) -> Result<String, AllocError> {
     match hint(alloc, object, error)? {
         Some(hint) => format!(in alloc; "{error}: {hint}"),
@@ -71,7 +71,7 @@ fn text_with_hint(alloc: Global, object: &[u8], error: &ParseError) -> Result<St
     }
 }
 
-/// What is told of an object that can't be parsed.
+/// The message for an object that can't be parsed.
 pub fn parse_text(alloc: Global, object: &[u8], error: &ParseError) -> Result<String, AllocError> {
     match error {
         ParseError::SectionError { index, error } => {

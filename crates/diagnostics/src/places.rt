@@ -1,4 +1,4 @@
-//! Where a fault stands whose error doesn't say it.
+//! Places of faults whose errors don't have them.
 
 ghost use Rattle.std.specs.Prelude.{IfSome, IfOk};
 ghost use Rattle.diagnostics.specs.Places.{IsPlace};
@@ -10,16 +10,16 @@ use object_parse::{function_without_code, name_at};
 use std::alloc::{AllocError, Global};
 use std::fmt;
 
-/// Where a fault stands whose error doesn't say it.
+/// The place of a fault whose error doesn't have it.
 #[derive(Debug, Drop)]
 pub enum Place {
-    /// In a function of the section of an index.
+    /// In a function of the section with this index.
     Function {
         index: usize,
         section: String,
         name: String,
     },
-    /// In the symbol of an index.
+    /// In the symbol with this index.
     Symbol {
         index: usize,
     },
@@ -38,7 +38,7 @@ impl fmt::Display for Place {
     }
 }
 
-/// Where a fault of an opened file stands, if it is code that a function lacks.
+/// The place of a fault of an opened file, if a function lacks code.
 fn place_in(alloc: Global, file: &ObjectFile<'_>) -> Result<Option<Place>, AllocError>
     ensures { IfOk result (λ place. IfSome place (IsPlace file.now ParseError.InvalidProgramCode)) }
 {
@@ -71,7 +71,7 @@ fn place_of_symbol(alloc: Global, object: &[u8]) -> Option<Place>
     Some(Place::Symbol { index })
 }
 
-/// Where a fault of an object file stands, for the errors that don't say it: a function without
+/// The place of a fault of an object file, for the errors that don't have it: a function without
 /// code, a symbol whose name can't be read. None for other errors, and where memory runs out.
 pub fn place_of_error(alloc: Global, object: &[u8], error: &ParseError) -> Option<Place>
     ensures { IfSome result (IsPlace object.now error.now) }

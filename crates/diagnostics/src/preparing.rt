@@ -1,4 +1,4 @@
-//! What is told of an object that gets no plan.
+//! Messages for objects that get no plan.
 
 use crate::kernel_files::KernelFiles;
 use crate::kernel_texts::{ksyms_text, required_types_text, type_relocation_text};
@@ -11,7 +11,7 @@ use plan_errors::PrepareError;
 use settings::Settings;
 use std::alloc::{AllocError, Global};
 
-/// What is told of an object that gets no plan under these settings, for the kernel of these files.
+/// The message for an object that gets no plan with these settings, for the kernel of these files.
 pub fn prepare_text(
     alloc: Global,
     object: &[u8],

@@ -1,9 +1,9 @@
-//! A refusal, as it is told.
+//! A refusal with its message.
 
 use std::alloc::AllocError;
 use std::fmt;
 
-/// A refusal: what is told of it, or, without memory for that, its error.
+/// A refusal: its message, or, where memory runs out for that, its error.
 #[derive(Debug, Drop)]
 pub enum Refusal<E> {
     Told(String),
@@ -11,7 +11,7 @@ pub enum Refusal<E> {
 }
 
 impl<E: Drop> Refusal<E> {
-    /// The refusal of an error, of which this text is told if it could be made.
+    /// The refusal for an error, with this message if it could be made.
     pub fn new(text: Result<String, AllocError>, error: E) -> Refusal<E> {
         match text {
             Ok(text) => Refusal::Told(text),

@@ -1,4 +1,4 @@
-//! What is told of a relocation, or a call, that can't be resolved.
+//! Messages for relocations and calls that can't be resolved.
 
 use crate::instructions::{Instruction, instruction_of};
 use crate::names::{SectionName, SymbolName};
@@ -6,7 +6,7 @@ use object_parts::SLOT_SIZE;
 use relocation_errors::{EbpfRelocationError, RelocationError};
 use std::alloc::{AllocError, Global};
 
-/// An error's text, with the names of sections and symbols beside their indexes.
+/// An error's text, with the names of sections and symbols next to their indexes.
 fn named_text(
     alloc: Global,
     object: &[u8],
@@ -38,7 +38,7 @@ fn named_text(
     }
 }
 
-/// Where an instruction stands.
+/// The place of an instruction.
 fn place_text(alloc: Global, object: &[u8], place: &Instruction<'_>) -> Result<String, AllocError> {
     let section = SectionName::of(object, place.section_index);
     let slot = place.distance / SLOT_SIZE;
@@ -53,7 +53,7 @@ fn place_text(alloc: Global, object: &[u8], place: &Instruction<'_>) -> Result<S
     )
 }
 
-/// A text, where the instruction stands that it is for, and the symbol of its relocation.
+/// A text, with the place of its instruction and the symbol of its relocation.
 fn with_place(
     alloc: Global,
     object: &[u8],
@@ -70,8 +70,8 @@ fn with_place(
     }
 }
 
-/// What is told of a relocation, or a call, that can't be resolved: the names of its section and
-/// symbol, and the instruction.
+/// The message for a relocation, or a call, that can't be resolved, with the names of its section
+/// and symbol, and the instruction.
 pub(crate) fn relocation_text(
     alloc: Global,
     object: &[u8],

@@ -1,4 +1,4 @@
-//! What the names of programs' sections may be.
+//! Names that sections of programs may have.
 
 use std::alloc::{AllocError, Global};
 
@@ -6,11 +6,11 @@ use std::alloc::{AllocError, Global};
 const FIRST_PIECES: &str =
     "kprobe, kretprobe, uprobe, uretprobe, tracepoint, tp, tp_btf, raw_tracepoint, raw_tp, fentry, fexit, freplace, iter, lsm, lsm_cgroup, perf_event, xdp, classifier, socket, sockops, sk_lookup, sk_msg, sk_reuseport, sk_skb, cgroup, cgroup_skb, flow_dissector, lirc_mode2";
 
-/// What stands after some of them.
+/// What may follow some of them.
 const ENDINGS: &str =
     "with .multi or .s after uprobe and uretprobe, .s after fentry, fexit, iter and lsm, .frags after xdp";
 
-/// What stands after a first piece that doesn't decide alone.
+/// What may follow a first piece that alone doesn't decide the kind.
 fn second_pieces(first: &str) -> Option<&'static str> {
     match first {
         "xdp" | "xdp.frags" => Some("nothing, /cpumap or /devmap"),
@@ -32,7 +32,7 @@ fn first_piece(section: &str) -> &str {
     }
 }
 
-/// What the name of a section that names no kind of program could be.
+/// What the name could be of a section whose name is of no kind of program.
 pub(crate) fn section_hint(alloc: Global, section: &str) -> Result<String, AllocError> {
     let first = first_piece(section);
     match second_pieces(first) {

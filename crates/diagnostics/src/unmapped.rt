@@ -5,8 +5,8 @@ use object_file::{ObjectFile, SymbolNames};
 use settings::Settings;
 use std::alloc::{AllocError, Global};
 
-/// The name of the first variable with a value whose symbol lies in the section of an index, 0 for
-/// none.
+/// The name of the first variable with a value whose symbol lies in the section with an index; 0
+/// stands for no section.
 fn variable_in<'s>(
     symbols: &SymbolNames<'_, '_>,
     index: usize,
@@ -23,7 +23,7 @@ fn variable_in<'s>(
     None
 }
 
-/// The same of an object, where it can be read.
+/// The same for an object, where it can be read.
 fn variable_of<'s>(
     alloc: Global,
     object: &[u8],
@@ -35,8 +35,8 @@ fn variable_of<'s>(
     variable_in(&symbols, index, settings)
 }
 
-/// What is told where no map is made of the section of an index, 0 for none, in which a variable
-/// with a value lies.
+/// The message where no map is made of the section with an index (0 for none) that holds a variable
+/// with a value.
 pub(crate) fn unmapped_text(
     alloc: Global,
     object: &[u8],

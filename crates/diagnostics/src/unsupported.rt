@@ -26,8 +26,8 @@ fn sections_of_types(alloc: Global, elf: &ElfFile<'_>) -> Result<BTreeSet<usize>
     Ok(sections)
 }
 
-/// The first relocation without a symbol, in none of some sections: the index of its section, and
-/// its offset there.
+/// The first relocation without a symbol outside the sections `unread`: the index of its section,
+/// and its offset there.
 fn first_without_symbol(elf: &ElfFile<'_>, unread: &BTreeSet<usize>) -> Option<(usize, u64)> {
     for section in elf.relocation_sections() {
         let target = section.target();
@@ -41,7 +41,7 @@ fn first_without_symbol(elf: &ElfFile<'_>, unread: &BTreeSet<usize>) -> Option<(
     None
 }
 
-/// The first relocation without a symbol of an object: the index of its section, and its offset
+/// The first relocation of an object without a symbol: the index of its section, and its offset
 /// there.
 fn place_without_symbol(alloc: Global, object: &[u8]) -> Option<(usize, u64)> {
     let elf = ElfFile::parse(object).ok()?;
@@ -49,7 +49,7 @@ fn place_without_symbol(alloc: Global, object: &[u8]) -> Option<(usize, u64)> {
     first_without_symbol(&elf, &unread)
 }
 
-/// Where the first relocation without a symbol stands.
+/// The place of the first relocation without a symbol.
 pub(crate) fn unsupported_hint(alloc: Global, object: &[u8]) -> Result<Option<String>, AllocError> {
     let Some((index, offset)) = place_without_symbol(alloc, object) else {
         return Ok(None);

@@ -8,7 +8,8 @@ use std::io;
 use std::io::ErrorKind;
 use thiserror::Error;
 
-/// Why an exercise or a measure ends early. What is wrong with an object `bin/inspect_object` says.
+/// Why an exercise or a measurement ends early. `bin/inspect_object` says what is wrong with an
+/// object.
 #[derive(Clone, Copy, Debug, Error)]
 pub enum ExerciseError {
     #[error("call it with an exercise and its words")]
@@ -76,8 +77,8 @@ impl<T: Drop> From<AllocFailed<T>> for ExerciseError {
 }
 
 impl ExerciseError {
-    /// The status that the program ends with: 3 where memory was refused, 2 where it is called
-    /// otherwise, else 1.
+    /// The status that the program ends with: 3 where memory runs out, 2 where its arguments are
+    /// invalid, else 1.
     pub fn status(self) -> u8 {
         match self {
             ExerciseError::OutOfMemory => 3,

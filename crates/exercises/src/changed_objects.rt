@@ -1,5 +1,5 @@
-//! Each front of an object, and the object with each byte set to 0 and to 255 in turn: how many
-//! answers are as they must be.
+//! Each prefix of an object, and the object with each byte set to 0 and to 255 in turn: the number
+//! of expected answers.
 
 use ebpf_object::{Object, ParseError};
 use elf64::ElfError;
@@ -15,8 +15,8 @@ fn refusal(alloc: Global, object: &[u8]) -> Option<ParseError> {
     Object::parse(alloc, object).err()
 }
 
-/// Whether a proper front of an object whose section headers stand at the end is refused as it must
-/// be: for its header, or for the section headers.
+/// Whether a proper prefix of an object with its section headers at the end is refused as expected:
+/// for its header, or for the section headers.
 fn is_front_refused(alloc: Global, front: &[u8]) -> bool {
     match refusal(alloc, front) {
         Some(ParseError::ElfError(ElfError::NotElf)) => front.len() < HEADER,
@@ -25,7 +25,7 @@ fn is_front_refused(alloc: Global, front: &[u8]) -> bool {
     }
 }
 
-/// How many of the proper fronts are refused as they must be.
+/// How many of the proper prefixes are refused as expected.
 fn count_fronts(alloc: Global, object: &[u8]) -> usize {
     let mut count: usize = 0;
     for len in 0..object.len() {
@@ -36,7 +36,8 @@ fn count_fronts(alloc: Global, object: &[u8]) -> usize {
     count
 }
 
-/// Whether the answer to an object is one: without a change it is parsed, and memory is there.
+/// Whether the answer to an object is an expected one: without a change it is parsed, and memory
+/// doesn't run out.
 fn is_answered(alloc: Global, object: &[u8], is_changed: bool) -> bool {
     match refusal(alloc, object) {
         None => true,
@@ -45,7 +46,7 @@ fn is_answered(alloc: Global, object: &[u8], is_changed: bool) -> bool {
     }
 }
 
-/// How many of the objects with one byte of this value are answered.
+/// How many of the objects with one byte set to this value have an expected answer.
 fn count_changes(alloc: Global, object: &mut Vec<u8>, byte: u8) -> usize {
     let mut count: usize = 0;
     for at in 0..object.len() {
@@ -71,7 +72,7 @@ fn print_counts(rt: &HostRuntime, object: &mut Vec<u8>) -> Result<(), ExerciseEr
     Ok(())
 }
 
-/// Counts the answers over the file that the words name, and prints the counts.
+/// Counts the answers over the file that the arguments name, and prints the counts.
 pub(crate) fn run(rt: &HostRuntime, words: &mut Args) -> Result<(), ExerciseError> {
     let mut object = read_next(rt, words)?;
     print_counts(rt, &mut object)

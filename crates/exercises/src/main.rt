@@ -1,17 +1,17 @@
-//! Exercises of the libraries, for tests and measurements. The first word says which:
+//! Exercises of the libraries, for tests and measurements. The first argument names the exercise:
 //!
 //! - `memory-calls`: the calls that take memory;
-//! - `changed-bytes OBJECT`: each front of an object, and the object with each byte changed;
+//! - `changed-bytes OBJECT`: each prefix of an object, and the object with each byte changed;
 //! - `changed-plans [--plans] MAP[,MAP].. OBJECT little|big [TYPES..]`: plans of an object that is
-//!   cut off or changed in one byte, and of an object for kernel types that are;
-//! - `changed-texts PLAN`, `changed-lines PLAN`: the text of a plan that is cut off or changed in one
-//!   byte, and for each byte the lines at which it is refused with each other value of it;
-//! - `read-plans PLAN..`: whether texts are plans' that are written alike, and the lines at which
-//!   others are refused;
+//!   cut off or changed in one byte, and plans of an object for kernel types that are;
+//! - `changed-texts PLAN`, `changed-lines PLAN`: the text of a plan that is cut off or changed in
+//!   one byte, and for each byte the lines at which it is refused with each other value of it;
+//! - `read-plans PLAN..`: whether texts are plans' whose written texts are the same, and the lines
+//!   at which others are refused;
 //! - `library-example OBJECT [KERNEL_TYPES]`: what an object holds, and its plan, by the example of
 //!   the library's use;
-//! - `refused-objects TYPES SYMBOLS OBJECT..`, `refused-structs`, `refused-tables`: steps, one of
-//!   whose requests for memory may be refused;
+//! - `refused-objects TYPES SYMBOLS OBJECT..`, `refused-structs`, `refused-tables`: steps for which
+//!   one request for memory may be refused;
 //! - `measure-types FILE [STRUCT..]`, `measure-matching FILE STRUCT..`, `measure-symbols FILE
 //!   [NAME..]`, `measure-object OBJECT [COUNT]`: how long calls take.
 #![tactic(auto)]
@@ -34,13 +34,13 @@ use std::env::Args;
 use std::fmt::Display;
 use std::process::ExitCode;
 
-/// Prints why an exercise ends early, and gives its status.
+/// Prints why an exercise ends early, and returns its status.
 fn failed<E: Display>(rt: &HostRuntime, error: &E, status: u8) -> ExitCode {
     let _ = eprintln!(rt; "exercises: {error}");
     ExitCode::from(status)
 }
 
-/// The status of an exercise that prints what it finds; its error is printed.
+/// The status of an exercise that prints its findings; its error is printed.
 fn status_of(rt: &HostRuntime, answer: Result<(), ExerciseError>) -> ExitCode {
     match answer {
         Ok(()) => ExitCode::SUCCESS,

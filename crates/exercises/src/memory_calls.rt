@@ -1,4 +1,4 @@
-//! The calls that take memory, and what they give. Status 3 is want of memory.
+//! The calls that take memory, and their results. Status 3 is out of memory.
 
 use btf::{
     Btf, BtfError, BtfExt, BtfKind, BtfType, Endianness, Int, IntEncoding, Ptr,
@@ -9,10 +9,10 @@ use std::alloc::{AllocError, Global};
 use std::process::ExitCode;
 use string_table::LongTexts;
 
-/// Longer than what is looked at each time, and a NUL.
+/// More bytes than are read at a time, without the NUL.
 const LONG: usize = 300;
 
-/// The length of the end of a long text, by a copy of where the long texts stand.
+/// The length of a suffix of a long text, by a copy of the index of long texts.
 fn long_text(alloc: Global) -> Result<usize, AllocError> {
     let mut strings = [b'a'; LONG + 1];
     strings[LONG] = 0;
@@ -35,8 +35,8 @@ fn section(alloc: Global) -> Result<Vec<u8>, BtfError> {
     section_with_types(&mut table)
 }
 
-/// The offset of the name of the type that a table hasn't, as the look-up of it answers: it is added
-/// to the table. It is 0 where the table has the type.
+/// The offset of the name of a type that the table lacks, as the search for it returns it: the name
+/// is added to the table. It is 0 where the table has the type.
 fn name_offset(table: &mut Btf<'_>) -> Result<u32, BtfError> {
     match table.id_by_type_name_kind("none", BtfKind::Int) {
         Err(BtfError::UnknownBtfTypeName { type_name }) => table.add_string(type_name.as_str()),
@@ -45,14 +45,14 @@ fn name_offset(table: &mut Btf<'_>) -> Result<u32, BtfError> {
     }
 }
 
-/// The number of types of a table to which the one that it hasn't is added.
+/// The number of types of a table after the type that it lacks is added.
 fn count_with_missing(table: &mut Btf<'_>) -> Result<usize, BtfError> {
     let name = name_offset(table)?;
     table.add_type(BtfType::Int(Int::new(name, 8, IntEncoding::None, 0)))?;
     Ok(table.types().count())
 }
 
-/// The number of types of a table that was read, after a look-up of a name that it hasn't.
+/// The number of types of a parsed table, after a search for a name that it lacks.
 fn types(alloc: Global, section: &[u8]) -> Result<usize, BtfError> {
     let mut table = Btf::parse(alloc, section, Endianness::Little)?;
     count_with_missing(&mut table)
@@ -64,7 +64,7 @@ fn copied_table(alloc: Global, section: &[u8]) -> Result<Btf<'_>, BtfError> {
     Ok(table.try_clone()?)
 }
 
-/// The first type of a table for a kind and a name, and whether a pointer of it is compatible with
+/// The first type of a table with a kind and a name, and whether a pointer to it is compatible with
 /// itself.
 fn looked_up(table: &Btf<'_>) -> Result<(u32, bool), BtfError> {
     let found = table.id_by_type_name_kind("int", BtfKind::Int)?;
@@ -72,32 +72,32 @@ fn looked_up(table: &Btf<'_>) -> Result<(u32, bool), BtfError> {
     Ok((found, is_same))
 }
 
-/// What look-ups find in a copy of the table that a section holds.
+/// What searches find in a copy of the table of a section.
 fn look_ups(alloc: Global, section: &[u8]) -> Result<(u32, bool), BtfError> {
     let table = copied_table(alloc, section)?;
     looked_up(&table)
 }
 
-/// A `.BTF.ext` section of a function and a line, of a section without a name.
+/// A `.BTF.ext` section with a function and a line, for a section without a name.
 const EXTENSION: [u8; 80] = [
     0x9f, 0xeb, 1, 0, 32, 0, 0, 0, 0, 0, 0, 0, 20, 0, 0, 0, 20, 0, 0, 0, 28, 0, 0, 0, 0, 0, 0, 0,
     0, 0, 0, 0, 8, 0, 0, 0, 0, 0, 0, 0, 1, 0, 0, 0, 16, 0, 0, 0, 42, 0, 0, 0, 16, 0, 0, 0, 0, 0, 0,
     0, 1, 0, 0, 0, 16, 0, 0, 0, 0, 0, 0, 0, 0, 0, 0, 0, 1, 4, 0, 0,
 ];
 
-/// What a `.BTF.ext` section holds, beside a table without types.
+/// The records of a `.BTF.ext` section, for a table without types.
 fn extension(alloc: Global, section: &[u8]) -> Result<BtfExt<'_>, BtfError> {
     let table = Btf::new(alloc)?;
     BtfExt::parse(alloc, section, Endianness::Little, &table)
 }
 
-/// A copy of what a `.BTF.ext` section holds.
+/// A copy of the records of a `.BTF.ext` section.
 fn copied_extension(alloc: Global, section: &[u8]) -> Result<BtfExt<'_>, BtfError> {
     let extension = extension(alloc, section)?;
     Ok(extension.try_clone()?)
 }
 
-/// How many bytes the records of functions are, in a copy.
+/// The number of bytes of the function records, in a copy.
 fn function_bytes(alloc: Global, extension: &BtfExt<'_>) -> Result<usize, BtfError> {
     let Some(section_info) = extension.func_info().get("") else {
         return Ok(0);
@@ -106,7 +106,7 @@ fn function_bytes(alloc: Global, extension: &BtfExt<'_>) -> Result<usize, BtfErr
     Ok(copy.func_info_bytes(alloc)?.len())
 }
 
-/// How many bytes the records of lines are, in a copy.
+/// The number of bytes of the line records, in a copy.
 fn line_bytes(alloc: Global, extension: &BtfExt<'_>) -> Result<usize, BtfError> {
     let Some(section_info) = extension.line_info("") else {
         return Ok(0);
@@ -115,20 +115,21 @@ fn line_bytes(alloc: Global, extension: &BtfExt<'_>) -> Result<usize, BtfError> 
     Ok(copy.line_info_bytes(alloc)?.len())
 }
 
-/// How many bytes the records of functions and of lines are, in copies.
+/// The numbers of bytes of the function records and of the line records, in copies.
 fn record_bytes(alloc: Global, extension: &BtfExt<'_>) -> Result<(usize, usize), BtfError> {
     let functions = function_bytes(alloc, extension)?;
     let lines = line_bytes(alloc, extension)?;
     Ok((functions, lines))
 }
 
-/// How many bytes the records of functions and of lines of a `.BTF.ext` section are, in copies.
+/// The numbers of bytes of the function records and of the line records of a `.BTF.ext` section, in
+/// copies.
 fn records(alloc: Global, section: &[u8]) -> Result<(usize, usize), BtfError> {
     let extension = copied_extension(alloc, section)?;
     record_bytes(alloc, &extension)
 }
 
-/// The immediate of a slot that was written into a copy of borrowed slots.
+/// The immediate of a slot that is written into a copy of borrowed slots.
 fn written(alloc: Global) -> Result<i32, AllocError> {
     let slots = Slots::borrowed(alloc, &[0; 16]);
     let Some(slots) = slots else {
@@ -141,7 +142,7 @@ fn written(alloc: Global) -> Result<i32, AllocError> {
     Ok(copy.get(1).map_or(0, |slot| slot.imm))
 }
 
-/// Prints what the calls over a table of types give.
+/// Prints the results of the calls on a table of types.
 fn print_table(rt: &HostRuntime, section: &[u8]) -> Result<(), BtfError> {
     let types = types(rt.alloc(), section)?;
     let (found, is_same) = look_ups(rt.alloc(), section)?;
@@ -149,26 +150,26 @@ fn print_table(rt: &HostRuntime, section: &[u8]) -> Result<(), BtfError> {
     Ok(())
 }
 
-/// Prints what the calls over records of functions and lines give.
+/// Prints the results of the calls on records of functions and lines.
 fn print_records(rt: &HostRuntime) -> Result<(), BtfError> {
     let (functions, lines) = records(rt.alloc(), &EXTENSION)?;
     let _ = println!(rt; "{functions} bytes of functions, {lines} of lines");
     Ok(())
 }
 
-/// Makes a table, and prints what the calls over it give.
+/// Makes a table, and prints the results of the calls on it.
 fn print_made_table(rt: &HostRuntime) -> Result<(), BtfError> {
     let section = section(rt.alloc())?;
     print_table(rt, section.as_slice())
 }
 
-/// Prints what the calls over types give: whether memory was there.
+/// Prints the results of the calls on types.
 fn print_types(rt: &HostRuntime) -> Result<(), BtfError> {
     print_made_table(rt)?;
     print_records(rt)
 }
 
-/// Prints what the other calls give.
+/// Prints the results of the other calls.
 fn print_others(rt: &HostRuntime) -> Result<(), AllocError> {
     let length = long_text(rt.alloc())?;
     let immediate = written(rt.alloc())?;
@@ -176,10 +177,10 @@ fn print_others(rt: &HostRuntime) -> Result<(), AllocError> {
     Ok(())
 }
 
-/// The status of want of memory.
+/// The status for out of memory.
 const REFUSED: u8 = 3;
 
-/// Makes the calls, and prints what they give.
+/// Makes the calls, and prints their results.
 pub(crate) fn run(rt: &HostRuntime) -> ExitCode {
     if print_others(rt).is_err() {
         return ExitCode::from(REFUSED);

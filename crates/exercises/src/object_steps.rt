@@ -1,4 +1,4 @@
-//! Steps on an object, and what becomes of it.
+//! Steps on an object, and their results.
 
 use btf::Btf;
 use ebpf_object::{
@@ -17,7 +17,7 @@ pub(crate) struct Kernel<'k> {
     pub symbols: &'k [u8],
 }
 
-/// What a step answers; a refusal in a few words.
+/// The answer of a step; a refusal in a few words.
 #[derive(Clone, Copy)]
 enum Answer {
     Made,
@@ -25,10 +25,10 @@ enum Answer {
     OutOfMemory,
 }
 
-/// What becomes of an object by a step for which memory was refused.
+/// The object is unchanged by a step for which memory was refused.
 pub(crate) const AS_BEFORE: &str = "as before";
 
-/// Appends what is known of an object's externs.
+/// Appends what is known about an object's externs.
 fn push_externs(object: &Object<'_>, bytes: &mut Vec<u8>) -> Result<(), AllocError> {
     for (_name, known) in object.externs().iter() {
         bytes.push(u8::from(known.is_resolved))?;
@@ -46,8 +46,8 @@ fn push_tables(function: &Function<'_>, bytes: &mut Vec<u8>) -> Result<(), Alloc
     Ok(())
 }
 
-/// The bytes of an object's maps and of its functions' slots, with the kernel tables that these
-/// matched, and what is known of its externs.
+/// The bytes of an object's maps and of its functions' slots, with the kernel tables that the
+/// functions matched, and what is known about its externs.
 fn bytes_of(alloc: Global, object: &Object<'_>) -> Result<Vec<u8>, AllocError> {
     let mut bytes = Vec::new(alloc);
     for (_name, map) in object.maps().iter() {
@@ -63,7 +63,7 @@ fn bytes_of(alloc: Global, object: &Object<'_>) -> Result<Vec<u8>, AllocError> {
     Ok(bytes)
 }
 
-/// What became of an object by a step for which memory may have been refused.
+/// The object's state after a step for which memory may have been refused.
 fn outcome(
     alloc: Global,
     object: &Object<'_>,
@@ -80,7 +80,7 @@ fn outcome(
     })
 }
 
-/// What comes of putting values into an object's maps.
+/// The answer to writing values into an object's maps.
 fn put(object: &mut Object<'_>, values: &GlobalValues) -> Result<Answer, ParseError> {
     match object.put_values(values) {
         Ok(()) => Ok(Answer::Made),
@@ -89,7 +89,7 @@ fn put(object: &mut Object<'_>, values: &GlobalValues) -> Result<Answer, ParseEr
     }
 }
 
-/// Puts values into an object's maps.
+/// Writes values into an object's maps.
 fn put_values(
     alloc: Global,
     object: &mut Object<'_>,
@@ -100,7 +100,7 @@ fn put_values(
     Ok(outcome(alloc, object, &before, answer)?)
 }
 
-/// Puts the value of the global variable `limit` into an object's maps, if it has this variable.
+/// Writes the value of the global variable `limit` into an object's maps, if it has this variable.
 pub(crate) fn put_value(
     alloc: Global,
     object: &mut Object<'_>,
@@ -123,12 +123,13 @@ fn numbered<'m>(alloc: Global, maps: &'m Maps<'_>) -> Result<Vec<NumberedMap<'m>
     Ok(list)
 }
 
-/// Whether an error is want of memory.
+/// Whether an error is out of memory.
 fn is_want_of_memory(error: &EbpfRelocationError) -> bool {
     matches!(error.error(), RelocationError::OutOfMemory)
 }
 
-/// What comes of writing the numbers of maps into an object's slots, of functions in these sections.
+/// The answer to writing the numbers of maps into an object's slots, with functions in these
+/// sections.
 fn write(
     object: &mut Object<'_>,
     maps: &[NumberedMap<'_>],
@@ -145,7 +146,7 @@ fn write(
     }
 }
 
-/// Writes the numbers of maps into an object's slots, of functions in these sections.
+/// Writes the numbers of maps into an object's slots, with functions in these sections.
 fn write_in(
     alloc: Global,
     object: &mut Object<'_>,
@@ -201,7 +202,7 @@ fn refusal(error: &KsymsError) -> Answer {
     }
 }
 
-/// What comes of an object's externs in a kernel's types and symbols.
+/// The answer to resolving an object's externs in a kernel's types and symbols.
 fn resolved(object: &mut Object<'_>, kernel: &Kernel<'_>) -> Answer {
     let mut symbols = Watched::new(kernel.symbols);
     match object.resolve_externs(&kernel.types, &mut symbols) {
@@ -221,10 +222,10 @@ pub(crate) fn resolve_externs(
     Ok(outcome(alloc, object, &before, answer)?)
 }
 
-/// As many tables of types as are taken.
+/// The maximum number of tables of types.
 const MAX_TABLES: usize = 0x1_0000_0000;
 
-/// Why type relocations come to nothing, in a few words.
+/// Why type relocations can't be made, in a few words.
 fn type_refusal(error: &BtfRelocationError) -> Answer {
     match error.error() {
         BtfRelocationCause::OutOfMemory => Answer::OutOfMemory,
@@ -235,7 +236,7 @@ fn type_refusal(error: &BtfRelocationError) -> Answer {
     }
 }
 
-/// What comes of an object's type relocations in tables of a kernel.
+/// The answer to an object's type relocations in tables of a kernel.
 fn relocated(object: &mut Object<'_>, types: &[Btf<'_>]) -> Answer {
     if types.len() > MAX_TABLES {
         return Answer::Refused("too many tables");
@@ -246,7 +247,7 @@ fn relocated(object: &mut Object<'_>, types: &[Btf<'_>]) -> Answer {
     }
 }
 
-/// Writes what an object's type relocations come to into its slots.
+/// Resolves an object's type relocations, and writes the results into its slots.
 pub(crate) fn relocate_types(
     alloc: Global,
     object: &mut Object<'_>,
@@ -257,7 +258,7 @@ pub(crate) fn relocate_types(
     Ok(outcome(alloc, object, &before, answer)?)
 }
 
-/// Why what is known of externs can't be written, in a few words.
+/// Why what is known about externs can't be written, in a few words.
 fn extern_refusal(error: &EbpfRelocationError) -> Answer {
     match error.error() {
         RelocationError::OutOfMemory => Answer::OutOfMemory,
@@ -266,7 +267,7 @@ fn extern_refusal(error: &EbpfRelocationError) -> Answer {
     }
 }
 
-/// What comes of writing what is known of an object's externs.
+/// The answer to writing what is known about an object's externs.
 fn written(object: &mut Object<'_>) -> Answer {
     match object.relocate_externs() {
         Ok(()) => Answer::Made,
@@ -274,7 +275,7 @@ fn written(object: &mut Object<'_>) -> Answer {
     }
 }
 
-/// Writes what is known of an object's externs into its slots.
+/// Writes what is known about an object's externs into its slots.
 pub(crate) fn write_externs(
     alloc: Global,
     object: &mut Object<'_>,

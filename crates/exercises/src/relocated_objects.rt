@@ -1,9 +1,9 @@
-//! Steps on objects while memory is refused. It reads a kernel's types and symbols from the files
-//! that the first two words name, parses the objects of the files that the others name, prints how
-//! much each holds, puts a value and numbers into it, resolves its externs, writes what its type
-//! relocations come to and what is known of its externs, and prints what became of it by each step.
-//! Where memory is refused to one of these steps, the object must be as it was, and the step is
-//! made again; where it is refused elsewhere, status 3 says so.
+//! Steps on objects while memory is refused. The program reads a kernel's types and symbols from
+//! the files that the first two arguments name, parses the objects of the files that the others
+//! name, and prints how much each holds. It writes a value and numbers into the object, resolves
+//! its externs, makes its type relocations, writes what is known about its externs, and prints the
+//! object's state after each step. Where memory is refused to one of these steps, the object must
+//! be unchanged, and the step is made again. Where memory is refused elsewhere, the status is 3.
 
 use crate::object_steps::{
     AS_BEFORE, Kernel, put_value, relocate_types, resolve_externs, write_externs, write_numbers,
@@ -36,7 +36,7 @@ enum Step {
     Slots,
 }
 
-/// The steps, by what is printed of them.
+/// The steps, with their names in the output.
 const STEPS: [(&str, Step); 5] = [
     ("value", Step::Value),
     ("numbers", Step::Numbers),
@@ -61,7 +61,7 @@ fn make(
     }
 }
 
-/// Makes the steps on an object, and prints what becomes of it by each. One to which memory was
+/// Makes the steps on an object, and prints its state after each. A step to which memory was
 /// refused is made again.
 fn relocate(
     rt: &HostRuntime,
@@ -105,7 +105,7 @@ fn relocate_file(rt: &HostRuntime, name: &str, kernel: &Kernel<'_>) -> Result<()
     parse_and_relocate(rt, bytes.as_slice(), kernel)
 }
 
-/// Parses the objects that the words name, and makes the steps on them, for a kernel.
+/// Parses the objects that the arguments name, and makes the steps on them, for a kernel.
 fn relocate_files(
     rt: &HostRuntime,
     words: &mut Args,
@@ -117,14 +117,14 @@ fn relocate_files(
     Ok(())
 }
 
-/// The one table that is made of a kernel's types.
+/// The single table of a kernel's types.
 fn tables_of(alloc: Global, types: &[u8]) -> Result<Vec<Btf<'_>>, ExerciseError> {
     let mut tables = Vec::with_capacity(alloc, 1)?;
     tables.push(Btf::parse(alloc, types, Endianness::Little)?)?;
     Ok(tables)
 }
 
-/// Parses the objects that the words name, and makes the steps on them, for a kernel with these
+/// Parses the objects that the arguments name, and makes the steps on them, for a kernel with these
 /// types and symbols.
 fn relocate_for(
     rt: &HostRuntime,
@@ -139,7 +139,7 @@ fn relocate_for(
     relocate_files(rt, words, &kernel)
 }
 
-/// Parses the objects that the words name, and makes the steps on them.
+/// Parses the objects that the arguments name, and makes the steps on them.
 pub(crate) fn run(rt: &HostRuntime, words: &mut Args) -> Result<(), ExerciseError> {
     let types = read_next(rt, words)?;
     let symbols = read_next(rt, words)?;

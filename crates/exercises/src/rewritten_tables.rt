@@ -1,11 +1,11 @@
-//! A table, rewritten by both calls that do: what becomes of it, where memory is refused that it is
-//! as it was.
+//! A table, rewritten by the two calls that rewrite tables. Where memory is refused, the table must
+//! be unchanged.
 
 use btf::{Btf, BtfError, Endianness, TextMap, fixup_and_sanitize, fixup_ksyms_datasec};
 use std::alloc::Global;
 use std::process::ExitCode;
 
-/// An integer of 8 bytes, the extern variable `v` of it, and the section `.ksyms` with that
+/// An integer of 8 bytes, the extern variable `v` of that type, and the section `.ksyms` with the
 /// variable.
 const SECTION: [u8; 94] = [
     159, 235, 1, 0, 24, 0, 0, 0, 0, 0, 0, 0, 56, 0, 0, 0, 56, 0, 0, 0, 14, 0, 0, 0, 0, 0, 0, 0, 0,
@@ -14,7 +14,8 @@ const SECTION: [u8; 94] = [
     121, 109, 115, 0, 112, 0,
 ];
 
-/// The variable is of the integer `int` of 4 bytes that is appended, at its place in the section.
+/// The variable then has the appended integer `int` of 4 bytes as its type, at its place in the
+/// section.
 const STEPPED: [u8; 114] = [
     159, 235, 1, 0, 24, 0, 0, 0, 0, 0, 0, 0, 72, 0, 0, 0, 72, 0, 0, 0, 18, 0, 0, 0, 0, 0, 0, 0, 0,
     0, 0, 1, 8, 0, 0, 0, 64, 0, 0, 0, 3, 0, 0, 0, 0, 0, 0, 14, 4, 0, 0, 0, 1, 0, 0, 0, 5, 0, 0, 0,
@@ -22,7 +23,7 @@ const STEPPED: [u8; 114] = [
     0, 32, 0, 0, 1, 0, 102, 0, 118, 0, 46, 107, 115, 121, 109, 115, 0, 112, 0, 105, 110, 116, 0,
 ];
 
-/// The variable is an integer of 1 byte then, and the section a struct, `_ksyms`, with it.
+/// The variable is then an integer of 1 byte, and the section a struct, `_ksyms`, with it.
 const REWRITTEN: [u8; 121] = [
     159, 235, 1, 0, 24, 0, 0, 0, 0, 0, 0, 0, 72, 0, 0, 0, 72, 0, 0, 0, 25, 0, 0, 0, 0, 0, 0, 0, 0,
     0, 0, 1, 8, 0, 0, 0, 64, 0, 0, 0, 3, 0, 0, 0, 0, 0, 0, 1, 1, 0, 0, 0, 8, 0, 0, 0, 18, 0, 0, 0,
@@ -31,7 +32,7 @@ const REWRITTEN: [u8; 121] = [
     95, 107, 115, 121, 109, 115, 0,
 ];
 
-/// What became of a table, by its bytes.
+/// The state of a table, by its bytes.
 fn outcome(
     table: &Btf<'_>,
     answer: Result<(), BtfError>,
@@ -57,7 +58,7 @@ fn step(alloc: Global) -> Result<&'static str, BtfError> {
     outcome(&table, answer, &STEPPED)
 }
 
-/// The step, and then the records for a kernel that grants nothing.
+/// The step, and then the rewriting of the records for a kernel that grants nothing.
 fn rewriting(alloc: Global) -> Result<&'static str, BtfError> {
     let mut table = Btf::parse(alloc, &SECTION, Endianness::Little)?;
     let numbers = TextMap::new(alloc);
@@ -79,7 +80,7 @@ fn print(rt: &HostRuntime, what: &str, outcome: Result<&'static str, BtfError>) 
     }
 }
 
-/// Prints what becomes of the table.
+/// Prints the states of the table.
 pub(crate) fn run(rt: &HostRuntime) -> ExitCode {
     print(rt, "step", step(rt.alloc()));
     print(rt, "rewriting", rewriting(rt.alloc()));

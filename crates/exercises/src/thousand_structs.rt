@@ -1,5 +1,4 @@
-//! A table of 1,000 structs, parsed and with one more type: how many types it has and how many
-//! bytes.
+//! A table of 1,000 structs, parsed and then with one more type: its number of types and of bytes.
 
 use btf::{Btf, BtfError, BtfType, Endianness, Int, IntEncoding};
 use std::process::ExitCode;
@@ -16,7 +15,7 @@ const STRUCT: [u8; 24] = [
 /// The bytes of a header, 1,000 records of 24 bytes, and the empty text.
 const LEN: usize = 24_025;
 
-/// The section at each place: it takes no memory.
+/// The byte of the section at each offset. It takes no memory.
 fn section_byte(at: usize) -> u8 {
     if at < 24 {
         HEADER[at]
@@ -34,7 +33,7 @@ fn grown(table: &mut Btf<'_>) -> Result<usize, BtfError> {
     Ok(table.to_bytes()?.len())
 }
 
-/// Prints what the calls on a table give.
+/// Prints the results of the calls on a table.
 fn print_grown(rt: &HostRuntime, table: &mut Btf<'_>) -> Result<(), BtfError> {
     let _ = println!(rt; "{}", table.types().count());
     let len = grown(table)?;
@@ -42,7 +41,7 @@ fn print_grown(rt: &HostRuntime, table: &mut Btf<'_>) -> Result<(), BtfError> {
     Ok(())
 }
 
-/// Prints what the calls give, as far as memory reaches.
+/// Prints the results of the calls, as far as memory suffices.
 fn print(rt: &HostRuntime, section: &[u8]) -> Result<(), BtfError> {
     let mut table = Btf::parse(rt.alloc(), section, Endianness::Little)?;
     print_grown(rt, &mut table)

@@ -1,4 +1,4 @@
-//! Why the program prints no object.
+//! Why the program doesn't print an object.
 
 ghost use Rattle.std.specs.Prelude.{◌≡◌};
 ghost use Rattle.inspect_object.specs.declared.error.InspectError.TheVariants.{Refused};
@@ -29,19 +29,19 @@ impl From<ParseError> for InspectError {
     }
 }
 
-/// Why the program ends without having printed an object.
+/// Why the program ends without printing an object.
 #[derive(Debug, Drop, Error)]
 pub enum ProgramError {
-    /// It was called with other words.
+    /// Its arguments are invalid.
     #[error("{text}; usage: inspect_object OBJECT [--types FILE].. (--help says more)")]
     Usage { text: String },
-    /// Words that ask for nothing without kernel types.
+    /// The arguments have no meaning without kernel types.
     #[error("--symbols and --summary go with --types")]
     NoTypes,
-    /// A word or a file can't be had.
+    /// An argument or a file can't be read.
     #[error("{0}")]
     Input(#[from] InputError),
-    /// There is no memory for the reports, or for writing.
+    /// Memory runs out for the reports, or for writing.
     #[error("out of memory")]
     OutOfMemory(#[from(alloc)] AllocError),
     /// The object is refused.

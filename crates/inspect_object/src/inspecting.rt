@@ -21,7 +21,7 @@ use std::alloc::Global;
 use std::io;
 use std::io::Write;
 
-/// Writes what holds of the object as a whole.
+/// Writes the properties of the object as a whole.
 fn write_head<W: Write>(object: &Object<'_>, out: &mut W) -> io::Result<()> {
     match object.endianness() {
         Endianness::Little => writeln!(out, "byte-order little")?,
@@ -38,7 +38,7 @@ fn write_head<W: Write>(object: &Object<'_>, out: &mut W) -> io::Result<()> {
     }
 }
 
-/// Writes which of its relocations and externs wait for a kernel.
+/// Writes whether it has relocations and externs that need a kernel.
 fn write_wants<W: Write>(object: &Object<'_>, out: &mut W) -> io::Result<()> {
     writeln!(out, "has-btf-relocations {}", object.has_btf_relocations())?;
     writeln!(out, "has-typed-ksyms {}", object.has_typed_ksyms())?;
@@ -46,7 +46,7 @@ fn write_wants<W: Write>(object: &Object<'_>, out: &mut W) -> io::Result<()> {
     writeln!(out, "has-strong-typed-ksyms {has_strong}")
 }
 
-/// Writes what an object holds, one line an item, and then the notes on it.
+/// Writes what an object holds, one line per item, and then the notes on it.
 fn write_object<W: Write>(object: &Object<'_>, notes: &[Note<'_>], out: &mut W) -> io::Result<()> {
     write_head(object, out)?;
     write_sections(object.file(), out)?;
@@ -60,7 +60,7 @@ fn write_object<W: Write>(object: &Object<'_>, notes: &[Note<'_>], out: &mut W) 
     write_notes(notes, out)
 }
 
-/// The notes on a file; out of memory alone is refused.
+/// The notes on a file. The only error is out of memory.
 fn notes_of<'a>(alloc: Global, bytes: &'a [u8]) -> Result<Vec<Note<'a>>, ParseError>
     ensures { IfErr result (λ e. e ≢ OutOfMemory → HasFault bytes.now e) }
 {
@@ -89,7 +89,7 @@ fn inspect_noted<W: Write>(
 }
 
 /// Writes what the object of a file holds, or nothing where it is refused. docs/FORMATS.md has the
-/// lines.
+/// format of the lines.
 ///
 /// # Errors
 ///

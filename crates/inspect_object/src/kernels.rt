@@ -1,4 +1,4 @@
-//! What becomes of an object on kernels.
+//! Reports about an object on kernels.
 
 ghost use Rattle.std.specs.Prelude.{◌≤◌, ◌^◌, length};
 
@@ -17,7 +17,7 @@ use report_texts::{Column, Rows, lines_text, rows_of, summary_text};
 use std::alloc::{AllocError, Global};
 use std::io::IsTerminal;
 
-/// What is told where the object gets no plan for the kernel of a file.
+/// The message where the object gets no plan for the kernel of a file.
 fn refusal_of(
     alloc: Global,
     line: &InspectArguments<'_>,
@@ -39,7 +39,7 @@ fn refusal_of(
     }
 }
 
-/// A report on the kernel of a file, for its text.
+/// A report on the kernel of a file, for the text.
 fn column_of<'w>(
     alloc: Global,
     line: &InspectArguments<'w>,
@@ -56,7 +56,7 @@ fn column_of<'w>(
     })
 }
 
-/// The report on a kernel with these types, for its text.
+/// The report on a kernel with these types, for the text.
 fn column_on<'w>(
     alloc: Global,
     line: &InspectArguments<'w>,
@@ -70,7 +70,7 @@ fn column_on<'w>(
     column_of(alloc, line, reported, name, report)
 }
 
-/// The report on the kernel whose types these bytes are.
+/// The report on the kernel with the types of these bytes, for the text.
 fn column_in<'w>(
     alloc: Global,
     line: &InspectArguments<'w>,
@@ -93,7 +93,7 @@ fn report_of<'w>(
     column_in(rt.alloc(), line, reported, name, &bytes)
 }
 
-/// Says which kernel is looked at, where a person may wait for it.
+/// Says which kernel is being reported on, where a person may wait for it.
 fn say_progress(rt: &HostRuntime, line: &InspectArguments<'_>, number: usize, name: &str) {
     let count = line.types.len();
     if count > 1 && rt.stderr().is_terminal() {
@@ -130,7 +130,7 @@ fn text_of(
     }
 }
 
-/// The names of what is reported on.
+/// The names of what the reports are about.
 fn names_of<'r>(alloc: Global, reported: &Reported<'r, '_>) -> Result<Rows<'r>, AllocError> {
     let object = reported.object;
     rows_of(
@@ -163,7 +163,7 @@ fn text_on(
     text_with(rt, line, reported, &rows)
 }
 
-/// What is reported on: an object, and the symbols of the kernels.
+/// What the reports are about: an object, and the symbols of the kernels.
 #[derive(Clone, Copy)]
 struct Given<'g, 'o> {
     file: &'g [u8],
@@ -191,7 +191,7 @@ fn text_on_relocations(
     text_on(rt, line, &reported)
 }
 
-/// The text of all reports on what is given.
+/// The text of all reports about what is given.
 fn text_on_given(
     rt: &HostRuntime,
     line: &InspectArguments<'_>,
@@ -201,7 +201,7 @@ fn text_on_given(
     text_on_relocations(rt, line, given, &relocations)
 }
 
-/// The text of all reports on an object, where the symbols that it asks for are taken for granted.
+/// The text of all reports about an object, with assumed symbols.
 fn text_on_assumed(
     rt: &HostRuntime,
     line: &InspectArguments<'_>,
@@ -218,8 +218,8 @@ fn text_on_assumed(
     text_on_given(rt, line, &given)
 }
 
-/// The text of all reports on an object, of which the symbols are those of a file, or taken for
-/// granted where there is none.
+/// The text of all reports about an object, with the symbols of a file, or assumed symbols where
+/// there is none.
 fn text_on_object(
     rt: &HostRuntime,
     line: &InspectArguments<'_>,
@@ -241,7 +241,7 @@ fn text_on_object(
     }
 }
 
-/// The text of all reports on the object of a file.
+/// The text of all reports about the object of a file.
 fn text_on_file(
     rt: &HostRuntime,
     line: &InspectArguments<'_>,
@@ -254,7 +254,7 @@ fn text_on_file(
     }
 }
 
-/// Prints what becomes of the object of a file.
+/// Prints the reports about the object of a file.
 fn print_on_file(
     rt: &HostRuntime,
     line: &InspectArguments<'_>,
@@ -265,7 +265,7 @@ fn print_on_file(
     Ok(print_text(rt, &text)?)
 }
 
-/// The symbols of the kernels, where a file of them is named.
+/// The symbols of the kernels, if a file of them is named.
 fn symbols_of(
     rt: &HostRuntime,
     line: &InspectArguments<'_>,
@@ -276,7 +276,7 @@ fn symbols_of(
     }
 }
 
-/// Prints what becomes of an object on each of the kernels that a line names.
+/// Prints the reports about an object on each of the kernels that the command line names.
 pub(crate) fn print_reports(
     rt: &HostRuntime,
     line: &InspectArguments<'_>,

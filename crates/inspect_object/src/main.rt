@@ -1,4 +1,4 @@
-//! Prints what an eBPF object holds, as it is parsed, or what becomes of it on kernels.
+//! Prints what an eBPF object holds after parsing, or reports about it on kernels.
 #![tactic(auto)]
 
 mod code;
@@ -24,7 +24,7 @@ use std::io;
 use std::io::{BufWriter, Write};
 use std::process::ExitCode;
 
-/// What becomes of a refusal.
+/// The error for a refusal.
 pub(crate) fn refused(alloc: Global, object: &[u8], error: ParseError) -> ProgramError {
     let text = parse_text(alloc, object, &error);
     ProgramError::Refused(Refusal::new(text, error))
@@ -45,8 +45,8 @@ fn print_bytes(rt: &HostRuntime, object: &[u8]) -> Result<(), ProgramError> {
     }
 }
 
-/// Prints what becomes of an object on the kernels that a line names, or what it holds where the
-/// line names none.
+/// Prints the reports about an object on the kernels that the command line names, or what it holds
+/// where the command line names none.
 fn print_named(rt: &HostRuntime, line: &InspectArguments<'_>) -> Result<(), ProgramError> {
     if !line.types.is_empty() {
         return print_reports(rt, line);
@@ -58,7 +58,8 @@ fn print_named(rt: &HostRuntime, line: &InspectArguments<'_>) -> Result<(), Prog
     print_bytes(rt, &object)
 }
 
-/// Prints what a line asks for: an object, reports on it, the program's help or its version.
+/// Prints what the command line asks for: an object, reports on it, the program's help or its
+/// version.
 fn print_asked(rt: &HostRuntime) -> Result<(), ProgramError> {
     let words = words_of(rt)?;
     match inspect_arguments(rt.alloc(), &words) {

@@ -45,7 +45,7 @@ fn write_place<W: Write>(map: &Map, out: &mut W) -> io::Result<()> {
     )
 }
 
-/// Writes the line of the maps that a map holds.
+/// Writes the line of a map's inner maps.
 fn write_inner<W: Write>(name: &str, map: &Map, out: &mut W) -> io::Result<()> {
     let Some(inner) = map.inner() else {
         return Ok(());

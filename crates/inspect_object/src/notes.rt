@@ -4,7 +4,7 @@ use lints::Note;
 use std::io;
 use std::io::Write;
 
-/// Writes what is noted of the object.
+/// Writes the notes on the object.
 pub fn write_notes<W: Write>(notes: &[Note<'_>], out: &mut W) -> io::Result<()> {
     for note in notes {
         writeln!(out, "note {note}")?;

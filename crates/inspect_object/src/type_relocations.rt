@@ -55,7 +55,7 @@ fn write_section_info<W: Write>(
     Ok(())
 }
 
-/// Writes the type relocations, section info by section info: each section info is of the section of a name.
+/// Writes the type relocations, section info by section info, each with the name of its section.
 pub fn write_type_relocations<W: Write>(object: &Object<'_>, out: &mut W) -> io::Result<()> {
     let (Some(table), Some(extension)) = (object.btf(), object.btf_ext()) else {
         return Ok(());

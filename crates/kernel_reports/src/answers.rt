@@ -1,4 +1,4 @@
-//! What type relocations come to in a kernel's types.
+//! The results of type relocations in a kernel's types.
 
 ghost use Rattle.std.specs.Prelude.{◌≡◌, [], Ok, map, option_copied, IfOk, IfSome};
 ghost use Rattle.core_relocation.specs.Relocations.{types_given};
@@ -14,21 +14,21 @@ use ebpf_items::RelocationKind;
 use slot_relocation::Outcome;
 use std::alloc::{AllocError, Global};
 
-/// What a type relocation comes to in a kernel's types.
+/// The result of a type relocation in a kernel's types.
 #[derive(Debug, Drop)]
 pub enum RelocationAnswer {
     /// No function of its section holds its instruction.
     Unplaced,
-    /// It comes to nothing.
+    /// It can't be resolved.
     Fault(TypeRelocationError),
-    /// It gives a value or poison to its instruction, which gets it, or can't.
+    /// It gives a value or poison to its instruction, which can hold it or can't.
     Given {
         patch: Patch,
         written: Outcome<WriteFault>,
     },
 }
 
-/// What a relocation asks for, of which the kind was told.
+/// What a relocation asks for, given its kind.
 fn asked_for(kind: RelocationKind, asked: bpf_core_relo) -> TypeRelocation
     ensures { result
         ≡ record { kind = kind; type_id = asked.type_id; access_str_off = asked.access_str_off } }
@@ -40,13 +40,13 @@ fn asked_for(kind: RelocationKind, asked: bpf_core_relo) -> TypeRelocation
     }
 }
 
-/// What a relocation asks for; a number that stands for no kind asks for nothing.
+/// What a relocation asks for; nothing where its number stands for no kind.
 fn type_relocation(at: &RelocationAt) -> Option<TypeRelocation> {
     let kind = RelocationKind::try_from(at.asked.kind).ok()?;
     Some(asked_for(kind, at.asked))
 }
 
-/// What all relocations ask for, for which a kernel's tables are gone over once.
+/// What all relocations ask for; a kernel's tables are searched once for all of it.
 fn asked_by(
     alloc: Global,
     relocations: &[RelocationAt],
@@ -60,7 +60,7 @@ fn asked_by(
     Ok(asked)
 }
 
-/// What an outcome does to the instruction at a place.
+/// What an outcome changes in the instruction at a place.
 fn given(
     local: &Btf<'_>,
     targets: &[Btf<'_>],
@@ -76,7 +76,7 @@ fn given(
     }
 }
 
-/// What a relocation comes to.
+/// The result of a relocation.
 fn answer_of(
     matcher: &mut TypeMatcher<'_>,
     local: &Btf<'_>,
@@ -105,7 +105,7 @@ fn answer_of(
     }
 }
 
-/// What some relocations come to, with a matcher for these tables.
+/// The results of some relocations, with a matcher for `targets`.
 fn all_answers(
     alloc: Global,
     matcher: &mut TypeMatcher<'_>,
@@ -125,9 +125,9 @@ fn all_answers(
     Ok(answers)
 }
 
-/// What each of some relocations of an object comes to in a kernel's types, by itself: by the slots
-/// of the object, as if no other relocation were made. Each table is
-/// gone over once for all of them.
+/// The result of each of some relocations of an object in a kernel's types, each alone: on the
+/// slots of the object, as if no other relocation were made. Each table is searched once for all of
+/// them.
 pub fn relocation_answers<'t>(
     alloc: Global,
     local: Option<&'t Btf<'t>>,

@@ -1,5 +1,5 @@
-//! What becomes of an object on a kernel: whether it gets a plan, what its type relocations come
-//! to, and which of its externs are there.
+//! The report about an object on a kernel: whether it gets a plan, the results of its type
+//! relocations, and which of its externs the kernel has.
 #![tactic(auto)]
 
 mod answers;

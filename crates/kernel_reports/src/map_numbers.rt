@@ -7,8 +7,8 @@ use ebpf_object::Maps;
 use load_plan::Settings;
 use std::alloc::{AllocError, Global};
 
-/// Settings in which each map of an object has a number, as it would have where a loader has made
-/// it, and no variable a value.
+/// Settings in which each map of an object has a number, as after a loader has made the maps, and
+/// no variable has a value.
 pub fn every_map_numbered(alloc: Global, maps: &Maps<'_>) -> Result<Settings, AllocError>
     ensures { IfOk result (NumbersEach maps.now) }
 {

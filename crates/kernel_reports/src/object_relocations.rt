@@ -7,8 +7,8 @@ use crate::relocations::{RelocationAt, relocations_of};
 use ebpf_object::Object;
 use std::alloc::{AllocError, Global};
 
-/// The type relocations of an object, section info by section info; none where it has no types, or nothing stands
-/// beside them.
+/// The type relocations of an object, section info by section info; none where it has no types or
+/// no records of `.BTF.ext`.
 pub fn relocations_in(alloc: Global, object: &Object<'_>) -> Result<Vec<RelocationAt>, AllocError>
     ensures { IfOk result (λ list. list.items ≡ relocations_in object.now) }
 {

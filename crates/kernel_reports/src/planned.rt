@@ -11,7 +11,7 @@ use std::alloc::{AllocError, Global};
 #[derive(Debug, Drop)]
 pub enum PlanAnswer {
     Planned,
-    /// It is refused, and not for lack of memory.
+    /// It is refused, with an error other than out of memory.
     Refused(PrepareError),
 }
 
@@ -25,8 +25,8 @@ fn fault_of(error: PrepareError) -> Result<PrepareError, AllocError>
     }
 }
 
-/// Whether an object gets a plan for a kernel of these types and symbols that takes all features of
-/// types and has the newer helpers that read memory.
+/// Whether an object gets a plan for a kernel with these types and symbols that takes all features
+/// of types and has the newer helpers that read memory.
 pub fn plan_answer(
     alloc: Global,
     object: &[u8],

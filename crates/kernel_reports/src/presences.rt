@@ -17,12 +17,12 @@ use watched::Watched;
 pub enum Presence {
     Found,
     Missing,
-    /// Nothing says so: it is looked for among symbols, and none are given, or what the kernel has
-    /// can't be compared or read.
+    /// It isn't known: the extern is searched among symbols, and none are given, or the kernel's
+    /// record can't be compared or read.
     Unknown,
 }
 
-/// The extern as it was declared, but weak: it may be missing.
+/// The extern as it was declared, but weak.
 fn as_weak<'a>(desc: &ExternDesc<'a>) -> Result<ExternDesc<'a>, AllocError>
     ensures { IfOk result (λ weak. weak ≡ as_weak desc.now) }
 {
@@ -34,7 +34,7 @@ fn as_weak<'a>(desc: &ExternDesc<'a>) -> Result<ExternDesc<'a>, AllocError>
     Ok(weak)
 }
 
-/// The externs as they were declared, all weak, so that each is told.
+/// The externs as they were declared, but all weak, so that none is refused.
 fn all_weak<'a>(alloc: Global, externs: &Externs<'a>) -> Result<Externs<'a>, AllocError>
     ensures { IfOk result (λ weak. weak ≡ all_weak externs.now) }
 {
@@ -47,7 +47,7 @@ fn all_weak<'a>(alloc: Global, externs: &Externs<'a>) -> Result<Externs<'a>, All
     Ok(externs.replaced(by_name))
 }
 
-/// What is said of a resolved extern.
+/// Whether the kernel has a resolved extern.
 fn presence_of(desc: &ExternDesc<'_>, has_symbols: bool) -> Presence
     ensures { result ≡ presence_of has_symbols desc.now }
 {
@@ -61,7 +61,7 @@ fn presence_of(desc: &ExternDesc<'_>, has_symbols: bool) -> Presence
     }
 }
 
-/// What is said of resolved externs, by name.
+/// Whether the kernel has each of some resolved externs, by name.
 fn all_told(
     alloc: Global,
     externs: &Externs<'_>,
@@ -77,7 +77,7 @@ fn all_told(
     Ok(told)
 }
 
-/// That nothing is known of externs.
+/// Nothing is known about externs.
 fn all_unknown(alloc: Global, externs: &Externs<'_>) -> Result<Vec<Presence>, AllocError>
     ensures { IfOk result (λ told. told.items ≡ map (λ e. Unknown) externs.now.by_name) }
 {
@@ -98,9 +98,9 @@ fn fault_of(error: KsymsError) -> Result<KsymsError, AllocError>
     }
 }
 
-/// Whether a kernel has each of an object's externs, by name: those with a type by its types,
-/// the others by a text of its symbols, where these are given. An object without types of its own
-/// has none to look for, and nothing is said of any.
+/// Whether a kernel has each of an object's externs, by name: those with a type by its types, the
+/// others by a text of its symbols, if these are given. Nothing is known about any of them where
+/// the object has no types of its own.
 pub fn presences_of(
     alloc: Global,
     externs: &Externs<'_>,

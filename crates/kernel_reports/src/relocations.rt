@@ -1,4 +1,4 @@
-//! The type relocations of an object, each at the instruction at which it stands.
+//! The type relocations of an object with the instructions that they apply to.
 
 ghost use Rattle.std.specs.Prelude.{◌≡◌, ◌++◌, [], IfOk, OnOk};
 ghost use Rattle.std.specs.Option.{option_and_then, option_copied};
@@ -14,12 +14,12 @@ use std::alloc::{AllocError, Global};
 use std::marker::Model;
 use string_map::TextMap;
 
-/// The instruction at which a type relocation stands.
+/// The instruction that a type relocation applies to.
 #[derive(Clone, Copy, Debug)]
 pub struct Place {
     /// The key of the function that holds it: its section's index and its address.
     pub key: (usize, u64),
-    /// Its slot, counted from the function's beginning.
+    /// The index of its slot in the function.
     pub index: usize,
     pub slot: bpf_insn,
     /// The slot after it.
@@ -29,7 +29,7 @@ pub struct Place {
 /// A type relocation of an object.
 #[derive(Clone, Copy, Debug)]
 pub struct RelocationAt {
-    /// Where the name of its section info's section stands among the strings of the object's types.
+    /// The offset, in the strings of the object's types, of the name of its section info's section.
     pub name_offset: u32,
     /// What it asks for.
     pub asked: bpf_core_relo,
@@ -50,7 +50,7 @@ fn records_of(alloc: Global, section_info: &SecInfo<'_>) -> Result<Vec<bpf_core_
     Ok(records)
 }
 
-/// What type relocations are looked up in.
+/// The sections, functions and types that relocations are placed in.
 #[derive(Drop)]
 struct Found<'r, 'o, 'f, 't> {
     file: &'r ObjectFile<'o>,
@@ -79,7 +79,7 @@ impl<'r, 'o, 'f, 't> Model for Found<'r, 'o, 'f, 't> {
     ghost invariant = { λ l. AreIndexes (read_sections l.file.now) l.sections.now };
 }
 
-/// The first function, by key, of those of a section whose bytes hold an offset.
+/// The first function, by key, of a section's functions whose bytes hold an offset.
 fn function_holding<'g, 'f>(
     functions: &'g Functions<'f>,
     section_index: usize,
@@ -95,7 +95,7 @@ fn function_holding<'g, 'f>(
     None
 }
 
-/// The instruction of a function at which a relocation inside it stands.
+/// The instruction of a function that a relocation inside it applies to.
 fn place_in(function: &Function<'_>, asked: bpf_core_relo) -> Option<Place>
     ensures { result ≡ place_in asked function.now }
 {
@@ -111,7 +111,7 @@ fn place_in(function: &Function<'_>, asked: bpf_core_relo) -> Option<Place>
 }
 
 impl<'r, 'o, 'f, 't> Found<'r, 'o, 'f, 't> {
-    /// The index of the section whose name stands at an offset of the strings.
+    /// The index of the section whose name is at an offset of the strings.
     fn section(&self, name_offset: u32) -> Option<usize>
         ensures { result ≡ section_at self.now name_offset }
     {
@@ -124,7 +124,7 @@ impl<'r, 'o, 'f, 't> Found<'r, 'o, 'f, 't> {
         }
     }
 
-    /// The instruction at which a relocation of the section of an index stands.
+    /// The instruction that a relocation of the section with an index applies to.
     fn place_inside(&self, section: usize, asked: bpf_core_relo) -> Option<Place>
         ensures { result
             ≡ option_and_then (place_in asked)
@@ -136,7 +136,7 @@ impl<'r, 'o, 'f, 't> Found<'r, 'o, 'f, 't> {
         }
     }
 
-    /// The instruction at which a relocation of a section stands.
+    /// The instruction that a relocation of a section applies to.
     fn place(&self, section: Option<usize>, asked: bpf_core_relo) -> Option<Place>
         ensures { result ≡ place_at self.now section asked }
     {
@@ -146,7 +146,7 @@ impl<'r, 'o, 'f, 't> Found<'r, 'o, 'f, 't> {
         }
     }
 
-    /// A relocation of a section, whose name stands at an offset of the strings.
+    /// A relocation of the section whose name is at an offset of the strings.
     fn relocation_at(
         &self,
         name_offset: u32,
@@ -194,8 +194,8 @@ impl<'r, 'o, 'f, 't> Found<'r, 'o, 'f, 't> {
     }
 }
 
-/// The type relocations of an object, section info by section info, by its file, its functions, its own types and
-/// what stands beside these.
+/// The type relocations of an object, section info by section info, given its file, its functions,
+/// its own types and its records of `.BTF.ext`.
 pub fn relocations_of(
     alloc: Global,
     file: &ObjectFile<'_>,

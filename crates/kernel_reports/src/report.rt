@@ -1,4 +1,4 @@
-//! What becomes of an object on a kernel.
+//! The report about an object on a kernel.
 
 ghost use Rattle.std.specs.Prelude.{◌≡◌, ◌≤◌, ◌^◌, length, IfOk};
 ghost use Rattle.kernel_reports.specs.Reports.{IsReport};
@@ -11,12 +11,12 @@ use ebpf_object::Object;
 use load_plan::{Btf, Settings};
 use std::alloc::{AllocError, Global};
 
-/// An object of which it is reported.
+/// An object that reports are about.
 #[derive(Clone, Copy)]
 pub struct Reported<'r, 'o> {
     /// The bytes of its file.
     pub file: &'r [u8],
-    /// What they hold.
+    /// The object of these bytes.
     pub object: &'r Object<'o>,
     /// Its type relocations.
     pub relocations: &'r [RelocationAt],
@@ -24,22 +24,22 @@ pub struct Reported<'r, 'o> {
     pub settings: &'r Settings,
     /// The symbols of the kernels, as /proc/kallsyms lists them.
     pub symbols: &'r [u8],
-    /// Whether these are a kernel's, and not taken for granted.
+    /// Whether these are the symbols of a kernel, and not assumed.
     pub has_symbols: bool,
 }
 
-/// What becomes of an object on a kernel.
+/// The report about an object on a kernel.
 #[derive(Debug, Drop)]
 pub struct KernelReport {
     pub plan: PlanAnswer,
-    /// What its type relocations come to, one by one.
+    /// The results of its type relocations, one by one.
     pub relocations: Vec<RelocationAnswer>,
-    /// Whether its externs are there, by name.
+    /// Whether the kernel has its externs, by name.
     pub externs: Vec<Presence>,
 }
 
-/// What becomes of an object on a kernel of these types, in no more than 2^32 tables: whether it
-/// gets a plan, and what each relocation and each extern comes to by itself.
+/// The report about an object on a kernel with these types, in at most 2^32 tables: whether it gets
+/// a plan, and the result of each relocation and each extern alone.
 pub fn report_on(
     alloc: Global,
     reported: &Reported<'_, '_>,

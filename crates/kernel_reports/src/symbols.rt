@@ -1,4 +1,4 @@
-//! Kernel symbols that are taken for granted.
+//! Kernel symbols that are assumed.
 
 ghost use Rattle.std.specs.Prelude.{◌≡◌, ◌++◌, true, IfOk, OnOk};
 ghost use Rattle.std.specs.String.{string_bytes};
@@ -14,7 +14,7 @@ fn is_needed(desc: &ExternDesc<'_>) -> bool
     desc.type_id.is_none() && !desc.is_weak
 }
 
-/// Whether a name can stand in a line of symbols, whose words end at white space.
+/// Whether a name can be in a line of symbols, whose words end at white space.
 fn is_one_word(name: &str) -> bool
     ensures value { result ≡ is_one_word name.now }
     ensures plain { result ≡ true → IsPlainWord name.now }
@@ -32,7 +32,7 @@ fn add_line(text: &mut String, name: &str) -> Result<(), AllocError>
     Ok(())
 }
 
-/// Adds the line of an extern, where it has one.
+/// Adds the line of an extern, if it has one.
 fn add_extern(text: &mut String, name: &str, desc: &ExternDesc<'_>) -> Result<(), AllocError>
     ensures line { OnOk result
         (string_bytes text.new ≡ string_bytes text.old ++ assumed_line (name.now, desc.now)) }
@@ -44,8 +44,8 @@ fn add_extern(text: &mut String, name: &str, desc: &ExternDesc<'_>) -> Result<()
     Ok(())
 }
 
-/// A text of symbols that has an address for each extern that must be found there, where its name
-/// is one word.
+/// A text of symbols with an address for each extern that must be found there and whose name is one
+/// word.
 pub fn assumed_symbols(alloc: Global, externs: &Externs<'_>) -> Result<String, AllocError>
     ensures { IfOk result (λ text. IsAssumed externs.now.by_name (string_bytes text)) }
 {

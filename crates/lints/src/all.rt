@@ -11,7 +11,7 @@ use object_file::ObjectFile;
 use settings::Settings;
 use std::alloc::{AllocError, Global};
 
-/// Adds the notes on the numbers of a file's maps, where these can be read.
+/// Adds the notes on the numbers of a file's maps, if the maps can be read.
 fn add_map_notes<'a>(
     alloc: Global,
     file: &ObjectFile<'a>,
@@ -28,8 +28,8 @@ fn add_map_notes<'a>(
     }
 }
 
-/// The notes on a file, and after them those on the numbers that are set for its maps, where these
-/// can be read.
+/// The notes on a file, followed by those on the numbers that are set for its maps, if the maps can
+/// be read.
 pub fn notes<'a>(
     alloc: Global,
     file: &'a [u8],

@@ -17,7 +17,7 @@ use std::alloc::{AllocError, Global};
 /// `EM_BPF`
 const BPF_MACHINE: u16 = 247;
 
-/// The byte order of an ELF64 file, where its header begins as one.
+/// The byte order of an ELF64 file, if the file begins with an ELF64 header.
 fn order_of(file: &[u8]) -> Option<ByteOrder>
     ensures { result ≡ order_of file.now }
 {
@@ -104,7 +104,7 @@ fn add_license_note(file: &ObjectFile<'_>, notes: &mut Vec<Note<'_>>) -> Result<
     Ok(())
 }
 
-/// Adds the note on a section in which relocations stand.
+/// Adds the note on a section with relocations.
 fn add_section_note<'a>(
     file: &ObjectFile<'a>,
     section: &ReadSection<'a>,
@@ -160,7 +160,7 @@ pub(crate) fn add_object_notes<'a>(
     add_section_notes(file, file.sections(), notes)
 }
 
-/// The object file of some bytes; none where they have a fault.
+/// The object file of some bytes; none where it has a fault.
 pub(crate) fn object_file<'a>(
     alloc: Global,
     file: &'a [u8],
@@ -180,8 +180,8 @@ pub(crate) fn object_file<'a>(
     }
 }
 
-/// The notes on a file: on its machine and its byte order, where its header begins as that of an
-/// ELF64 file, and on its license and its relocations, where it can be read as an object file.
+/// The notes on a file: on its machine and its byte order, if it begins with an ELF64 header, and
+/// on its license and its relocations, if it can be read as an object file.
 pub fn file_notes<'a>(alloc: Global, file: &'a [u8]) -> Result<Vec<Note<'a>>, AllocError>
     ensures { IfOk result (λ notes. AreFileNotes file.now (map note_content notes.items)) }
 {

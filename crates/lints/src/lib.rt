@@ -1,4 +1,4 @@
-//! What is noted of an object: what is kept by rule in its plan, and yet may surprise a person.
+//! Notes on an object: what its plan keeps by rule and may yet surprise a person.
 #![tactic(auto)]
 
 mod all;

@@ -34,7 +34,7 @@ fn complete_types<'a>(
     Ok(())
 }
 
-/// The maps of a file whose types are these.
+/// The maps of a file with these types.
 fn maps_with<'a>(
     alloc: Global,
     file: &ObjectFile<'a>,
@@ -47,8 +47,7 @@ fn maps_with<'a>(
     read_maps(alloc, file, table.as_ref())
 }
 
-/// The maps of a file: in the table of its types as it is completed for externs, as they are read
-/// for a plan.
+/// The maps of a file, with its types completed for externs, as they are read for a plan.
 fn read_maps_of<'a>(alloc: Global, file: &ObjectFile<'a>) -> Result<Maps<'a>, ParseError>
     ensures value { IfOk result (HasMaps file.now) }
     ensures refused { IfErr result (λ e. e ≢ OutOfMemory → HasReadingFault file.now e) }

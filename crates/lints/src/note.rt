@@ -2,10 +2,10 @@
 
 use std::fmt;
 
-/// What a person may not expect of an object or of its plan. None of it is a fault.
+/// What a person may not expect of an object or of its plan. It isn't a fault.
 #[derive(Debug, Drop)]
 pub enum Note<'a> {
-    /// The file isn't one of eBPF, whose `e_machine` is 247.
+    /// The file isn't an eBPF file, whose `e_machine` is 247.
     OtherMachine {
         machine: u16,
     },
@@ -13,15 +13,15 @@ pub enum Note<'a> {
     MostByteFirst,
     /// No section is called `license`.
     NoLicense,
-    /// Relocations stand in a section that defines maps.
+    /// A section that defines maps has relocations.
     FirstValues {
         section: &'a str,
     },
-    /// Relocations stand in a section of variables.
+    /// A section of variables has relocations.
     Pointers {
         section: &'a str,
     },
-    /// Two maps have one number.
+    /// Two maps have the same number.
     SharedNumber {
         number: u32,
         first: &'a str,

@@ -13,14 +13,15 @@ use settings::Settings;
 use std::alloc::{AllocError, Global};
 use std::collections::BTreeMap;
 
-/// The name of the first map of a number.
+/// The name of the first map with a number.
 fn first_of<'a>(firsts: &BTreeMap<u32, &'a str>, number: u32) -> Option<&'a str>
     ensures { result ≡ lookup (is_at (nat_cmp number)) firsts.now.entries }
 {
     firsts.get(&number).copied()
 }
 
-/// Adds the note on a map whose number an earlier one has, or keeps its name by that number.
+/// Adds the note on a map whose number an earlier map has; where none has it, keeps the map's name
+/// under that number.
 fn add_number_note<'a>(
     number: u32,
     name: &'a str,
@@ -47,7 +48,7 @@ fn add_number_note<'a>(
     }
 }
 
-/// Adds the note on a map, if one is due, whose number may be set.
+/// Adds the note on a map if its number is set and an earlier map has it.
 fn add_map_note<'a>(
     settings: &Settings,
     name: &'a str,
@@ -82,8 +83,8 @@ pub(crate) fn add_number_notes<'a>(
     Ok(())
 }
 
-/// The notes on maps whose numbers are set: on each, in order, whose number an earlier one has,
-/// with the first of that number.
+/// The notes on maps whose numbers are set: one on each map, in order, whose number an earlier map
+/// has, with the first map of that number.
 pub fn number_notes<'a>(
     alloc: Global,
     maps: &Maps<'a>,

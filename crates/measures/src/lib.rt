@@ -1,4 +1,4 @@
-//! How long the libraries' calls take, for the program of exercises.
+//! Measurements of how long the libraries' calls take, for the program of exercises.
 #![tactic(auto)]
 
 mod maps;

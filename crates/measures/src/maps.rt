@@ -1,4 +1,4 @@
-//! Measures how long it takes to put values into an object's maps, and their numbers into its
+//! Measures how long it takes to write values into an object's maps, and the maps' numbers into its
 //! slots.
 
 use crate::objects::{Call, measure_call};
@@ -11,7 +11,7 @@ use std::alloc::{AllocError, Global};
 use std::collections::BTreeSet;
 use std::time::Instant;
 
-/// Maps under numbers from 1 on, in order of their names.
+/// Maps with numbers from 1 on, in order of their names.
 fn numbered<'m>(alloc: Global, maps: &'m Maps<'_>) -> Result<Vec<NumberedMap<'m>>, AllocError> {
     let mut list = Vec::with_capacity(alloc, maps.len())?;
     let mut number: i32 = 0;
@@ -22,7 +22,7 @@ fn numbered<'m>(alloc: Global, maps: &'m Maps<'_>) -> Result<Vec<NumberedMap<'m>
     Ok(list)
 }
 
-/// How many microseconds it takes to write the numbers of maps into an object's slots.
+/// The time to write the numbers of maps into an object's slots, in microseconds.
 fn write_time(
     rt: &HostRuntime,
     object: &mut Object<'_>,
@@ -71,8 +71,7 @@ fn holds_variables(kind: EbpfSectionKind) -> bool {
     }
 }
 
-/// Sets at most this number of variables to the bytes with which the file begins, and answers how
-/// many more may be set.
+/// Sets at most `most` variables to the first bytes of the file. Returns how many more may be set.
 fn set_variables<'a>(
     values: &mut GlobalValues,
     symbols: &[ReadSymbol<'a>],
@@ -91,7 +90,7 @@ fn set_variables<'a>(
     Ok(rest)
 }
 
-/// Sets at most this number of a file's variables.
+/// Sets at most `most` of a file's variables.
 fn set_variables_of<'a>(
     values: &mut GlobalValues,
     file: &ObjectFile<'a>,
@@ -108,7 +107,7 @@ fn set_variables_of<'a>(
     Ok(())
 }
 
-/// Sets at most this number of an object's variables.
+/// Sets at most `most` of an object's variables.
 fn set_values(
     alloc: Global,
     values: &mut GlobalValues,
@@ -119,7 +118,7 @@ fn set_values(
     Ok(set_variables_of(values, &file, bytes, most)?)
 }
 
-/// How many microseconds it takes to put values into an object's maps.
+/// The time to write values into an object's maps, in microseconds.
 pub(crate) fn put_values(
     rt: &HostRuntime,
     object: &mut Object<'_>,
@@ -130,7 +129,7 @@ pub(crate) fn put_values(
     micros(rt, start)
 }
 
-/// Measures how long it takes to put values into an object's maps.
+/// Measures how long it takes to write values into an object's maps.
 fn measure_putting(
     rt: &HostRuntime,
     bytes: &[u8],
@@ -140,7 +139,7 @@ fn measure_putting(
     measure_call(rt, bytes, "values put", Call::PutValues(values))
 }
 
-/// Puts values of at most this number of variables into the maps of objects that are parsed anew.
+/// Writes the values of at most `most` variables into the maps of newly parsed objects.
 pub(crate) fn measure_values(
     rt: &HostRuntime,
     bytes: &[u8],

@@ -1,6 +1,6 @@
-//! How long it takes to find what type relocations come to in tables of a kernel's types. The
-//! object's own types are these types too, with the access strings added, so that each relocation
-//! is for a type or a member that is there.
+//! How long it takes to resolve type relocations in tables of a kernel's types. The object's own
+//! types are the same types with the access strings added, so that each relocation is for a type or
+//! a member that exists.
 
 use crate::times::{micros, print_times};
 use btf::{Btf, BtfError, BtfKind, Endianness};
@@ -11,19 +11,19 @@ use std::alloc::AllocError;
 use std::env::Args;
 use std::time::Instant;
 
-/// How many times each is measured.
+/// How many times each measurement is made.
 const ROUNDS: u32 = 11;
 
-/// How many relocations there are.
+/// The numbers of relocations.
 const COUNTS: [usize; 5] = [0, 1, 100, 1000, 10_000];
 
-/// How many tables of the kernel's there are.
+/// The numbers of kernel tables.
 const TABLES: [usize; 2] = [1, 40];
 
-/// How many members of a struct are asked for at most.
+/// The maximum number of members of a struct that relocations are made for.
 const MEMBERS: usize = 4;
 
-/// What is asked of each member, and of each type.
+/// The kinds of the relocations for each member, and for each type.
 const MEMBER_KINDS: [RelocationKind; 3] = [
     RelocationKind::FieldByteOffset,
     RelocationKind::FieldByteSize,
@@ -36,7 +36,7 @@ const TYPE_KINDS: [RelocationKind; 3] = [
     RelocationKind::TypeIdTarget,
 ];
 
-/// Where the access strings of a type and of the first members of a struct stand.
+/// The offsets of the access strings of a type and of the first members of a struct.
 #[derive(Clone, Copy, Drop)]
 struct AccessStrings {
     whole: u32,
@@ -56,7 +56,7 @@ fn add_access_strings(local: &mut Btf<'_>) -> Result<AccessStrings, BtfError> {
     })
 }
 
-/// The relocations of some kinds for one access.
+/// Adds the relocations of some kinds for one access.
 fn push_kinds(
     kinds: &[RelocationKind],
     type_id: u32,
@@ -73,7 +73,7 @@ fn push_kinds(
     Ok(())
 }
 
-/// The relocations for a struct and its first members.
+/// Adds the relocations for a struct and its first members.
 fn push_struct(
     local: &Btf<'_>,
     name: &str,
@@ -89,7 +89,7 @@ fn push_struct(
     Ok(())
 }
 
-/// Adds the relocations for the structs that the words name.
+/// Adds the relocations for the structs that the arguments name.
 fn push_structs(
     local: &Btf<'_>,
     words: &mut Args,
@@ -102,7 +102,7 @@ fn push_structs(
     Ok(())
 }
 
-/// A number of relocations: these one after the other, again and again.
+/// The relocations repeated up to a number.
 fn repeated(
     rt: &HostRuntime,
     relocations: &[TypeRelocation],
@@ -115,7 +115,7 @@ fn repeated(
     Ok(list)
 }
 
-/// How many of some relocations come to something in a kernel's types.
+/// How many of some relocations are resolved in a kernel's types.
 fn matched<'t>(
     local: &'t Btf<'t>,
     kernel: &'t [Btf<'t>],
@@ -131,7 +131,7 @@ fn matched<'t>(
     Ok(count)
 }
 
-/// Measures as many relocations as there are.
+/// Measures all the relocations.
 fn measure_all(
     rt: &HostRuntime,
     local: &Btf<'_>,
@@ -152,7 +152,7 @@ fn measure_all(
     print_times(rt, "matched", times)
 }
 
-/// Measures a number of relocations: these one after the other, again and again.
+/// Measures a number of relocations: these, repeated.
 fn measure_count(
     rt: &HostRuntime,
     local: &Btf<'_>,
@@ -216,7 +216,7 @@ fn measure_relocations(
     Ok(())
 }
 
-/// Measures relocations in a table of a section, for the structs that the words name.
+/// Measures relocations in a table of a section, for the structs that the arguments name.
 fn measure_structs(
     rt: &HostRuntime,
     local: &mut Btf<'_>,
@@ -229,13 +229,13 @@ fn measure_structs(
     measure_relocations(rt, local, section, relocations.as_slice())
 }
 
-/// Measures relocations in a section, for the structs that the words name.
+/// Measures relocations in a section, for the structs that the arguments name.
 fn measure(rt: &HostRuntime, section: &[u8], words: &mut Args) -> Result<(), ExerciseError> {
     let mut local = Btf::parse(rt.alloc(), section, Endianness::Little)?;
     measure_structs(rt, &mut local, section, words)
 }
 
-/// Measures relocations in the file of the first word, for the structs that the other words name.
+/// Measures relocations in the file of the first argument, for the structs that the others name.
 pub fn measure_matching(rt: &HostRuntime, words: &mut Args) -> Result<(), ExerciseError> {
     let section = read_next(rt, words)?;
     measure(rt, section.as_slice(), words)

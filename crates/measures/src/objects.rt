@@ -1,5 +1,5 @@
 //! How long it takes to parse an object, to link to each of its programs the functions that it
-//! leads to, and to put values into its maps and their numbers into its slots.
+//! reaches, and to write values into its maps and their numbers into its slots.
 
 use crate::maps::{measure_values, put_values, write_numbers};
 use crate::times::{micros, print_times};
@@ -12,7 +12,7 @@ use std::time::Instant;
 /// How many times everything but the first parse is measured.
 const ROUNDS: u32 = 5;
 
-/// The slots of all functions of an object.
+/// The number of slots of all functions of an object.
 fn slot_count(object: &Object<'_>) -> u64 {
     let mut count: u64 = 0;
     for (_key, function) in object.functions().iter() {
@@ -21,8 +21,8 @@ fn slot_count(object: &Object<'_>) -> u64 {
     count
 }
 
-/// Prints how much an object of this size holds, and how many microseconds it took to parse it,
-/// which began at a moment, and answers these.
+/// Prints how much an object of this size holds, and how many microseconds its parse took, which
+/// began at `start`. Returns these.
 fn print_parsed(
     rt: &HostRuntime,
     object: &Object<'_>,
@@ -40,30 +40,30 @@ fn print_parsed(
     Ok(time)
 }
 
-/// What is measured of an object that is parsed anew.
+/// What is measured on a newly parsed object.
 #[derive(Clone, Copy)]
 pub(crate) enum Call<'v> {
-    /// Parsing it from as many bytes for the first time in this process; how much it holds is
+    /// The first parse in this process, of this number of bytes. How much the object holds is
     /// printed.
     ParseFirst(usize),
-    /// Parsing it.
+    /// The parse.
     Parse,
     /// Linking its programs.
     Link,
     /// Writing the numbers of its maps into its slots.
     WriteNumbers,
-    /// Putting these values into its maps.
+    /// Writing these values into its maps.
     PutValues(&'v GlobalValues),
 }
 
-/// How many microseconds a call takes, and how many slots the object has then.
+/// The time of a call in microseconds, and the number of slots that the object then has.
 #[derive(Clone, Copy)]
 struct Measured {
     time: u128,
     slots: u64,
 }
 
-/// How many microseconds it takes to link an object's programs.
+/// The time to link an object's programs, in microseconds.
 fn link_time(rt: &HostRuntime, object: &mut Object<'_>) -> Result<u128, ExerciseError> {
     let start = Instant::now(rt)?;
     let text_sections = object.text_sections()?;
@@ -71,7 +71,7 @@ fn link_time(rt: &HostRuntime, object: &mut Object<'_>) -> Result<u128, Exercise
     micros(rt, start)
 }
 
-/// How many microseconds a call takes of an object that was parsed from a moment on.
+/// The time of a call on an object whose parse began at `start`, in microseconds.
 fn call_time(
     rt: &HostRuntime,
     object: &mut Object<'_>,
@@ -87,7 +87,7 @@ fn call_time(
     }
 }
 
-/// The same, and how many slots the object has then.
+/// The same, and the number of slots that the object then has.
 fn time_and_slots(
     rt: &HostRuntime,
     object: &mut Object<'_>,
@@ -101,7 +101,7 @@ fn time_and_slots(
     })
 }
 
-/// The same of an object that is parsed here.
+/// The same for an object that is parsed here.
 fn parsed_and_measured(
     rt: &HostRuntime,
     bytes: &[u8],
@@ -112,8 +112,8 @@ fn parsed_and_measured(
     time_and_slots(rt, &mut object, call, start)
 }
 
-/// How many microseconds a call takes of objects that are parsed anew, and how many slots the last
-/// one has then.
+/// The times of a call on newly parsed objects in microseconds, and the number of slots that the
+/// last one then has.
 fn times_of(
     rt: &HostRuntime,
     bytes: &[u8],
@@ -140,14 +140,14 @@ pub(crate) fn measure_call(
     print_times(rt, name, times)
 }
 
-/// Links the programs of objects, and prints how many slots they have then.
+/// Links the programs of objects, and prints how many slots they then have.
 fn measure_linking(rt: &HostRuntime, bytes: &[u8]) -> Result<(), ExerciseError> {
     let (times, slots) = times_of(rt, bytes, Call::Link)?;
     println!(rt; "{slots} slots where linked")?;
     print_times(rt, "linked", times)
 }
 
-/// How many variables get values: as many as a word says, and all where there is none.
+/// The number of variables that get values: the argument, or all without one.
 fn most_variables(word: Option<String>) -> Result<usize, ExerciseError> {
     match word {
         Some(word) => word.parse().map_err(|_| ExerciseError::Usage),
@@ -155,7 +155,7 @@ fn most_variables(word: Option<String>) -> Result<usize, ExerciseError> {
     }
 }
 
-/// Measures an object, of whose variables at most so many get values.
+/// Measures an object; at most `most` of its variables get values.
 fn measure(rt: &HostRuntime, bytes: &[u8], most: usize) -> Result<(), ExerciseError> {
     parsed_and_measured(rt, bytes, Call::ParseFirst(bytes.len()))?;
     measure_call(rt, bytes, "parsed again", Call::Parse)?;
@@ -164,8 +164,8 @@ fn measure(rt: &HostRuntime, bytes: &[u8], most: usize) -> Result<(), ExerciseEr
     measure_values(rt, bytes, most)
 }
 
-/// Measures the object of the file that the first word names; the next one says how many variables
-/// get values.
+/// Measures the object of the file that the first argument names; the next one says how many
+/// variables get values.
 pub fn measure_object(rt: &HostRuntime, words: &mut Args) -> Result<(), ExerciseError> {
     let file = next_word(words)?;
     let most = most_variables(words.next())?;

@@ -1,5 +1,5 @@
-//! How long it takes to find addresses in a text of kernel symbols, beside a plain split of its
-//! lines into words.
+//! How long it takes to find addresses in a text of kernel symbols, compared with a plain split of
+//! its lines into words.
 
 use crate::times::{micros, print_times};
 use exercise_words::{ExerciseError, next_word};
@@ -10,10 +10,10 @@ use std::fs;
 use std::time::Instant;
 use watched::Watched;
 
-/// How many times everything is measured.
+/// How many times each measurement is made.
 const ROUNDS: u32 = 21;
 
-/// How many words the lines of a text have.
+/// The number of words in the lines of a text.
 fn word_count(text: &str) -> u64 {
     text.lines()
         .map(|line| line.split_whitespace().count() as u64)
@@ -54,7 +54,7 @@ fn count_found(addresses: &Addresses<'_>, names: &[&str]) -> usize {
         .count()
 }
 
-/// How many microseconds it takes to find the addresses of names, and how many have one.
+/// The time to find the addresses of names in microseconds, and the number of names that have one.
 fn find(rt: &HostRuntime, text: &str, names: &[&str]) -> Result<(u128, usize), ExerciseError> {
     let start = Instant::now(rt)?;
     let addresses = addresses_of(rt.alloc(), text, names)?;
@@ -84,20 +84,20 @@ fn texts_of(alloc: Global, words: &[String]) -> Result<Vec<&str>, AllocError> {
     Ok(texts)
 }
 
-/// Finds the names that words are.
+/// Finds the addresses of the names `words`.
 fn measure_names(rt: &HostRuntime, text: &str, words: &[String]) -> Result<(), ExerciseError> {
     let names = texts_of(rt.alloc(), words)?;
     measure_addresses(rt, text, names.as_slice())
 }
 
-/// Splits a text into words, and finds the names that the words of the line are.
+/// Splits a text into words, and finds the addresses of the names that the arguments are.
 fn measure(rt: &HostRuntime, text: &str, words: &mut Args) -> Result<(), ExerciseError> {
     let wanted = words.collect::<Vec<String>>(rt.alloc())?;
     measure_words(rt, text)?;
     measure_names(rt, text, wanted.as_slice())
 }
 
-/// Reads the file of the first word, and finds the names of the other words.
+/// Reads the file of the first argument, and finds the addresses of the names of the others.
 pub fn measure_symbols(rt: &HostRuntime, words: &mut Args) -> Result<(), ExerciseError> {
     let file = next_word(words)?;
     let text = fs::read_to_string(rt, file.as_str())?;

@@ -1,4 +1,4 @@
-//! Times that are measured.
+//! Measured times.
 
 use exercise_words::ExerciseError;
 use std::time::Instant;
@@ -8,7 +8,7 @@ pub(crate) fn micros(rt: &HostRuntime, start: Instant) -> Result<u128, ExerciseE
     Ok(start.elapsed(rt)?.as_micros())
 }
 
-/// Prints the least and the middle of times.
+/// Prints the least and the median of times.
 pub(crate) fn print_times(
     rt: &HostRuntime,
     what: &str,

@@ -1,5 +1,5 @@
-//! How long it takes to parse a file of type information, to write the table again, to rewrite it
-//! to what a kernel grants, and to find structs in it by name.
+//! How long it takes to parse a file of type information, to write the table, to rewrite it to what
+//! a kernel grants, and to find structs in it by name.
 
 use crate::times::{micros, print_times};
 use btf::{Btf, BtfError, BtfKind, Endianness, TextMap, fixup_and_sanitize, fixup_ksyms_datasec};
@@ -8,10 +8,11 @@ use std::alloc::Global;
 use std::env::Args;
 use std::time::Instant;
 
-/// How many times everything but the first parse is measured.
+/// How many times each measurement but the first parse is made.
 const ROUNDS: u32 = 21;
 
-/// Prints how much a table holds whose section has this size, and which was parsed from a moment on.
+/// Prints how much a table holds whose section has this size, and the time of its parse since
+/// `start`.
 fn print_parsed(
     rt: &HostRuntime,
     table: &Btf<'_>,
@@ -33,14 +34,14 @@ fn measure_first(rt: &HostRuntime, section: &[u8]) -> Result<(), ExerciseError> 
     print_parsed(rt, &table, section.len(), start)
 }
 
-/// How many microseconds it takes to parse the file.
+/// The time to parse the file, in microseconds.
 fn parsing_time(rt: &HostRuntime, section: &[u8]) -> Result<u128, ExerciseError> {
     let start = Instant::now(rt)?;
     let _table = Btf::parse(rt.alloc(), section, Endianness::Little)?;
     micros(rt, start)
 }
 
-/// Parses the file again and again.
+/// Parses the file repeatedly.
 fn measure_parsing(rt: &HostRuntime, section: &[u8]) -> Result<(), ExerciseError> {
     let mut times = Vec::with_capacity(rt.alloc(), ROUNDS as usize)?;
     for _ in 0..ROUNDS {
@@ -49,7 +50,7 @@ fn measure_parsing(rt: &HostRuntime, section: &[u8]) -> Result<(), ExerciseError
     print_times(rt, "parsed again", times)
 }
 
-/// How many microseconds it takes to write the table.
+/// The time to write the table, in microseconds.
 fn writing_time(rt: &HostRuntime, table: &Btf<'_>) -> Result<u128, ExerciseError> {
     let start = Instant::now(rt)?;
     let _written = table.to_bytes()?;
@@ -71,7 +72,7 @@ fn rewrite(alloc: Global, table: &mut Btf<'_>, is_granted: bool) -> Result<(), B
     Ok(())
 }
 
-/// How many microseconds that takes.
+/// The time of that, in microseconds.
 fn rewriting_time(
     rt: &HostRuntime,
     table: &mut Btf<'_>,
@@ -116,7 +117,7 @@ fn first_section(table: &Btf<'_>) -> Option<u32> {
     None
 }
 
-/// How many microseconds it takes to take the step on `.ksyms` for a section of a table.
+/// The time of the step on `.ksyms` for a section of a table, in microseconds.
 fn step_time(rt: &HostRuntime, table: &mut Btf<'_>, section: u32) -> Result<u128, ExerciseError> {
     let start = Instant::now(rt)?;
     fixup_ksyms_datasec(table, section, None)?;
@@ -129,7 +130,7 @@ fn step_copy_time(rt: &HostRuntime, table: &Btf<'_>, section: u32) -> Result<u12
     step_time(rt, &mut copy, section)
 }
 
-/// Takes the step on `.ksyms` for the first section of the table, in copies of it.
+/// Makes the step on `.ksyms` for the first section of the table, in copies of it.
 fn measure_step(rt: &HostRuntime, table: &Btf<'_>) -> Result<(), ExerciseError> {
     let Some(section) = first_section(table) else {
         return Ok(());
@@ -149,19 +150,19 @@ fn beginning(name: &str) -> &str {
     }
 }
 
-/// The first struct of a name.
+/// The first struct with a name.
 fn struct_named(table: &Btf<'_>, name: &str) -> Option<u32> {
     table.id_by_type_name_kind(name, BtfKind::Struct).ok()
 }
 
-/// How many microseconds it takes to find the first struct of a name.
+/// The time to find the first struct with a name, in microseconds.
 fn look_up_time(rt: &HostRuntime, table: &Btf<'_>, name: &str) -> Result<u128, ExerciseError> {
     let start = Instant::now(rt)?;
     let _found = struct_named(table, name);
     micros(rt, start)
 }
 
-/// Finds the first struct of a name.
+/// Finds the first struct with a name.
 fn measure_name(rt: &HostRuntime, table: &Btf<'_>, name: &str) -> Result<(), ExerciseError> {
     match struct_named(table, name) {
         Some(id) => println!(rt; "{}: id {id}", beginning(name))?,
@@ -174,7 +175,7 @@ fn measure_name(rt: &HostRuntime, table: &Btf<'_>, name: &str) -> Result<(), Exe
     print_times(rt, "looked up", times)
 }
 
-/// Finds the structs that the words name.
+/// Finds the structs that the arguments name.
 fn measure_names(rt: &HostRuntime, table: &Btf<'_>, words: &mut Args) -> Result<(), ExerciseError> {
     for name in words {
         measure_name(rt, table, name.as_str())?;
@@ -182,7 +183,7 @@ fn measure_names(rt: &HostRuntime, table: &Btf<'_>, words: &mut Args) -> Result<
     Ok(())
 }
 
-/// Writes a table, rewrites it, and finds the structs that the words name.
+/// Writes a table, rewrites it, and finds the structs that the arguments name.
 fn measure_table(rt: &HostRuntime, table: &Btf<'_>, words: &mut Args) -> Result<(), ExerciseError> {
     measure_writing(rt, table)?;
     measure_rewriting(rt, table, "rewritten, all features granted", true)?;
@@ -191,7 +192,7 @@ fn measure_table(rt: &HostRuntime, table: &Btf<'_>, words: &mut Args) -> Result<
     measure_names(rt, table, words)
 }
 
-/// Measures what is done with a section.
+/// Makes all measurements of a section.
 fn measure(rt: &HostRuntime, section: &[u8], words: &mut Args) -> Result<(), ExerciseError> {
     measure_first(rt, section)?;
     measure_parsing(rt, section)?;
@@ -199,7 +200,7 @@ fn measure(rt: &HostRuntime, section: &[u8], words: &mut Args) -> Result<(), Exe
     measure_table(rt, &table, words)
 }
 
-/// Parses the file of the first word, and finds the structs of the other words.
+/// Parses the file of the first argument, and finds the structs that the others name.
 pub fn measure_types(rt: &HostRuntime, words: &mut Args) -> Result<(), ExerciseError> {
     let section = read_next(rt, words)?;
     measure(rt, section.as_slice(), words)

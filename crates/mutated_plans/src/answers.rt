@@ -1,11 +1,11 @@
-//! What the texts of plans come to.
+//! The answers to texts of plans.
 
 use crate::texts::is_written_as;
 use exercise_words::ExerciseError;
 use load_plan::{Plan, PlanReadError};
 
-/// Prints whether a text, the one of a file, is a plan's that is written alike, or the line at which
-/// it is refused.
+/// Prints whether the text of a file is a plan's whose written text is the same, or the line at
+/// which it is refused.
 pub(crate) fn print_answer(rt: &HostRuntime, name: &str, text: &[u8]) -> Result<(), ExerciseError> {
     match Plan::read(rt.alloc(), text) {
         Ok(plan) => {

@@ -4,12 +4,12 @@ use crate::counts::{Answer, Counts};
 use load_plan::Order;
 use std::alloc::Global;
 
-/// The orders of the passes on types.
+/// The orders of the passes over types.
 const ORDERS: [Order; 2] = [Order::RelocateFirst, Order::RewriteFirst];
 
 /// What is run on a file.
 pub(crate) trait Run {
-    /// What comes of a run on a file, with the passes on types in an order.
+    /// The answer to a run on a file, with the passes over types in an order.
     fn answer(&self, alloc: Global, file: &[u8], order: Order) -> Answer;
 }
 
@@ -20,7 +20,7 @@ fn count_orders<R: Run>(alloc: Global, run: &R, file: &[u8], counts: &mut Counts
     }
 }
 
-/// Runs on each proper front of a file, in both orders.
+/// Runs on each proper prefix of a file, in both orders.
 fn count_fronts<R: Run>(alloc: Global, run: &R, file: &[u8], counts: &mut Counts) {
     for len in 0..file.len() {
         count_orders(alloc, run, &file[..len], counts);
@@ -37,8 +37,8 @@ fn count_changes<R: Run>(alloc: Global, run: &R, file: &mut [u8], byte: u8, coun
     }
 }
 
-/// What comes of each proper front of a file, and of the file with each byte set to 0 and to 255 in
-/// turn: six runs for each byte.
+/// The answers to each proper prefix of a file, and to the file with each byte set to 0 and to 255
+/// in turn: six runs for each byte.
 pub(crate) fn counts_of<R: Run>(alloc: Global, run: &R, file: &mut [u8]) -> Counts {
     let mut counts = Counts::new();
     count_fronts(alloc, run, file, &mut counts);

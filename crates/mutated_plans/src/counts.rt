@@ -1,19 +1,19 @@
-//! What runs come to, counted.
+//! Counts of the answers to runs.
 
-/// What one run comes to.
+/// The answer to one run.
 #[derive(Clone, Copy)]
 pub(crate) enum Answer {
     /// A plan, whose text is read as a plan with the same text.
     Planned,
     /// A refusal.
     Refused,
-    /// Memory ran out, or the plan's text isn't read so.
+    /// Memory ran out, or the plan's text isn't read as a plan with the same text.
     Failed,
-    /// It isn't made, since it would take much memory.
+    /// The run isn't made, since it would take much memory.
     LeftOut,
 }
 
-/// How many runs came to what.
+/// The number of runs with each answer.
 #[derive(Clone, Copy)]
 pub(crate) struct Counts {
     pub(crate) plans: u64,
@@ -43,12 +43,12 @@ impl Counts {
         }
     }
 
-    /// How many runs ended with a plan or a refusal.
+    /// The number of runs that ended with a plan or a refusal.
     pub(crate) fn answered(&self) -> u64 {
         self.plans.saturating_add(self.refusals)
     }
 
-    /// How many runs were made.
+    /// The number of runs that were made.
     pub(crate) fn all(&self) -> u64 {
         self.answered().saturating_add(self.failures)
     }

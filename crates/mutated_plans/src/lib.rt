@@ -1,6 +1,6 @@
-//! Plans of an object that is cut off or changed in one byte, and of an object for kernel types
-//! that are: how many runs of `prepare` end with a plan, whose text is read as a plan that is
-//! written alike, or with a refusal. For the program of exercises.
+//! Plans of an object that is cut off or changed in one byte, and plans of an object for kernel
+//! types that are. Counts the runs of `prepare` that end with a plan whose text is read as a plan
+//! with the same text, or with a refusal. For the program of exercises.
 #![tactic(auto)]
 
 mod answers;
@@ -20,7 +20,7 @@ use std::env::Args;
 use std::fs;
 use texts::{changed_text_counts, count_refused_texts};
 
-/// Prints what runs came to, and how many came to a plan where that is asked for.
+/// Prints the counts of runs, and the number of plans where that is asked for.
 fn print_counts(
     rt: &HostRuntime,
     what: &str,
@@ -44,7 +44,7 @@ fn print_counts(
     Ok(())
 }
 
-/// The byte order of a word.
+/// The byte order that an argument names.
 fn order_of(word: &str) -> Result<Endianness, ExerciseError> {
     match word {
         "little" => Ok(Endianness::Little),
@@ -53,7 +53,7 @@ fn order_of(word: &str) -> Result<Endianness, ExerciseError> {
     }
 }
 
-/// The bytes of the files that the words name.
+/// The bytes of the files that the arguments name.
 fn read_files(rt: &HostRuntime, words: &mut Args) -> Result<Vec<Vec<u8>>, ExerciseError> {
     let mut files = Vec::new(rt.alloc());
     for name in words {
@@ -62,8 +62,8 @@ fn read_files(rt: &HostRuntime, words: &mut Args) -> Result<Vec<Vec<u8>>, Exerci
     Ok(files)
 }
 
-/// Counts over the object that the words name after the names of maps, the first word, and over
-/// each file of kernel types that they name after the byte order of these.
+/// Counts over an object and over each of its files of kernel types. `maps` are the names of maps;
+/// the arguments name the object, the byte order of the types, and the files of types.
 fn count_all(
     rt: &HostRuntime,
     maps: &str,
@@ -82,7 +82,7 @@ fn count_all(
     Ok(())
 }
 
-/// Counts over the plan's text that a word names.
+/// Counts over the text of a plan, whose file an argument names.
 fn count_texts(rt: &HostRuntime, words: &mut Args) -> Result<(), ExerciseError> {
     let mut text = read_next(rt, words)?;
     let fronts = count_refused_texts(rt.alloc(), text.as_slice());
@@ -99,9 +99,9 @@ fn count_texts(rt: &HostRuntime, words: &mut Args) -> Result<(), ExerciseError> 
     Ok(())
 }
 
-/// Counts over what the words name, and prints what it comes to: `[--plans] MAP[,MAP].. OBJECT
+/// Counts over what the arguments name, and prints the counts: `[--plans] MAP[,MAP].. OBJECT
 /// little|big [TYPES..]`, maps that get a number, the object's file, the byte order of the kernel's
-/// types and their files. With `--plans` how many plans there are is printed too.
+/// types and their files. With `--plans` the number of plans is printed too.
 pub fn print_changed_plans(rt: &HostRuntime, words: &mut Args) -> Result<(), ExerciseError> {
     let first = next_word(words)?;
     if first.as_str() == "--plans" {
@@ -111,20 +111,20 @@ pub fn print_changed_plans(rt: &HostRuntime, words: &mut Args) -> Result<(), Exe
     count_all(rt, first.as_str(), words, false)
 }
 
-/// Reads the text of a plan, whose file a word names, cut off and changed in one byte, and prints
-/// what that comes to.
+/// Reads the text of a plan, whose file an argument names, cut off and changed in one byte, and
+/// prints the counts.
 pub fn print_changed_texts(rt: &HostRuntime, words: &mut Args) -> Result<(), ExerciseError> {
     count_texts(rt, words)
 }
 
-/// Prints for each byte of the text of a plan, whose file a word names, the lines at which it is
-/// refused with each other value of the byte.
+/// Prints for each byte of the text of a plan, whose file an argument names, the lines at which it
+/// is refused with each other value of the byte.
 pub fn print_changed_lines(rt: &HostRuntime, words: &mut Args) -> Result<(), ExerciseError> {
     let mut text = read_next(rt, words)?;
     print_refused_lines(rt, text.as_mut_slice())
 }
 
-/// Prints what the texts come to whose files the words name.
+/// Prints the answers to the texts whose files the arguments name.
 pub fn print_read_plans(rt: &HostRuntime, words: &mut Args) -> Result<(), ExerciseError> {
     for name in words {
         let text = fs::read(rt, name.as_str())?;

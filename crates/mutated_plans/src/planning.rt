@@ -8,13 +8,14 @@ use load_plan::{Btf, BtfError, Endianness, Order, Plan, PrepareError, Settings, 
 use std::alloc::{AllocError, Global};
 use std::io;
 
-/// As many tables of types as `prepare` takes.
+/// The maximum number of tables of types that `prepare` takes.
 const MAX_TABLES: usize = 0x1_0000_0000;
 
-/// The bytes of a section without bytes in the file that a plan is made with.
+/// The maximum number of bytes of a section without bytes in the file with which a plan is made
+/// here.
 const MOST_ZEROS: u64 = 1 << 24;
 
-/// The text of a plan, where it is written into memory.
+/// The text of a plan, if it can be written into memory.
 fn text_of(alloc: Global, plan: &Plan<'_>) -> Option<Vec<u8>> {
     let mut out = Watched::new(Vec::new(alloc));
     match plan.write(&mut out) {
@@ -23,7 +24,7 @@ fn text_of(alloc: Global, plan: &Plan<'_>) -> Option<Vec<u8>> {
     }
 }
 
-/// Whether the text of a plan is read as a plan, and this is written as the same text.
+/// Whether the text of a plan is read as a plan whose written text is the same.
 fn is_read_back(alloc: Global, plan: &Plan<'_>) -> bool {
     let Some(text) = text_of(alloc, plan) else {
         return false;
@@ -37,7 +38,7 @@ fn is_read_back(alloc: Global, plan: &Plan<'_>) -> bool {
     }
 }
 
-/// What an answer of `prepare` is.
+/// The answer for a result of `prepare`.
 fn answer_in(alloc: Global, planned: Result<Plan<'_>, PrepareError>) -> Answer {
     match planned {
         Ok(plan) => {
@@ -52,8 +53,8 @@ fn answer_in(alloc: Global, planned: Result<Plan<'_>, PrepareError>) -> Answer {
     }
 }
 
-/// What comes of an object. The kernel grants all features where relocations come first, and none
-/// where rewriting does.
+/// The answer to an object. The kernel grants all features where relocations come first, and none
+/// where rewriting comes first.
 fn answer_of(
     alloc: Global,
     object: &[u8],
@@ -79,7 +80,7 @@ fn answer_of(
     answer_in(alloc, planned)
 }
 
-/// Whether an object has a section of more zeros than a plan is made with here: 4 GiB of them would
+/// Whether an object has a section with more zeros than the maximum here: up to 4 GiB of them would
 /// be written.
 fn has_many_zeros(file: &[u8]) -> bool {
     let Ok(elf) = ElfFile::parse(file) else {
@@ -128,7 +129,7 @@ impl<'r> Run for TypesRuns<'r> {
     }
 }
 
-/// Settings in which maps of these names, parted by commas, have the number 7.
+/// Settings in which maps with these names, separated by commas, have the number 7.
 fn numbered(alloc: Global, maps: &str) -> Result<Settings, AllocError> {
     let mut settings = Settings::new(alloc);
     for name in maps.split(',') {
@@ -137,12 +138,12 @@ fn numbered(alloc: Global, maps: &str) -> Result<Settings, AllocError> {
     Ok(settings)
 }
 
-/// What comes of changed objects for kernel types, with numbers for maps of names that are parted
-/// by commas.
+/// The answers to changed objects for kernel types; `maps` are the names, separated by commas, of
+/// maps that get a number.
 ///
 /// # Errors
 ///
-/// Where the kernel types can't be parsed, or memory for them is refused.
+/// Where the kernel types can't be parsed, or memory runs out for them.
 pub(crate) fn changed_object_counts(
     alloc: Global,
     maps: &str,
@@ -162,11 +163,11 @@ pub(crate) fn changed_object_counts(
     Ok(counts_of(alloc, &runs, object))
 }
 
-/// What comes of an object for changed kernel types, with numbers for maps likewise.
+/// The answers to an object for changed kernel types; `maps` are as above.
 ///
 /// # Errors
 ///
-/// Where memory for the settings is refused.
+/// Where memory runs out for the settings.
 pub(crate) fn changed_types_counts(
     alloc: Global,
     maps: &str,

@@ -4,7 +4,7 @@ use exercise_words::ExerciseError;
 use load_plan::{Plan, PlanReadError};
 use std::alloc::{AllocError, Global};
 
-/// Numbers one after the other, each as often as it comes in a row: `NUMBER*COUNT ..`.
+/// Numbers in order, with equal ones in a row counted: `NUMBER*COUNT ..`.
 #[derive(Drop)]
 struct Runs {
     alloc: Global,
@@ -33,7 +33,7 @@ impl Runs {
         Ok(())
     }
 
-    /// Writes the last number down, if there is one.
+    /// Writes the last number, if there is one.
     fn end_run(&mut self) -> Result<(), AllocError> {
         if self.count > 0 {
             let run = format!(in self.alloc; " {}*{}", self.number, self.count)?;
@@ -50,7 +50,7 @@ impl Runs {
     }
 }
 
-/// The line at which a text is refused, 0 for a plan's.
+/// The line at which a text is refused, 0 for a plan's text.
 fn refused_line(alloc: Global, text: &[u8]) -> Result<usize, AllocError> {
     match Plan::read(alloc, text) {
         Ok(_plan) => Ok(0),
@@ -59,7 +59,7 @@ fn refused_line(alloc: Global, text: &[u8]) -> Result<usize, AllocError> {
     }
 }
 
-/// The lines for each other value of the byte at a place, the values rising.
+/// The lines for each other value of the byte at an offset, the values rising.
 fn lines_at(alloc: Global, text: &mut [u8], at: usize) -> Result<String, AllocError> {
     let mut runs = Runs::new(alloc);
     let Some(before) = text.get(at).copied() else {
@@ -75,8 +75,8 @@ fn lines_at(alloc: Global, text: &mut [u8], at: usize) -> Result<String, AllocEr
     runs.into_text()
 }
 
-/// Prints for each byte of a text a line: the lines at which it is refused with each other value of
-/// that byte, the values rising, 0 where it is a plan's text.
+/// Prints a line for each byte of a text: the lines at which the text is refused with each other
+/// value of that byte, the values rising, 0 where it is a plan's text.
 pub(crate) fn print_refused_lines(rt: &HostRuntime, text: &mut [u8]) -> Result<(), ExerciseError> {
     for at in 0..text.len() {
         let lines = lines_at(rt.alloc(), text, at)?;

@@ -1,16 +1,16 @@
-//! Plan texts that are cut off or changed in one byte, read.
+//! Readings of plan texts that are cut off or changed in one byte.
 
 use load_plan::{Plan, PlanReadError, Watched};
 use std::alloc::Global;
 
-/// How many answers to changed texts were as they must be.
+/// The number of expected answers to changed texts.
 #[derive(Clone, Copy)]
 pub(crate) struct TextCounts {
-    /// How many texts were read, and written as they were read.
+    /// The texts that are read, and written as they were read.
     pub(crate) read: u64,
-    /// How many were refused at the line of the change or a later one that is there.
+    /// The texts that are refused at the line of the change or at a later existing line.
     pub(crate) refused: u64,
-    /// All.
+    /// All texts.
     pub(crate) all: u64,
 }
 
@@ -24,18 +24,18 @@ impl TextCounts {
     }
 }
 
-/// How many lines end in some bytes.
+/// The number of lines that end in some bytes.
 fn line_feeds(bytes: &[u8]) -> usize {
     bytes.iter().filter(|byte| **byte == b'\n').count()
 }
 
-/// Whether a plan is written as a text.
+/// Whether a plan's written text is `text`.
 pub(crate) fn is_written_as(alloc: Global, plan: &Plan<'_>, text: &[u8]) -> bool {
     let mut out = Watched::new(Vec::new(alloc));
     plan.write(&mut out).is_ok() && out.into_inner().as_slice() == text
 }
 
-/// How many of the proper fronts of a text are refused at the line after their last whole one.
+/// How many of the proper prefixes of a text are refused at the line after their last whole one.
 pub(crate) fn count_refused_texts(alloc: Global, text: &[u8]) -> usize {
     let mut count: usize = 0;
     for len in 0..text.len() {
@@ -68,7 +68,7 @@ fn count_text(alloc: Global, text: &[u8], changed: usize, counts: &mut TextCount
     }
 }
 
-/// Reads a text with the byte at a place set to each other value.
+/// Reads a text with the byte at an offset set to each other value.
 fn count_values(alloc: Global, text: &mut [u8], at: usize, counts: &mut TextCounts) {
     let Some(before) = text.get(at).copied() else {
         return;

@@ -12,7 +12,7 @@ pub enum RunError {
     /// The object gets no plan.
     #[error("refused: {0}")]
     Refused(PrepareError),
-    /// The writer failed, or took nothing.
+    /// The writer failed, or accepted no bytes.
     #[error("the plan can't be written")]
     Output,
 }

@@ -13,15 +13,15 @@ use std::alloc::Global;
 use std::io::{BufRead, Write};
 
 /// Writes the text of an object's plan, or nothing where the object is refused. `kernel_types` are
-/// the kernel's types, in no more than 2^32 tables, `symbols` its symbols as `/proc/kallsyms` lists
-/// them; `settings` has numbers of maps and values of variables, and says which features of types
-/// the kernel grants, and whether it has the newer helpers that read memory; `order` says whether
-/// type relocations are looked up in the object's types before these are rewritten or after that.
+/// the kernel's types, in at most 2^32 tables, and `symbols` its symbols as `/proc/kallsyms` lists
+/// them. `settings` has the numbers of maps and the values of variables, and says which features of
+/// types the kernel grants and whether it has the newer helpers that read memory. `order` says
+/// whether type relocations are resolved in the object's types before or after these are rewritten.
 ///
 /// # Errors
 ///
 /// [`RunError::Refused`] where the object gets no plan, and [`RunError::Output`] where the writer
-/// fails or takes nothing; a beginning of the text went out then.
+/// fails or accepts no bytes; a prefix of the text has then been written.
 pub fn run<R: BufRead, W: Write>(
     alloc: Global,
     object: &[u8],
@@ -33,7 +33,7 @@ pub fn run<R: BufRead, W: Write>(
 ) -> Result<(), RunError>
     requires { length kernel_types.now ≤ 2 ^ 32 }
 
-    // Exactly the text of the plan went out, of an object in which no fault stands.
+    // Exactly the text of the plan is written, and the object has no fault.
     ensures well { OnOk result (has_failed out.new ≡ false) }
     ensures written { OnOk result
         (HoldsOfText settings.now
@@ -41,14 +41,14 @@ pub fn run<R: BufRead, W: Write>(
         (has_failed symbols.new) settings.now order) (λ text.
         Appends (W.contents (watched_inner out.old)) (W.contents (watched_inner out.new)) text)) }
 
-    // A refusal names a fault that stands, and writes nothing.
+    // A refusal names a fault of the object, and nothing is written.
     ensures refused { IfErr result
         (IsRunRefusal settings.now
         (inputs_of object.now kernel_types.now (R.remaining (watched_inner symbols.old))
         (has_failed symbols.new) settings.now order)) }
     ensures unwritten { IfErr result (λ e. e ≢ Output → out.new ≡ out.old) }
 
-    // Of an object that isn't refused, a beginning of the text went out, and the writer failed.
+    // The object isn't refused, a prefix of the text is written, and the writer failed.
     ensures part { result ≡ Err Output
         → HoldsOfText settings.now
         (inputs_of object.now kernel_types.now (R.remaining (watched_inner symbols.old))

@@ -13,19 +13,19 @@ use thiserror::Error;
 /// Why the program ends without a plan.
 #[derive(Debug, Drop, Error)]
 pub enum ProgramError {
-    /// It was called with other words.
+    /// Its arguments are invalid.
     #[error("{text}")]
     Line { text: String },
-    /// A word or a file can't be had.
+    /// An argument or a file can't be read.
     #[error("{0}")]
     Input(#[from] InputError),
-    /// A word sets nothing.
+    /// An argument sets nothing.
     #[error("{0}")]
     Word(#[from] WordError),
     /// A file's text holds no settings.
     #[error("settings in {name:?}: {fault}")]
     Settings { name: String, fault: String },
-    /// There is no memory for the settings, or for writing.
+    /// Memory runs out for the settings, or for writing.
     #[error("out of memory")]
     OutOfMemory(#[from(alloc)] AllocError),
     /// The object gets no plan.

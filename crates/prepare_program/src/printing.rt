@@ -13,8 +13,8 @@ use std::alloc::{AllocError, Global};
 use std::io;
 use std::io::{BufRead, BufWriter, IsTerminal, Write};
 
-/// The settings of a file's text, of nothing where there is no file, and over them those of the
-/// line.
+/// The settings of a file's text, or the default ones without a file, changed by those of the
+/// command line.
 fn settings_of(
     alloc: Global,
     line: &Arguments<'_>,
@@ -46,7 +46,7 @@ fn file_settings(alloc: Global, name: &str, bytes: &[u8]) -> Result<RunSettings,
     }
 }
 
-/// What a run is made of, beside its symbols and its output.
+/// What a run needs, besides its symbols and its output.
 #[derive(Drop)]
 struct Given<'g, 'w> {
     line: &'g Arguments<'w>,
@@ -64,7 +64,7 @@ fn order_of(line: &Arguments<'_>) -> Order {
     }
 }
 
-/// What becomes of a refusal.
+/// The error for a refusal.
 fn refused(alloc: Global, given: &Given<'_, '_>, error: PrepareError) -> ProgramError {
     let settings = given.settings;
     let files = KernelFiles {
@@ -118,7 +118,7 @@ fn print_notes(rt: &HostRuntime, object: &[u8], settings: &RunSettings) {
 }
 
 /// Prints the plan of an object for a kernel with these symbols, with the settings of a file's text
-/// and of the line.
+/// and of the command line.
 fn print_with_symbols<R: BufRead>(
     rt: &HostRuntime,
     line: &Arguments<'_>,
@@ -140,7 +140,7 @@ fn print_with_symbols<R: BufRead>(
     print_plan(rt, &given, symbols)
 }
 
-/// The same, with the symbols of the file that the line names, if it names one.
+/// The same, with the symbols of the file that the command line names, if it names one.
 fn print_with_types(
     rt: &HostRuntime,
     line: &Arguments<'_>,
@@ -160,7 +160,7 @@ fn print_with_types(
     }
 }
 
-/// Reads the other files that a line names, and prints the plan of its object.
+/// Reads the other files that a command line names, and prints the plan of its object.
 fn print_object(rt: &HostRuntime, line: &Arguments<'_>, object: &[u8]) -> Result<(), ProgramError> {
     let file = match line.settings {
         Some(name) => Some(read(rt, name)?),
@@ -170,15 +170,15 @@ fn print_object(rt: &HostRuntime, line: &Arguments<'_>, object: &[u8]) -> Result
     print_with_types(rt, line, object, file.as_deref(), &types)
 }
 
-/// Reads the files that a line names, and prints the plan of its object.
+/// Reads the files that a command line names, and prints the plan of its object.
 fn print_named(rt: &HostRuntime, line: &Arguments<'_>) -> Result<(), ProgramError> {
-    // Faults of the line come first.
+    // Faults of the command line come first.
     settings_of(rt.alloc(), line, None)?;
     let object = read(rt, line.object)?;
     print_object(rt, line, &object)
 }
 
-/// Prints what the words of the program's line ask for: a plan, the program's help or its version.
+/// Prints what the program's arguments ask for: a plan, the program's help or its version.
 ///
 /// # Errors
 ///

@@ -1,11 +1,11 @@
-//! What a user is told about a text of settings, in one line.
+//! Messages about a text of settings, in one line.
 
 use command_line::first_paragraph;
 use quoting::Text;
 use run_settings::invalid_key;
 use std::alloc::{AllocError, Global};
 
-/// The key of a line, as it stands there.
+/// The key of a line, as it is written.
 enum LineKey<'t> {
     /// Of a table, whose entries follow.
     Table(&'t str),
@@ -34,7 +34,7 @@ fn push_names(path: &mut String, key: &str) -> Result<(), AllocError> {
     Ok(())
 }
 
-/// Whether a table or an entry is the one of a key, or has it.
+/// Whether a key is that of a table or an entry, or lies in it.
 fn has_key(path: &str, key: &str) -> bool {
     match key.strip_prefix(path) {
         Some(rest) => rest.is_empty() || rest.starts_with('.'),
@@ -42,8 +42,8 @@ fn has_key(path: &str, key: &str) -> bool {
     }
 }
 
-/// The number of the last line, from 1, whose table or entry has a key, as far as a look at the
-/// lines one by one tells.
+/// The number, from 1, of the last line whose table or entry has a key, as far as a search line by
+/// line finds it.
 fn line_of(alloc: Global, text: &str, key: &str) -> Result<Option<usize>, AllocError> {
     let mut wanted = String::new(alloc);
     push_names(&mut wanted, key)?;

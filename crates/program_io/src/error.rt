@@ -1,4 +1,4 @@
-//! Why a program can't have what it is called with.
+//! Why a program can't get its arguments or files.
 
 ghost use Rattle.std.specs.Prelude.{◌≡◌};
 ghost use Rattle.program_io.specs.declared.error.InputError.TheVariants.{OutOfMemory};
@@ -8,7 +8,7 @@ use std::alloc::{AllocError, AllocFailed};
 use std::io;
 use thiserror::Error;
 
-/// Why words or files can't be had.
+/// Why arguments or files can't be read.
 #[derive(Debug, Drop, Error)]
 pub enum InputError {
     /// A word isn't UTF-8.
@@ -20,10 +20,10 @@ pub enum InputError {
     /// The kernel types of a file can't be parsed.
     #[error("kernel types in {name:?}: {error}")]
     Types { name: String, error: BtfError },
-    /// They can't be parsed, and begin as types of the other byte order do.
+    /// They can't be parsed, and begin like types of the other byte order.
     #[error("kernel types in {name:?}: {error}; they begin as types of the other byte order (--types-order)")]
     TypesOrder { name: String, error: BtfError },
-    /// More files with kernel types are named than tables are taken.
+    /// There are more files with kernel types than the maximum number of tables.
     #[error("more than 4294967296 files of kernel types")]
     TooManyTypes,
     /// Memory ran out.

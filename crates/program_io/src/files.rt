@@ -10,7 +10,7 @@ use std::fs::File;
 use std::io::BufReader;
 use std::{fs, io};
 
-/// Says that the file of a name can't be read.
+/// The error for a file that can't be read.
 fn unread(alloc: Global, name: &str, error: io::Error) -> InputError {
     match String::from_str(alloc, name) {
         Ok(name) => InputError::Read { name, error },
@@ -18,7 +18,7 @@ fn unread(alloc: Global, name: &str, error: io::Error) -> InputError {
     }
 }
 
-/// The bytes of the file of a name.
+/// The bytes of the file with a name.
 ///
 /// # Errors
 ///
@@ -30,7 +30,7 @@ pub fn read(rt: &HostRuntime, name: &str) -> Result<Vec<u8>, InputError> {
     }
 }
 
-/// The bytes of the files of some names.
+/// The bytes of the files with these names.
 ///
 /// # Errors
 ///
@@ -43,7 +43,7 @@ pub fn read_all(rt: &HostRuntime, names: &[&str]) -> Result<Vec<Vec<u8>>, InputE
     Ok(files)
 }
 
-/// Whether bytes begin as types of the other byte order do.
+/// Whether bytes begin like types of the other byte order.
 fn begin_otherwise(bytes: &[u8], order: Endianness) -> bool {
     let magic: [u8; 2] = match order {
         Endianness::Little => [0xeb, 0x9f],
@@ -52,7 +52,7 @@ fn begin_otherwise(bytes: &[u8], order: Endianness) -> bool {
     bytes.starts_with(&magic)
 }
 
-/// What is wrong with the types that the file of a name holds, in its bytes.
+/// The error for types in the bytes of a file.
 fn types_fault(
     alloc: Global,
     name: &str,
@@ -68,11 +68,11 @@ fn types_fault(
     }
 }
 
-/// The types of a kernel that the file of a name holds, in its bytes.
+/// A kernel's types, parsed from the bytes of the file with a name.
 ///
 /// # Errors
 ///
-/// `Types` or `TypesOrder`, with what is wrong, and `OutOfMemory`.
+/// `Types` or `TypesOrder`, with the fault, and `OutOfMemory`.
 pub fn kernel_table<'t>(
     alloc: Global,
     name: &str,
@@ -86,15 +86,15 @@ pub fn kernel_table<'t>(
     }
 }
 
-/// No more tables of types are taken.
+/// The maximum number of tables of types.
 const MAX_TABLES: usize = 0x1_0000_0000;
 
-/// The types of a kernel that files of these names hold, in their bytes.
+/// A kernel's types, parsed from the bytes of the files with these names.
 ///
 /// # Errors
 ///
-/// `Types` or `TypesOrder` at the first that can't be parsed, `TooManyTypes` where there are more than 2^32 files,
-/// and `OutOfMemory`.
+/// `Types` or `TypesOrder` at the first that can't be parsed, `TooManyTypes` where there are more
+/// than 2^32 files, and `OutOfMemory`.
 pub fn kernel_tables<'t>(
     alloc: Global,
     names: &[&str],
@@ -113,7 +113,7 @@ pub fn kernel_tables<'t>(
     Ok(tables)
 }
 
-/// The reader of the file of a name.
+/// The reader of the file with a name.
 ///
 /// # Errors
 ///

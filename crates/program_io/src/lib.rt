@@ -1,4 +1,4 @@
-//! What a program reads and writes: its words, the files that these name, and its output.
+//! What a program reads and writes: its arguments, the files that these name, and its output.
 #![tactic(auto)]
 
 mod error;

@@ -3,14 +3,14 @@
 use std::io::Write;
 use std::{fmt, io};
 
-/// That something can't be written, and why where it is known.
+/// Something can't be written, with the reason where it is known.
 #[derive(Clone, Copy, Debug)]
 pub struct Unwritten {
     error: Option<io::Error>,
 }
 
 impl Unwritten {
-    /// That something can't be written for this reason.
+    /// Something can't be written for this reason.
     pub fn because(error: io::Error) -> Unwritten {
         Unwritten { error: Some(error) }
     }
@@ -45,7 +45,7 @@ impl<W: Write> Kept<W> {
         Kept { inner, error: None }
     }
 
-    /// That something can't be written, for the reason why a call failed, of several the last one.
+    /// Something can't be written, for the reason of the last call that failed.
     pub fn unwritten(&self) -> Unwritten {
         Unwritten { error: self.error }
     }

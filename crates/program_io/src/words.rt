@@ -1,9 +1,9 @@
-//! The words of a line.
+//! The command-line arguments.
 
 use crate::error::InputError;
 use std::{env, io};
 
-/// Why the words of a line can't be had.
+/// Why the arguments can't be read.
 fn words_error(error: io::Error) -> InputError {
     match error.kind() {
         io::ErrorKind::OutOfMemory => InputError::OutOfMemory,
@@ -11,11 +11,11 @@ fn words_error(error: io::Error) -> InputError {
     }
 }
 
-/// The words that the program is called with, its name first.
+/// The command-line arguments of the program, its name first.
 ///
 /// # Errors
 ///
-/// `WordNotText` where a word isn't UTF-8, and `OutOfMemory`.
+/// `WordNotText` where an argument isn't UTF-8, and `OutOfMemory`.
 pub fn words_of(rt: &HostRuntime) -> Result<Vec<String>, InputError> {
     let given = match env::args(rt) {
         Ok(given) => given,

@@ -15,11 +15,11 @@ use btf_tables::Btf;
 pub enum Presence {
     Found,
     Missing,
-    /// The kernel's types have no enum in which it would stand.
+    /// The kernel's types lack the enum that would have it.
     Unknown,
 }
 
-/// The id of the kernel's enum of a name: the first of 32 bits, or where there is none the first
+/// The id of the kernel's enum with a name: the first of 32 bits, or where there is none the first
 /// of 64.
 pub(crate) fn enum_of(kernel: &Btf<'_>, enum_name: &str) -> Option<u32>
     ensures { result ≡ enum_of kernel.now enum_name.now }
@@ -30,8 +30,8 @@ pub(crate) fn enum_of(kernel: &Btf<'_>, enum_name: &str) -> Option<u32>
     }
 }
 
-/// Whether a variant's name begins with two underscores: it marks the end of its enum, as
-/// `__BPF_FUNC_MAX_ID`, and its value is no number that the kernel has.
+/// Whether a variant's name begins with two underscores. Such a variant marks the end of its enum,
+/// like `__BPF_FUNC_MAX_ID`, and its value isn't a number that the kernel has.
 pub(crate) fn ends_enum(kernel: &Btf<'_>, name_offset: u32) -> bool
     ensures { result ≡ ends_enum kernel.now name_offset }
 {
@@ -59,7 +59,7 @@ fn has_number(kernel: &Btf<'_>, name_offset: u32, value: u64, number: u64) -> bo
     value == number && !ends_enum(kernel, name_offset)
 }
 
-/// The name's offset of the first variant of 32 bits that has this number.
+/// The offset of the name of the first variant of 32 bits with this number.
 fn variant_32(kernel: &Btf<'_>, t: &TypeRef<'_>, number: u64) -> Option<u32>
     ensures { result ≡ variant_32 kernel.now t.now number }
 {
@@ -74,7 +74,7 @@ fn variant_32(kernel: &Btf<'_>, t: &TypeRef<'_>, number: u64) -> Option<u32>
     None
 }
 
-/// The name's offset of the first variant of 64 bits that has this number.
+/// The offset of the name of the first variant of 64 bits with this number.
 fn variant_64(kernel: &Btf<'_>, t: &TypeRef<'_>, number: u64) -> Option<u32>
     ensures { result ≡ variant_64 kernel.now t.now number }
 {
@@ -87,7 +87,7 @@ fn variant_64(kernel: &Btf<'_>, t: &TypeRef<'_>, number: u64) -> Option<u32>
     None
 }
 
-/// The name's offset of the first variant of an enum that has this number.
+/// The offset of the name of the first variant of an enum with this number.
 fn name_at_number(kernel: &Btf<'_>, id: u32, number: u64) -> Option<u32>
     ensures { result ≡ name_at_number kernel.now id number }
 {
@@ -100,7 +100,7 @@ fn name_at_number(kernel: &Btf<'_>, id: u32, number: u64) -> Option<u32>
     }
 }
 
-/// Whether the enum of an id has a number.
+/// Whether the enum with an id has a number.
 fn presence_at(kernel: &Btf<'_>, id: Option<u32>, number: u64) -> Presence
     ensures { result ≡ presence_at kernel.now id number }
 {
@@ -113,13 +113,13 @@ fn presence_at(kernel: &Btf<'_>, id: Option<u32>, number: u64) -> Presence
     }
 }
 
-/// Whether the kernel's enum of a name has a variant of this value: `Unknown` where the kernel has no
-/// enum of the name. Its enum is the first `BTF_KIND_ENUM` of the name, or where there is none the
-/// first `BTF_KIND_ENUM64`. Values are compared as numbers of 64 bits, signed ones as their bits. A
-/// variant whose name begins with `__`, as `__BPF_FUNC_MAX_ID`, marks the end of its enum: its value
-/// is the first number that the kernel lacks, and it doesn't count.
+/// Whether the kernel's enum with a name has a variant of this value; `Unknown` where the kernel
+/// has no such enum. The enum is the first `BTF_KIND_ENUM` with the name, or where there is none
+/// the first `BTF_KIND_ENUM64`. Values are compared as numbers of 64 bits, signed ones as their
+/// bits. A variant whose name begins with `__`, like `__BPF_FUNC_MAX_ID`, marks the end of its
+/// enum: its value is the first number that the kernel lacks, and it doesn't count.
 ///
-/// Takes no memory, and goes over the kernel's types.
+/// Takes no memory, and searches the kernel's types.
 pub fn presence_in(kernel: &Btf<'_>, enum_name: &str, number: u64) -> Presence
     ensures { result ≡ presence_in kernel.now enum_name.now number }
 {
@@ -133,16 +133,16 @@ pub(crate) fn func_ids(kernel: &Btf<'_>) -> Option<u32>
     enum_of(kernel, "bpf_func_id")
 }
 
-/// Whether a kernel has maps of a type, a number of `enum bpf_map_type`. Takes no memory.
+/// Whether a kernel has maps of a type. `map_type` is a number of `enum bpf_map_type`. Takes no
+/// memory.
 pub fn map_presence(kernel: &Btf<'_>, map_type: u32) -> Presence
     ensures { result ≡ map_presence kernel.now map_type }
 {
     presence_in(kernel, "bpf_map_type", u64::from(map_type))
 }
 
-/// The kernel's name of a helper, as `BPF_FUNC_map_lookup_elem`: that of the first variant of
-/// `enum bpf_func_id` that has this number, where there is one and its name can be read. Takes no
-/// memory.
+/// The kernel's name of a helper, like `BPF_FUNC_map_lookup_elem`: that of the first variant of
+/// `enum bpf_func_id` with this number, if there is one and its name can be read. Takes no memory.
 pub fn helper_name<'k>(kernel: &'k Btf<'_>, helper: i32) -> Option<&'k str>
     ensures { option_copied result ≡ helper_name kernel.now helper }
 {

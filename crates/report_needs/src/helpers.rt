@@ -26,9 +26,9 @@ fn numbers_called(alloc: Global, slots: &Slots<'_>) -> Result<Vec<i32>, AllocErr
     Ok(numbers)
 }
 
-/// The helpers that slots call, numbers of `enum bpf_func_id`: the immediates of the slots of code
-/// 0x85 with source register 0, each once, in rising order. A negative immediate, which no helper
-/// has, stands for itself.
+/// The helpers that slots call, as numbers of `enum bpf_func_id`: the immediates of the slots of
+/// code 0x85 with source register 0, each once, in rising order. A negative immediate, which no
+/// helper has, is listed as it is.
 ///
 /// # Errors
 ///

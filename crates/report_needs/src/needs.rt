@@ -75,7 +75,7 @@ fn attach_presence(kernel: &Btf<'_>, kind: &ProgramSection) -> Option<Presence>
     Some(presence_in(kernel, "bpf_attach_type", u64::from(number)))
 }
 
-/// Whether the kernel has a helper, by the numbers of its enum of helpers, if that is there.
+/// Whether the kernel has a helper, given the numbers of its enum of helpers, if it has that enum.
 fn told_need(is_there: bool, known: &BTreeSet<u64>, number: i32) -> HelperNeed
     ensures { result ≡ told_need is_there known.now number }
 {
@@ -131,9 +131,9 @@ fn called_needs(
 }
 
 /// What a kernel must have for a program of a kind with these slots, and whether it has it: what
-/// the program is attached to by the name of its section, its type and attach type, and the
-/// helpers that it calls. The kernel's types are gone over at most twice for each of these four, and
-/// each helper is looked up in a set.
+/// the program is attached to by the name of its section, its type and attach type, and the helpers
+/// that it calls. The kernel's types are searched at most twice for each of these four, and each
+/// helper is looked up in a set.
 ///
 /// # Errors
 ///

@@ -1,4 +1,4 @@
-//! The numbers of one of the kernel's enums, in a set: many are looked for in one.
+//! The numbers of one of the kernel's enums, as a set in which many are looked up.
 
 ghost use Rattle.std.specs.Prelude.{◌≡◌, is_some, IfOk, OnOk};
 ghost use Rattle.report_needs.specs.Enums.{has_number, variant_32, variant_64};
@@ -56,7 +56,7 @@ fn add_64(kernel: &Btf<'_>, t: &TypeRef<'_>, numbers: &mut BTreeSet<u64>) -> Res
     Ok(())
 }
 
-/// The numbers of the enum of an id.
+/// The numbers of the enum with an id.
 pub(crate) fn numbers_at(
     alloc: Global,
     kernel: &Btf<'_>,
@@ -76,7 +76,7 @@ pub(crate) fn numbers_at(
     Ok(numbers)
 }
 
-/// Whether an enum, if it is there, has a number among its own.
+/// Whether an enum, if the kernel has it, has a number among its own.
 pub(crate) fn known_presence(is_there: bool, numbers: &BTreeSet<u64>, number: u64) -> Presence
     ensures { result ≡ known_presence is_there numbers.now number }
 {

@@ -7,7 +7,7 @@ use btf_encoding::TypeRef;
 use btf_records::BtfKind;
 use btf_tables::Btf;
 
-/// Whether a text is two texts together.
+/// Whether a text is the concatenation of two texts.
 fn is_joined(text: &str, prefix: &str, name: &str) -> bool
     ensures { result ≡ bytes_eq text.now (prefix.now ++ name.now) }
 {
@@ -17,7 +17,7 @@ fn is_joined(text: &str, prefix: &str, name: &str) -> bool
     }
 }
 
-/// Whether a record is of a kind, and its name is the two texts together or can't be read.
+/// Whether a record is of a kind, and its name is the concatenation of two texts or can't be read.
 fn may_be(kernel: &Btf<'_>, kind: BtfKind, prefix: &str, name: &str, t: &TypeRef<'_>) -> bool
     ensures { result ≡ may_be kernel.now kind (prefix.now ++ name.now) t.now }
 {
@@ -44,7 +44,7 @@ fn first_of(kernel: &Btf<'_>, kind: BtfKind, prefix: &str, name: &str) -> Option
     None
 }
 
-/// Whether the name of the record of an id can be read.
+/// Whether the name of the record with an id can be read.
 fn is_readable(kernel: &Btf<'_>, id: u32) -> bool
     ensures { result ≡ is_readable kernel.now id }
 {
@@ -54,8 +54,8 @@ fn is_readable(kernel: &Btf<'_>, id: u32) -> bool
     }
 }
 
-/// The id of the kernel's first record of a kind whose name is two texts together; none where the
-/// name of an earlier record of the kind can't be read.
+/// The id of the kernel's first record of a kind whose name is the concatenation of two texts; none
+/// where the name of an earlier record of the kind can't be read.
 pub(crate) fn first_named(kernel: &Btf<'_>, kind: BtfKind, prefix: &str, name: &str) -> Option<u32>
     ensures { result ≡ first_named kernel.now kind (prefix.now ++ name.now) }
 {

@@ -1,4 +1,4 @@
-//! What programs are attached to by their sections.
+//! The targets that programs are attached to, by their sections.
 
 ghost use Rattle.std.specs.Prelude.{◌≡◌, ◌++◌, MatchOption};
 ghost use Rattle.std.specs.Option.{option_copied, option_map};
@@ -12,8 +12,8 @@ use btf_tables::Btf;
 use program_kinds::ProgramSection;
 use std::marker::Model;
 
-/// What a program is attached to: the kernel's record of a kind whose name is a prefix and the name
-/// in the program's section, together.
+/// What a program is attached to: the kernel's record of a kind whose name is the concatenation of
+/// a prefix and the name in the program's section.
 #[derive(Debug, Drop)]
 pub struct AttachTarget<'s> {
     prefix: &'static str,
@@ -52,7 +52,7 @@ impl<'s> AttachTarget<'s> {
     }
 }
 
-/// The prefix and the kind of record of what a kind of programs is attached to.
+/// The prefix and the kind of the record that programs of a kind are attached to.
 fn target_form(kind: &ProgramSection) -> Option<(&'static str, BtfKind)>
     ensures { option_map (λ form. (form.0.now, form.1)) result ≡ target_form kind.now }
 {
@@ -77,9 +77,9 @@ fn name_in(section: &str) -> Option<&str>
     }
 }
 
-/// What a program of a kind is attached to by the name of its section: the kernel's record that
-/// its id is taken of for `attach_btf_id` (libbpf's `libbpf_find_vmlinux_btf_id`). None for kinds
-/// that aren't attached by a name, and for a section without one after its first `/`.
+/// What a program of a kind is attached to by the name of its section: the kernel's record whose id
+/// becomes `attach_btf_id` (libbpf's `libbpf_find_vmlinux_btf_id`). None for kinds that aren't
+/// attached by a name, and for a section without a name after its first `/`.
 pub fn attach_target<'s>(kind: &ProgramSection, section: &'s str) -> Option<AttachTarget<'s>>
     ensures { result ≡ attach_target kind.now section.now }
 {
@@ -90,7 +90,7 @@ pub fn attach_target<'s>(kind: &ProgramSection, section: &'s str) -> Option<Atta
 
 /// The id of the kernel's record that a program is attached to, the first of its kind and name;
 /// none where the kernel has no such record, or where the name of an earlier record of the kind
-/// can't be read. Takes no memory; goes over the kernel's types.
+/// can't be read. Takes no memory, and searches the kernel's types.
 pub fn find_target(kernel: &Btf<'_>, target: &AttachTarget<'_>) -> Option<u32>
     ensures value { result ≡ find_target kernel.now target.now }
     ensures first { MatchOption result

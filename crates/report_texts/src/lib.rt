@@ -1,4 +1,4 @@
-//! What becomes of an object on kernels, as lines that tools read and as a table for a person.
+//! Reports about an object on kernels, as lines for tools and as a table for a person.
 #![tactic(auto)]
 
 mod lines;

@@ -15,7 +15,7 @@ fn name_word(name: Option<&str>) -> Text<'_> {
     }
 }
 
-/// How the lines on type relocations begin.
+/// The beginnings of the lines on type relocations.
 fn relocation_beginnings(
     alloc: Global,
     rows: &[RelocationRow<'_>],
@@ -33,7 +33,7 @@ fn relocation_beginnings(
     Ok(beginnings)
 }
 
-/// How the lines on externs begin.
+/// The beginnings of the lines on externs.
 fn extern_beginnings(alloc: Global, rows: &[ExternRow<'_>]) -> Result<Vec<String>, AllocError> {
     let mut beginnings = Vec::new(alloc);
     for row in rows {
@@ -45,7 +45,7 @@ fn extern_beginnings(alloc: Global, rows: &[ExternRow<'_>]) -> Result<Vec<String
     Ok(beginnings)
 }
 
-/// How lines begin, which is the same for each kernel.
+/// The beginnings of lines, which are the same for each kernel.
 #[derive(Drop)]
 struct Beginnings {
     relocations: Vec<String>,
@@ -107,7 +107,7 @@ fn push_report(
     push_externs(text, &beginnings.externs, &report.externs)
 }
 
-/// The reports on several kernels as lines that tools read, kernel by kernel.
+/// The reports on several kernels as lines for tools, kernel by kernel.
 pub fn lines_text(
     alloc: Global,
     rows: &Rows<'_>,

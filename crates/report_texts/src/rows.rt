@@ -1,4 +1,4 @@
-//! What is reported on, by name.
+//! The names of what a report is about.
 
 use btf_records::BtfKind;
 use btf_tables::Btf;
@@ -16,10 +16,10 @@ pub struct RelocationRow<'o> {
     pub section: Option<&'o str>,
     /// The name of the function that holds its instruction, if there is one.
     pub function: Option<&'o str>,
-    /// The instruction, by slots from the function's beginning, or from the section's where no
-    /// function holds it.
+    /// The index of the instruction, in slots from the function's beginning, or from the section's
+    /// beginning where no function holds it.
     pub instruction: u64,
-    /// What it asks for, in words.
+    /// What it asks for, as text.
     pub asked: String,
 }
 
@@ -42,14 +42,14 @@ pub struct ExternRow<'o> {
     pub is_weak: bool,
 }
 
-/// What is reported on, by name.
+/// The names of what a report is about.
 #[derive(Debug, Drop)]
 pub struct Rows<'o> {
     pub relocations: Vec<RelocationRow<'o>>,
     pub externs: Vec<ExternRow<'o>>,
 }
 
-/// What a relocation asks for, in words; of a number that stands for no kind it has the number.
+/// What a relocation asks for, as text; where its number stands for no kind, the number.
 fn asked_text(alloc: Global, local: &Btf<'_>, at: &RelocationAt) -> Result<String, AllocError> {
     let asked = at.asked;
     match RelocationKind::try_from(asked.kind) {
@@ -64,7 +64,7 @@ fn function_name<'r>(functions: &'r Functions<'_>, at: &RelocationAt) -> Option<
     Some(function.name)
 }
 
-/// The slot at which a relocation stands.
+/// The index of a relocation's slot.
 fn slot_number(at: &RelocationAt) -> u64 {
     match at.place {
         Some(place) => place.index as u64,
@@ -102,7 +102,7 @@ fn relocation_rows<'r>(
     Ok(rows)
 }
 
-/// What a record of a kind declares.
+/// What a record of a kind declares: a function or a variable.
 fn declared_kind(kind: BtfKind) -> ExternKind {
     match kind {
         BtfKind::Func => ExternKind::Function,
@@ -110,7 +110,7 @@ fn declared_kind(kind: BtfKind) -> ExternKind {
     }
 }
 
-/// What an extern is, by the object's table, which declares it.
+/// What an extern is, by its declaration in the object's table.
 fn extern_kind(table: Option<&Btf<'_>>, desc: &ExternDesc<'_>) -> ExternKind {
     if desc.type_id.is_none() {
         return ExternKind::Symbol;
@@ -140,7 +140,8 @@ fn extern_rows<'r>(
     Ok(rows)
 }
 
-/// The names of what is reported on of an object, by its functions, its externs and its own types.
+/// The names of what a report on an object is about, by its functions, its externs and its own
+/// types.
 pub fn rows_of<'r>(
     alloc: Global,
     functions: &'r Functions<'_>,

@@ -6,19 +6,19 @@ use kernel_reports::{Presence, RelocationAnswer};
 use quoting::{QuotedText, Text};
 use std::alloc::{AllocError, Global};
 
-/// What is reported of the kernel of a file: a column of the table.
+/// The report on the kernel of a file: a column of the table.
 #[derive(Debug, Drop)]
 pub struct Column<'f> {
     pub file: &'f str,
-    /// What the object's type relocations come to, one by one.
+    /// The results of the object's type relocations, one by one.
     pub relocations: Vec<RelocationAnswer>,
-    /// Whether its externs are there, by name.
+    /// Whether the kernel has its externs, by name.
     pub externs: Vec<Presence>,
-    /// What is told where the object gets no plan.
+    /// The message where the object gets no plan.
     pub refusal: Option<String>,
 }
 
-/// What a table says: the beginnings of its lines, and its cells, column by column.
+/// The content of a table: the beginnings of its lines, and its cells, column by column.
 #[derive(Drop)]
 struct Table {
     labels: Vec<String>,
@@ -73,7 +73,7 @@ fn table_of(alloc: Global, rows: &Rows<'_>, columns: &[Column<'_>]) -> Result<Ta
     Ok(table)
 }
 
-/// How many bytes the longest text has; this number where all are shorter.
+/// The length of the longest text in bytes, but at least `least`.
 fn width_of(texts: &[String], least: usize) -> usize {
     let mut width = least;
     for text in texts {
@@ -101,7 +101,7 @@ fn push_padded(text: &mut String, cell: &str, width: usize) -> Result<(), AllocE
     Ok(())
 }
 
-/// The cell of a line, empty where there is none.
+/// The cell in a line, empty where there is none.
 fn cell_at(cells: &[String], line: usize) -> &str {
     match cells.get(line) {
         Some(cell) => cell.as_str(),
@@ -109,7 +109,7 @@ fn cell_at(cells: &[String], line: usize) -> &str {
     }
 }
 
-/// Whether the cells of a line differ.
+/// Whether the cells in a line differ.
 fn differs(columns: &[Vec<String>], line: usize) -> bool {
     let Some(first) = columns.first() else {
         return false;
@@ -146,7 +146,7 @@ fn push_head(
     end_line(text, &line)
 }
 
-/// Appends a line of the table; a star stands before it where its cells differ.
+/// Appends a line of the table; it begins with a star where its cells differ.
 fn push_line(
     alloc: Global,
     text: &mut String,
@@ -169,7 +169,7 @@ fn push_line(
     end_line(text, &line)
 }
 
-/// Appends which kernels the columns are of.
+/// Appends the names of the columns' kernels.
 fn push_legend(text: &mut String, columns: &[Column<'_>]) -> Result<(), AllocError> {
     for (number, column) in columns.iter().enumerate() {
         let number = number.saturating_add(1);

@@ -1,4 +1,4 @@
-//! What is said of a relocation and of an extern, in words.
+//! Texts on relocations and externs.
 
 use crate::rows::ExternKind;
 use ebpf_items::bpf_insn;
@@ -29,7 +29,7 @@ fn manner_of(slot: bpf_insn) -> Manner {
     }
 }
 
-/// What a relocation comes to, as far as words go.
+/// The result of a relocation, as far as its text goes.
 #[derive(Clone, Copy)]
 pub(crate) enum Said<'a> {
     Value { value: u64, manner: Manner },
@@ -67,7 +67,7 @@ fn unwritten_reason(fault: WriteFault) -> &'static str {
     }
 }
 
-/// Why a relocation comes to nothing.
+/// Why a relocation can't be resolved.
 #[derive(Clone, Copy)]
 pub(crate) struct FaultText<'a>(pub(crate) &'a TypeRelocationError);
 

@@ -24,7 +24,7 @@ pub(crate) fn number_of(value: &Value) -> Option<u32>
     Some(number as u32)
 }
 
-/// Sets the numbers of the maps of a table; answers whether each member is one.
+/// Sets the numbers of the maps of a table. Returns whether each member is one.
 fn set_numbers(settings: &mut Settings, table: &Table) -> Result<bool, AllocError>
     ensures value { IfOk result (λ is_set.
         with_numbers settings.old.maps (table_view table.now)
@@ -41,7 +41,7 @@ fn set_numbers(settings: &mut Settings, table: &Table) -> Result<bool, AllocErro
     Ok(true)
 }
 
-/// Which features are granted with the answers of a table, if each member is one.
+/// The granted features with the answers of a table, if each member is an answer.
 fn with_features(granted: GrantedFeatures, table: &Table) -> Option<GrantedFeatures>
     ensures { result ≡ with_features granted (table_view table.now) }
 {
@@ -55,7 +55,7 @@ fn with_features(granted: GrantedFeatures, table: &Table) -> Option<GrantedFeatu
 }
 
 impl RunSettings {
-    /// Takes a member of a document's table; answers whether it is one.
+    /// Takes a member of a document's table. Returns whether it is a valid one.
     fn set_member(&mut self, alloc: Global, key: &str, value: &Value) -> Result<bool, AllocError>
         ensures { IfOk result (λ is_set.
             with_member self.old key.now (view value.now)
@@ -93,7 +93,7 @@ impl RunSettings {
         Ok(false)
     }
 
-    /// Takes the members of a document's table; answers whether each is one.
+    /// Takes the members of a document's table. Returns whether each is a valid one.
     fn set_members(&mut self, alloc: Global, table: &Table) -> Result<bool, AllocError>
         ensures { IfOk result (λ is_set.
             with_members self.old (table_view table.now)
@@ -108,15 +108,16 @@ impl RunSettings {
         Ok(true)
     }
 
-    /// The settings of a TOML document: under `maps` the number of each map, under `globals` for
-    /// each variable its bytes as hexadecimal digits (`value`) and whether the object must have it
-    /// (`required`, false where it is left out), under `features` whether the kernel grants each,
-    /// yes where it is left out, and `probe`, whether it has the newer helpers that read memory,
-    /// true where it is left out.
+    /// The settings of a TOML document. `maps` has the number of each map. `globals` has for each
+    /// variable its bytes as hexadecimal digits (`value`) and whether the object must have it
+    /// (`required`, false by default). `features` has for each feature whether the kernel grants it
+    /// (yes by default). `probe` says whether the kernel has the newer helpers that read memory
+    /// (true by default).
     ///
     /// # Errors
     ///
-    /// `Invalid` where the text is no TOML document, or its table is another; and `OutOfMemory`.
+    /// `Invalid` where the text isn't a TOML document, or its table has another form; and
+    /// `OutOfMemory`.
     pub fn from_toml(alloc: Global, text: &str) -> Result<RunSettings, SettingsError>
         ensures value { IfOk result (λ s. settings_of text.now ≡ Some s) }
         ensures invalid { result ≡ Err Invalid → settings_of text.now ≡ None }

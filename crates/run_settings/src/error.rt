@@ -9,7 +9,7 @@ use thiserror::Error;
 /// Why a text has no settings.
 #[derive(Clone, Copy, Debug, PartialEq, Eq, Error)]
 pub enum SettingsError {
-    /// It is no TOML document, or its table has another key, or a value of another shape.
+    /// It isn't a TOML document, or its table has another key, or a value of another form.
     #[error("the settings are invalid")]
     Invalid,
     #[error("out of memory")]

@@ -51,7 +51,7 @@ impl GrantedFeatures {
         }
     }
 
-    /// The same with another answer for a feature.
+    /// The same features, with another answer for one.
     pub fn with_answer(self, feature: BtfFeature, answer: bool) -> GrantedFeatures
         ensures { result ≡ with_answer self feature answer }
     {
@@ -110,7 +110,7 @@ pub fn feature_names() -> &'static [&'static str]
     NAMES.as_slice()
 }
 
-/// The feature of a name, one of [`feature_names`].
+/// The feature with a name, one of [`feature_names`].
 pub fn feature_named(name: &str) -> Option<BtfFeature>
     ensures { result ≡ feature_named name.now }
 {

@@ -43,7 +43,7 @@ fn bytes_of(alloc: Global, value: &Value) -> Result<Option<Vec<u8>>, AllocError>
 }
 
 impl GlobalParts {
-    /// Takes a member of a variable's table; answers whether it is one.
+    /// Takes a member of a variable's table. Returns whether it is a valid one.
     fn set_part(&mut self, alloc: Global, key: &str, value: &Value) -> Result<bool, AllocError>
         ensures { IfOk result (λ is_set.
             with_part self.old key.now (view value.now)
@@ -66,7 +66,7 @@ impl GlobalParts {
         Ok(false)
     }
 
-    /// Takes the members of a variable's table; answers whether each is one.
+    /// Takes the members of a variable's table. Returns whether each is a valid one.
     fn set_parts(&mut self, alloc: Global, table: &Table) -> Result<bool, AllocError>
         ensures { IfOk result (λ is_set.
             with_parts self.old (table_view table.now) ≡ (if is_set then Some self.new else None)) }
@@ -105,7 +105,7 @@ pub(crate) fn global_of(alloc: Global, value: &Value) -> Result<Option<GlobalVal
     }
 }
 
-/// Sets the values of the variables of a table; answers whether each member is one.
+/// Sets the values of the variables of a table. Returns whether each member is a valid one.
 pub(crate) fn set_globals(
     alloc: Global,
     settings: &mut Settings,

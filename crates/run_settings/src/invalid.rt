@@ -1,4 +1,4 @@
-//! Which key of a document isn't taken.
+//! The key of a document that isn't valid.
 
 use crate::document::number_of;
 use crate::features::feature_named;
@@ -6,7 +6,7 @@ use crate::globals::global_of;
 use std::alloc::{AllocError, Global};
 use toml::{Table, Value};
 
-/// Whether a member of a table of the document is taken.
+/// Whether a member of a table of the document is valid.
 fn is_taken(alloc: Global, table: &str, name: &str, value: &Value) -> Result<bool, AllocError> {
     match table {
         "maps" => Ok(number_of(value).is_some()),
@@ -16,7 +16,7 @@ fn is_taken(alloc: Global, table: &str, name: &str, value: &Value) -> Result<boo
     }
 }
 
-/// The first member of a table of the document that isn't taken, by its key.
+/// The first member of a table of the document that isn't valid, by its key.
 fn invalid_member(alloc: Global, name: &str, table: &Table) -> Result<Option<String>, AllocError> {
     for (key, value) in table.iter() {
         if !is_taken(alloc, name, key, value)? {
@@ -27,7 +27,7 @@ fn invalid_member(alloc: Global, name: &str, table: &Table) -> Result<Option<Str
 }
 
 /// The first key of a document's table, in order of the keys' bytes, that settings don't have, or
-/// that has a value of another kind: `maps.counter`, say. `None` where each is taken.
+/// that has a value of another kind: `maps.counter`, say. `None` where all are valid.
 pub fn invalid_key(alloc: Global, table: &Table) -> Result<Option<String>, AllocError> {
     for (key, value) in table.iter() {
         let found = match (key.as_str(), value.as_table()) {

@@ -26,7 +26,7 @@ impl Model for RunSettings {
 }
 
 impl RunSettings {
-    /// Nothing is set: all features are granted, and the newer helpers are there.
+    /// The default settings: all features are granted, and the kernel has the newer helpers.
     pub fn new(alloc: Global) -> RunSettings
         ensures { result ≡ nothing_set }
     {

@@ -4,12 +4,12 @@ use elf64::{ElfError, ElfFile, SectionView};
 use std::process::Abort;
 use test_object_samples::{ONE_PROGRAM, with_bytes};
 
-/// A file that is whole.
+/// A valid file.
 fn opened<'a>(rt: &impl Abort, bytes: &'a [u8]) -> ElfFile<'a> {
     ElfFile::parse(bytes).ok().expect(rt, "an ELF file")
 }
 
-/// Names, and the index, the length and whether it is code of the section that has them.
+/// Names, each with the index and the length of the section with that name, and whether it is code.
 static NAMED: [(&str, Option<(usize, usize, bool)>); 5] = [
     ("license", Some((1, 4, false))),
     ("kprobe", Some((2, 0, false))),
@@ -29,7 +29,7 @@ fn section_named(file: &ElfFile<'_>, name: &str) -> Option<(usize, usize, bool)>
 
 #[test]
 fn sections_by_name(rt: HostRuntime) {
-    // The string table is called `kprobe` too, the program is `SHT_NOBITS`, and the symbol table's
+    // The string table is also called `kprobe`, the program is `SHT_NOBITS`, and the symbol table's
     // name goes past the end of the names.
     let bytes = with_bytes(
         &ONE_PROGRAM,
@@ -41,7 +41,7 @@ fn sections_by_name(rt: HostRuntime) {
     }
 }
 
-/// Only the section of the program has neither a name nor bytes.
+/// Checks that only the section of the program has neither a name nor bytes.
 fn check_is_readable(rt: &impl Abort, section: &SectionView<'_>) {
     let is_program = section.index() == 2;
     assert!(rt; (section.name() == Err(ElfError::Name)) == is_program);

@@ -19,7 +19,7 @@ const SLOTS: [([u8; 8], (u8, i16, i32, u8, u8)); 3] = [
     ([0x61, 0x10, 0xff, 0x7f, 0, 0, 0, 0], (0x61, 32767, 0, 0, 1)),
 ];
 
-// What a slot's code, offset, immediate, destination and source are.
+// The code, the offset, the immediate, the destination and the source of a slot.
 fn numbers(slot: &bpf_insn) -> (u8, i16, i32, u8, u8) {
     (
         slot.code,
@@ -35,7 +35,7 @@ fn check_slot(rt: &impl Abort, bytes: [u8; 8], expected: (u8, i16, i32, u8, u8))
     assert!(rt; numbers(&slot) == expected);
     assert!(rt; slot.to_bytes() == bytes);
     assert!(rt; slot.is_pseudo_call() == (bytes == CALL));
-    // Of a register's number the low four bits count.
+    // Only the low four bits of a register's number count.
     slot.set_dst_reg(0xff);
     slot.set_src_reg(0x12);
     assert!(rt; slot.to_bytes()[1] == 0x2f);
@@ -57,7 +57,7 @@ fn immediate(slots: &Slots<'_>, index: usize) -> Option<i32> {
     Some(slots.get(index)?.imm)
 }
 
-// Whether the slots stand in the file, how many there are, and the first two immediates.
+// Whether the slots are borrowed from the file, their number, and the first two immediates.
 fn seen(slots: &Slots<'_>) -> (bool, usize, Option<i32>, Option<i32>) {
     (
         slots.is_borrowed(),
@@ -96,7 +96,7 @@ fn copies_have_slots_of_their_own(rt: HostRuntime) {
     assert!(rt; seen(&again) == (false, 3, Some(4), Some(-1)));
 }
 
-// Whether a list of slots is made of bytes, which it isn't of a cut slot.
+// Whether bytes are a list of slots; a cut slot isn't one.
 fn is_code(alloc: Global, bytes: &[u8]) -> bool {
     !matches!(
         copy_instructions(alloc, bytes),
@@ -136,7 +136,7 @@ fn numbers_kinds(rt: HostRuntime) {
     assert!(rt; PinningType::try_from(2).ok() == None);
 }
 
-// What the kernel tells of a map, with ids of the types of its keys and values.
+// The kernel's description of a map, with the ids of the types of its keys and values.
 fn told(key: u32, value: u32) -> bpf_map_info {
     bpf_map_info {
         type_: 1,
@@ -197,7 +197,7 @@ fn reads_what_the_kernel_tells_of_a_map_with_types(rt: HostRuntime) {
     assert!(rt; place(&map) == (PinningType::ByName, 0, kind, Some(0)));
 }
 
-// Keeps the first bytes of a map, `count` of them.
+// Keeps the first `count` bytes of a map.
 fn shorten(map: &mut Map, count: usize)
     ensures { map_view map.new
         ≡ record (map_view map.old) { contents = take count (map_view map.old).contents } }
@@ -223,7 +223,7 @@ fn map_of_types(alloc: Global) -> Map {
     Map::Btf(BtfMap::new(alloc, words, Some(words), 3, 1))
 }
 
-// A map is changed, and a copy of it stays as it is.
+// Changes a map, and checks that a copy of it is unchanged.
 fn check_changes(rt: &impl Abort, map: &mut Map) {
     let copy = map.try_clone().expect(rt, "memory");
     map.set_value_size(24);
@@ -234,7 +234,7 @@ fn check_changes(rt: &impl Abort, map: &mut Map) {
     check_outer(rt, &copy);
 }
 
-// A map is as it was made, and so is the one that it holds.
+// Checks that a map is as it was made, and that the one it holds is too.
 fn check_outer(rt: &impl Abort, map: &Map) {
     assert!(rt; words(map) == (0, 0, 0, 0, 0, 0));
     assert!(rt; map.data().len() > 3);

@@ -6,7 +6,7 @@ use std::io::BufRead;
 use test_object_samples::SlowText;
 use watched::Watched;
 
-// What is known of `init_task`.
+// What is known about `init_task`.
 #[derive(Clone, Copy, Debug, PartialEq, Eq)]
 enum Answer {
     Address(Option<u64>),
@@ -37,8 +37,8 @@ fn slowly_asked(alloc: Global, text: &'static [u8], fails_at: usize) -> Answer {
     asked(alloc, &mut symbols)
 }
 
-// What the texts say, given whole and a byte a call. Words are parted by what Unicode calls white
-// space, and an address is what Rust's `from_str_radix` reads at base 16.
+// What the texts say, read whole and one byte per call. Words are separated by Unicode white space,
+// and an address is what Rust's `from_str_radix` reads in base 16.
 const TEXTS: [(&[u8], Answer); 12] = [
     (
         b"1000 D init_task\n3000 D other\n2000 D init_task\n",

@@ -1,4 +1,4 @@
-//! Names that are of no kind, and numbers at their limits.
+//! Names without a kind, and numbers at their limits.
 
 ghost use Rattle.std.specs.Prelude.{◌≡◌, Some, None, IfSome, codes, map, slice_get, true, false};
 ghost use Rattle.program_kinds.specs.ProgramSection.{plain_kinds, user_probe_kinds, sleepable_kinds, xdp_kinds, sk_skb_kinds, sk_reuseport_kinds, cgroup_skb_kinds, cgroup_kinds, kind_of_pieces};
@@ -8,7 +8,7 @@ use program_kinds::{
     bpf_prog_type,
 };
 
-// Each row of the tables gives its kind: none stands after another of its name.
+// Each row of the tables gives its kind: no row comes after another with its name.
 fn rows_give_their_kinds()
     ensures plain { map (λ row. kind_of_pieces row.0 None) plain_kinds
         ≡ map (λ row. Some row.1) plain_kinds }
@@ -31,7 +31,7 @@ fn rows_give_their_kinds()
         ≡ map (λ row. Some row.1) cgroup_kinds }
 {}
 
-// So does the row at an index.
+// The same for the row at an index.
 fn row_gives_its_kind(index: usize)
     ensures plain { IfSome (slice_get plain_kinds index) (λ row.
         kind_of_pieces row.0 None ≡ Some row.1) }
@@ -87,7 +87,7 @@ fn refuses_other_names(rt: HostRuntime) {
     }
 }
 
-// The type of a map, or the number that is none.
+// The type of a map, or the number that is no type.
 fn map_type(number: u32) -> Result<bpf_map_type, u32> {
     match bpf_map_type::try_from(number) {
         Ok(kind) => Ok(kind),
@@ -95,7 +95,7 @@ fn map_type(number: u32) -> Result<bpf_map_type, u32> {
     }
 }
 
-// The type of a program, or the number that is none.
+// The type of a program, or the number that is no type.
 fn program_type(number: u32) -> Result<bpf_prog_type, u32> {
     match bpf_prog_type::try_from(number) {
         Ok(kind) => Ok(kind),

@@ -1,4 +1,4 @@
-//! Readers and writers that fail in the midst.
+//! Readers and writers that fail in the middle.
 
 ghost use Rattle.std.specs.Prelude.{◌≤◌, IfOk};
 
@@ -7,7 +7,7 @@ use std::io::{ErrorKind, Read, Write};
 use std::process::Abort;
 use watched::Watched;
 
-// Reads and writes a byte a call, a number of times; then it fails, or answers 0.
+// Reads and writes one byte per call, a number of times; then it fails or returns 0.
 #[derive(Drop)]
 struct Scarce {
     left: usize,
@@ -47,7 +47,7 @@ impl Write for Scarce {
     }
 }
 
-// A watched reader or writer of a number of bytes.
+// A watched reader or writer of `left` bytes.
 fn watched(left: usize, fails: bool) -> Watched<Scarce> {
     Watched::new(Scarce {
         left,
@@ -56,8 +56,8 @@ fn watched(left: usize, fails: bool) -> Watched<Scarce> {
     })
 }
 
-// Bytes, whether it fails after them, and the counts that four reads answer (none for a failure);
-// then how many calls reached the reader.
+// The number of bytes, whether the reader fails after them, and the counts that four reads return
+// (none for a failure); then the number of calls that reach the reader.
 const READS: [(usize, bool, [Option<usize>; 4], usize); 2] = [
     (2, true, [Some(1), Some(1), None, None], 3),
     (2, false, [Some(1), Some(1), Some(0), Some(0)], 4),
@@ -79,8 +79,8 @@ fn keeps_a_reader_s_failure(rt: HostRuntime) {
     }
 }
 
-// Bytes, whether it fails after them, and whether five bytes are written; then how many calls
-// reached the writer.
+// The number of bytes, whether the writer fails after them, and whether five bytes are written;
+// then the number of calls that reach the writer.
 const WRITES: [(usize, bool, bool, usize); 3] = [
     (5, true, true, 5),
     (4, true, false, 5),

@@ -7,10 +7,10 @@ use std::process::Abort;
 use std::test::Fail;
 use string_table::{LongTexts, is_text_at, text_at};
 
-/// `ab`, the empty text, `é`, bytes that are no UTF-8, and a text that no NUL ends.
+/// `ab`, the empty text, `é`, bytes that aren't UTF-8, and a text without a NUL at its end.
 static STRINGS: [u8; 12] = *b"ab\0\0\xc3\xa9\0\xff\x61\0xy";
 
-/// What stands at each offset of [`STRINGS`], and after them.
+/// The text at each offset of [`STRINGS`], and past its end.
 static TEXTS: [Option<&str>; 14] = [
     Some("ab"),
     Some("b"),
@@ -28,10 +28,10 @@ static TEXTS: [Option<&str>; 14] = [
     None,
 ];
 
-/// Texts that are asked for at each offset.
+/// Texts that are compared at each offset.
 static WANTED: [&str; 6] = ["", "a", "ab", "b", "é", "ab\0"];
 
-/// Of the texts asked for it is this one, or none, that stands at an offset.
+/// Checks the text at an offset: it is `text`, and none of the other wanted texts.
 fn check_text(rt: &impl Abort, offset: u32, text: Option<&str>) {
     assert!(rt; text_at(&STRINGS, offset) == text, "at {offset}");
     for wanted in &WANTED {
@@ -53,7 +53,7 @@ fn a_text_ends_at_the_next_nul(rt: HostRuntime) {
     }
 }
 
-/// A number of bytes `a`, which no NUL ends.
+/// A number of bytes `a` without a NUL.
 fn push_bytes(strings: &mut Vec<u8>, len: usize) -> Result<(), AllocError> {
     for _ in 0..len {
         strings.push(b'a')?;
@@ -61,7 +61,7 @@ fn push_bytes(strings: &mut Vec<u8>, len: usize) -> Result<(), AllocError> {
     Ok(())
 }
 
-/// A number of bytes `a`, `é`, again as many `a` and a NUL.
+/// `half` bytes `a`, `é`, `half` bytes `a` and a NUL.
 fn push_long_text(strings: &mut Vec<u8>, half: usize) -> Result<(), AllocError> {
     push_bytes(strings, half)?;
     strings.extend_from_slice("é".as_bytes())?;
@@ -70,8 +70,8 @@ fn push_long_text(strings: &mut Vec<u8>, half: usize) -> Result<(), AllocError> 
     Ok(())
 }
 
-/// A short text, a long one, a long one after a byte that is no UTF-8, a short one after many
-/// bytes and one that is no UTF-8, a short one, and many bytes that no NUL ends.
+/// A short text, a long one, a long one after a byte that isn't UTF-8, a short one after many bytes
+/// and one that isn't UTF-8, a short one, and many bytes without a NUL.
 fn long_strings(alloc: Global) -> Result<Vec<u8>, AllocError> {
     let mut strings = Vec::from_slice(alloc, b"ab\0")?;
     push_long_text(&mut strings, 200)?;
@@ -83,7 +83,7 @@ fn long_strings(alloc: Global) -> Result<Vec<u8>, AllocError> {
     Ok(strings)
 }
 
-/// The text at an offset is the same with the long texts as without.
+/// Checks that the text at an offset is the same with the long texts as without.
 fn check_long_text(rt: &impl Abort, texts: &LongTexts, strings: &[u8], offset: u32)
     requires { AreLongTextsOf strings.now texts.now }
 {

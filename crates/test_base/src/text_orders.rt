@@ -19,7 +19,7 @@ const ENTRIES: [(&str, u32); 11] = [
     ("", 11),
 ];
 
-// Of the entries of one text the last.
+// Of several entries with one text, the last.
 const ORDERED: [(&str, u32); 8] = [
     ("", 11),
     ("a", 10),
@@ -57,7 +57,7 @@ fn no_texts(rt: HostRuntime) -> Result<(), Fail> {
     Ok(())
 }
 
-// Ends of one text rise with their lengths; these are longer than what is compared at once.
+// Suffixes of one text rise with their lengths; these are longer than what is compared at once.
 #[test]
 fn ends_of_a_long_text(rt: HostRuntime) -> Result<(), Fail> {
     let mut text = String::new(rt.alloc());
@@ -138,7 +138,7 @@ fn values_that_are_entered_by_text(rt: HostRuntime) -> Result<(), Fail> {
     Ok(())
 }
 
-// Texts of 3,000 bytes that differ only in the middle, which have one hash.
+// Texts of 3,000 bytes that differ only in the middle and have the same hash.
 fn long_text(alloc: Global, middle: char) -> Result<String, AllocError> {
     let mut text = String::new(alloc);
     for place in 0..3_000u32 {

@@ -1,4 +1,4 @@
-//! Externs by hand, and what is known of them once they were to be resolved.
+//! Externs by hand, and what is known about them after their resolution.
 
 use crate::tables::{kernel_table, object_table};
 use btf_records::BtfError;
@@ -12,8 +12,8 @@ use std::slice;
 use string_map::{TextMap, TextMapBuilder};
 use watched::Watched;
 
-/// An extern: its name, the id of what declares it, its type, whether it is weak, and the address
-/// that it was found at before.
+/// An extern: its name, the id of the type that declares it, its type, whether it is weak, and the
+/// address that was found for it before.
 pub(crate) type Declared = (&'static str, u32, Option<u32>, bool, Option<u64>);
 
 /// Whether an extern is resolved, the id of the kernel's type, and the address.
@@ -21,7 +21,7 @@ pub(crate) type Known = (bool, Option<u32>, Option<u64>);
 
 pub(crate) const UNKNOWN: Known = (false, None, None);
 
-/// A weak extern that the kernel hasn't.
+/// A weak extern that the kernel lacks.
 pub(crate) const MISSING: Known = (false, None, Some(0));
 
 /// Why externs can't be resolved.
@@ -41,7 +41,8 @@ pub(crate) enum Refusal {
     Other,
 }
 
-/// What is known of two externs, whether the reader of symbols failed, and why that is all.
+/// What is known about two externs, whether the reader of symbols failed, and why they weren't
+/// resolved.
 #[derive(Clone, Copy, PartialEq)]
 pub(crate) struct Answer {
     pub known: [Option<Known>; 2],
@@ -50,7 +51,7 @@ pub(crate) struct Answer {
 }
 
 impl Answer {
-    /// The answer where the reader didn't fail.
+    /// The answer if the reader didn't fail.
     pub(crate) fn new(known: [Known; 2], refusal: Option<Refusal>) -> Answer {
         Answer {
             known: [Some(known[0]), Some(known[1])],
@@ -60,7 +61,7 @@ impl Answer {
     }
 }
 
-/// The names that errors may say.
+/// The names that errors may contain.
 const NAMES: [&str; 10] = ["Z", "_", "a", "f", "f___x", "g", "v", "v___x", "w", "z"];
 
 /// One of the names.
@@ -120,7 +121,7 @@ fn by_name(
     by_name.build(alloc).ok()
 }
 
-/// What is known of an extern.
+/// What is known about an extern.
 fn known(externs: &Externs<'_>, declared: &Declared) -> Option<Known> {
     let desc = externs.get(declared.0)?;
     let is_same = desc.name == declared.0
@@ -133,7 +134,8 @@ fn known(externs: &Externs<'_>, declared: &Declared) -> Option<Known> {
     Some((desc.is_resolved, desc.kernel_btf_id, desc.ksym_addr))
 }
 
-/// What becomes of two externs of an object with this table by a kernel's types and symbols.
+/// The answer for two externs of an object with this table, resolved by a kernel's types and
+/// symbols.
 fn answer_of<R: BufRead>(
     alloc: Global,
     declared: &[Declared; 2],
@@ -155,7 +157,7 @@ fn answer_of<R: BufRead>(
     })
 }
 
-/// What becomes of two externs of an object with this table is what is expected.
+/// Checks the answer for two externs of an object with this table.
 pub(crate) fn check<R: BufRead + Drop>(
     rt: &impl Abort,
     alloc: Global,
@@ -175,7 +177,7 @@ pub(crate) fn check<R: BufRead + Drop>(
     );
 }
 
-/// The same for the object whose types are known, where the kernel's aren't.
+/// The same for an object with the types of the tests, without the kernel's types.
 pub(crate) fn check_without_kernel<R: BufRead + Drop>(
     rt: &impl Abort,
     alloc: Global,
@@ -187,7 +189,7 @@ pub(crate) fn check_without_kernel<R: BufRead + Drop>(
     check(rt, alloc, declared, Some(&object), &[], symbols, expected);
 }
 
-/// The same where the kernel's types are known too.
+/// The same with the kernel's types.
 pub(crate) fn check_with_kernel<R: BufRead + Drop>(
     rt: &impl Abort,
     alloc: Global,

@@ -1,4 +1,4 @@
-//! What declares externs, with and without a table of the object and the kernel's types.
+//! Declarations of externs, with and without a table of the object and the kernel's types.
 
 use crate::answers::{
     Answer, Declared, Known, MISSING, Refusal, UNKNOWN, check, check_with_kernel,
@@ -7,10 +7,10 @@ use crate::answers::{
 use crate::tables::{FUNCTION, INTEGER, NOTHING, POINTER, SIGNATURE, VARIABLE, kernel_table};
 use std::{io, slice};
 
-/// Two externs by name, what is then known of them, and why that is all.
+/// Two externs by name, what is then known about them, and why they weren't resolved.
 type Case = (&'static [Declared; 2], [Known; 2], Option<Refusal>);
 
-// An extern that is resolved without being looked for.
+// An extern that is resolved without a search.
 const WEAK: Declared = ("z", NOTHING, None, true, Some(7));
 
 const RESOLVED: Known = (true, None, Some(7));
@@ -25,7 +25,7 @@ static WITH_KERNEL_TYPES: [Case; 15] = [
         [(true, Some(3), None), RESOLVED],
         None,
     ),
-    // A function of a flavour.
+    // A function with a 'flavour'.
     (
         &[("f___x", FUNCTION, Some(SIGNATURE), STRONG, None), WEAK],
         [(true, Some(3), None), RESOLVED],
@@ -36,7 +36,7 @@ static WITH_KERNEL_TYPES: [Case; 15] = [
         [(true, Some(6), None), RESOLVED],
         None,
     ),
-    // A variable's name isn't cut.
+    // A 'flavour' isn't cut off a variable's name.
     (
         &[("v___x", VARIABLE, Some(INTEGER), STRONG, None), WEAK],
         [UNKNOWN, RESOLVED],
@@ -47,7 +47,7 @@ static WITH_KERNEL_TYPES: [Case; 15] = [
         [MISSING, RESOLVED],
         None,
     ),
-    // A function isn't looked for among the variables, nor a variable among the functions.
+    // A function isn't searched among the variables, nor a variable among the functions.
     (
         &[("v", FUNCTION, Some(SIGNATURE), STRONG, None), WEAK],
         [UNKNOWN, RESOLVED],
@@ -58,7 +58,7 @@ static WITH_KERNEL_TYPES: [Case; 15] = [
         [UNKNOWN, RESOLVED],
         Some(Refusal::NoVariable("f")),
     ),
-    // The extern's type counts, and not what declares it.
+    // The extern's type counts, not the type that declares it.
     (
         &[("f", FUNCTION, Some(INTEGER), STRONG, None), WEAK],
         [UNKNOWN, RESOLVED],
@@ -69,8 +69,8 @@ static WITH_KERNEL_TYPES: [Case; 15] = [
         [(true, Some(8), None), RESOLVED],
         None,
     ),
-    // What declares an extern with a type must be there and be one of the two, be the extern weak
-    // or not.
+    // The type that declares an extern with a type must exist and be a function or a variable, also
+    // where the extern is weak.
     (
         &[("f", INTEGER, Some(INTEGER), STRONG, None), WEAK],
         [UNKNOWN, RESOLVED],
@@ -96,7 +96,7 @@ static WITH_KERNEL_TYPES: [Case; 15] = [
         [UNKNOWN, RESOLVED],
         Some(Refusal::NoType(NOTHING)),
     ),
-    // An extern without a type needs none, and is looked for by its name.
+    // An extern without a type needs no declaration, and is searched by its name.
     (
         &[("f", NOTHING, None, MAY_MISS, None), WEAK],
         [MISSING, RESOLVED],
@@ -120,7 +120,7 @@ static WITHOUT_KERNEL_TYPES: [Case; 6] = [
         [UNKNOWN, RESOLVED],
         Some(Refusal::NoKernelTypes),
     ),
-    // A weak one stays, whatever declares it.
+    // A weak extern stays, whatever declares it.
     (
         &[("f", FUNCTION, Some(SIGNATURE), MAY_MISS, None), WEAK],
         [MISSING, RESOLVED],

@@ -1,5 +1,5 @@
-//! Of externs with several faults that of the first by name is named, of those with a type before
-//! the others, and of the text of symbols that of its first line.
+//! Of externs with several faults the first by name is reported, those with a type before the
+//! others; of the text of symbols the fault of its first line.
 
 use crate::answers::{Answer, Declared, Refusal, UNKNOWN, check_with_kernel, check_without_kernel};
 use crate::tables::{FUNCTION, INTEGER, NOTHING, SIGNATURE, VARIABLE};
@@ -7,8 +7,8 @@ use std::alloc::Global;
 use std::process::Abort;
 use test_object_samples::SlowText;
 
-/// What an extern that must be there is: a function, a variable, a variable without a type, or one
-/// of a type that an integer declares or that nothing declares.
+/// The sort of an extern that must be found: a function, a variable, a variable without a type, or
+/// one with a type that an integer declares or nothing declares.
 #[derive(Clone, Copy)]
 enum Sort {
     Function,
@@ -28,7 +28,7 @@ fn declared(name: &'static str, sort: Sort) -> Declared {
     }
 }
 
-/// Two externs, whichever stands first, and the fault that is named.
+/// Two externs, in either order, and the fault that is reported.
 type Fault = (&'static [(&'static str, Sort); 2], Refusal);
 
 static FAULTS: [Fault; 13] = [
@@ -81,14 +81,14 @@ static FAULTS: [Fault; 13] = [
         &[("_", Sort::Variable), ("a", Sort::Variable)],
         Refusal::NoVariable("_"),
     ),
-    // One without a type comes after.
+    // An extern without a type comes after.
     (
         &[("a", Sort::Untyped), ("z", Sort::Function)],
         Refusal::NoFunction("z"),
     ),
 ];
 
-/// Two externs, whichever stands first, come to the fault.
+/// Checks that two externs, in either order, give the fault.
 fn check_fault(rt: &impl Abort, alloc: Global, fault: &Fault) {
     let (sorts, refusal) = *fault;
     let one = declared(sorts[0].0, sorts[0].1);
@@ -105,8 +105,8 @@ fn first_name_is_named(rt: HostRuntime) {
     }
 }
 
-/// The text of symbols, after how many bytes its reader fails, and the fault of `a` and `z` that
-/// is named.
+/// The text of symbols, the number of bytes after which its reader fails, and the fault of `a` and
+/// `z` that is reported.
 type TextFault = (&'static [u8], usize, Refusal);
 
 const NEVER: usize = usize::MAX;
@@ -123,7 +123,7 @@ static TEXT_FAULTS: [TextFault; 12] = [
         NEVER,
         Refusal::Ambiguous("z", 1, 2),
     ),
-    // A third address isn't the one that is named.
+    // A third address isn't the one that is reported.
     (
         b"1 D a\n1 D a\n2 D a\n3 D a\n",
         NEVER,
@@ -137,15 +137,15 @@ static TEXT_FAULTS: [TextFault; 12] = [
     (b"\xff\n1 D a\n2 D a\n", NEVER, Refusal::Access),
     (b"xx D z\xff\n", NEVER, Refusal::Access),
     (b"0 D a\nxx D a\n", NEVER, Refusal::Address("a")),
-    // The line is whole before the reader fails, or isn't.
+    // The line is complete before the reader fails, or isn't.
     (b"xx D z\n", 7, Refusal::Address("z")),
     (b"xx D z\n", 6, Refusal::Access),
-    // Names that have no address come after all lines, the first by name.
+    // Names without an address come after all lines, the first by name.
     (b"1 D b\n", NEVER, Refusal::NoVariable("a")),
     (b"1 D a\n", NEVER, Refusal::NoVariable("z")),
 ];
 
-/// The text comes to the fault, a byte at a time and whole.
+/// Checks that the text gives the fault, read a byte at a time and whole.
 fn check_text_fault(rt: &impl Abort, alloc: Global, fault: &TextFault) {
     let (text, fails_at, refusal) = *fault;
     let declared = [declared("z", Sort::Untyped), declared("a", Sort::Untyped)];

@@ -1,4 +1,4 @@
-//! What a kernel must have for a program, by a kernel's types by hand.
+//! What a kernel must have for a program, given a kernel's types by hand.
 
 use btf_records::Endianness;
 use btf_tables::Btf;
@@ -37,7 +37,7 @@ fn kernel_section(rt: &impl Abort, alloc: Global) -> Vec<u8> {
     section(alloc, Endianness::Little, &TYPES, NAMES, &[]).expect(rt, "a section")
 }
 
-/// A program of a kind and a section, which calls a helper, and what the kernel has for it.
+/// A program of a kind and a section that calls a helper, and what the kernel has for it.
 struct Case {
     kind: ProgramSection,
     section: &'static str,
@@ -99,7 +99,7 @@ static CASES: [Case; 6] = [
     },
 ];
 
-/// Whether a program needs just one helper, which the kernel has or lacks.
+/// Whether a program needs exactly one helper, which the kernel has or lacks.
 fn is_one_helper(needs: &ProgramNeeds, helper: (u8, Presence)) -> bool {
     match needs.helpers.as_slice() {
         [need] => need.number == i32::from(helper.0) && need.presence == helper.1,

@@ -1,5 +1,5 @@
-//! Tests of how externs are resolved, of what relocations by them write, and of what a kernel must have
-//! for a program.
+//! Tests of the resolution of externs, of the writes of relocations by them, and of what a kernel
+//! must have for a program.
 #![tactic(auto)]
 
 #[cfg(test)]

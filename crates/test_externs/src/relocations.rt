@@ -1,5 +1,5 @@
-//! Relocations by externs: of two sections, at slots of all codes, and by all that is known of an
-//! extern.
+//! Relocations by externs: of two sections, at slots of all codes, and with everything that may be
+//! known about an extern.
 
 use crate::sections::{Known, Refused, Relocated, Relocation, Written, answer_of};
 use std::alloc::Global;
@@ -8,7 +8,7 @@ use std::process::Abort;
 /// An offset after the functions.
 const FAR: Relocation = (1000, 1);
 
-/// The externs: found by id, found at an address, and one that must be there and isn't.
+/// The externs: found by id, found at an address, and a strong one that is missing.
 const BY_ID: Known = (false, true, Some(0x0102_0304), None);
 
 const BY_ADDRESS: Known = (false, true, None, Some(0x8000_0000_7fff_ffff));
@@ -21,7 +21,7 @@ const CALL: [u8; 8] = [0x85, 0x10, 0, 0, 0xff, 0xff, 0xff, 0xff];
 
 const ID_CALLED: Written = [[0x85, 0x20, 0, 0, 4, 3, 2, 1], EXIT];
 
-/// Two slots, one after the other.
+/// Two slots in order.
 fn both(first: [u8; 8], second: [u8; 8]) -> [u8; 16] {
     let mut slots = [0; 16];
     slots[..8].copy_from_slice(&first);
@@ -29,8 +29,8 @@ fn both(first: [u8; 8], second: [u8; 8]) -> [u8; 16] {
     slots
 }
 
-/// The relocations of `kprobe` and `xdp`, what is known of `kernel` and `other`, and what becomes
-/// of the functions of both sections.
+/// The relocations of `kprobe` and `xdp`, what is known about `kernel` and `other`, and the result
+/// for the functions of both sections.
 type Case = ([Relocation; 2], [Option<Known>; 2], Relocated);
 
 static SECTIONS: [Case; 9] = [
@@ -52,7 +52,8 @@ static SECTIONS: [Case; 9] = [
             refused: None,
         },
     ),
-    // Of two faults that of the lesser section, whatever the offsets.
+    // Of two faults the one of the section with the smaller index is reported, whatever the
+    // offsets.
     (
         [(8, 1), (0, 2)],
         [Some(BY_ID), None],
@@ -119,7 +120,7 @@ static SECTIONS: [Case; 9] = [
     ),
 ];
 
-/// A case comes to what it says.
+/// Checks the result of a case.
 fn check_case(rt: &impl Abort, alloc: Global, slots: &[u8; 16], case: &Case) {
     let (relocations, known, expected) = *case;
     assert!(rt; answer_of(alloc, 0, slots, relocations, known) == Some(expected));
@@ -133,8 +134,8 @@ fn sections_are_relocated_in_order(rt: HostRuntime) {
     }
 }
 
-// What is known of an extern, and what becomes of a load of 64 bits and of a call by it, if it
-// isn't refused.
+// What is known about an extern, and the results for a load of 64 bits and for a call by it, if
+// they aren't refused.
 type Outcome = (Known, Option<Written>, Option<Written>);
 
 const ZERO_LOADED: Written = [[0x18, 0x01, 0, 0, 0, 0, 0, 0], [0; 8]];
@@ -142,7 +143,7 @@ const ZERO_LOADED: Written = [[0x18, 0x01, 0, 0, 0, 0, 0, 0], [0; 8]];
 const MISSING_CALLED: Written = [[0x85, 0, 0, 0, 0x81, 0x18, 0x54, 0x77], [0; 8]];
 
 static OUTCOMES: [Outcome; 11] = [
-    // By the id, beside an address too, and the largest one.
+    // By the id, also with an address, and the largest id.
     (
         (false, true, Some(1), Some(2)),
         Some([[0x18, 0x31, 0, 0, 1, 0, 0, 0], [0; 8]]),
@@ -153,7 +154,7 @@ static OUTCOMES: [Outcome; 11] = [
         Some([[0x18, 0x31, 0, 0, 0xff, 0xff, 0xff, 0xff], [0; 8]]),
         Some([[0x85, 0x20, 0, 0, 0xff, 0xff, 0xff, 0xff], [0; 8]]),
     ),
-    // At an address, of a weak one too: it can't be called.
+    // At an address, also for a weak extern: it can't be called.
     (
         (false, true, None, Some(0xffff_ffff_8100_0000)),
         Some([
@@ -175,7 +176,7 @@ static OUTCOMES: [Outcome; 11] = [
         ]),
         None,
     ),
-    // What isn't resolved counts as missing, whatever is known of it.
+    // An extern that isn't resolved counts as missing, whatever else is known about it.
     (
         (true, false, None, Some(0)),
         Some(ZERO_LOADED),
@@ -196,7 +197,7 @@ static OUTCOMES: [Outcome; 11] = [
     ((false, false, None, None), None, None),
 ];
 
-/// What becomes of `f` by a relocation of its first slot, or that the kernel hasn't the extern.
+/// The result for `f` of a relocation of its first slot, or that the kernel lacks the extern.
 fn outcome(written: Option<Written>) -> Relocated {
     Relocated {
         f: written,
@@ -208,7 +209,7 @@ fn outcome(written: Option<Written>) -> Relocated {
     }
 }
 
-/// What becomes of the functions where the first slot of `f` is relocated by the extern `kernel`.
+/// The result for the functions where the first slot of `f` is relocated by the extern `kernel`.
 fn check_first(
     rt: &impl Abort,
     alloc: Global,
@@ -230,7 +231,7 @@ fn slots_carry_what_is_known(rt: HostRuntime) {
     }
 }
 
-/// A slot of a code that is neither a load nor a call is refused, whatever is known.
+/// Checks that a slot whose code is neither a load nor a call is refused, whatever is known.
 fn check_code(rt: &impl Abort, alloc: Global, code: u8) {
     let slots = both([code, 0x01, 0, 0, 0, 0, 0, 0], [0; 8]);
     let expected = Relocated {

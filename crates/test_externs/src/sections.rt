@@ -1,4 +1,4 @@
-//! An object whose two sections of programs have a relocation each, and their functions.
+//! An object with two sections of programs that each have a relocation, and their functions.
 
 use btf_ext::{FuncSecInfo, LineSecInfo};
 use ebpf_items::Slots;
@@ -12,9 +12,9 @@ use string_map::TextMapBuilder;
 use test_object_samples::with_bytes;
 
 /// An object with the sections `kprobe` (index 2) and `xdp` (3), and a relocation of each, of `xdp`
-/// at 120 and of `kprobe` at 136: eight bytes of offset, four of type, four of symbol. That of
-/// `xdp` stands first. Symbols 1 and 2 are the externs `kernel` and `other`, 3 and 4 the functions
-/// of the sections.
+/// at 120 and of `kprobe` at 136: eight bytes of offset, four of type, four of symbol. The
+/// relocation of `xdp` comes first. Symbols 1 and 2 are the externs `kernel` and `other`, 3 and 4
+/// the functions of the sections.
 static OBJECT: [u8; 944] = [
     0x7f, 0x45, 0x4c, 0x46, 2, 1, 1, 0, 0, 0, 0, 0, 0, 0, 0, 0, 1, 0, 0xf7, 0, 1, 0, 0, 0, 0, 0, 0,
     0, 0, 0, 0, 0, 0, 0, 0, 0, 0, 0, 0, 0, 0x70, 1, 0, 0, 0, 0, 0, 0, 0, 0, 0, 0, 0x40, 0, 0, 0, 0,
@@ -54,10 +54,10 @@ static OBJECT: [u8; 944] = [
 
 const RELOCATIONS_AT: [usize; 2] = [136, 120];
 
-/// From a relocation's beginning to its symbol.
+/// The offset of the symbol in a relocation.
 const SYMBOL: usize = 12;
 
-/// What is known of an extern: whether it may be missing, whether it is resolved, the id of the
+/// What is known about an extern: whether it may be missing, whether it is resolved, the id of the
 /// kernel's type, and the address.
 pub(crate) type Known = (bool, bool, Option<u32>, Option<u64>);
 
@@ -76,8 +76,8 @@ pub(crate) enum Refused {
     Other,
 }
 
-/// What becomes of the functions `f` of `kprobe` and `g` of `xdp`, none where they stay in the
-/// file, and of which function a relocation is refused.
+/// The slots of the functions `f` of `kprobe` and `g` of `xdp`, none where they stay in the file,
+/// and the function whose relocation is refused.
 #[derive(Clone, Copy, PartialEq)]
 pub(crate) struct Relocated {
     pub f: Option<Written>,
@@ -85,7 +85,7 @@ pub(crate) struct Relocated {
     pub refused: Option<(&'static str, Refused)>,
 }
 
-/// One of the names that errors say.
+/// One of the names that errors contain.
 fn named(name: &str) -> &'static str {
     for known in ["kernel", "other", "f", "g"] {
         if known == name {
@@ -122,7 +122,7 @@ fn described(name: &'static str, known: Known) -> ExternDesc<'static> {
     }
 }
 
-/// The externs `kernel` and `other` of which something is known.
+/// The externs `kernel` and `other`, as far as something is known about them.
 fn externs(alloc: Global, known: [Option<Known>; 2]) -> Option<Externs<'static>> {
     let mut by_name = TextMapBuilder::new(alloc);
     for (name, known) in [("kernel", known[0]), ("other", known[1])] {
@@ -170,7 +170,7 @@ fn functions_of<'a>(alloc: Global, begin: usize, slots: &'a [u8]) -> Option<Func
     Some(functions)
 }
 
-/// The slots of a function that has a list of its own.
+/// The slots of a function that owns its list.
 fn written(functions: &Functions<'_>, section_index: usize, begin: usize) -> Option<Written> {
     let slots = &functions.get((section_index, begin as u64))?.instructions;
     if slots.is_borrowed() {
@@ -179,7 +179,7 @@ fn written(functions: &Functions<'_>, section_index: usize, begin: usize) -> Opt
     Some([slots.get(0)?.to_bytes(), slots.get(1)?.to_bytes()])
 }
 
-/// What becomes of two functions of these slots in a file, `f` at an offset.
+/// The result for two functions with these slots in a file, `f` at an offset.
 fn relocated_in(
     alloc: Global,
     file: &ObjectFile<'_>,
@@ -199,8 +199,8 @@ fn relocated_in(
     })
 }
 
-/// What becomes of two functions of these slots, `f` at an offset, by a relocation of each section,
-/// that of `kprobe` first.
+/// The result for two functions with these slots, `f` at an offset, after a relocation of each
+/// section, that of `kprobe` first.
 pub(crate) fn answer_of(
     alloc: Global,
     begin: usize,

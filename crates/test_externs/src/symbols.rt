@@ -10,7 +10,7 @@ const STRONG: bool = false;
 
 const MAY_MISS: bool = true;
 
-/// Two externs that aren't looked for in the text, and what is known of them.
+/// Two externs that aren't searched in the text, and what is known about them.
 type Case = (&'static [Declared; 2], [Known; 2]);
 
 static UNREAD: [Case; 4] = [
@@ -21,7 +21,7 @@ static UNREAD: [Case; 4] = [
         ],
         [(true, Some(3), None), (true, Some(6), None)],
     ),
-    // Weak ones with a type that the kernel hasn't, or has with another type.
+    // Weak ones with a type that the kernel lacks, or has with another type.
     (
         &[
             ("a", FUNCTION, Some(SIGNATURE), MAY_MISS, None),
@@ -29,7 +29,7 @@ static UNREAD: [Case; 4] = [
         ],
         [MISSING, MISSING],
     ),
-    // Ones without a type that are resolved, address 0 included.
+    // Resolved ones without a type, also with address 0.
     (
         &[
             ("a", VARIABLE, None, STRONG, Some(7)),
@@ -55,24 +55,24 @@ fn reader_is_left_unread(rt: HostRuntime) {
     }
 }
 
-/// A text, an extern `a` with or without a type that may be missing, and what is known of it and of
-/// `z`, which has no type.
+/// A text, an extern `a` with or without a type that may be missing, and what is known about it and
+/// about `z`, which has no type.
 type Text = (&'static [u8], Option<u32>, [Known; 2]);
 
 static TEXTS: [Text; 7] = [
-    // An extern with a type isn't looked for there, though a line has its name.
+    // An extern with a type isn't searched there, though a line has its name.
     (
         b"1 T a\n2 D z\n",
         Some(INTEGER),
         [MISSING, (true, None, Some(2))],
     ),
-    // Lines of others may be of any kind, with any address.
+    // Lines of other names may have any kind and any address.
     (
         b"zz D b\n1 D b\n2 D b\n2 D z\nb\n",
         Some(INTEGER),
         [MISSING, (true, None, Some(2))],
     ),
-    // A fault of a name that isn't looked for is none.
+    // A fault of a name that isn't searched doesn't count.
     (
         b"xx T a\n1 T a\n2 T a\n2 D z\n",
         Some(INTEGER),
@@ -102,7 +102,7 @@ static TEXTS: [Text; 7] = [
     ),
 ];
 
-/// The text comes to what is expected, whole and a byte at a time.
+/// Checks the answer for the text, read whole and a byte at a time.
 fn check_text(rt: &impl Abort, alloc: Global, case: &Text) {
     let (text, type_id, known) = *case;
     let declared = [

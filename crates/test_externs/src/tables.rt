@@ -5,9 +5,10 @@ use btf_tables::Btf;
 use std::alloc::Global;
 use std::process::Abort;
 
-/// The types of an object, least byte first.
+/// The types of an object, little-endian.
 static OBJECT: [u8; 109] = [
-    // The header: magic, version 1, its length, and where the types and the names lie.
+    // The header: magic, version 1, its length, and the offsets and lengths of the types and the
+    // names.
     0x9f, 0xeb, 1, 0, 0x18, 0, 0, 0, 0, 0, 0, 0, 0x4c, 0, 0, 0, 0x4c, 0, 0, 0, 9, 0, 0, 0,
     // 1: an integer of 4 bytes.
     0, 0, 0, 0, 0, 0, 0, 1, 4, 0, 0, 0, 0x20, 0, 0, 0,
@@ -19,12 +20,12 @@ static OBJECT: [u8; 109] = [
     0, 0, 0, 0, 0, 0, 0, 0x0e, 1, 0, 0, 0, 2, 0, 0, 0,
     // 5: a pointer to the integer.
     0, 0, 0, 0, 0, 0, 0, 2, 1, 0, 0, 0,
-    // The names: none, and `f`, `g`, `v` and `w` at 1, 3, 5 and 7.
+    // The names: the empty one, and `f`, `g`, `v` and `w` at 1, 3, 5 and 7.
     0, 0x66, 0, 0x67, 0, 0x76, 0, 0x77, 0,
 ];
 
-/// The ids of the integer, the prototype, the function, the variable and the pointer, and an id of
-/// no type.
+/// The ids of the integer, the prototype, the function, the variable and the pointer, and an id
+/// without a type.
 pub(crate) const INTEGER: u32 = 1;
 
 pub(crate) const SIGNATURE: u32 = 2;
@@ -37,9 +38,10 @@ pub(crate) const POINTER: u32 = 5;
 
 pub(crate) const NOTHING: u32 = 99;
 
-/// The types of a kernel, least byte first.
+/// The types of a kernel, little-endian.
 static KERNEL: [u8; 149] = [
-    // The header: magic, version 1, its length, and where the types and the names lie.
+    // The header: magic, version 1, its length, and the offsets and lengths of the types and the
+    // names.
     0x9f, 0xeb, 1, 0, 0x18, 0, 0, 0, 0, 0, 0, 0, 0x74, 0, 0, 0, 0x74, 0, 0, 0, 9, 0, 0, 0,
     // 1: an integer of 4 bytes.
     0, 0, 0, 0, 0, 0, 0, 1, 4, 0, 0, 0, 0x20, 0, 0, 0,
@@ -57,7 +59,7 @@ static KERNEL: [u8; 149] = [
     0, 0, 0, 0, 0, 0, 0, 2, 1, 0, 0, 0,
     // 8: the variable `w` of the pointer.
     7, 0, 0, 0, 0, 0, 0, 0x0e, 7, 0, 0, 0, 1, 0, 0, 0,
-    // The names: none, and `f`, `g`, `v` and `w` at 1, 3, 5 and 7.
+    // The names: the empty one, and `f`, `g`, `v` and `w` at 1, 3, 5 and 7.
     0, 0x66, 0, 0x67, 0, 0x76, 0, 0x77, 0,
 ];
 

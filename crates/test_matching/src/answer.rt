@@ -1,4 +1,4 @@
-//! What type relocations come to, in values that can be compared.
+//! The results of type relocations, as values that can be compared.
 
 use btf_records::BtfError;
 use core_resolve::{RelocationOutcome, Resolved, TypeRelocationError};
@@ -8,7 +8,7 @@ use core_spec::{AccessError, RelocationValue, WholeField};
 #[derive(Clone, Copy, Debug, PartialEq, Eq)]
 pub(crate) enum Fault {
     InvalidAccessString,
-    /// The type, the index, and how many there are.
+    /// The type, the index, and the number of items.
     InvalidAccessIndex(u32, u64, usize),
     InvalidKindForType(u32),
     MaximumNestingLevelReached,
@@ -49,17 +49,17 @@ impl Fault {
     }
 }
 
-/// What a type relocation comes to.
+/// The result of a type relocation.
 #[derive(Clone, Copy, Debug, PartialEq, Eq)]
 pub(crate) enum Answer {
     Value(u64),
-    /// An offset, and the type and the size of the field that is there.
+    /// An offset, and the type and the size of the field there.
     Field(u64, u32, u32),
     Poison,
     ConflictingCandidates,
     MissingTargetDefinition,
     Local(Fault),
-    /// What is wrong with a type of an id in a table.
+    /// A fault of the type with an id in a table.
     Kernel(usize, u32, Fault),
     OutOfMemory,
 }
@@ -79,7 +79,7 @@ impl Answer {
         }
     }
 
-    /// What an error is.
+    /// The answer for an error.
     pub(crate) fn refused(error: &TypeRelocationError) -> Answer {
         match error {
             TypeRelocationError::Local(error) => Answer::Local(Fault::of(error)),

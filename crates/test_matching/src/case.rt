@@ -1,4 +1,4 @@
-//! Type relocations, and what they come to.
+//! Type relocations, and their results.
 
 use crate::answer::Answer;
 use crate::tables::{ACCESS, parse, section_of};
@@ -12,10 +12,10 @@ use std::alloc::Global;
 use std::process::Abort;
 use test_table_samples::ORDERS;
 
-/// The kind of a type relocation, its type id and its access string, and what it comes to.
+/// The kind of a type relocation, its type id and its access string, and its result.
 pub(crate) type Case = (RelocationKind, u32, &'static str, Answer);
 
-/// What a type relocation comes to, and in which of a kernel's tables.
+/// The result of a type relocation, and the index of the kernel table of its match.
 pub(crate) type Found = (Answer, Option<usize>);
 
 fn found(outcome: &Result<RelocationOutcome, TypeRelocationError>) -> Found {
@@ -40,7 +40,7 @@ fn kernel_sections(
     sections
 }
 
-/// Their tables.
+/// The tables of these sections.
 fn kernel_tables<'a>(
     rt: &impl Abort,
     alloc: Global,
@@ -55,8 +55,8 @@ fn kernel_tables<'a>(
     tables
 }
 
-/// What a type relocation comes to over tables, and in which of a kernel's: looked for alone, and
-/// with the candidates collected before.
+/// The result of a type relocation over tables, and the index of the kernel table: searched alone,
+/// and with the candidates collected before.
 fn outcome_in<'m>(
     rt: &impl Abort,
     local: &'m Btf<'m>,
@@ -71,7 +71,7 @@ fn outcome_in<'m>(
     alone
 }
 
-/// What a type relocation comes to, and in which of a kernel's tables.
+/// The result of a type relocation, and the index of the kernel table.
 pub(crate) fn outcome(
     rt: &impl Abort,
     alloc: Global,
@@ -93,7 +93,7 @@ pub(crate) fn outcome(
     outcome_in(rt, &own, relocation, tables.as_slice())
 }
 
-/// Relocates over an object's own types and a kernel's tables, in both byte orders.
+/// Makes a relocation over an object's own types and a kernel's tables, in both byte orders.
 pub(crate) fn check_case(
     rt: &impl Abort,
     alloc: Global,

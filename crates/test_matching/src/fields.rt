@@ -1,4 +1,4 @@
-//! Fields in structs with members that have no name, or another type, and what fields are like.
+//! Fields in structs whose members have no name or another type, and properties of fields.
 
 use crate::answer::{Answer, Fault};
 use crate::case::{Case, check, check_one};
@@ -23,33 +23,33 @@ const LEFT: RelocationKind = RelocationKind::FieldLShift64;
 
 const RIGHT: RelocationKind = RelocationKind::FieldRShift64;
 
-/// A nameless struct of `b` and `a`, and `s` with it after a `d`.
+/// A nameless struct with `b` and `a`, and an `s` with that struct after a `d`.
 const INSIDE: [u32; 19] = [
     0, INT, 4, 0x20, 0, STRUCT_2, 8, B, 1, 0, A, 1, 32, S, STRUCT_1, 16, 0, 2, 64,
 ];
 
-/// The same, a union after a CONST, by an empty name.
+/// The same, with a union under a CONST and with an empty name.
 const AFTER_CONST: [u32; 25] = [
     0, INT, 4, 0x20, 0, UNION_2, 8, B, 1, 0, A, 1, 0, 0, CONST, 2, S, STRUCT_2, 16, D, 1, 0, EMPTY,
     3, 64,
 ];
 
-/// A nameless struct with a pointer `a`, and after it the integer `a`.
+/// A nameless struct with a pointer `a`, followed by the integer `a`.
 const AFTER_POINTER: [u32; 22] = [
     0, INT, 4, 0x20, 0, PTR, 1, 0, STRUCT_1, 8, A, 2, 0, S, STRUCT_2, 16, 0, 3, 0, A, 1, 64,
 ];
 
-/// A pointer `a`, and after it the integer `a`, in one struct.
+/// A pointer `a`, followed by the integer `a`, in one struct.
 const POINTER_FIRST: [u32; 16] = [
     0, INT, 4, 0x20, 0, PTR, 1, S, STRUCT_2, 16, A, 2, 0, A, 1, 64,
 ];
 
-/// A nameless struct with `a` at bit 32, before an `a`.
+/// A nameless struct with `a` at bit 32, followed by an `a`.
 const INSIDE_FIRST: [u32; 19] = [
     0, INT, 4, 0x20, 0, STRUCT_1, 8, A, 1, 32, S, STRUCT_2, 16, 0, 2, 0, A, 1, 64,
 ];
 
-/// A nameless integer and one without a type, before `a` and after it.
+/// A nameless integer and a nameless member without a type, before `a` and after it.
 const PASSED: [u32; 13] = [0, INT, 4, 0x20, S, STRUCT_2, 16, 0, 1, 0, A, 1, 32];
 
 const UNKNOWN_FIRST: [u32; 13] = [0, INT, 4, 0x20, S, STRUCT_2, 16, 0, 9, 0, A, 1, 32];
@@ -60,14 +60,14 @@ const UNREADABLE_FIRST: [u32; 13] = [0, INT, 4, 0x20, S, STRUCT_2, 16, UNREADABL
 
 const UNREADABLE_LAST: [u32; 13] = [0, INT, 4, 0x20, S, STRUCT_2, 16, A, 1, 32, UNREADABLE, 1, 0];
 
-/// `s` with a flavour.
+/// `s` with a 'flavour'.
 const FLAVOURED: [u32; 10] = [0, INT, 4, 0x20, FLAVOURED_S, STRUCT_1, 16, A, 1, 96];
 
 const UNKNOWN: Answer = Answer::Kernel(0, 2, Fault::UnknownBtfType(9));
 
 const NO_TEXT: Answer = Answer::Kernel(0, 2, Fault::InvalidStringOffset(23));
 
-/// Kernels, and where they have `a` of the object's `s`.
+/// Kernels, and where they have the object's `s.a`.
 static KERNELS: [(&[u32], Answer); 11] = [
     (&INSIDE, Answer::Field(12, 1, 4)),
     (&AFTER_CONST, Answer::Field(8, 1, 4)),
@@ -94,12 +94,12 @@ fn members_without_names_are_searched(rt: HostRuntime) {
     check_offset(&rt, rt.alloc(), &FLAVOURED, &AT_64, Answer::Field(8, 1, 4));
 }
 
-/// `s` with a member without a name, and with one of an empty name.
+/// `s` with a member without a name, and with one with an empty name.
 const NAMELESS: [u32; 10] = [0, INT, 4, 0x20, S, STRUCT_1, 4, 0, 1, 0];
 
 const EMPTY_NAME: [u32; 10] = [0, INT, 4, 0x20, S, STRUCT_1, 4, EMPTY, 1, 0];
 
-/// The struct itself is what the path leads to.
+/// The path leads to the struct itself.
 static WHOLE: [Case; 2] = [
     (OFFSET, 2, "0:0", Answer::Field(0, 2, 16)),
     (SIZE, 2, "0:0", Answer::Value(16)),
@@ -118,7 +118,7 @@ fn members_without_names_make_no_step(rt: HostRuntime) {
     check(&rt, rt.alloc(), &OBJECT, &[&AT_64], &REFUSED);
 }
 
-/// `s` with an integer `a` of this encoding, and what it is.
+/// Encodings of an integer `a` of `s`, and whether the field is signed.
 const ENCODINGS: [(u32, u64); 6] = [
     (0x0000_0020, 0),
     (0x0100_0020, 1),
@@ -141,14 +141,14 @@ fn integers_are_signed_by_encoding(rt: HostRuntime) {
     }
 }
 
-/// `s` with an enum `a`, a signed one, and a pointer.
+/// `s` with an enum `a`, with a signed one, and with a pointer.
 const WITH_ENUM: [u32; 11] = [0, ENUM_1, 4, B, 0, S, STRUCT_1, 4, A, 1, 0];
 
 const WITH_SIGNED_ENUM: [u32; 11] = [0, SIGNED_ENUM_1, 4, B, 0, S, STRUCT_1, 4, A, 1, 0];
 
 const WITH_POINTER: [u32; 9] = [0, PTR, 0, S, STRUCT_1, 8, A, 1, 0];
 
-/// `s` with a member of which no more is known.
+/// `s` with a member of a forward-declared type.
 const WITH_FWD: [u32; 9] = [D, FWD, 0, S, STRUCT_1, 8, A, 1, 0];
 
 /// Objects and kernels, and whether the field is signed.
@@ -195,7 +195,7 @@ fn elements_have_offset_and_size_alone(rt: HostRuntime) {
     check(&rt, rt.alloc(), &FOUR, &[&FOUR], &ELEMENTS);
 }
 
-/// `s` with an `a` of 16 bytes, and one at bit 3 that is no bit field.
+/// `s` with an `a` of 16 bytes, and with one at bit 3 that isn't a bit field.
 const WIDE: [u32; 10] = [0, INT, 16, 0x80, S, STRUCT_1, 16, A, 1, 0];
 
 const UNALIGNED: [u32; 10] = [0, INT, 4, 0x20, S, STRUCT_1, 16, A, 1, 3];
@@ -226,7 +226,8 @@ fn shifts_are_what_is_left_of_64_bits(rt: HostRuntime) {
     }
 }
 
-/// Two `s` with a bit field at bit 60: of four bytes, which hold it nowhere, and of 16.
+/// Two `s` with a bit field at bit 60: of an integer of four bytes, which can't hold it, and of one
+/// of 16 bytes.
 const NOWHERE_FIRST: [u32; 20] = [
     0,
     INT,

@@ -20,28 +20,28 @@ const EXISTS: RelocationKind = RelocationKind::EnumVariantExists;
 
 const VALUE: RelocationKind = RelocationKind::EnumVariantValue;
 
-/// `s` of `a` and `c`.
+/// `s` with `a` and `c`.
 const OBJECT: [u32; 7] = [S, ENUM_2, 4, A, 7, C, 9];
 
-/// Of `c` with a flavour and of `c`.
+/// With a 'flavour' of `c` and with `c`.
 const FLAVOURED: [u32; 7] = [S, ENUM_2, 4, FLAVOURED_C, 5, C, 6];
 
-/// Of `b` and `a`.
+/// With `b` and `a`.
 const OTHER: [u32; 7] = [S, ENUM_2, 4, B, 1, A, 0xffff_ffff];
 
 const UNREADABLE_FIRST: [u32; 7] = [S, ENUM_2, 4, UNREADABLE, 1, A, 2];
 
 const UNREADABLE_LAST: [u32; 7] = [S, ENUM_2, 4, A, 2, UNREADABLE, 1];
 
-/// A 64-bit `s` of `b` and `a`.
+/// A 64-bit `s` with `b` and `a`.
 const LONG: [u32; 9] = [S, ENUM64_2, 8, B, 1, 2, A, 0x8000_0000, 0xf000_0000];
 
-/// A 64-bit `s` of `a` alone.
+/// A 64-bit `s` with only `a`.
 const LONG_A: [u32; 6] = [S, ENUM64_1, 8, A, 5, 6];
 
 const NO_TEXT: Answer = Answer::Kernel(0, 1, Fault::InvalidStringOffset(23));
 
-/// Kernels, the index of one of the object's variants, whether it is there, and its value.
+/// Kernels, the index of one of the object's variants, whether the kernel has it, and its value.
 static VARIANTS: [(&[u32], &str, Answer, Answer); 8] = [
     (&OBJECT, "1", Answer::Value(1), Answer::Value(9)),
     (&FLAVOURED, "1", Answer::Value(1), Answer::Value(5)),
@@ -73,7 +73,7 @@ fn variants_have_names(rt: HostRuntime) {
     check(&rt, rt.alloc(), &LONG, &[&LONG], &LONG_VALUES);
 }
 
-/// An enum of `a`, and a TYPEDEF `s` of it; the same of 64 bits.
+/// An enum with `a`, and a TYPEDEF `s` of it; the same with 64 bits.
 const NAMED: [u32; 8] = [B, ENUM_1, 4, A, 3, S, TYPEDEF, 1];
 
 const NAMED_LONG: [u32; 9] = [B, ENUM64_1, 8, A, 4, 5, S, TYPEDEF, 1];
@@ -128,7 +128,7 @@ fn is_granted(feature: BtfFeature) -> bool {
     feature != BtfFeature::Enum64
 }
 
-/// Makes a union of a 64-bit enum.
+/// Replaces a 64-bit enum by a union.
 fn deny_enum64(table: &mut Btf<'_>, alloc: Global) -> bool {
     let sizes = TextMap::new(alloc);
     let offsets = TextMap::new(alloc);
@@ -139,7 +139,7 @@ fn deny_enum64(table: &mut Btf<'_>, alloc: Global) -> bool {
 /// A union `s` with a member `a`.
 const UNION: [u32; 10] = [B, INT, 4, 0x20, S, UNION_1, 8, A, 1, 0];
 
-/// A relocation of an object whose 64-bit enums stand as unions.
+/// The result of a relocation of an object whose 64-bit enums are unions.
 fn answer_of_union(rt: &impl Abort, alloc: Global, kernel: &[u32], kind: RelocationKind) -> Answer {
     let order = ORDERS[0];
     let own = section_of(rt, alloc, order, &LONG_A, "0");

@@ -1,5 +1,4 @@
-//! Tests of type relocations over tables of types: their paths, their matches and what they come
-//! to.
+//! Tests of type relocations over tables of types: their paths, their matches and their results.
 #![tactic(auto)]
 
 #[cfg(test)]

@@ -13,7 +13,7 @@ const OFFSET: RelocationKind = RelocationKind::FieldByteOffset;
 
 const TOO_DEEP: Answer = Answer::Kernel(0, 2, Fault::MaximumNestingLevelReached);
 
-/// `s` with a member without a name that is `s`, before `a` and after it.
+/// `s` with a nameless member of type `s`, before `a` and after it.
 const IN_ITSELF: [u32; 13] = [0, INT, 4, 0x20, S, STRUCT_2, 16, 0, 2, 0, A, 1, 64];
 
 const FOUND_BEFORE: [u32; 13] = [0, INT, 4, 0x20, S, STRUCT_2, 16, A, 1, 64, 0, 2, 0];
@@ -48,8 +48,8 @@ fn a_struct_in_itself_is_too_deep(rt: HostRuntime) {
     }
 }
 
-/// An integer, and a number of structs, each with a member `a` at bit 32: the next one, and at last
-/// the integer. The first struct is `s`, and the others have this name.
+/// An integer and `count` structs, each with a member `a` at bit 32: the next struct, and in the
+/// last one the integer. The first struct is `s`, and the others have the name `others`.
 fn nested(rt: &impl Abort, alloc: Global, count: u32, others: u32) -> Vec<u32> {
     let mut words = Vec::new(alloc);
     append(rt, &mut words, &[0, INT, 4, 0x20]);
@@ -62,7 +62,7 @@ fn nested(rt: &impl Abort, alloc: Global, count: u32, others: u32) -> Vec<u32> {
     words
 }
 
-/// A path with a number of steps after the first.
+/// A path with `count` steps after the first.
 fn zeros(rt: &impl Abort, alloc: Global, count: u32) -> String {
     let mut access = String::new(alloc);
     access.push('0').expect(rt, "a path");
@@ -72,7 +72,7 @@ fn zeros(rt: &impl Abort, alloc: Global, count: u32) -> String {
     access
 }
 
-/// What a path of a number of named steps comes to, where only the outermost struct is a candidate.
+/// The result of a path of `count` named steps, where only the outermost struct is a candidate.
 fn steps(rt: &impl Abort, alloc: Global, count: u32) -> Answer {
     let words = nested(rt, alloc, count, S);
     let kernel = nested(rt, alloc, count, B);
@@ -95,8 +95,7 @@ const A_THEN_B: [u32; 16] = [
     0, INT, 4, 0x20, S, STRUCT_1, 4, A, 3, 0, A, STRUCT_1, 4, B, 1, 0,
 ];
 
-/// A struct with a `b`, and `s` with an `a` that is that struct, inside a number of members without
-/// names.
+/// A struct with a `b`, and an `s` whose `a` is that struct, inside `count` members without names.
 fn wrapped(rt: &impl Abort, alloc: Global, count: u32) -> Vec<u32> {
     let mut words = Vec::new(alloc);
     append(rt, &mut words, &[0, INT, 4, 0x20]);
@@ -109,7 +108,7 @@ fn wrapped(rt: &impl Abort, alloc: Global, count: u32) -> Vec<u32> {
     words
 }
 
-/// What a path comes to there.
+/// The result of a path there.
 fn inside(rt: &impl Abort, alloc: Global, count: u32, access: &str) -> Answer {
     let kernel = wrapped(rt, alloc, count);
     let kernel = [kernel.as_slice()];

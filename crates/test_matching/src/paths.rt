@@ -1,4 +1,4 @@
-//! The calls that a type relocation is made of.
+//! The calls that make up a type relocation.
 
 use crate::answer::{Answer, Fault};
 use crate::tables::{ACCESS, parse, section_of};
@@ -24,7 +24,7 @@ fn is_to_first_member(path: &AccessPath, type_id: u32) -> bool {
     }
 }
 
-/// The path to the member, the value in the object, and the member in the kernel's struct.
+/// Checks the path to the member, the value in the object, and the member in the kernel's struct.
 fn check_paths<'t>(rt: &impl Abort, own: &Btf<'t>, kernel: &Btf<'t>) {
     let path = local_path(own, OFFSET, 2, ACCESS).expect(rt, "a path");
     assert!(rt; is_to_first_member(&path, 2));
@@ -36,7 +36,7 @@ fn check_paths<'t>(rt: &impl Abort, own: &Btf<'t>, kernel: &Btf<'t>) {
     assert!(rt; found.bit_offset == 64);
 }
 
-/// The member by its name.
+/// Checks the member found by its name.
 fn check_member<'t>(rt: &impl Abort, own: &Btf<'t>, kernel: &Btf<'t>) {
     let found = find_member(own, 1, "a", kernel, 2, Some(8)).expect(rt, "a search");
     let found = found.expect(rt, "a member");
@@ -45,7 +45,7 @@ fn check_member<'t>(rt: &impl Abort, own: &Btf<'t>, kernel: &Btf<'t>) {
     assert!(rt; found.type_id == 1);
 }
 
-/// The matches in the kernel's tables, and what they come to.
+/// Checks the matches in the kernel's tables, and their result.
 fn check_matches<'t>(rt: &impl Abort, own: &Btf<'t>, kernel: &[Btf<'t>]) {
     let path = local_path(own, OFFSET, 2, ACCESS).expect(rt, "a path");
     let matches = kernel_matches(OFFSET, own, &path, kernel).expect(rt, "a search");
@@ -71,7 +71,7 @@ fn a_relocation_is_made_of_calls(rt: HostRuntime) {
     assert!(rt; subject_of(RelocationKind::TypeSize) == Subject::Type);
 }
 
-/// Why there is no path whose text stands at an offset.
+/// Why there is no path for the text at an offset.
 fn fault_at(own: &Btf<'_>, offset: u32) -> Option<Fault> {
     match local_path(own, OFFSET, 2, offset) {
         Ok(_path) => None,

@@ -1,4 +1,4 @@
-//! Which of several faults is answered, and access strings.
+//! Which of several faults is returned, and access strings.
 
 use crate::answer::{Answer, Fault};
 use crate::case::{Case, check, check_case, check_one};
@@ -10,13 +10,13 @@ use std::process::Abort;
 
 const OFFSET: RelocationKind = RelocationKind::FieldByteOffset;
 
-/// `s` with an `a` of a type that isn't there.
+/// `s` with an `a` of a missing type.
 const UNKNOWN: [u32; 6] = [S, STRUCT_1, 16, A, 9, 64];
 
 /// The same, and a struct whose name can't be read.
 const UNKNOWN_AND_UNREADABLE: [u32; 9] = [S, STRUCT_1, 16, A, 9, 64, UNREADABLE, STRUCT, 0];
 
-/// The name of a union can't be read.
+/// A union whose name can't be read.
 const UNREADABLE_UNION: [u32; 13] = [
     UNREADABLE,
     0x0500_0000,
@@ -33,7 +33,7 @@ const UNREADABLE_UNION: [u32; 13] = [
     64,
 ];
 
-/// `s` with a bit field that no unit holds.
+/// `s` with a bit field that no unit can hold.
 const NOWHERE: [u32; 10] = [0, INT, 4, 0x20, S, BITS_1, 16, A, 1, 0x0500_003c];
 
 const UNKNOWN_AT_0: Answer = Answer::Kernel(0, 1, Fault::UnknownBtfType(9));
@@ -46,7 +46,7 @@ const NO_TEXT_AT_1: Answer = Answer::Kernel(1, 2, Fault::InvalidStringOffset(23)
 
 const NO_UNIT: Answer = Answer::Local(Fault::InvalidTypeInfo);
 
-/// Objects and kernels, and what `s.a` comes to.
+/// Objects and kernels, and the result for `s.a`.
 static FAULTS: [(&[u32], &[&[u32]], Answer); 9] = [
     (&OBJECT, &[&UNKNOWN], UNKNOWN_AT_0),
     (&OBJECT, &[&AT_64, &UNKNOWN], UNKNOWN_AT_1),
@@ -66,7 +66,7 @@ fn the_first_of_several_faults_is_answered(rt: HostRuntime) {
     }
 }
 
-/// Types without names that can be read, and of an unknown type.
+/// Types without readable names, and one of an unknown type.
 const UNNAMED: [u32; 3] = [UNREADABLE, STRUCT, 0];
 
 static TYPES: [Case; 2] = [
@@ -84,7 +84,7 @@ fn the_type_comes_before_its_access(rt: HostRuntime) {
     check(&rt, rt.alloc(), &UNNAMED, &[&AT_64], &TYPES);
 }
 
-/// Access strings that are numbers, and such as aren't.
+/// Access strings that are numbers, and others that aren't.
 const NUMBERS: [&str; 7] = [
     "0:0",
     "+0:0",

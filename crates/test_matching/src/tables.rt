@@ -1,4 +1,4 @@
-//! Tables by hand. Info words are named by kind and, after a `_`, by the count of their items.
+//! Tables by hand. Info words are named after the kind and, after a `_`, the number of their items.
 
 use btf_records::Endianness;
 use btf_tables::Btf;
@@ -6,7 +6,7 @@ use std::alloc::{AllocError, Global};
 use std::process::Abort;
 use test_table_samples::section;
 
-/// The strings of all tables. An access string stands after those of the object's own.
+/// The strings of all tables. In the object's own table an access string follows them.
 pub(crate) const STRINGS: &[u8; 25] = b"\0s\0a\0b\0s___x\0c\0d\0c___y\0\xff\0";
 
 pub(crate) const S: u32 = 1;
@@ -15,23 +15,23 @@ pub(crate) const A: u32 = 3;
 
 pub(crate) const B: u32 = 5;
 
-/// `s` with a flavour.
+/// `s` with a 'flavour'.
 pub(crate) const FLAVOURED_S: u32 = 7;
 
 pub(crate) const C: u32 = 13;
 
 pub(crate) const D: u32 = 15;
 
-/// `c` with a flavour.
+/// `c` with a 'flavour'.
 pub(crate) const FLAVOURED_C: u32 = 17;
 
-/// A byte that is no text.
+/// A byte that isn't UTF-8.
 pub(crate) const UNREADABLE: u32 = 23;
 
-/// An empty text, which is no missing name.
+/// An empty text, which isn't a missing name.
 pub(crate) const EMPTY: u32 = 24;
 
-/// Where the access string stands.
+/// The offset of the access string.
 pub(crate) const ACCESS: u32 = 25;
 
 pub(crate) const INT: u32 = 0x0100_0000;
@@ -74,7 +74,7 @@ pub(crate) const ENUM64_1: u32 = 0x1300_0001;
 
 pub(crate) const ENUM64_2: u32 = 0x1300_0002;
 
-/// Adds words to others.
+/// Appends words.
 pub(crate) fn append(rt: &impl Abort, words: &mut Vec<u32>, more: &[u32]) {
     words.extend_from_slice(more).expect(rt, "words");
 }
@@ -91,7 +91,7 @@ fn section_with(
     section(alloc, order, words, STRINGS, added.as_slice())
 }
 
-/// The section of a table, with an access string where it is the object's own.
+/// The section of a table, with an access string if the table is the object's own.
 pub(crate) fn section_of(
     rt: &impl Abort,
     alloc: Global,

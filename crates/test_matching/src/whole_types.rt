@@ -1,4 +1,4 @@
-//! Relocations about whole types.
+//! Relocations of whole types.
 
 use crate::answer::{Answer, Fault};
 use crate::case::{Case, check, check_one};
@@ -63,7 +63,7 @@ fn types_have_ids_and_sizes(rt: HostRuntime) {
     );
 }
 
-/// TYPEDEFs `s` of arrays of integers, of 2^31 and of 2.
+/// TYPEDEFs `s` of arrays of integers, of 2^31 and of 2 elements.
 const LARGE: [u32; 13] = [
     0,
     INT,
@@ -82,7 +82,7 @@ const LARGE: [u32; 13] = [
 
 const SMALL: [u32; 13] = [0, INT, 4, 0x20, 0, ARRAY, 0, 1, 0, 2, S, TYPEDEF, 2];
 
-/// `s` of which no more is known.
+/// A forward-declared `s`.
 const NO_SIZE: [u32; 3] = [S, FWD, 0];
 
 const TOO_LARGE: Answer = Answer::Kernel(0, 3, Fault::InvalidTypeInfo);
@@ -109,14 +109,14 @@ fn sizes_are_the_kernels(rt: HostRuntime) {
     check(&rt, rt.alloc(), &NO_SIZE, &[&NO_SIZE], &SIZELESS);
 }
 
-/// Integers `s`, of which one begins after its first bits, and a function `s`.
+/// Integers `s`, one of which begins after its first bits, and a function `s`.
 const WHOLE_INT: [u32; 4] = [S, INT, 4, 0x20];
 
 const LATE_INT: [u32; 4] = [S, INT, 4, 0x0004_0020];
 
 const FUNCTION: [u32; 6] = [S, FUNC, 2, B, FWD, 0];
 
-/// Objects and kernels, and whether `s` is there.
+/// Objects and kernels, and whether the kernel has `s`.
 static PAIRS: [(&[u32], &[u32], Answer); 3] = [
     (&WHOLE_INT, &LATE_INT, Answer::Value(0)),
     (&WHOLE_INT, &AT_64, Answer::Value(0)),

@@ -1,4 +1,4 @@
-//! A struct `s` with an integer `a` in the object, and in kernels where it lies elsewhere.
+//! A struct `s` with an integer `a` in the object, and in kernels that have it elsewhere.
 
 use crate::answer::{Answer, Fault};
 use crate::case::{Case, check, check_case, check_one, outcome};
@@ -44,7 +44,7 @@ const BOTH: [u32; 16] = [
 
 const NO_PLACE: Answer = Answer::Local(Fault::InvalidTypeInfo);
 
-/// Kernels, and what a path comes to over the object.
+/// Kernels, and the result of a path over the object.
 static PLACES: [(&[&[u32]], &str, Answer); 9] = [
     (&[&AT_64], "0:0", Answer::Field(8, 1, 4)),
     (&[&WITHOUT], "0:0", Answer::Poison),
@@ -76,7 +76,7 @@ const CONFLICT: Answer = Answer::ConflictingCandidates;
 
 const MISSING: Answer = Answer::MissingTargetDefinition;
 
-/// Kernels, what is asked, what it comes to, and in which table.
+/// Kernels, the relocation, its result, and the index of the table.
 type Searched = (
     &'static [&'static [u32]],
     RelocationKind,
@@ -118,7 +118,7 @@ pub(crate) const FOUR: [u32; 16] = [
     0, INT, 4, 0x20, 0, ARRAY, 0, 1, 0, 4, S, STRUCT_1, 32, A, 2, 0,
 ];
 
-/// The same at bit 32, of two, and of none.
+/// The same at bit 32, with two elements, and with none.
 const FOUR_LATER: [u32; 16] = [
     0, INT, 4, 0x20, 0, ARRAY, 0, 1, 0, 4, S, STRUCT_1, 32, A, 2, 32,
 ];
@@ -131,7 +131,7 @@ const NONE_LAST: [u32; 16] = [
     0, INT, 4, 0x20, 0, ARRAY, 0, 1, 0, 0, S, STRUCT_1, 32, A, 2, 32,
 ];
 
-/// Of none, with a `b` after it.
+/// With none, followed by a `b`.
 const NONE_BEFORE: [u32; 19] = [
     0, INT, 4, 0x20, 0, ARRAY, 0, 1, 0, 0, S, STRUCT_2, 32, A, 2, 32, B, 1, 160,
 ];

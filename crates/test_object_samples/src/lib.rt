@@ -1,5 +1,5 @@
-//! Object files for the tests of several crates, what is to be made of them, and a reader that
-//! gives a text slowly.
+//! Object files for the tests of several crates, changes to them, and a reader that gives a text
+//! slowly.
 #![tactic(auto)]
 
 mod slow_text;
@@ -9,11 +9,10 @@ ghost use Rattle.test_object_samples.specs.Changes.{with_change};
 
 pub use slow_text::SlowText;
 
-/// An object of 568 bytes, numbers least significant byte first: a section `license` (index 1, its
-/// four bytes `GPL` and a NUL at 64), a section `kprobe` (index 2, two slots at 72), a symbol table
-/// (index 3, at 88) whose symbol 1 (at 112) is the function `foo` at address 0 of section 2, its
-/// string table (index 4, at 136) and the sections' names (index 5, at 141). The section headers
-/// begin at 184.
+/// A little-endian object of 568 bytes: a section `license` (index 1, its four bytes `GPL` and a
+/// NUL at 64), a section `kprobe` (index 2, two slots at 72), a symbol table (index 3, at 88) whose
+/// symbol 1 (at 112) is the function `foo` at address 0 of section 2, its string table (index 4, at
+/// 136) and the sections' names (index 5, at 141). The section headers begin at 184.
 pub static ONE_PROGRAM: [u8; 568] = [
     0x7f, 0x45, 0x4c, 0x46, 2, 1, 0, 0, 0, 0, 0, 0, 0, 0, 0, 0, 0, 0, 0, 0, 0, 0, 0, 0, 0, 0, 0, 0,
     0, 0, 0, 0, 0, 0, 0, 0, 0, 0, 0, 0, 0xb8, 0, 0, 0, 0, 0, 0, 0, 0, 0, 0, 0, 0, 0, 0, 0, 0, 0,
@@ -37,7 +36,7 @@ pub static ONE_PROGRAM: [u8; 568] = [
     0, 0, 0, 0, 0, 0, 0, 0, 0, 0, 0, 0, 0, 0, 0, 0, 0, 0, 0, 0, 0, 0, 0, 0, 0, 0,
 ];
 
-/// Writes a change over a file, unless it goes past the end.
+/// Makes a change in a file, unless it goes past the end.
 fn change(file: &mut [u8], change: &(usize, &[u8]))
     ensures { file.new ≡ with_change file.old change.now }
 {
@@ -47,8 +46,8 @@ fn change(file: &mut [u8], change: &(usize, &[u8]))
     }
 }
 
-/// An object with other bytes at some offsets, one change after the other. A change that goes past
-/// the end is left out.
+/// An object after changes at some offsets, made in order. A change that goes past the end is left
+/// out.
 pub fn with_bytes<const N: usize>(object: &[u8; N], changes: &[(usize, &[u8])]) -> [u8; N]
     ensures { result ≡ fold with_change object.now changes.now }
 {

@@ -3,7 +3,7 @@
 use std::io;
 use std::io::{BufRead, ErrorKind, Read};
 
-/// A reader that gives a text a byte a call, and fails after a number of its bytes.
+/// A reader that gives a text one byte per call, and fails after `fails_at` bytes.
 #[derive(Drop)]
 pub struct SlowText {
     text: &'static [u8],

@@ -1,5 +1,5 @@
-//! Tests of load plans: when a kernel is asked, which slots of a program a run can come to, and what is
-//! read of a plan's text.
+//! Tests of load plans: when a kernel is asked, which slots of a program a run can reach, and how a
+//! plan's text is read.
 #![tactic(auto)]
 
 #[cfg(test)]

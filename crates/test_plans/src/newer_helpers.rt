@@ -6,10 +6,10 @@ use std::io;
 use std::process::Abort;
 use test_object_samples::{ONE_PROGRAM, with_bytes};
 
-/// Where the slots of the object with one program lie.
+/// The offset of the slots of the object with one program.
 const SLOTS: usize = 72;
 
-/// The two slots of the one program of a plan, if they stand in the file.
+/// The two slots of the one program of a plan, if they are borrowed from the file.
 fn slots_of(plan: &Plan<'_>) -> Option<[[u8; 8]; 2]> {
     let slots = plan.programs().first()?.slots();
     if !slots.is_borrowed() {
@@ -18,8 +18,8 @@ fn slots_of(plan: &Plan<'_>) -> Option<[[u8; 8]; 2]> {
     Some([slots.get(0)?.to_bytes(), slots.get(1)?.to_bytes()])
 }
 
-/// The two slots of an object's one program for a kernel that has or lacks the newer helpers, if they
-/// stand in the file, and how often the kernel is asked.
+/// The two slots of an object's one program for a kernel that has or lacks the newer helpers, if
+/// they are borrowed from the file, and how often the kernel is asked.
 fn probed(alloc: Global, object: &[u8], has_helpers: bool) -> Option<([[u8; 8]; 2], u32)> {
     let settings = Settings::new(alloc);
     let mut symbols = Watched::new(io::empty());
@@ -46,13 +46,13 @@ fn probed(alloc: Global, object: &[u8], has_helpers: bool) -> Option<([[u8; 8]; 
     }
 }
 
-/// A call of a helper of a number.
+/// A call of the helper with a number.
 fn call(helper: u8) -> [u8; 8] {
     [0x85, 0, 0, 0, helper, 0, 0, 0]
 }
 
-/// The numbers of the helpers that two slots call, those for a kernel that lacks the newer helpers,
-/// and how often a kernel is asked.
+/// The numbers of the helpers that two slots call, the numbers for a kernel that lacks the newer
+/// helpers, and how often a kernel is asked.
 static PROBES: [([u8; 2], [u8; 2], u32); 4] = [
     ([112, 6], [4, 6], 1),
     ([6, 115], [6, 45], 1),

@@ -1,10 +1,10 @@
-//! Which slots of a program a run can come to.
+//! The slots of a program that a run can reach.
 
 use ebpf_items::Slots;
 use plan_reach::{Reach, reach};
 use std::process::Abort;
 
-/// A program: its slots, whether each is reached, and which way the jump in one of them goes.
+/// A program: its slots, whether each is reached, and the decision of the jump in one of them.
 struct Program {
     title: &'static str,
     slots: &'static [u8],
@@ -96,7 +96,7 @@ static PROGRAMS: [Program; 10] = [
     },
 ];
 
-/// Whether slots are reached as they should be, and none after them.
+/// Whether slots are reached as expected, and none after them.
 fn are_reached(found: &Reach, reached: &[bool]) -> bool {
     let mut slot = 0usize;
     for is_reached in reached {

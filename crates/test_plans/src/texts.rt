@@ -81,7 +81,7 @@ const FROM_FIRST_VERSION: &[u8] = b"bpf-plan 2\n\
       tables ?\n\
       end\n";
 
-/// Takes a number of bytes, one at a time, and then fails or takes nothing.
+/// Accepts a number of bytes, one at a time, and then fails or accepts nothing.
 #[derive(Drop)]
 struct Short {
     taken: Vec<u8>,
@@ -115,7 +115,7 @@ fn has_text(alloc: Global, plan: &Plan<'_>, text: &[u8]) -> bool {
     plan.write(&mut out).is_ok() && out.into_inner().as_slice() == text
 }
 
-/// Whether a text is a plan's, which is then written as another.
+/// Whether a text is a plan's that is then written as another text.
 fn is_written_as(alloc: Global, text: &[u8], other: &[u8]) -> bool {
     match Plan::read(alloc, text) {
         Ok(plan) => has_text(alloc, &plan, other),
@@ -128,7 +128,7 @@ fn first_version_is_written_as_the_second(rt: HostRuntime) {
     assert!(rt; is_written_as(rt.alloc(), FIRST_VERSION, FROM_FIRST_VERSION));
 }
 
-/// The line that is named where bytes are no plan's text.
+/// The line that is named where bytes aren't a plan's text.
 fn refused_line(alloc: Global, text: &[u8]) -> Option<usize> {
     match Plan::read(alloc, text) {
         Err(PlanReadError::Line(line)) => Some(line),
@@ -136,7 +136,7 @@ fn refused_line(alloc: Global, text: &[u8]) -> Option<usize> {
     }
 }
 
-/// The line in which a text ends, counted from 1.
+/// The number of the last line of a text, from 1.
 fn last_line(text: &[u8]) -> usize {
     let mut line = 1usize;
     for byte in text {
@@ -176,7 +176,7 @@ fn is_outer(map: &PlanMap<'_>) -> bool {
         }
 }
 
-/// Whether a plan is read with two maps that are such.
+/// Whether a plan is read with the two maps of [`MAPS_PLAN`].
 fn has_plain_maps(plan: &Plan<'_>) -> bool {
     match plan.maps() {
         [first, second] => is_plain(first) && is_plain(second),
@@ -211,7 +211,7 @@ fn has_function(plan: &Plan<'_>) -> bool {
     }
 }
 
-/// Whether nothing is known of the tables of a plan's one program.
+/// Whether the tables of a plan's one program are unknown.
 fn lacks_tables(plan: &Plan<'_>) -> bool {
     match plan.programs() {
         [program] => program.tables().is_none(),

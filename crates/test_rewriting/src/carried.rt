@@ -1,4 +1,4 @@
-//! Answers that a rewriting carries over, as a crate above would prove it from the clauses of the
+//! Answers that a rewriting carries over, as another crate would prove it from the contracts of the
 //! public calls.
 
 ghost use Rattle.std.specs.Prelude.{◌≡◌, Bool, IfOk, true, ℕ};
@@ -8,7 +8,7 @@ ghost use Rattle.btf_rewrite.specs.Sanitizing.{facts_in, stepped};
 
 use btf::{Answers, Btf, BtfError, BtfFeature, KsymsIds, TextMap, fixup_and_sanitize};
 
-/// The sizes of a type before and after a rewriting, and the answers on which that rests.
+/// The sizes of a type before and after a rewriting, and the answers that this rests on.
 #[derive(Drop)]
 pub struct SizeAfter {
     pub answers: Answers,
@@ -16,7 +16,7 @@ pub struct SizeAfter {
     pub after: Option<u64>,
 }
 
-/// Asks for the size of a type before and after a rewriting. They are the same where the records
+/// Finds the size of a type before and after a rewriting. The two are the same where the records
 /// that are reached from the type stay.
 pub fn size_after<'m, 'n, F: FnMut(BtfFeature) -> bool>(
     table: &mut Btf<'_>,

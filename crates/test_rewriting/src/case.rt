@@ -1,4 +1,4 @@
-//! Tables, and what they become.
+//! Tables, and the results of rewriting them.
 
 use btf::{Answers, Btf, BtfError, BtfFeature, Endianness, KsymsIds, TextMap, fixup_and_sanitize};
 use std::alloc::Global;
@@ -29,7 +29,7 @@ impl Kernel {
     }
 }
 
-/// The call itself, over what its caller knows of sections and symbols.
+/// The call itself, with what its caller knows about sections and symbols.
 fn rewrite<'m, 'n>(
     table: &mut Btf<'_>,
     numbers: &'m TextMap<'n, u64>,
@@ -45,7 +45,7 @@ fn rewrite<'m, 'n>(
     )
 }
 
-/// Whether there are as many answers as there were questions, where there are any.
+/// Whether there are as many answers as questions, if there are answers.
 fn is_counted(outcome: &Result<Answers, BtfError>, calls: usize) -> bool {
     match outcome {
         Ok(answers) => answers.len() == calls,
@@ -54,7 +54,7 @@ fn is_counted(outcome: &Result<Answers, BtfError>, calls: usize) -> bool {
 }
 
 /// Rewrites a table for a kernel that grants these features, for an object without sections and
-/// symbols. Each answer was asked for once.
+/// symbols. Checks that each answer was asked for once.
 pub(crate) fn sanitize(
     rt: &impl Abort,
     alloc: Global,
@@ -97,7 +97,7 @@ fn is_written_as(table: &Btf<'_>, section: &[u8]) -> bool {
     }
 }
 
-/// Whether a table that isn't needed any more is written as a section.
+/// Whether a table, passed by value, is written as a section.
 pub(crate) fn is_written(table: Btf<'_>, section: &[u8]) -> bool {
     is_written_as(&table, section)
 }

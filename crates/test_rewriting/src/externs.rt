@@ -12,15 +12,15 @@ use test_table_samples::{ORDERS, section};
 /// `f`, `v`, `.ksyms` and `p` at 1, 3, 5 and 12.
 const STRINGS: [u8; 14] = *b"\0f\0v\0.ksyms\0p\0";
 
-/// Three integers, the second and third of 4 bytes; a function prototype, an extern function and an extern
-/// variable; the placeholder of id 7, and the section of id 8.
+/// Three integers, the second and third of 4 bytes; a function prototype, an extern function and an
+/// extern variable; the placeholder with id 7, and the section with id 8.
 const EXTERNS: [u32; 35] = [
     0, INT, 8, 0x40, 0, INT, 4, 0x20, 0, INT, 4, 0x20, 0, PROTO, 0, 1, EXTERN, 4, 3, VAR, 0, 2, 12,
     VAR, 2, 1, 5, DATASEC_2, 0, 5, 9, 9, 6, 9, 9,
 ];
 
 /// The words of a table's records, the ids of its section and of the placeholder, the words of the
-/// records then, and the strings that are added.
+/// records after the step, and the strings that are added.
 struct Step {
     title: &'static str,
     types: &'static [u32],
@@ -74,7 +74,7 @@ static STEPS: [Step; 4] = [
     },
 ];
 
-/// Whether the table of a section becomes that of another, as its step says.
+/// Whether the table of a section becomes the one of another, as its step says.
 fn becomes(
     rt: &impl Abort,
     alloc: Global,

@@ -15,7 +15,7 @@ const EACH: [u32; 30] = [
     SIGNED, 4, 1, ENUM64, 8, 1, FLOAT, 4,
 ];
 
-/// The questions about them, by rising ids.
+/// The questions about them, in order of rising ids.
 const ANSWERS: [(BtfFeature, bool); 6] = [
     (BtfFeature::DataSec, true),
     (BtfFeature::Float, true),
@@ -41,7 +41,7 @@ const ENUMS_OF_64_BITS: [u32; 15] = [
     1, SIGNED64_2, 8, 3, ALL_ONES, ALL_ONES, 5, 7, 1, 1, ENUM64_1, 8, 3, 9, 0,
 ];
 
-/// The sign of the enum that the record of an id stands for, and the value of its variant at an
+/// The sign of the enum that the record with an id stands for, and the value of its variant at an
 /// index.
 fn enum_at(table: &Btf<'_>, id: u32, index: usize) -> Option<(bool, u64)> {
     let t = table.type_by_id(id).ok()?;
@@ -74,12 +74,12 @@ fn has_enums(table: &Btf<'_>, wanted: &[Option<(bool, u64)>; 4]) -> bool {
     enums(table) == *wanted
 }
 
-/// Whether the records of a table that isn't needed any more stand for the enums.
+/// Whether the records of a table, passed by value, stand for the enums.
 fn keeps_enums(table: Btf<'_>) -> bool {
     has_enums(&table, &ENUMS_KEPT)
 }
 
-/// Whether a table is rewritten where nothing is granted.
+/// Whether a table is rewritten where no feature is granted.
 fn is_sanitized(rt: &impl Abort, alloc: Global, table: &mut Btf<'_>) -> bool {
     sanitize(rt, alloc, table, None, &[]).is_ok()
 }

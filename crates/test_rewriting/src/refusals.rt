@@ -1,4 +1,4 @@
-//! Tables that are refused, and stay as they were.
+//! Tables that are refused and stay unchanged.
 
 use crate::case::{ALL, is_written, parse, sanitize};
 use crate::sections::{DATASEC_1, DATASEC_2, ENUM, EXTERN, INT, VAR};
@@ -80,7 +80,7 @@ static EXTERNS: [Refused; 6] = [
     },
 ];
 
-/// Whether this is why a table is refused.
+/// Whether a table is refused for this reason.
 fn is_refusal(error: Option<BtfError>, wanted: Refusal) -> bool {
     match error {
         Some(error) => Refusal::of(&error) == wanted,

@@ -1,11 +1,11 @@
-//! Words of sections by hand, from the kernel's BTF documentation. Info words are named by kind and,
-//! after a `_`, by the count of their items.
+//! Words of sections by hand, from the kernel's BTF documentation. Info words are named after the
+//! kind and, after a `_`, the number of their items.
 
 pub(crate) const INT: u32 = 0x0100_0000;
 
 pub(crate) const ENUM: u32 = 0x0600_0000;
 
-/// Of functions: static, global, extern, and of no linkage that is known.
+/// Of functions: static, global, extern, and with an unknown linkage.
 pub(crate) const FUNC: u32 = 0x0c00_0000;
 
 pub(crate) const GLOBAL: u32 = 0x0c00_0001;
@@ -41,5 +41,5 @@ pub(crate) const SIGNED64_2: u32 = 0x9300_0002;
 /// The last word of a signed integer of 32 bits.
 pub(crate) const SIGNED_INT: u32 = 0x0100_0020;
 
-/// A word of ones.
+/// A word with all bits set.
 pub(crate) const ALL_ONES: u32 = 0xffff_ffff;

@@ -1,4 +1,4 @@
-//! Tables of types for the tests of several crates, by the words of their records ("BTF Type and
+//! Tables of types for the tests of several crates, from the words of their records ("BTF Type and
 //! String Encoding" of the kernel's btf.rst).
 #![tactic(auto)]
 

@@ -1,4 +1,4 @@
-//! Sections by the words of their records.
+//! Sections from the words of their records.
 
 use crate::words::push_words;
 use btf_records::Endianness;
@@ -7,13 +7,13 @@ use std::alloc::{AllocError, Global};
 /// The bytes of a section's header.
 const HEADER: u32 = 24;
 
-/// A length as a word, of which the greatest stands for all that are too long.
+/// A length as a word; the greatest word where the length is too long.
 fn length_word(len: usize) -> u32 {
     u32::try_from(len).unwrap_or(u32::MAX)
 }
 
-/// The section of records with these words, of these strings and of those after them. It holds no
-/// table where it is too long for the words of its header.
+/// The section with records of these words, and with `strings` followed by more strings. It holds
+/// no table where it is too long for the words of its header.
 pub fn section(
     alloc: Global,
     order: Endianness,

@@ -14,7 +14,7 @@ fn push_word(out: &mut Vec<u8>, order: Endianness, word: u32) -> Result<(), Allo
     }
 }
 
-/// Writes words after what is there.
+/// Appends words.
 pub fn push_words(out: &mut Vec<u8>, order: Endianness, words: &[u32]) -> Result<(), AllocError> {
     for word in words {
         push_word(out, order, *word)?;

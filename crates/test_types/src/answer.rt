@@ -1,8 +1,8 @@
-//! What a table or a section answers, in values that can be compared.
+//! The answers of a table or a section, as values that can be compared.
 
 use btf::{Btf, BtfError, BtfKind, fields_are_compatible, types_are_compatible};
 
-/// An answer, or why there is none.
+/// An answer, or the reason for none.
 #[derive(Clone, Copy, PartialEq)]
 pub(crate) enum Answer {
     Yes,
@@ -66,16 +66,16 @@ fn is_text(outcome: Result<&str, BtfError>, wanted: &str) -> Answer {
     }
 }
 
-/// What a table is asked.
+/// A question to a table.
 #[derive(Clone, Copy)]
 pub(crate) enum Question {
-    /// How many types there are, void among them.
+    /// The number of types, with void.
     Count,
     Resolve(u32),
     Size(u32),
     SizeIn32Bits(u32),
     Find(&'static str, BtfKind),
-    /// Whether this text stands at an offset of the strings.
+    /// Whether the text at an offset of the strings is this one.
     Text(u32, &'static str),
     /// Whether two types of the table are compatible.
     Types(u32, u32),

@@ -1,4 +1,4 @@
-//! Questions on a table, with the wanted answers.
+//! Questions to a table, with the expected answers.
 
 use crate::answer::{Answer, Question};
 use crate::sections::parse;
@@ -7,10 +7,10 @@ use std::alloc::Global;
 use std::process::Abort;
 use test_table_samples::{ORDERS, section};
 
-/// Questions with the wanted answers.
+/// Questions with the expected answers.
 pub(crate) type Asked = &'static [(Question, Answer)];
 
-/// The words of a table's records, its strings, and what it is asked.
+/// The words of a table's records, its strings, and the questions to it.
 #[derive(Drop)]
 pub(crate) struct Case<'w> {
     pub(crate) title: &'static str,
@@ -35,7 +35,7 @@ fn ask_in(rt: &impl Abort, alloc: Global, order: Endianness, case: &Case<'_>) {
     ask(rt, case.title, &table, case.asked);
 }
 
-/// Asks the table of a case, in both byte orders.
+/// Asks the questions of a case, in both byte orders.
 pub(crate) fn ask_case(rt: &impl Abort, alloc: Global, case: &Case<'_>) {
     for order in ORDERS {
         ask_in(rt, alloc, order, case);

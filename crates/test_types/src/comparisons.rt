@@ -1,4 +1,5 @@
-//! Compatible and incompatible types: by kind, through pointers and function prototypes, and by name.
+//! Compatible and incompatible types: by kind, through pointers and function prototypes, and by
+//! name.
 
 use crate::answer::{Answer, Question, yes_or_no};
 use crate::asking::{Case, ask_case};
@@ -12,8 +13,8 @@ use std::process::Abort;
 use test_table_samples::section;
 
 static CASES: [Case<'static>; 6] = [
-    // an INT, one after four bits, a TYPEDEF and a CONST of the first, a CONST of the TYPEDEF, a
-    // FUNC
+    // an INT, one that begins after four bits, a TYPEDEF and a CONST of the first, a CONST of the
+    // TYPEDEF, a FUNC
     Case {
         title: "types of one kind",
         words: &[
@@ -34,8 +35,8 @@ static CASES: [Case<'static>; 6] = [
             (Question::Types(1, 8), Answer::UnknownBtfType(8)),
         ],
     },
-    // an INT, a PTR to it, function prototypes of two INTs, of both, of none, and of none that returns an
-    // INT
+    // an INT, a PTR to it, function prototypes of two INTs, of both, of none, and of none that
+    // returns an INT
     Case {
         title: "signatures, part by part",
         words: &[
@@ -50,8 +51,8 @@ static CASES: [Case<'static>; 6] = [
             (Question::Types(5, 6), Answer::No),
         ],
     },
-    // a PTR and a CONST to themselves, an INT; a function prototype whose first parameter is the INT and
-    // whose second is itself, and one whose first parameter is the PTR
+    // a PTR and a CONST to themselves, an INT; a function prototype whose first parameter is the
+    // INT and whose second is itself, and one whose first parameter is the PTR
     Case {
         title: "a pair inside itself is too deep",
         words: &[
@@ -66,8 +67,8 @@ static CASES: [Case<'static>; 6] = [
             (Question::Types(4, 4), Answer::MaximumTypeDepthReached(4)),
         ],
     },
-    // rings of three PTRs and of two, an INT, three PTRs that lead to it; rings of three function prototypes
-    // and of two that each take the INT and return the next, and one that takes a PTR
+    // rings of three PTRs and of two, an INT, three PTRs that lead to it; rings of three function
+    // prototypes and of two that each take the INT and return the next, and one that takes a PTR
     Case {
         title: "two rings are too deep",
         words: &[
@@ -99,8 +100,8 @@ static CASES: [Case<'static>; 6] = [
             (Question::Fields(3, 4), Answer::InvalidStringOffset(100)),
         ],
     },
-    // an INT, one after four bits, a STRUCT, a UNION, a TYPEDEF of the INT, PTRs to the INT and
-    // STRUCT
+    // an INT, one that begins after four bits, a STRUCT, a UNION, a TYPEDEF of the INT, PTRs to the
+    // INT and STRUCT
     Case {
         title: "members of one kind",
         words: &[
@@ -127,7 +128,7 @@ fn types_are_compared(rt: HostRuntime) {
     }
 }
 
-/// 40 function prototypes, each of which takes the next twice, and then a PTR to this type.
+/// 40 function prototypes that each take the next one twice, and then a PTR to the type `last`.
 fn lattice(rt: &impl Abort, alloc: Global, last: u32) -> Vec<u32> {
     let mut words = Vec::new(alloc);
     for next in 2..42 {
@@ -166,7 +167,7 @@ fn a_lattice_of_signatures_is_quick(rt: HostRuntime) {
     check_lattices(&rt, &tables);
 }
 
-/// An INT and 32 ARRAYs, each of the one before.
+/// An INT and 32 ARRAYs, each of the previous type.
 fn arrays(rt: &impl Abort, alloc: Global) -> Vec<u32> {
     let mut words = Vec::new(alloc);
     append(rt, &mut words, &[0, INT, 4, 0x20]);

@@ -13,8 +13,8 @@ use std::alloc::{AllocError, Global};
 use std::process::Abort;
 use test_table_samples::{ORDERS, spelled};
 
-/// The words of a record of each kind, in order of kind, and of others that are written as they are
-/// read: bits that have no meaning are kept.
+/// The words of a record of each kind, in order of kind, and of other records that are written as
+/// they are read: bits without a meaning are kept.
 static RECORDS: [&[u32]; 25] = [
     &[0, 0, 0],
     &[1, 0x0100_0000, 4, 0x0100_0020],
@@ -43,8 +43,8 @@ static RECORDS: [&[u32]; 25] = [
     &[3, 0x0600_0000, 4],
 ];
 
-/// The words of records that are written as other words: the third word of a forward declaration
-/// and of an array isn't kept, nor is an unknown linkage.
+/// Words of records, and the other words that they are written as: the third word of a forward
+/// declaration and of an array isn't kept, nor is an unknown linkage.
 static OTHERS: [[&[u32]; 2]; 4] = [
     [&[8, 0x0700_0000, 5], &[8, 0x0700_0000, 0]],
     [
@@ -55,7 +55,7 @@ static OTHERS: [[&[u32]; 2]; 4] = [
     [&[9, 0xe0ff_0007, 1], &[0, 0, 0]],
 ];
 
-/// The record that bytes begin with, where they begin with one.
+/// The record at the beginning of bytes, if there is one.
 fn record(alloc: Global, order: Endianness, bytes: &[u8]) -> Option<BtfType> {
     let view = TypeRef::read(order, bytes).ok()?;
     view.to_type(alloc).ok()
@@ -75,7 +75,7 @@ fn copy_is_written_as(alloc: Global, order: Endianness, t: &BtfType, bytes: &[u8
     }
 }
 
-/// Whether the record that bytes begin with is written as these.
+/// Whether the record at the beginning of bytes is written as these.
 fn becomes(alloc: Global, order: Endianness, read: &[u8], written: &[u8]) -> bool {
     match record(alloc, order, read) {
         Some(t) => copy_is_written_as(alloc, order, &t, written),
@@ -83,7 +83,7 @@ fn becomes(alloc: Global, order: Endianness, read: &[u8], written: &[u8]) -> boo
     }
 }
 
-/// Whether bytes are one record, by the reader and by its definition.
+/// Whether bytes are one record, both for the reader and by the definition.
 fn is_one_record(order: Endianness, bytes: &[u8]) -> bool {
     let len = record_len(order, bytes).ok();
     len == Some(bytes.len()) && plain::len(order, bytes) == len
@@ -113,7 +113,7 @@ fn records_are_read_and_written(rt: HostRuntime) {
     }
 }
 
-/// Whether bytes are the front of a record that is cut.
+/// Whether bytes are a proper prefix of a record.
 fn is_cut(order: Endianness, front: &[u8]) -> bool {
     match record_len(order, front) {
         Err(BtfError::InvalidTypeInfo) => true,
@@ -129,7 +129,7 @@ fn check_cuts(rt: &impl Abort, alloc: Global, order: Endianness, words: &[u32]) 
     }
 }
 
-/// Whether words are no record, since there is no such kind.
+/// Whether words aren't a record, since their kind doesn't exist.
 fn is_no_kind(alloc: Global, order: Endianness, words: &[u32], number: u32) -> bool {
     let Ok(bytes) = spelled(alloc, order, words) else {
         return false;
@@ -207,7 +207,7 @@ fn union(alloc: Global) -> Result<Union, AllocError> {
     Ok(Union::new(0, members, 4))
 }
 
-/// The record with a list in a row of [`RECORDS`], made by its parts.
+/// The record with a list in a row of [`RECORDS`], made from its parts.
 fn made_with_list(alloc: Global, row: usize) -> Result<BtfType, AllocError> {
     match row {
         4 => Ok(BtfType::Struct(Struct::new(5, members(alloc)?, 12))),
@@ -219,7 +219,7 @@ fn made_with_list(alloc: Global, row: usize) -> Result<BtfType, AllocError> {
     }
 }
 
-/// The record without a list in a row of [`RECORDS`], made by its parts.
+/// The record without a list in a row of [`RECORDS`], made from its parts.
 fn made(row: usize) -> Option<BtfType> {
     match row {
         0 => Some(BtfType::Unknown),
@@ -259,7 +259,8 @@ fn made_records_are_written(rt: HostRuntime) {
     }
 }
 
-/// The offsets of a struct's members and the types of a function prototype's parameters, place by place.
+/// The offsets of a struct's members and the types of a function prototype's parameters, index by
+/// index.
 const PLACES: [(Option<u32>, Option<u32>); 4] = [
     (Some(0), Some(2)),
     (Some(64), Some(0)),
@@ -301,7 +302,7 @@ fn items_by_place(rt: HostRuntime) {
     assert!(rt; TypeRef::void().kind() == BtfKind::Unknown);
 }
 
-/// The words of an enum with as many variants as there may be.
+/// The words of an enum with the maximum number of variants.
 fn longest(rt: &impl Abort, alloc: Global) -> Vec<u32> {
     let mut words = Vec::new(alloc);
     words

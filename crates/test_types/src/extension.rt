@@ -7,20 +7,21 @@ use std::alloc::{AllocError, Global};
 use std::process::Abort;
 use test_table_samples::{ORDERS, push_words};
 
-/// A table of no types, with strings: the empty one, `.text` at 1, `xdp` at 7, `.text` at 11, and
-/// at 17 a byte that is no text.
+/// A table without types, with strings: the empty one, `.text` at 1, `xdp` at 7, `.text` at 11, and
+/// at 17 a byte that isn't UTF-8.
 const TABLE: [u8; 43] = [
     0x9f, 0xeb, 1, 0, 24, 0, 0, 0, 0, 0, 0, 0, 0, 0, 0, 0, 0, 0, 0, 0, 19, 0, 0, 0, 0, 0x2e, 0x74,
     0x65, 0x78, 0x74, 0, 0x78, 0x64, 0x70, 0, 0x2e, 0x74, 0x65, 0x78, 0x74, 0, 0xff, 0,
 ];
 
-/// A record of a function by its fields, and one of a line or of a relocation.
+/// The fields of a function record, and those of a line record or a relocation.
 type Func = (u32, u32);
 
 type Four = (u32, u32, u32, u32);
 
-/// A section's words after magic, version and flags; the sizes of its records of functions and of
-/// lines; and, of section infos by name, or by the name's offset, the records, where there is a section info.
+/// A section's words after magic, version and flags; the sizes of its function records and line
+/// records; and the records of section infos by name, or by the name's offset, where the section
+/// info exists.
 struct Row {
     words: &'static [u32],
     sizes: (usize, usize),
@@ -29,8 +30,8 @@ struct Row {
     relocations: &'static [(u32, Option<&'static [Four]>)],
 }
 
-/// Functions of records of 12 bytes, of two section infos of `.text`; lines; and relocations, of which a
-/// section info's name isn't in the strings.
+/// Function records of 12 bytes in two section infos of `.text`; lines; and relocations, one of
+/// whose section infos has a name outside the strings.
 const WHOLE: &[u32] = &[
     32, 0, 76, 76, 44, 120, 68, 12, 1, 2, 0, 5, 99, 24, 6, 99, 7, 1, 8, 7, 99, 11, 1, 16, 9, 99,
     16, 7, 2, 0, 1, 7, 1025, 9, 2, 3, 4, 16, 1, 2, 8, 3, 7, 0, 16, 4, 1, 11, 500, 1, 0, 1, 2, 3,
@@ -58,7 +59,8 @@ static ROWS: [Row; 5] = [
             (7, None),
         ],
     },
-    // A rest of eight bytes is no section info, but a section info without records before another one is.
+    // A remainder of eight bytes isn't a section info, but a section info without records before
+    // another one is.
     Row {
         words: &[32, 0, 28, 28, 0, 28, 0, 8, 0, 1, 16, 42, 7, 0],
         sizes: (8, 0),
@@ -73,7 +75,7 @@ static ROWS: [Row; 5] = [
         lines: &[],
         relocations: &[],
     },
-    // A header of its least length.
+    // A header of the minimum length.
     Row {
         words: &[8, 1, 2, 3],
         sizes: (0, 0),
@@ -83,7 +85,7 @@ static ROWS: [Row; 5] = [
     },
 ];
 
-/// Whether a section info has these records, and their length.
+/// Whether a section info has these records, with this length.
 fn are_funcs(section_info: &FuncSecInfo<'_>, wanted: &[Func]) -> bool {
     for (index, record) in wanted.iter().enumerate() {
         let found = section_info.get(index).map(|r| (r.insn_off, r.type_id));
@@ -143,7 +145,7 @@ fn check_lines(rt: &impl Abort, extension: &BtfExt<'_>, name: &str, wanted: Opti
     }
 }
 
-/// The section info of relocations whose name stands at an offset.
+/// The section info of relocations whose name is at an offset.
 fn relocations_at<'e>(extension: &'e BtfExt<'_>, name_offset: u32) -> Option<SecInfo<'e>> {
     for section_info in extension.relocations() {
         if section_info.name_offset() == name_offset {
@@ -184,7 +186,7 @@ fn check_copy(rt: &impl Abort, extension: &BtfExt<'_>, row: &Row) {
     check_section_infos(rt, &copy, row);
 }
 
-/// The section of these words.
+/// The section with these words.
 fn section(alloc: Global, order: Endianness, words: &[u32]) -> Result<Vec<u8>, AllocError> {
     let mut out = Vec::new(alloc);
     push_half_word(&mut out, order, 0xeb9f)?;
@@ -193,7 +195,7 @@ fn section(alloc: Global, order: Endianness, words: &[u32]) -> Result<Vec<u8>, A
     Ok(out)
 }
 
-/// A section that is read.
+/// The extension parsed from a section.
 fn extension<'a>(rt: &impl Abort, alloc: Global, order: Endianness, bytes: &'a [u8]) -> BtfExt<'a> {
     let table = parse(rt, alloc, &TABLE, Endianness::Little);
     BtfExt::parse(alloc, bytes, order, &table)
@@ -217,7 +219,7 @@ fn sections_are_read(rt: HostRuntime) {
     }
 }
 
-/// Whether a copy of records of functions is written as these bytes.
+/// Whether a copy of function records is written as these bytes.
 fn funcs_are(alloc: Global, records: &FuncSecInfo<'_>, bytes: &[u8]) -> bool {
     let Ok(copy) = records.try_clone() else {
         return false;
@@ -228,7 +230,7 @@ fn funcs_are(alloc: Global, records: &FuncSecInfo<'_>, bytes: &[u8]) -> bool {
     }
 }
 
-/// Whether a copy of records of lines is written as these bytes.
+/// Whether a copy of line records is written as these bytes.
 fn lines_are(alloc: Global, records: &LineSecInfo<'_>, bytes: &[u8]) -> bool {
     let Ok(copy) = records.try_clone() else {
         return false;

@@ -1,4 +1,4 @@
-//! Tests of type records, of type tables and of what stands beside these.
+//! Tests of type records, of type tables and of `.BTF.ext` sections.
 #![tactic(auto)]
 
 #[cfg(test)]

@@ -1,4 +1,4 @@
-//! Records read slowly, as their definition says.
+//! Records read slowly, by their definition.
 
 ghost use Rattle.std.specs.Prelude.{◌+◌, ◌<◌, ◌≤◌, SomeIff, length};
 ghost use Rattle.btf_records.specs.Kinds.{kind_count, kind_of};
@@ -6,7 +6,7 @@ ghost use Rattle.btf_encoding.specs.Records.{kind_number_at, len_after, record_l
 
 use btf_records::{Endianness, word};
 
-/// The number of bytes of a record, by the number of its kind.
+/// The number of bytes of a record, given the number of its kind.
 #[tactic(auto, unfolding(btf_records::specs::Kinds::kind_of))]
 fn len_of(kind: u32, count: usize) -> Option<usize>
     requires { count < 65536 }
@@ -22,7 +22,7 @@ fn len_of(kind: u32, count: usize) -> Option<usize>
     }
 }
 
-/// The number of bytes of the record that the bytes begin with.
+/// The number of bytes of the record at the beginning of bytes.
 pub(crate) fn len(order: Endianness, bytes: &[u8]) -> Option<usize>
     ensures { SomeIff result
         ((12 ≤ length bytes.now)

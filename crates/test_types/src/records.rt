@@ -3,7 +3,7 @@
 use btf_records::{BtfError, BtfKind, Endianness, InfoBits, VarLinkage, half_word, push_half_word};
 use std::alloc::Global;
 
-/// Whether the first half word, high byte first, is the second, low byte first.
+/// Whether the first half word, read big-endian, equals the second, read little-endian.
 fn halves_are_equal(bytes: &[u8]) -> bool {
     bytes.len() == 4
         && half_word(Endianness::Big, bytes, 0) == half_word(Endianness::Little, bytes, 2)
@@ -26,7 +26,7 @@ fn is_displayed(alloc: Global, kind: BtfKind, wanted: &str) -> bool {
     }
 }
 
-/// Whether a number is refused as that of a kind.
+/// Whether a number is refused as the number of a kind.
 fn is_no_kind(number: u32) -> bool {
     match BtfKind::try_from(number) {
         Err(BtfError::InvalidTypeKind { kind }) => kind == number,

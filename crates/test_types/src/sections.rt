@@ -41,7 +41,7 @@ pub(crate) const PROTO_1: u32 = 0x0d00_0001;
 
 pub(crate) const PROTO_2: u32 = 0x0d00_0002;
 
-/// Adds words to others.
+/// Appends words.
 pub(crate) fn append(rt: &impl Abort, words: &mut Vec<u32>, more: &[u32]) {
     words.extend_from_slice(more).expect(rt, "words");
 }

@@ -1,4 +1,4 @@
-//! Type tables: worked sections in both byte orders, broken ones, and tables that grow.
+//! Type tables: example sections in both byte orders, invalid ones, and tables that grow.
 
 use crate::answer::{Answer, Question, id};
 use crate::asking::{Asked, Case, ask, ask_case};
@@ -11,7 +11,7 @@ use std::alloc::Global;
 use std::process::Abort;
 use test_table_samples::{ORDERS, section};
 
-/// A record, and CONSTs up to an id, each of the type before.
+/// A record, and CONSTs up to an id, each of the previous type.
 struct Chain {
     title: &'static str,
     first: &'static [u32],
@@ -102,8 +102,8 @@ static CASES: [Case<'static>; 2] = [
             (Question::Size(0), Answer::UnexpectedBtfType(0)),
         ],
     },
-    // two INTs of one name, a PTR of that name, an INT whose name no NUL ends, and one of another
-    // name
+    // two INTs of one name, a PTR of that name, an INT whose name has no NUL at its end, and one of
+    // another name
     Case {
         title: "names are found",
         words: &[
@@ -159,7 +159,7 @@ fn is_written_as(table: &Btf<'_>, bytes: &[u8]) -> bool {
     }
 }
 
-/// Whether a table that isn't needed any more is written as these bytes.
+/// Whether a table, passed by value, is written as these bytes.
 fn is_written(table: Btf<'_>, bytes: &[u8]) -> bool {
     is_written_as(&table, bytes)
 }
@@ -178,7 +178,7 @@ static WORDS: [u32; 30] = [
     0, 0, INT, 2, 16,
 ];
 
-/// The words as which they are written.
+/// The words that they are written as.
 static NORMAL: [u32; 30] = [
     0, INT, 4, 0x20, 0, FWD, 0, 0, ARRAY, 0, 1, 1, 3, 0, 0, 0, 0, VAR, 1, 3, 0, STRUCT_1, 4, 0, 1,
     0, 0, INT, 2, 16,
@@ -201,7 +201,7 @@ fn sections_are_read_and_written(rt: HostRuntime) {
     }
 }
 
-/// An `int` that is signed, of four bytes.
+/// A signed `int` of four bytes.
 fn int(name_offset: u32) -> BtfType {
     BtfType::Int(Int::new(name_offset, 4, IntEncoding::Signed, 0))
 }
@@ -210,7 +210,7 @@ const NEW_SECTION: [u8; 25] = [
     0x9f, 0xeb, 1, 0, 24, 0, 0, 0, 0, 0, 0, 0, 0, 0, 0, 0, 0, 0, 0, 0, 1, 0, 0, 0, 0,
 ];
 
-/// The section of an `int`, and after it of a PTR to it and of the text `x`.
+/// The section of an `int`, followed by a PTR to it and the text `x`.
 const GROWN_SECTION: [u8; 59] = [
     0x9f, 0xeb, 1, 0, 24, 0, 0, 0, 0, 0, 0, 0, 28, 0, 0, 0, 28, 0, 0, 0, 7, 0, 0, 0, 1, 0, 0, 0, 0,
     0, 0, 1, 4, 0, 0, 0, 0x20, 0, 0, 1, 0, 0, 0, 0, 0, 0, 0, 2, 1, 0, 0, 0, 0, 0x69, 0x6e, 0x74, 0,
@@ -223,7 +223,7 @@ static GROWN: [(Question, Answer); 3] = [
     (Question::Size(2), Answer::Size(8)),
 ];
 
-/// Adds the text `x` and a PTR to the type of id 1 to the table of an `int`.
+/// Adds the text `x` and a PTR to the type with id 1 to the table of an `int`.
 fn grow(rt: &impl Abort, table: &mut Btf<'_>) {
     assert!(rt; id(table.add_string("x")) == Answer::Id(5));
     assert!(rt; id(table.add_type(BtfType::Ptr(Ptr::new(0, 1)))) == Answer::Id(2));
@@ -257,7 +257,7 @@ fn a_table_grows(rt: HostRuntime) {
     assert!(rt; is_written(table, &GROWN_SECTION));
 }
 
-// A table that borrows a section, and a copy of it that goes on to borrow it.
+// A table that borrows a section, and a copy of it that still borrows it.
 #[test]
 fn a_borrowed_table_grows(rt: HostRuntime) {
     let mut table = parse(&rt, rt.alloc(), &INT_SECTION, Endianness::Little);
@@ -280,7 +280,7 @@ fn union_for_enum(alloc: Global) -> BtfType {
     })
 }
 
-/// Whether the record of id 1 stands for an enum.
+/// Whether the record with id 1 stands for an enum.
 fn stands_for_enum(table: &Btf<'_>) -> bool {
     let Ok(t) = table.type_by_id(1) else {
         return false;
@@ -290,7 +290,7 @@ fn stands_for_enum(table: &Btf<'_>) -> bool {
     stands
 }
 
-/// Whether the record of id 1 of a table that isn't needed any more stands for an enum.
+/// Whether the record with id 1 of a table, passed by value, stands for an enum.
 fn stood_for_enum(table: Btf<'_>) -> bool {
     stands_for_enum(&table)
 }
@@ -303,13 +303,13 @@ fn keeps_enum(t: &BtfType) -> bool {
     }
 }
 
-/// A copy of the record of id 1.
+/// A copy of the record with id 1.
 fn copy_of_first(alloc: Global, table: &Btf<'_>) -> Option<BtfType> {
     let t = table.type_by_id(1).ok()?;
     t.to_type(alloc).ok()
 }
 
-/// Whether a copy of the record of id 1 stands for an enum.
+/// Whether a copy of the record with id 1 stands for an enum.
 fn copy_stands_for_enum(alloc: Global, table: &Btf<'_>) -> bool {
     match copy_of_first(alloc, table) {
         Some(t) => keeps_enum(&t),
@@ -317,7 +317,7 @@ fn copy_stands_for_enum(alloc: Global, table: &Btf<'_>) -> bool {
     }
 }
 
-/// Whether the record of id 1 of a copy of the table stands for an enum.
+/// Whether the record with id 1 of a copy of the table stands for an enum.
 fn stands_in_copy(table: &Btf<'_>) -> bool {
     match table.try_clone() {
         Ok(copy) => stood_for_enum(copy),
