@@ -40,7 +40,7 @@ fn push_externs(object: &Object<'_>, bytes: &mut Vec<u8>) -> Result<(), AllocErr
 
 /// Appends the kernel tables in which a function's type relocations have matches.
 fn push_tables(function: &Function<'_>, bytes: &mut Vec<u8>) -> Result<(), AllocError> {
-    for table in function.matched_tables.iter() {
+    for table in function.matched_tables().iter() {
         bytes.extend_from_slice(&table.to_le_bytes())?;
     }
     Ok(())
@@ -205,7 +205,7 @@ fn refusal(error: &KsymsError) -> Answer {
 /// The answer to resolving an object's externs in a kernel's types and symbols.
 fn resolved(object: &mut Object<'_>, kernel: &Kernel<'_>) -> Answer {
     let mut symbols = Watched::new(kernel.symbols);
-    match object.resolve_externs(&kernel.types, &mut symbols) {
+    match object.resolve_externs(kernel.types.first(), &mut symbols) {
         Ok(()) => Answer::Made,
         Err(error) => refusal(&error),
     }

@@ -1,6 +1,6 @@
 //! The externs of an object, resolved.
 
-ghost use Rattle.std.specs.Prelude.{◌≡◌, ◌≢◌, None, Some, false, option_copied, slice_get, IfErr, IfOk, IfSome, IsOk, OnErr, OnOk};
+ghost use Rattle.std.specs.Prelude.{◌≡◌, ◌≢◌, None, Some, false, option_copied, IfErr, IfOk, IfSome, IsOk, OnErr, OnOk};
 ghost use Rattle.std.specs.Option.{IsSomeAnd};
 ghost use Rattle.watched.specs.Watched.{has_failed, watched_inner};
 ghost use Rattle.extern_resolution.specs.Outcomes.{is_any_sought};
@@ -42,7 +42,7 @@ fn resolved<'a, R: BufRead>(
 }
 
 /// Resolves the externs of an object with the table of types `table`: externs with a type by the
-/// first table of the kernel's types, the others by the kernel's symbols, a text in the format of
+/// kernel's types `kernel`, the others by the kernel's symbols, a text in the format of
 /// /proc/kallsyms. A weak extern that is missing gets address 0. Without a table, nothing is done.
 /// Where no extern without a type is left to resolve, nothing is read. On a refusal the externs
 /// stay as before.
@@ -58,17 +58,17 @@ pub fn resolve_externs<'a, R: BufRead>(
     alloc: Global,
     externs: &mut Externs<'a>,
     table: Option<&Btf<'_>>,
-    kernel_types: &[Btf<'_>],
+    kernel: Option<&Btf<'_>>,
     symbols: &mut Watched<R>,
 ) -> Result<(), KsymsError>
     ensures resolved { OnOk result
         (IfSome (option_copied table.entry) (λ t.
-        AreResolved t (slice_get kernel_types.now 0) (R.remaining (watched_inner symbols.old))
+        AreResolved t (option_copied kernel.entry) (R.remaining (watched_inner symbols.old))
         (has_failed symbols.new) externs.old externs.new)) }
     ensures refused { IfErr result (λ f.
         f ≢ OutOfMemory
         → IsSomeAnd (option_copied table.entry) (λ t.
-        CannotResolve t (slice_get kernel_types.now 0) (R.remaining (watched_inner symbols.old))
+        CannotResolve t (option_copied kernel.entry) (R.remaining (watched_inner symbols.old))
         (has_failed symbols.new) externs.old f)) }
     ensures no_table { option_copied table.entry ≡ None
         → (IsOk result) × (externs.new ≡ externs.old) × (symbols.new ≡ symbols.old) }
@@ -78,7 +78,7 @@ pub fn resolve_externs<'a, R: BufRead>(
     let Some(table) = table else {
         return Ok(());
     };
-    let resolved = resolved(alloc, externs, table, kernel_types.first(), symbols)?;
+    let resolved = resolved(alloc, externs, table, kernel, symbols)?;
     externs.set_by_name(resolved);
     Ok(())
 }

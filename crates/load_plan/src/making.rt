@@ -92,7 +92,7 @@ fn resolve<R: BufRead>(
         (symbols_given (R.remaining (watched_inner symbols.old)) (has_failed symbols.new))
         object.old) e) }
 {
-    object.resolve_externs(kernel_types, symbols)?;
+    object.resolve_externs(kernel_types.first(), symbols)?;
     Ok(())
 }
 

@@ -100,6 +100,14 @@ impl<'a> Function<'a> {
         self.section_offset as u64 <= offset && (offset as u128) < self.end()
     }
 
+    /// The kernel tables in which the function's type relocations have their first matches, by
+    /// their indices in the list of tables, from 0.
+    pub fn matched_tables(&self) -> &MatchedTables
+        ensures { result.now ≡ self.now.matched_tables }
+    {
+        &self.matched_tables
+    }
+
     /// The function with other slots.
     pub fn with_instructions(&self, instructions: Slots<'a>) -> Result<Function<'a>, AllocError>
         ensures { IfOk result (λ function.

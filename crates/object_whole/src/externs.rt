@@ -1,6 +1,6 @@
 //! The externs of an object, resolved.
 
-ghost use Rattle.std.specs.Prelude.{◌≡◌, ◌≢◌, None, Some, false, slice_get, IfErr, IfSome, IsOk, OnErr, OnOk};
+ghost use Rattle.std.specs.Prelude.{◌≡◌, ◌≢◌, None, Some, false, option_copied, IfErr, IfSome, IsOk, OnErr, OnOk};
 ghost use Rattle.std.specs.Option.{IsSomeAnd};
 ghost use Rattle.extern_resolution.specs.Outcomes.{is_any_sought};
 ghost use Rattle.extern_resolution.specs.Resolution.{AreResolved, CannotResolve};
@@ -14,25 +14,25 @@ use std::io::BufRead;
 use watched::Watched;
 
 impl Object<'_> {
-    /// Resolves the externs: those with a type by the first table of the kernel's types, the others
-    /// by the kernel's symbols, a text in the format of /proc/kallsyms. A weak extern that is
-    /// missing gets address 0. Without a table of types, nothing is done. Where no extern without a
-    /// type is left to resolve, nothing is read. Everything else of the object stays; on a refusal
-    /// the externs stay too.
+    /// Resolves the externs: those with a type by the kernel's types `kernel`, the others by the
+    /// kernel's symbols, a text in the format of /proc/kallsyms. A weak extern that is missing gets
+    /// address 0. Without a table of types, nothing is done. Where no extern without a type is left
+    /// to resolve, nothing is read. Everything else of the object stays; on a refusal the externs
+    /// stay too.
     pub fn resolve_externs<R: BufRead>(
         &mut self,
-        kernel_types: &[Btf<'_>],
+        kernel: Option<&Btf<'_>>,
         symbols: &mut Watched<R>,
     ) -> Result<(), KsymsError>
         ensures externs { OnOk result
             (IfSome self.old.types (λ t.
-            AreResolved t (slice_get kernel_types.now 0) (R.remaining (watched_inner symbols.old))
+            AreResolved t (option_copied kernel.entry) (R.remaining (watched_inner symbols.old))
             (has_failed symbols.new) self.old.externs self.new.externs)) }
         ensures others { self.new ≡ record self.old { externs = self.new.externs } }
         ensures refused { IfErr result (λ f.
             f ≢ OutOfMemory
             → IsSomeAnd self.old.types (λ t.
-            CannotResolve t (slice_get kernel_types.now 0) (R.remaining (watched_inner symbols.old))
+            CannotResolve t (option_copied kernel.entry) (R.remaining (watched_inner symbols.old))
             (has_failed symbols.new) self.old.externs f)) }
         ensures no_table { self.old.types ≡ None
             → (IsOk result) × (self.new ≡ self.old) × (symbols.new ≡ symbols.old) }
@@ -44,7 +44,7 @@ impl Object<'_> {
             self.alloc,
             &mut self.externs,
             self.btf.as_ref(),
-            kernel_types,
+            kernel,
             symbols,
         )
     }

@@ -146,7 +146,7 @@ fn answer_of<R: BufRead>(
     let by_name = by_name(alloc, declared)?;
     let mut externs = Externs::none(alloc);
     externs.set_by_name(by_name);
-    let refusal = match resolve_externs(alloc, &mut externs, table, kernel, symbols) {
+    let refusal = match resolve_externs(alloc, &mut externs, table, kernel.first(), symbols) {
         Ok(()) => None,
         Err(error) => Some(refusal_of(&error)),
     };
