@@ -1,11 +1,11 @@
-//! What an object holds, listed.
+//! What a file and its object hold, listed.
 
 use crate::error::ExampleError;
 use ebpf_object::{Maps, Object};
 use elf64::ElfFile;
 
-/// Prints how much the file holds.
-pub(crate) fn print_file(rt: &HostRuntime, file: &ElfFile<'_>) -> Result<(), ExampleError> {
+/// Prints how many sections and symbols the file has.
+fn list_counts(rt: &HostRuntime, file: &ElfFile<'_>) -> Result<(), ExampleError> {
     println!(rt;
         "{} sections, {} symbols",
         file.sections().count(),
@@ -14,8 +14,13 @@ pub(crate) fn print_file(rt: &HostRuntime, file: &ElfFile<'_>) -> Result<(), Exa
     Ok(())
 }
 
+/// Lists what an ELF file holds.
+pub(crate) fn list_file(rt: &HostRuntime, bytes: &[u8]) -> Result<(), ExampleError> {
+    list_counts(rt, &ElfFile::parse(bytes)?)
+}
+
 /// Prints how many types the object has, and what its functions and variables expect of the kernel.
-pub(crate) fn print_types(rt: &HostRuntime, object: &Object<'_>) -> Result<(), ExampleError> {
+fn list_types(rt: &HostRuntime, object: &Object<'_>) -> Result<(), ExampleError> {
     if let Some(types) = object.btf() {
         println!(rt; "{} types", types.len())?;
     }
@@ -26,7 +31,7 @@ pub(crate) fn print_types(rt: &HostRuntime, object: &Object<'_>) -> Result<(), E
 }
 
 /// Prints the maps.
-pub(crate) fn print_maps(rt: &HostRuntime, maps: &Maps<'_>) -> Result<(), ExampleError> {
+fn list_maps(rt: &HostRuntime, maps: &Maps<'_>) -> Result<(), ExampleError> {
     for (name, map) in maps.iter() {
         println!(rt;
             "map {name}: type {}, keys of {} bytes, {} entries of {} bytes",
@@ -40,7 +45,7 @@ pub(crate) fn print_maps(rt: &HostRuntime, maps: &Maps<'_>) -> Result<(), Exampl
 }
 
 /// Prints the programs.
-pub(crate) fn print_programs(rt: &HostRuntime, object: &Object<'_>) -> Result<(), ExampleError> {
+fn list_programs(rt: &HostRuntime, object: &Object<'_>) -> Result<(), ExampleError> {
     for (name, program) in object.programs().iter() {
         if let Some(function) = object.function(program.function_key()) {
             println!(rt;
@@ -50,4 +55,11 @@ pub(crate) fn print_programs(rt: &HostRuntime, object: &Object<'_>) -> Result<()
         }
     }
     Ok(())
+}
+
+/// Lists what an object holds.
+pub(crate) fn list_object(rt: &HostRuntime, object: &Object<'_>) -> Result<(), ExampleError> {
+    list_types(rt, object)?;
+    list_maps(rt, object.maps())?;
+    list_programs(rt, object)
 }

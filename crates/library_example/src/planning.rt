@@ -1,9 +1,9 @@
-//! What a kernel gets of an object: its load plan, written as text and read back.
+//! What a kernel gets of an object: its load plan, written as text.
 
-ghost use Rattle.std.specs.Prelude.{◌≤◌, ◌^◌, length};
+ghost use Rattle.std.specs.Prelude.{◌≤◌, ◌^◌, length, IfOk};
 
 use crate::error::ExampleError;
-use btf::Btf;
+use btf::{Btf, Endianness};
 use ebpf_object::Object;
 use load_plan::{Order, Plan, Settings, Watched, prepare};
 use std::alloc::{AllocError, Global};
@@ -11,6 +11,28 @@ use std::io;
 
 /// The numbers of maps are below this one, as file descriptors are.
 const NUMBERS: u32 = 0x8000_0000;
+
+/// A list of one table.
+fn list_of<'t>(alloc: Global, table: Btf<'t>) -> Result<Vec<Btf<'t>>, ExampleError>
+    ensures { IfOk result (λ tables. length tables.items ≤ 2 ^ 32) }
+{
+    let mut tables = Vec::new(alloc);
+    tables.push(table)?;
+    Ok(tables)
+}
+
+/// The kernel's tables of types, one or none.
+fn kernel_types<'t>(alloc: Global, bytes: Option<&'t [u8]>) -> Result<Vec<Btf<'t>>, ExampleError>
+    ensures { IfOk result (λ tables. length tables.items ≤ 2 ^ 32) }
+{
+    match bytes {
+        Some(bytes) => {
+            let table = Btf::parse(alloc, bytes, Endianness::Little)?;
+            list_of(alloc, table)
+        }
+        None => Ok(Vec::new(alloc)),
+    }
+}
 
 /// Settings that number the maps from 0 on.
 fn settings_of(alloc: Global, object: &Object<'_>) -> Result<Settings, AllocError> {
@@ -28,27 +50,6 @@ fn text_of(alloc: Global, plan: &Plan<'_>) -> Result<Vec<u8>, ExampleError> {
     let mut out = Watched::new(Vec::new(alloc));
     plan.write(&mut out)?;
     Ok(out.into_inner())
-}
-
-/// Prints what a plan holds.
-fn print_contents(rt: &HostRuntime, plan: &Plan<'_>) -> Result<(), ExampleError> {
-    for map in plan.maps() {
-        println!(rt; "planned map {} under number {}", map.name(), map.number())?;
-    }
-    for program in plan.programs() {
-        println!(rt;
-            "planned program {}: {} instructions",
-            program.name(),
-            program.slots().len()
-        )?;
-    }
-    Ok(())
-}
-
-/// Prints the plan of a text.
-fn print_text(rt: &HostRuntime, text: &[u8]) -> Result<(), ExampleError> {
-    let plan = Plan::read(rt.alloc(), text)?;
-    print_contents(rt, &plan)
 }
 
 /// The text of the plan of an object's bytes, for a kernel that grants all features and has these
@@ -88,16 +89,14 @@ fn numbered_text(
     planned_text(alloc, bytes, &settings, kernel_types)
 }
 
-/// Prepares an object for a kernel that grants all features and has these types, and prints the
-/// plan as it is read from its own text.
-pub(crate) fn print_plan(
-    rt: &HostRuntime,
+/// The text of an object's plan, for a kernel that grants all features and whose types these bytes
+/// are.
+pub(crate) fn plan_text(
+    alloc: Global,
     bytes: &[u8],
     object: &Object<'_>,
-    kernel_types: &[Btf<'_>],
-) -> Result<(), ExampleError>
-    requires { length kernel_types.now ≤ 2 ^ 32 }
-{
-    let text = numbered_text(rt.alloc(), bytes, object, kernel_types)?;
-    print_text(rt, &text)
+    types: Option<&[u8]>,
+) -> Result<Vec<u8>, ExampleError> {
+    let tables = kernel_types(alloc, types)?;
+    numbered_text(alloc, bytes, object, &tables)
 }

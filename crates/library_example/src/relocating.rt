@@ -8,6 +8,14 @@ use std::collections::{HashMap, HashSet};
 /// The number that a loader gives the first map: a file descriptor.
 const FIRST_NUMBER: i32 = 3;
 
+/// Puts the value of the global variable `longest`, if there is one.
+fn put_value(alloc: Global, object: &mut Object<'_>) -> Result<(), ExampleError> {
+    let mut values = HashMap::new(alloc);
+    values.insert("longest", (&[0xe8u8, 3, 0, 0][..], false))?;
+    object.patch_map_data(values)?;
+    Ok(())
+}
+
 /// The sections that functions lie in.
 fn text_sections(alloc: Global, object: &Object<'_>) -> Result<HashSet<usize>, AllocError> {
     let mut sections = HashSet::new(alloc);
@@ -27,14 +35,6 @@ fn numbered<'m>(
         numbered.push((*name, number, map))?;
     }
     Ok(numbered)
-}
-
-/// Puts the value of the global variable `longest`, if there is one.
-fn put_value(alloc: Global, object: &mut Object<'_>) -> Result<(), ExampleError> {
-    let mut values = HashMap::new(alloc);
-    values.insert("longest", (&[0xe8u8, 3, 0, 0][..], false))?;
-    object.patch_map_data(values)?;
-    Ok(())
 }
 
 /// Writes the numbers of the maps of an object into a copy of it.
@@ -61,7 +61,7 @@ fn relocate(
 }
 
 /// Prints how long an object's programs are.
-fn print_lengths(rt: &HostRuntime, object: &Object<'_>) -> Result<(), ExampleError> {
+fn list_lengths(rt: &HostRuntime, object: &Object<'_>) -> Result<(), ExampleError> {
     for (name, program) in object.programs().iter() {
         if let Some(function) = object.function(program.function_key()) {
             println!(rt;
@@ -73,20 +73,20 @@ fn print_lengths(rt: &HostRuntime, object: &Object<'_>) -> Result<(), ExampleErr
     Ok(())
 }
 
-/// Relocates a copy of an object, with one value set, and prints how long its programs are.
-fn print_copy(
+/// Sets one value in a copy of an object, relocates it, and prints how long its programs are.
+fn list_copy(
     rt: &HostRuntime,
     object: &Object<'_>,
     relocated: &mut Object<'_>,
 ) -> Result<(), ExampleError> {
     put_value(rt.alloc(), relocated)?;
     relocate(rt.alloc(), object, relocated)?;
-    print_lengths(rt, relocated)
+    list_lengths(rt, relocated)
 }
 
 /// Relocates a copy of an object as a loader does, with one value set, and prints how long its
 /// programs are.
-pub(crate) fn print_relocated(rt: &HostRuntime, object: &Object<'_>) -> Result<(), ExampleError> {
+pub(crate) fn list_relocated(rt: &HostRuntime, object: &Object<'_>) -> Result<(), ExampleError> {
     let mut relocated = object.try_clone()?;
-    print_copy(rt, object, &mut relocated)
+    list_copy(rt, object, &mut relocated)
 }
