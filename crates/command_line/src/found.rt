@@ -6,24 +6,19 @@ ghost use Rattle.std.specs.String.{string_bytes};
 ghost use Rattle.clap.specs.Matches.{first_value, found_of};
 ghost use Rattle.command_line.specs.Found.{order_named, values_found, IsFoundBy};
 
-use crate::error::LineError;
-use crate::line_text::line_error;
 use btf_records::Endianness;
-use clap::{ArgMatches, Command};
+use clap::{ArgMatches, Command, Error};
 use std::alloc::{AllocError, Global};
 
 /// What clap finds in the arguments, for a command.
 pub(crate) fn matches_in<'w>(
-    alloc: Global,
     command: Command<'w>,
     words: &'w [String],
-) -> Result<ArgMatches<'w>, LineError>
+) -> Result<ArgMatches<'w>, Error>
     ensures { IfOk result (IsFoundBy command.entry (map string_bytes words.now)) }
 {
-    match command.try_get_matches_from(words) {
-        Ok(matches) => Ok(matches),
-        Err(error) => Err(line_error(alloc, &error)?),
-    }
+    let matches = command.try_get_matches_from(words)?;
+    Ok(matches)
 }
 
 /// The values of an option that may be given several times.
