@@ -1,9 +1,13 @@
 //! What is found in the arguments.
 
-ghost use Rattle.std.specs.Prelude.{◌≡◌, codes, map, Some, IfOk, is_some, true};
+ghost use Rattle.std.specs.Prelude.{◌≡◌, ◌≢◌, codes, map, Some, IfErr, IfOk, is_some, false, true};
 ghost use Rattle.std.specs.Option.{option_map};
 ghost use Rattle.std.specs.String.{string_bytes};
 ghost use Rattle.clap.specs.Matches.{first_value, found_of};
+ghost use Rattle.clap.specs.Simple.{app_of};
+ghost use Rattle.clap.specs.Takes.{takes};
+ghost use Rattle.clap.specs.Values.{kind_of};
+ghost use Rattle.clap.specs.declared.error.kind.ErrorKind.TheVariants.{OutOfMemory};
 ghost use Rattle.command_line.specs.Found.{order_named, values_found, IsFoundBy};
 
 use btf_records::Endianness;
@@ -15,7 +19,10 @@ pub(crate) fn matches_in<'w>(
     command: Command<'w>,
     words: &'w [String],
 ) -> Result<ArgMatches<'w>, Error>
-    ensures { IfOk result (IsFoundBy command.entry (map string_bytes words.now)) }
+    ensures found { IfOk result (IsFoundBy command.entry (map string_bytes words.now)) }
+    ensures refused { IfErr result (λ error.
+        kind_of error ≢ OutOfMemory
+        → takes (app_of command.entry) (map string_bytes words.now) ≡ false) }
 {
     let matches = command.try_get_matches_from(words)?;
     Ok(matches)

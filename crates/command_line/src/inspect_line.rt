@@ -1,8 +1,10 @@
 //! What the arguments of `inspect_object` ask for.
 
-ghost use Rattle.std.specs.Prelude.{map, IfOk};
+ghost use Rattle.std.specs.Prelude.{◌≢◌, map, IfErr, IfOk};
 ghost use Rattle.std.specs.String.{string_bytes};
-ghost use Rattle.command_line.specs.InspectLine.{IsInspectLine, IsInspectMatch};
+ghost use Rattle.clap.specs.Values.{kind_of};
+ghost use Rattle.clap.specs.declared.error.kind.ErrorKind.TheVariants.{OutOfMemory};
+ghost use Rattle.command_line.specs.InspectLine.{IsInspectLine, IsInspectMatch, IsRefusedInspectLine};
 
 use crate::found::{matches_in, object_of, order_of, values_of};
 use crate::inspect_command::inspect_command;
@@ -27,7 +29,9 @@ pub struct InspectArguments<'w> {
 
 /// What clap finds in the arguments, for the program's command line.
 fn matches_of<'w>(alloc: Global, words: &'w [String]) -> Result<ArgMatches<'w>, Error>
-    ensures { IfOk result (IsInspectMatch (map string_bytes words.now)) }
+    ensures found { IfOk result (IsInspectMatch (map string_bytes words.now)) }
+    ensures refused { IfErr result (λ error.
+        kind_of error ≢ OutOfMemory → IsRefusedInspectLine (map string_bytes words.now)) }
 {
     let command = inspect_command(alloc)?;
     let matches = matches_in(command, words)?;
@@ -44,7 +48,9 @@ pub fn inspect_arguments<'w>(
     alloc: Global,
     words: &'w [String],
 ) -> Result<InspectArguments<'w>, Error>
-    ensures { IfOk result (IsInspectLine (map string_bytes words.now)) }
+    ensures line { IfOk result (IsInspectLine (map string_bytes words.now)) }
+    ensures refused { IfErr result (λ error.
+        kind_of error ≢ OutOfMemory → IsRefusedInspectLine (map string_bytes words.now)) }
 {
     let matches = matches_of(alloc, words)?;
     Ok(InspectArguments {
