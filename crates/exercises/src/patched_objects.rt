@@ -8,9 +8,10 @@ use std::collections::HashMap;
 use std::env::Args;
 use std::{fs, str};
 
+/// The value of each variable.
 static VALUE: [u8; 3] = [1, 2, 3];
 
-/// The values of two variables, the second of which an object may lack.
+/// The values of two variables, of which an object may lack the second.
 fn values(alloc: Global) -> Result<HashMap<&'static str, (&'static [u8], bool)>, AllocError> {
     let mut values = HashMap::new(alloc);
     values.insert("my_config", (VALUE.as_slice(), true))?;
