@@ -1,0 +1,12 @@
+use Rattle.std.proofs.Common.{◌≡◌, ◌++◌, List, ℕ, length, map, Option}
+use Rattle.std.specs.Prelude.{find}
+use Rattle.std.specs.String.{string_bytes}
+use Rattle.instruction_text.specs.Forms.{form_of}
+use Rattle.instruction_text.specs.Texts.{fields_of, filled, more_bytes, piece_of, pieces_of, rendered, takes}
+use Rattle.instruction_text.proofs.writing.row_in.Given as goal
+
+abbrev pub invariant-loop-left : goal.invariant-loop-left
+invariant-loop-left l = find (takes l.parts) (map form_of l.left) ≡ find (takes l.parts) (map form_of l.rows)
+
+abbrev pub decreases-loop-left : goal.decreases-loop-left
+decreases-loop-left l = length l.left

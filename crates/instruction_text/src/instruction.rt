@@ -1,0 +1,57 @@
+//! Instructions, and their texts.
+
+ghost use Rattle.std.specs.Prelude.{◌≡◌, IfOk, None, OnSome, Some, IfSome, is_some};
+ghost use Rattle.std.specs.String.{string_bytes};
+ghost use Rattle.instruction_text.specs.Texts.{second_from, taken, text_of};
+
+use crate::parts::{WIDE_LOAD, parts_of};
+use crate::writing::{has_form, push_instruction};
+use ebpf_items::bpf_insn;
+use std::alloc::{AllocError, Global};
+
+/// An instruction: one slot, or two ("Instruction encoding" in the kernel's
+/// `instruction-set.rst`).
+#[derive(Clone, Copy, Debug)]
+pub struct Instruction {
+    /// The slot of its code.
+    pub first: bpf_insn,
+    /// The second slot of a load of a 64-bit immediate.
+    pub second: Option<bpf_insn>,
+}
+
+impl Instruction {
+    /// The instruction in a slot and the slot behind it. Only a load of a 64-bit immediate has a
+    /// second slot; a slot with an encoding that the standard doesn't name is one instruction.
+    pub fn of_slots(first: bpf_insn, second: Option<bpf_insn>) -> Instruction
+        ensures { result ≡ taken first second }
+    {
+        Instruction {
+            first,
+            second: second_of(first, second),
+        }
+    }
+}
+
+fn second_of(first: bpf_insn, second: Option<bpf_insn>) -> Option<bpf_insn>
+    ensures { result ≡ (taken first second).second }
+{
+    let parts = parts_of(first, second)?;
+    if has_form(&parts) && first.code == WIDE_LOAD {
+        second
+    } else {
+        None
+    }
+}
+
+/// The text of the instruction in a slot and the slot behind it, as LLVM's disassembler writes it.
+pub fn instruction_text(
+    alloc: Global,
+    first: bpf_insn,
+    second: Option<bpf_insn>,
+) -> Result<String, AllocError>
+    ensures { IfOk result (λ text. string_bytes text ≡ text_of first second) }
+{
+    let mut text = String::new(alloc);
+    push_instruction(&mut text, first, second)?;
+    Ok(text)
+}

@@ -1,0 +1,11 @@
+//! One text for each instruction, as LLVM's disassembler writes it, and its reader.
+#![tactic(auto)]
+
+mod instruction;
+mod parts;
+mod piece;
+mod reading;
+mod table;
+mod writing;
+
+pub use instruction::{Instruction, instruction_text};
