@@ -1,1 +1,3 @@
 mod Finds
+mod Numbers
+mod Shapes

@@ -2,6 +2,7 @@
 #![tactic(auto)]
 
 mod instruction;
+mod laws;
 mod parts;
 mod piece;
 mod reading;
