@@ -1,3 +1,8 @@
 mod Finds
+mod FormTable
+mod Instructions
 mod Numbers
+mod Ranges
+mod ReadBack
 mod Shapes
+mod SlotBytes

@@ -142,7 +142,7 @@ low_32 : (z : ℤ) → FitsSigned w32 z → cast_signed w32 (cast_unsigned w64 z
 low_32 (pos n) fits = omega (arith, ints)
 low_32 (negsuc n) fits = ap (cast_signed w32) (low_bits_32 n (omega (arith, fits.sfits))) ∙ to_z-of_z w32 (negsuc n) fits
 
-bits_32 : (z : ℤ) → FitsSigned w32 z → cast_unsigned w32 z < 2 ^ 32
+pub bits_32 : (z : ℤ) → FitsSigned w32 z → cast_unsigned w32 z < 2 ^ 32
 bits_32 (pos n) fits = omega (arith, ints)
 bits_32 (negsuc n) fits = omega (arith, ints)
 

@@ -81,10 +81,10 @@ not_is : (b : Bool) → not b ≡ true → b ≡ false
 not_is true h = cc
 not_is false h = refl
 
-less_is : (m n : ℕ) → nat_lt m n ≡ true → m < n
+pub less_is : (m n : ℕ) → nat_lt m n ≡ true → m < n
 less_is m n h = grind (arith, nat_tests)
 
-ascii : (c : ℕ) (rest : List ℕ) → nat_lt c 128 ≡ true → encode_utf8 c ++ rest ≡ c ∷ rest
+pub ascii : (c : ℕ) (rest : List ℕ) → nat_lt c 128 ≡ true → encode_utf8 c ++ rest ≡ c ∷ rest
 ascii c rest h = ap (λ cs. cs ++ rest) (encode_ascii c (less_is c 128 h))
 
 -- ---- numbers
