@@ -1,7 +1,7 @@
 -- Instructions and their fields.
-use Rattle.std.proofs.Common.{◌≡◌, ◌⊎◌, ℕ, ◌+◌, ◌*◌, ◌/◌, ◌%◌, ◌^◌, ◌<◌, ◌≤◌, Bool, true, false, cond, List, [], ◌∷◌, ◌++◌, Option, Some, None, refl, ap, sym, ◌∙◌, subst, arith, ℤ, pos, negsuc, inl, inr}
-use Rattle.std.specs.Prelude.{◌==◌, ◌&&◌, nat_le, FitsSigned, IfSome, find, option_map}
-use Rattle.std.specs.Int.{w16, w32}
+use Rattle.std.proofs.Common.{◌≡◌, ◌⊎◌, ℕ, ◌+◌, ◌*◌, ◌/◌, ◌%◌, ◌^◌, ◌<◌, Bool, true, false, cond, List, Option, Some, None, refl, ap, sym, ◌∙◌, subst, arith, ℤ, pos, inl, inr}
+use Rattle.std.specs.Prelude.{◌==◌, ◌&&◌, nat_le, FitsSigned, IfSome, option_map}
+use Rattle.std.specs.Int.{w32}
 use Rattle.std.specs.Ordering.{int_eq}
 use Rattle.std.proofs.lemmas.Bool.Decides.{nat_tests, Decides-int_eq}
 use Rattle.ebpf_items.specs.declared.instruction.bpf_insn.{bpf_insn}
@@ -11,7 +11,7 @@ use Rattle.instruction_text.specs.declared.parts.Parts.{Parts}
 use Rattle.instruction_text.specs.Fields.{are_same, first_slot, high_in, high_of, is_plain, parts_of, parts_with, second_slot, second_slot_of}
 use Rattle.instruction_text.specs.Forms.{Form, forms}
 use Rattle.instruction_text.specs.Reading.{IsSlot, instruction_of}
-use Rattle.instruction_text.specs.Texts.{byte_text, fields_of, filled, form_for, pieces_of, rendered, second_by, second_from, taken, takes, text_by, text_from, text_of}
+use Rattle.instruction_text.specs.Texts.{byte_text, fields_of, filled, form_for, pieces_of, rendered, second_by, second_from, taken, text_by, text_from, text_of}
 use Rattle.instruction_text.proofs.Numbers.{IsParts}
 use Rattle.instruction_text.proofs.Shapes.{three}
 use Rattle.instruction_text.proofs.FormTable.{IsIn, found_in}
@@ -157,9 +157,9 @@ with_form a b p f s t h k =
       same = same_parts (filled (pieces_of f) p (fields_of f)) p u.2;
       text = ap (text_from a) h ∙ ap (text_by a p) k;
       taken =
-        ap (λ o. record { first = a; second = second_from a b o }) h
-        ∙ ap (λ o. record { first = a; second = second_by a b o }) k
-        ∙ sym g.1;
+          ap (λ o. record { first = a; second = second_from a b o }) h
+          ∙ ap (λ o. record { first = a; second = second_by a b o }) k
+          ∙ sym g.1;
     }
 
 pub view : (a : bpf_insn) (b : Option bpf_insn) → IsSlot a → IfSome b IsSlot → View a b
@@ -171,6 +171,7 @@ view a b s t = by_parts (parts_of a b) refl
       taken = ap (λ o. record { first = a; second = second_from a b o }) h ∙ ap (λ o. record { first = a; second = second_by a b o }) k;
     })
     by_form p (Some f) h k = inl (p, f, with_form a b p f s t h k)
+
     by_parts : (o : Option Parts) → parts_of a b ≡ o → View a b
     by_parts None h = inr (record {
       text = ap (text_from a) h;
@@ -202,9 +203,10 @@ none_taken b c (Some f) = refl
 
 settled_high : (a : bpf_insn) (b : Option bpf_insn) (high : ℤ) (o : Option Form) → high_in b ≡ Some high → form_for (parts_with a high) ≡ o → Settles a true b (second_if true b o) (text_by a (parts_with a high) o)
 settled_high a b high None h k = (refl, refl)
-settled_high a b high (Some f) h k =
-    (ap (λ o. text_from a (option_map (parts_with a) o)) h ∙ ap (text_by a (parts_with a high)) k,
-    ap (λ o. second_for true b (option_map (parts_with a) o)) h ∙ ap (second_if true b) k)
+settled_high a b high (Some f) h k = (
+  ap (λ o. text_from a (option_map (parts_with a) o)) h ∙ ap (text_by a (parts_with a high)) k,
+  ap (λ o. second_for true b (option_map (parts_with a) o)) h ∙ ap (second_if true b) k,
+)
 
 settled_wide : (a : bpf_insn) (b : Option bpf_insn) (o : Option ℤ) → high_in b ≡ o → Settles a true b (second_for true b (option_map (parts_with a) o)) (text_from a (option_map (parts_with a) o))
 settled_wide a b None h = (refl, refl)

@@ -1,6 +1,6 @@
 -- Numbers in a text, and read from it.
-use Rattle.std.proofs.Common.{◌≡◌, ℕ, suc, ◌+◌, ◌-◌, ◌*◌, ◌/◌, ◌%◌, ◌^◌, ◌<◌, ◌≤◌, Bool, true, false, cond, not, List, [], ◌∷◌, ◌++◌, refl, ap, sym, ◌∙◌, append_assoc, arith, ℤ, pos, negsuc}
-use Rattle.std.specs.Prelude.{◌==◌, int_lt, unsigned_abs, FitsSigned}
+use Rattle.std.proofs.Common.{◌≡◌, ℕ, suc, ◌+◌, ◌-◌, ◌*◌, ◌/◌, ◌%◌, ◌^◌, ◌<◌, ◌≤◌, Bool, true, false, not, List, [], ◌∷◌, ◌++◌, refl, ap, ◌∙◌, append_assoc, arith, ℤ, pos, negsuc}
+use Rattle.std.specs.Prelude.{◌==◌, int_lt, FitsSigned}
 use Rattle.std.specs.Int.{w16, w32, w64, cast_signed, cast_unsigned}
 use Rattle.std.specs.Fmt.{decimal}
 use Rattle.std.proofs.lemmas.Fmt.{decimal_by_steps}
@@ -13,7 +13,7 @@ use Rattle.instruction_text.specs.declared.parts.Field.TheVariants.{Destination,
 use Rattle.instruction_text.specs.declared.piece.Style.{Style}
 use Rattle.instruction_text.specs.declared.piece.Style.TheVariants.{Plain, Signed, Spaced}
 use Rattle.instruction_text.specs.Fields.{copied, number_in, with_bits}
-use Rattle.instruction_text.specs.Reading.{Scan, after_sign, after_space, digits_from, is_digit, is_minus, number_at, with_digit}
+use Rattle.instruction_text.specs.Reading.{after_sign, after_space, digits_from, is_digit, is_minus, number_at}
 use Rattle.instruction_text.specs.Texts.{shown_number}
 
 -- ---- digits
@@ -32,6 +32,7 @@ digits_read n small rest = decimal_by_steps AreRead one more n small small rest
   where
     one : (n : ℕ) → n < 10 → AreRead n ((48 + n) ∷ [])
     one n h small rest = digit_step 0 n n rest h (omega arith) small
+
     more : (n : ℕ) (ds : List ℕ) → 10 ≤ n → AreRead (n / 10) ds → AreRead n (ds ++ ((48 + n % 10) ∷ []))
     more n ds low ih small rest =
         ap (digits_from 0) (append_assoc ds ((48 + n % 10) ∷ []) rest)

@@ -1,22 +1,20 @@
 -- What is read from a text is in range.
-use Rattle.std.proofs.Common.{◌≡◌, ℕ, ◌+◌, ◌-◌, ◌*◌, ◌/◌, ◌%◌, ◌^◌, ◌<◌, ◌≤◌, Bool, true, false, cond, List, [], ◌∷◌, Option, Some, None, refl, ap, sym, ◌∙◌, arith, ℤ, pos, negsuc}
+use Rattle.std.proofs.Common.{◌≡◌, ℕ, ◌/◌, ◌%◌, ◌^◌, ◌<◌, Bool, true, false, cond, List, [], ◌∷◌, Option, Some, None, arith, ℤ, pos, negsuc}
 use Rattle.std.specs.Prelude.{◌==◌, ◌&&◌, nat_lt, FitsSigned, IfSome, option_map, option_and_then}
 use Rattle.std.specs.Int.{w16, w32, cast_signed}
 use Rattle.std.proofs.Math.Facts.{sfits_to_z}
-use Rattle.ebpf_items.specs.declared.instruction.bpf_insn.{bpf_insn}
 use Rattle.instruction_text.specs.declared.instruction.Instruction.{Instruction}
 use Rattle.instruction_text.specs.declared.parts.Parts.{Parts}
 use Rattle.instruction_text.specs.declared.parts.Field.{Field}
 use Rattle.instruction_text.specs.declared.parts.Field.TheVariants.{Destination, Source, Offset, Immediate, High, Wide}
 use Rattle.instruction_text.specs.declared.piece.Piece.{Piece}
 use Rattle.instruction_text.specs.declared.piece.Piece.TheVariants.{Mark, Number}
-use Rattle.instruction_text.specs.Fields.{first_slot, second_slot, second_slot_of, with_bits}
+use Rattle.instruction_text.specs.Fields.{second_slot, second_slot_of, with_bits}
 use Rattle.instruction_text.specs.Forms.{Form}
-use Rattle.instruction_text.specs.Reading.{IsSlot, after_sign, after_space, at_end, digits_from, instruction_of, is_digit, is_minus, number_at, read_bytes, read_form, read_mark, read_pieces, signed_bits, state, with_digit}
+use Rattle.instruction_text.specs.Reading.{IsSlot, after_sign, after_space, digits_from, instruction_of, is_digit, is_minus, number_at, read_form, read_pieces, signed_bits, state, with_digit}
 use Rattle.instruction_text.specs.Texts.{fields_of, pieces_of}
 use Rattle.instruction_text.proofs.FormTable.{is_ranged, is_small}
 use Rattle.instruction_text.proofs.Shapes.{both, less_is}
-use Rattle.instruction_text.proofs.SlotBytes.{bytes_fit}
 
 abbrev pub IsInstruction : Instruction → Type 0
 IsInstruction i = IsSlot i.first × IfSome i.second IsSlot

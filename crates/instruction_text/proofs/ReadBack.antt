@@ -1,6 +1,6 @@
 -- No two instructions have one text, and reading a text gives its instruction.
-use Rattle.std.proofs.Common.{◌≡◌, ◌⊎◌, ℕ, Bool, true, false, not, cond, List, [], ◌∷◌, ◌++◌, Option, Some, None, refl, ap, sym, ◌∙◌, arith, inl, inr}
-use Rattle.std.specs.Prelude.{◌==◌, ◌&&◌, nat_lt, bytes_eq, IfSome, option_map}
+use Rattle.std.proofs.Common.{◌≡◌, ℕ, Bool, true, false, not, cond, List, [], ◌∷◌, Option, Some, None, refl, ap, sym, ◌∙◌, arith, subst, inl, inr, Result, Ok, Err}
+use Rattle.std.specs.Prelude.{◌==◌, ◌&&◌, nat_lt, bytes_eq, IfOk, IfSome, option_map}
 use Rattle.std.proofs.lemmas.Bool.Decides.{nat_tests}
 use Rattle.std.proofs.lemmas.Slice.Eq.{bytes_eq-Decides}
 use Rattle.ebpf_items.specs.declared.instruction.bpf_insn.{bpf_insn}
@@ -10,13 +10,13 @@ use Rattle.instruction_text.specs.declared.parts.Parts.{Parts}
 use Rattle.instruction_text.specs.declared.piece.Piece.{Piece}
 use Rattle.instruction_text.specs.declared.piece.Piece.TheVariants.{Mark, Number}
 use Rattle.instruction_text.specs.Forms.{Form, forms}
-use Rattle.instruction_text.specs.Reading.{IsSlot, checked, checked_option, instruction_in, instruction_of, is_digit, is_sign, or_else, read_bytes, read_form, read_in, read_pieces, state}
+use Rattle.instruction_text.specs.Reading.{IsSlot, checked, checked_option, instruction_in, instruction_of, IsTextOf, is_digit, is_sign, or_else, read_bytes, read_form, read_in, read_pieces, state}
 use Rattle.instruction_text.specs.Texts.{byte_text, fields_of, pieces_of, rendered, taken, text_of}
 use Rattle.instruction_text.proofs.FormTable.{IsIn, all_good, forms_good, forms_distinct, good_in, is_good, is_ranged, key, key_from, one_form, starts}
 use Rattle.instruction_text.proofs.Instructions.{HasForm, HasNone, View, raw, settled, settled_text, view}
 use Rattle.instruction_text.proofs.Ranges.{IsInstruction, form_fits}
 use Rattle.instruction_text.proofs.Shapes.{ascii, both, introduces, is_regular, pieces_open, shape, shape_of, text_read, text_shape, three}
-use Rattle.instruction_text.proofs.SlotBytes.{bytes_fit, slot_read}
+use Rattle.instruction_text.proofs.SlotBytes.{slot_read}
 
 -- ---- one text, one instruction
 
@@ -45,7 +45,7 @@ one_by_forms a b p f c d q g x y e =
     let keys : key f ≡ key g = ap (key_from 1) (sym (form_shape a b p f x) ∙ ap (shape false) e ∙ form_shape c d q g y) in
     let same : f ≡ g = one_form f g forms forms_distinct x.member y.member keys in
     let parts : p ≡ q =
-        some_is p q (sym (form_read a b p f x) ∙ ap (read_by f) e ∙ ap (λ h. read_by h (text_of c d)) same ∙ form_read c d q g y) in
+    some_is p q (sym (form_read a b p f x) ∙ ap (read_by f) e ∙ ap (λ h. read_by h (text_of c d)) same ∙ form_read c d q g y) in
     x.taken ∙ ap instruction_of parts ∙ sym y.taken
 
 not_dot : (c : ℕ) (cs ds : List ℕ) → c ∷ cs ≡ 46 ∷ ds → not (c == 46) ≡ true → ⊥
@@ -156,3 +156,37 @@ read_back a b s t = by_view (view a b s t)
         or_first (taken a b) (read_in forms (text_of a b)) (checked_option (text_of a b) (read_bytes (text_of a b))) (found a b x.0 x.1 s t x.2 forms forms_good x.2.member)
     by_view (inr x) =
         or_last (taken a b) (read_in forms (text_of a b)) (checked_option (text_of a b) (read_bytes (text_of a b))) (all_only a b s t forms forms_good) (checked_raw a b s x)
+
+-- ---- what is read
+
+checked_is : (text : List ℕ) (o : Option Instruction) → IfSome (checked_option text o) (IsTextOf text)
+checked_is text None = tt
+checked_is text (Some i) = by_test (bytes_eq (text_of i.first i.second) text) refl
+  where
+    by_test : (v : Bool) → bytes_eq (text_of i.first i.second) text ≡ v → IfSome (cond v (Some (taken i.first i.second)) None) (IsTextOf text)
+    by_test true e = record {
+      text = settled_text i.first i.second ∙ bytes_are (text_of i.first i.second) text e;
+      whole = settled i.first i.second;
+    }
+    by_test false e = tt
+
+either_is : (text : List ℕ) (o r : Option Instruction) → IfSome o (IsTextOf text) → IfSome r (IsTextOf text) → IfSome (or_else o r) (IsTextOf text)
+either_is text None r h k = k
+either_is text (Some i) r h k = h
+
+all_are : (fs : List Form) (text : List ℕ) → IfSome (read_in fs text) (IsTextOf text)
+all_are [] text = tt
+all_are (f ∷ fs) text =
+    either_is text (checked_option text (read_form f text)) (read_in fs text) (checked_is text (read_form f text)) (all_are fs text)
+
+pub read_is : (text : List ℕ) → IfSome (instruction_in text) (IsTextOf text)
+read_is text =
+    either_is text (read_in forms text) (checked_option text (read_bytes text)) (all_are forms text) (checked_is text (read_bytes text))
+
+pub ok_found : {E : Type 0} (r : Result (Option Instruction) E) (text : List ℕ) → IfOk r (λ o. o ≡ instruction_in text) → IfOk r (λ o. IfSome o (IsTextOf text))
+ok_found (Ok o) text h = subst (λ o. IfSome o (IsTextOf text)) (sym h) (read_is text)
+ok_found (Err e) text h = tt
+
+pub ok_again : {E : Type 0} (r : Result (Option Instruction) E) (text : List ℕ) → IfOk r (λ o. o ≡ instruction_in text) → (a : bpf_insn) (b : Option bpf_insn) → IsSlot a → IfSome b IsSlot → text ≡ text_of a b → IfOk r (λ o. o ≡ Some (taken a b))
+ok_again (Ok o) text h a b s t e = h ∙ ap instruction_in e ∙ read_back a b s t
+ok_again (Err e) text h a b s t k = tt

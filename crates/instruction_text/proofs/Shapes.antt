@@ -1,6 +1,6 @@
 -- The shape of a text: what is left of it without the numbers of its fields.
-use Rattle.std.proofs.Common.{◌≡◌, ℕ, suc, ◌+◌, ◌/◌, ◌%◌, ◌^◌, ◌<◌, ◌≤◌, Bool, true, false, cond, not, List, [], ◌∷◌, ◌++◌, Option, Some, None, refl, ap, sym, ◌∙◌, append_assoc, arith, ℤ, pos, negsuc}
-use Rattle.std.specs.Prelude.{◌==◌, ◌&&◌, ◌||◌, nat_lt, int_lt, unsigned_abs, FitsSigned, encode_utf8, option_and_then}
+use Rattle.std.proofs.Common.{◌≡◌, ℕ, suc, ◌+◌, ◌/◌, ◌%◌, ◌^◌, ◌<◌, ◌≤◌, Bool, true, false, cond, not, List, [], ◌∷◌, ◌++◌, Some, refl, ap, ◌∙◌, append_assoc, arith, ℤ, pos, negsuc}
+use Rattle.std.specs.Prelude.{◌==◌, ◌&&◌, ◌||◌, nat_lt, FitsSigned, encode_utf8, option_and_then}
 use Rattle.std.specs.Int.{w64}
 use Rattle.std.specs.Fmt.{decimal}
 use Rattle.std.proofs.lemmas.Fmt.{decimal_by_steps}
@@ -13,8 +13,8 @@ use Rattle.instruction_text.specs.declared.piece.Piece.TheVariants.{Mark, Number
 use Rattle.instruction_text.specs.declared.piece.Style.{Style}
 use Rattle.instruction_text.specs.declared.piece.Style.TheVariants.{Plain, Signed, Spaced}
 use Rattle.instruction_text.specs.Fields.{copied, number_in, with_bits}
-use Rattle.instruction_text.specs.Reading.{Scan, State, is_digit, is_sign, number_at, read_mark, read_piece, read_pieces, state}
-use Rattle.instruction_text.specs.Texts.{filled, rendered, shown, shown_number}
+use Rattle.instruction_text.specs.Reading.{Scan, is_digit, is_sign, read_mark, read_pieces, state}
+use Rattle.instruction_text.specs.Texts.{filled, rendered, shown_number}
 use Rattle.instruction_text.proofs.Numbers.{Begins, IsParts, bits_copied, decimal_begins, digit_is, not_negative, number_fits, number_read, stops}
 
 -- whether a number of a field may follow
@@ -100,6 +100,7 @@ digits_dropped n rest small = decimal_by_steps AreDropped one more n small rest
   where
     one : (n : ℕ) → n < 10 → AreDropped n ((48 + n) ∷ [])
     one n h rest = digit_dropped n rest h
+
     more : (n : ℕ) (ds : List ℕ) → 10 ≤ n → AreDropped (n / 10) ds → AreDropped n (ds ++ ((48 + n % 10) ∷ []))
     more n ds low ih rest =
         ap (shape true) (append_assoc ds ((48 + n % 10) ∷ []) rest)

@@ -1,6 +1,6 @@
 -- The bytes of a slot, as a text shows them.
-use Rattle.std.proofs.Common.{◌≡◌, ℕ, ◌+◌, ◌*◌, ◌/◌, ◌%◌, ◌^◌, ◌<◌, ◌≤◌, Bool, true, false, cond, List, [], ◌∷◌, ◌++◌, Option, Some, None, refl, ap, sym, ◌∙◌, arith, ℤ, pos, negsuc}
-use Rattle.std.specs.Prelude.{nat_lt, slice_index, FitsSigned, IfSome}
+use Rattle.std.proofs.Common.{◌≡◌, ℕ, ◌+◌, ◌*◌, ◌/◌, ◌%◌, ◌^◌, ◌<◌, ◌≤◌, Bool, true, false, cond, List, [], ◌∷◌, Some, None, refl, ap, ◌∙◌, arith, ℤ, pos, negsuc}
+use Rattle.std.specs.Prelude.{nat_lt, slice_index, FitsSigned}
 use Rattle.std.specs.Int.{w16, w32, cast_signed, cast_unsigned, from_le_bytes, to_le_bytes}
 use Rattle.std.proofs.Math.Facts.{sfits_to_z}
 use Rattle.std.proofs.lemmas.Bool.Decides.{nat_tests}
@@ -8,7 +8,6 @@ use Rattle.std.proofs.lemmas.Int.{ints, to_z-of_z}
 use Rattle.std.proofs.lemmas.Nat.{from_le_bytes-to_le_bytes_2, from_le_bytes-to_le_bytes_4}
 use Rattle.ebpf_items.specs.declared.instruction.bpf_insn.{bpf_insn}
 use Rattle.ebpf_items.specs.Instruction.{bytes_of, slot_of}
-use Rattle.instruction_text.specs.declared.instruction.Instruction.{Instruction}
 use Rattle.instruction_text.specs.Reading.{IsSlot, byte_at, bytes_in, hex_value, read_bytes}
 use Rattle.instruction_text.specs.Texts.{byte_text, hex_digit}
 use Rattle.instruction_text.proofs.Numbers.{bits_32}
@@ -47,9 +46,9 @@ bits_16 (negsuc n) fits = omega (arith, ints)
 slot_again : (s : bpf_insn) → IsSlot s → slot_of (bytes_of s) ≡ s
 slot_again s fits =
     let off : cast_signed w16 (from_le_bytes w16 (to_le_bytes w16 (cast_unsigned w16 s.off))) ≡ s.off =
-        ap (cast_signed w16) (from_le_bytes-to_le_bytes_2 (cast_unsigned w16 s.off) (bits_16 s.off fits.off)) ∙ to_z-of_z w16 s.off fits.off in
+    ap (cast_signed w16) (from_le_bytes-to_le_bytes_2 (cast_unsigned w16 s.off) (bits_16 s.off fits.off)) ∙ to_z-of_z w16 s.off fits.off in
     let imm : cast_signed w32 (from_le_bytes w32 (to_le_bytes w32 (cast_unsigned w32 s.imm))) ≡ s.imm =
-        ap (cast_signed w32) (from_le_bytes-to_le_bytes_4 (cast_unsigned w32 s.imm) (bits_32 s.imm fits.imm)) ∙ to_z-of_z w32 s.imm fits.imm in
+    ap (cast_signed w32) (from_le_bytes-to_le_bytes_4 (cast_unsigned w32 s.imm) (bits_32 s.imm fits.imm)) ∙ to_z-of_z w32 s.imm fits.imm in
     ap (λ z. record { code = s.code; registers = s.registers; off = z; imm = cast_signed w32 (from_le_bytes w32 (to_le_bytes w32 (cast_unsigned w32 s.imm))) }) off
     ∙ ap (λ z. record { code = s.code; registers = s.registers; off = s.off; imm = z }) imm
 

@@ -1,5 +1,5 @@
 -- The text of each instruction.
-use Rattle.std.specs.Prelude.{ℕ, ◌+◌, ◌*◌, ◌/◌, ◌%◌, ◌^◌, ◌==◌, ◌&&◌, nat_lt, nat_le, Bool, true, false, if◌then◌else◌, List, [], ◌∷◌, ◌++◌, map, codes, find, Option, Some, None, option_map, ℤ, pos, int_lt, unsigned_abs, encode_utf8}
+use Rattle.std.specs.Prelude.{ℕ, ◌+◌, ◌/◌, ◌%◌, ◌==◌, ◌&&◌, nat_lt, nat_le, Bool, true, false, if◌then◌else◌, List, [], ◌∷◌, ◌++◌, map, codes, find, Option, Some, None, is_some, ℤ, pos, int_lt, unsigned_abs, encode_utf8}
 use Rattle.std.specs.Fmt.{decimal}
 use Rattle.ebpf_items.specs.declared.instruction.bpf_insn.{bpf_insn}
 use Rattle.ebpf_items.specs.Instruction.{bytes_of}
@@ -124,3 +124,7 @@ second_from first second (Some p) = second_by first second (form_for p)
 abbrev pub taken : bpf_insn → Option bpf_insn → Instruction
 taken first second =
     record { first = first; second = second_from first second (parts_of first second) }
+
+-- the number of an instruction's slots
+abbrev pub slots_in : Instruction → ℕ
+slots_in i = if is_some i.second then 2 else 1

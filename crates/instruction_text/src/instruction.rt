@@ -2,7 +2,7 @@
 
 ghost use Rattle.std.specs.Prelude.{◌≡◌, IfOk, None, OnSome, Some, IfSome, is_some};
 ghost use Rattle.std.specs.String.{string_bytes};
-ghost use Rattle.instruction_text.specs.Texts.{second_from, taken, text_of};
+ghost use Rattle.instruction_text.specs.Texts.{slots_in, taken, text_of};
 
 use crate::parts::{WIDE_LOAD, parts_of};
 use crate::writing::{has_form, push_instruction};
@@ -29,6 +29,13 @@ impl Instruction {
             first,
             second: second_of(first, second),
         }
+    }
+
+    /// The number of slots, 1 or 2.
+    pub fn len(self) -> usize
+        ensures { result ≡ slots_in self }
+    {
+        if self.second.is_some() { 2 } else { 1 }
     }
 }
 

@@ -1,11 +1,11 @@
 //! Reading an instruction's text.
 
-ghost use Rattle.std.specs.Prelude.{◌≡◌, ◌<◌, ◌≤◌, ◌+◌, ℕ, IfOk, IfSome, Some, None, map, length};
+ghost use Rattle.std.specs.Prelude.{◌≡◌, ◌<◌, ◌≤◌, ◌+◌, ℕ, IfOk, IfSome, Some, None, Option, map, length};
 ghost use Rattle.std.specs.Option.{option_map};
 ghost use Rattle.std.specs.String.{string_bytes};
 ghost use Rattle.ebpf_items.specs.declared.instruction.bpf_insn.{bpf_insn};
 ghost use Rattle.instruction_text.specs.Forms.{form_of};
-ghost use Rattle.instruction_text.specs.Reading.{after_sign, after_space, byte_at, checked, checked_option, digits_from, hex_value, instruction_in, is_digit, is_minus, is_sign, number_at, read_bytes, read_form, read_in, read_mark, read_piece, signed_bits, state, with_digit};
+ghost use Rattle.instruction_text.specs.Reading.{IsSlot, IsTextOf, after_sign, after_space, byte_at, checked, checked_option, digits_from, hex_value, instruction_in, is_digit, is_minus, is_sign, number_at, read_bytes, read_form, read_in, read_mark, read_piece, signed_bits, state, with_digit};
 ghost use Rattle.instruction_text.specs.Texts.{taken, text_of};
 
 use crate::instruction::Instruction;
@@ -250,4 +250,16 @@ fn instruction_in(alloc: Global, text: &[u8]) -> Result<Option<Instruction>, All
         return Ok(Some(instruction));
     }
     checked(alloc, text, read_bytes(text))
+}
+
+/// The instruction that a text is the text of, if there is one.
+pub fn read_instruction(alloc: Global, text: &str) -> Result<Option<Instruction>, AllocError>
+    ensures found { IfOk result (λ r. IfSome r (IsTextOf text.now)) }
+    ensures again { (first : bpf_insn) (second : Option bpf_insn)
+        → IsSlot first
+        → IfSome second IsSlot
+        → text.now ≡ text_of first second
+        → IfOk result (λ r. r ≡ Some (taken first second)) }
+{
+    instruction_in(alloc, text.as_bytes())
 }

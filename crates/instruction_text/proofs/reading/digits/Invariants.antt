@@ -1,7 +1,5 @@
-use Rattle.std.proofs.Common.{◌≡◌, List, ℕ, length, map}
-use Rattle.instruction_text.specs.Forms.{form_of}
-use Rattle.instruction_text.specs.Reading.{digits_from, read_in, read_pieces, state}
-use Rattle.instruction_text.specs.Texts.{fields_of, piece_of, pieces_of}
+use Rattle.std.proofs.Common.{◌≡◌, length}
+use Rattle.instruction_text.specs.Reading.{digits_from}
 use Rattle.instruction_text.proofs.reading.digits.Given as goal
 
 abbrev pub invariant-loop-left : goal.invariant-loop-left

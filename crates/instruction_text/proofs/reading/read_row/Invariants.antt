@@ -1,6 +1,6 @@
-use Rattle.std.proofs.Common.{◌≡◌, List, ℕ, length, map}
+use Rattle.std.proofs.Common.{◌≡◌, length, map}
 use Rattle.instruction_text.specs.Forms.{form_of}
-use Rattle.instruction_text.specs.Reading.{digits_from, read_in, read_pieces, state}
+use Rattle.instruction_text.specs.Reading.{read_pieces, state}
 use Rattle.instruction_text.specs.Texts.{fields_of, piece_of, pieces_of}
 use Rattle.instruction_text.proofs.reading.read_row.Given as goal
 

@@ -1,8 +1,7 @@
-use Rattle.std.proofs.Common.{◌≡◌, ◌++◌, List, ℕ, length, map, Option}
-use Rattle.std.specs.Prelude.{find}
+use Rattle.std.proofs.Common.{◌≡◌, ◌++◌, length, map}
 use Rattle.std.specs.String.{string_bytes}
 use Rattle.instruction_text.specs.Forms.{form_of}
-use Rattle.instruction_text.specs.Texts.{fields_of, filled, more_bytes, piece_of, pieces_of, rendered, takes}
+use Rattle.instruction_text.specs.Texts.{piece_of, pieces_of, rendered}
 use Rattle.instruction_text.proofs.writing.push_form.Given as goal
 
 abbrev pub invariant-loop-letters : goal.invariant-loop-letters

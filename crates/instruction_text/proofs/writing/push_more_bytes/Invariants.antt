@@ -1,8 +1,6 @@
-use Rattle.std.proofs.Common.{◌≡◌, ◌++◌, List, ℕ, length, map, Option}
-use Rattle.std.specs.Prelude.{find}
+use Rattle.std.proofs.Common.{◌≡◌, ◌++◌, length}
 use Rattle.std.specs.String.{string_bytes}
-use Rattle.instruction_text.specs.Forms.{form_of}
-use Rattle.instruction_text.specs.Texts.{fields_of, filled, more_bytes, piece_of, pieces_of, rendered, takes}
+use Rattle.instruction_text.specs.Texts.{more_bytes}
 use Rattle.instruction_text.proofs.writing.push_more_bytes.Given as goal
 
 abbrev pub invariant-loop-left : goal.invariant-loop-left
