@@ -1,5 +1,6 @@
 mod Finds
 mod FormTable
+mod Fronts
 mod Instructions
 mod Numbers
 mod Ranges

@@ -59,6 +59,7 @@ no_dot (Mark c ∷ ps) p ds r h e =
 no_dot (Number field style ∷ ps) p ds r h e = cc
 
 dot_first : (a : bpf_insn) → (ds : List ℕ) × (byte_text (bytes_of a) ≡ 46 ∷ ds)
+unfolding byte_text
 dot_first a = (_, refl)
 
 form_not_raw : (a : bpf_insn) (b : Option bpf_insn) (p : Parts) (f : Form) (c : bpf_insn) (d : Option bpf_insn) → HasForm a b p f → HasNone c d → text_of a b ≡ text_of c d → ⊥

@@ -36,6 +36,7 @@ byte_back b h =
     rw (value_back (b / 16) (omega arith), value_back (b % 16) (omega arith)) (omega arith)
 
 bytes_back : (a b c d e f g h : ℕ) → a < 256 → b < 256 → c < 256 → d < 256 → e < 256 → f < 256 → g < 256 → h < 256 → read_bytes (byte_text (a ∷ b ∷ c ∷ d ∷ e ∷ f ∷ g ∷ h ∷ [])) ≡ Some (record { first = slot_of (a ∷ b ∷ c ∷ d ∷ e ∷ f ∷ g ∷ h ∷ []); second = None })
+unfolding byte_text
 bytes_back a b c d e f g h ha hb hc hd he hf hg hh =
     rw (byte_back a ha, byte_back b hb, byte_back c hc, byte_back d hd, byte_back e he, byte_back f hf, byte_back g hg, byte_back h hh) refl
 

@@ -1,5 +1,5 @@
 -- Reading the text of an instruction.
-use Rattle.std.specs.Prelude.{◌≡◌, ℕ, ◌+◌, ◌-◌, ◌*◌, ◌%◌, ◌^◌, ◌<◌, ◌==◌, ◌&&◌, ◌||◌, nat_lt, nat_le, Bool, false, if◌then◌else◌, List, [], ◌∷◌, length, slice_index, bytes_eq, Option, Some, None, IfSome, option_map, option_and_then, FitsSigned}
+use Rattle.std.specs.Prelude.{◌≡◌, ℕ, ◌+◌, ◌-◌, ◌*◌, ◌%◌, ◌^◌, ◌<◌, ◌==◌, ◌&&◌, ◌||◌, nat_lt, nat_le, Bool, true, false, if◌then◌else◌, List, [], ◌∷◌, length, slice_index, bytes_eq, Option, Some, None, IfSome, option_map, option_and_then, FitsSigned}
 use Rattle.std.specs.Int.{w16, w32}
 use Rattle.ebpf_items.specs.declared.instruction.bpf_insn.{bpf_insn}
 use Rattle.ebpf_items.specs.Instruction.{slot_of}
@@ -9,7 +9,7 @@ use Rattle.instruction_text.specs.declared.piece.Piece.{Piece}
 use Rattle.instruction_text.specs.declared.piece.Piece.TheVariants.{Mark, Number}
 use Rattle.instruction_text.specs.Fields.{first_slot, second_slot_of, with_bits}
 use Rattle.instruction_text.specs.Forms.{Form, forms}
-use Rattle.instruction_text.specs.Texts.{fields_of, pieces_of, taken, text_of}
+use Rattle.instruction_text.specs.Texts.{fields_of, pieces_of, shown, taken, text_of}
 
 -- each field is in its range
 pub record IsSlot (s : bpf_insn) : Type 0 where
@@ -123,6 +123,22 @@ read_bytes text =
     else None
 
 -- ---- instructions
+
+-- the text behind its front
+abbrev pub after_front : List ℕ → List ℕ → Option (List ℕ)
+after_front [] text = Some text
+after_front (c ∷ cs) [] = None
+after_front (c ∷ cs) (d ∷ ds) = if c == d then after_front cs ds else None
+
+abbrev pub after_pieces : List Piece → Parts → List ℕ → Option (List ℕ)
+after_pieces [] p text = Some text
+after_pieces (piece ∷ pieces) p text =
+    option_and_then (after_pieces pieces p) (after_front (shown piece p) text)
+
+abbrev pub is_done : Option (List ℕ) → Bool
+is_done None = false
+is_done (Some []) = true
+is_done (Some (c ∷ cs)) = false
 
 -- an instruction, if this is its text
 abbrev pub checked : List ℕ → Instruction → Option Instruction

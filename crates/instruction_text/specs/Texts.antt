@@ -94,9 +94,12 @@ abbrev pub more_bytes : List ℕ → List ℕ
 more_bytes [] = []
 more_bytes (byte ∷ bytes) = codes ", " ++ hex_byte byte ++ more_bytes bytes
 
-abbrev pub byte_text : List ℕ → List ℕ
-byte_text [] = []
-byte_text (byte ∷ bytes) = codes ".byte " ++ hex_byte byte ++ more_bytes bytes
+abbrev pub listed_bytes : List ℕ → List ℕ
+listed_bytes [] = []
+listed_bytes (byte ∷ bytes) = hex_byte byte ++ more_bytes bytes
+
+unfoldable pub byte_text : List ℕ → List ℕ
+byte_text bytes = codes ".byte " ++ listed_bytes bytes
 
 -- ---- instructions
 

@@ -1,6 +1,7 @@
 //! One text for each instruction, as LLVM's disassembler writes it, and its reader.
 #![tactic(auto)]
 
+mod comparing;
 mod instruction;
 mod laws;
 mod parts;

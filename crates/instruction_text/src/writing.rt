@@ -6,7 +6,7 @@ ghost use Rattle.std.specs.String.{string_bytes};
 ghost use Rattle.ebpf_items.specs.Instruction.{bytes_of};
 ghost use Rattle.instruction_text.specs.Fields.{parts_of};
 ghost use Rattle.instruction_text.specs.Forms.{form_of};
-ghost use Rattle.instruction_text.specs.Texts.{takes, byte_text, fields_of, filled, filled_one, form_for, hex_byte, hex_digit, more_bytes, pieces_of, rendered, shown, shown_number, sign, text_by, text_of};
+ghost use Rattle.instruction_text.specs.Texts.{takes, byte_text, fields_of, filled, filled_one, form_for, hex_byte, hex_digit, listed_bytes, more_bytes, pieces_of, rendered, shown, shown_number, sign, text_by, text_of};
 
 use crate::parts::{Parts, parts_of};
 use crate::piece::{Piece, Style, piece_of};
@@ -74,7 +74,7 @@ fn row_in(rows: &'static [Row], parts: &Parts) -> Option<&'static Row>
 
 /// The first form that an instruction is of.
 #[tactic(auto, using(crate::proofs::Finds::find_both))]
-fn row_for(parts: &Parts) -> Option<&'static Row>
+pub(crate) fn row_for(parts: &Parts) -> Option<&'static Row>
     ensures { option_map (λ row. form_of row.now) result ≡ form_for parts.now }
 {
     if let Some(row) = row_in(arithmetic_rows(), parts) {
@@ -95,7 +95,7 @@ fn row_for(parts: &Parts) -> Option<&'static Row>
     row_in(other_rows(), parts)
 }
 
-fn sign(style: Style, is_negative: bool) -> &'static str
+pub(crate) fn sign(style: Style, is_negative: bool) -> &'static str
     ensures { result.now ≡ sign style is_negative }
 {
     match (style, is_negative) {
@@ -137,7 +137,7 @@ fn push_form(text: &mut String, row: &Row, parts: &Parts) -> Result<(), AllocErr
     Ok(())
 }
 
-fn hex_digit(number: u8) -> u8
+pub(crate) fn hex_digit(number: u8) -> u8
     requires { number < 16 }
     ensures { result ≡ hex_digit number }
 {
@@ -175,15 +175,22 @@ fn push_more_bytes(text: &mut String, bytes: &[u8]) -> Result<(), AllocError>
     Ok(())
 }
 
+fn push_listed_bytes(text: &mut String, bytes: &[u8]) -> Result<(), AllocError>
+    ensures { OnOk result (string_bytes text.new ≡ string_bytes text.old ++ listed_bytes bytes.now) }
+{
+    let [byte, more @ ..] = bytes else {
+        return Ok(());
+    };
+    push_byte(text, *byte)?;
+    push_more_bytes(text, more)
+}
+
+#[tactic(auto, unfolding(crate::specs::Texts::byte_text))]
 fn push_bytes(text: &mut String, bytes: &[u8]) -> Result<(), AllocError>
     ensures { OnOk result (string_bytes text.new ≡ string_bytes text.old ++ byte_text bytes.now) }
 {
-    let [byte, rest @ ..] = bytes else {
-        return Ok(());
-    };
     text.push_str(".byte ")?;
-    push_byte(text, *byte)?;
-    push_more_bytes(text, rest)
+    push_listed_bytes(text, bytes)
 }
 
 fn push_parts(text: &mut String, first: bpf_insn, parts: &Parts) -> Result<(), AllocError>
