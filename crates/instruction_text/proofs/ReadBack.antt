@@ -1,6 +1,6 @@
 -- No two instructions have one text, and reading a text gives its instruction.
-use Rattle.std.proofs.Common.{◌≡◌, ℕ, Bool, true, false, not, cond, List, [], ◌∷◌, Option, Some, None, refl, ap, sym, ◌∙◌, arith, subst, inl, inr, Result, Ok, Err}
-use Rattle.std.specs.Prelude.{◌==◌, ◌&&◌, nat_lt, bytes_eq, IfOk, IfSome, option_map}
+use Rattle.std.proofs.Common.{◌≡◌, ℕ, Bool, true, false, not, cond, List, [], ◌∷◌, Option, Some, None, refl, ap, sym, ◌∙◌, arith, subst, inl, inr}
+use Rattle.std.specs.Prelude.{◌==◌, ◌&&◌, nat_lt, bytes_eq, IfSome, option_map}
 use Rattle.std.proofs.lemmas.Bool.Decides.{nat_tests}
 use Rattle.std.proofs.lemmas.Slice.Eq.{bytes_eq-Decides}
 use Rattle.ebpf_items.specs.declared.instruction.bpf_insn.{bpf_insn}
@@ -184,10 +184,8 @@ pub read_is : (text : List ℕ) → IfSome (instruction_in text) (IsTextOf text)
 read_is text =
     either_is text (read_in forms text) (checked_option text (read_bytes text)) (all_are forms text) (checked_is text (read_bytes text))
 
-pub ok_found : {E : Type 0} (r : Result (Option Instruction) E) (text : List ℕ) → IfOk r (λ o. o ≡ instruction_in text) → IfOk r (λ o. IfSome o (IsTextOf text))
-ok_found (Ok o) text h = subst (λ o. IfSome o (IsTextOf text)) (sym h) (read_is text)
-ok_found (Err e) text h = tt
+pub result_is : (o : Option Instruction) (bytes text : List ℕ) → bytes ≡ text → o ≡ instruction_in bytes → IfSome o (IsTextOf text)
+result_is o bytes text e h = subst (λ o. IfSome o (IsTextOf text)) (sym (h ∙ ap instruction_in e)) (read_is text)
 
-pub ok_again : {E : Type 0} (r : Result (Option Instruction) E) (text : List ℕ) → IfOk r (λ o. o ≡ instruction_in text) → (a : bpf_insn) (b : Option bpf_insn) → IsSlot a → IfSome b IsSlot → text ≡ text_of a b → IfOk r (λ o. o ≡ Some (taken a b))
-ok_again (Ok o) text h a b s t e = h ∙ ap instruction_in e ∙ read_back a b s t
-ok_again (Err e) text h a b s t k = tt
+pub result_again : (o : Option Instruction) (bytes text : List ℕ) → bytes ≡ text → o ≡ instruction_in bytes → (a : bpf_insn) (b : Option bpf_insn) → IsSlot a → IfSome b IsSlot → text ≡ text_of a b → o ≡ Some (taken a b)
+result_again o bytes text e h a b s t k = h ∙ ap instruction_in (e ∙ k) ∙ read_back a b s t

@@ -1,6 +1,6 @@
 //! Reading an instruction's text.
 
-ghost use Rattle.std.specs.Prelude.{◌≡◌, ◌<◌, ◌≤◌, ◌+◌, ℕ, IfOk, IfSome, Some, None, Option, map, length};
+ghost use Rattle.std.specs.Prelude.{◌≡◌, ◌<◌, ◌≤◌, ◌+◌, ℕ, IfSome, Some, None, Option, map, length};
 ghost use Rattle.std.specs.Option.{option_map};
 ghost use Rattle.std.specs.String.{string_bytes};
 ghost use Rattle.ebpf_items.specs.declared.instruction.bpf_insn.{bpf_insn};
@@ -8,15 +8,15 @@ ghost use Rattle.instruction_text.specs.Forms.{form_of};
 ghost use Rattle.instruction_text.specs.Reading.{IsSlot, IsTextOf, after_sign, after_space, byte_at, checked, checked_option, digits_from, hex_value, instruction_in, is_digit, is_minus, is_sign, number_at, read_bytes, read_form, read_in, read_mark, read_piece, signed_bits, state, with_digit};
 ghost use Rattle.instruction_text.specs.Texts.{taken, text_of};
 
+use crate::comparing::is_text_of;
 use crate::instruction::Instruction;
 use crate::parts::Parts;
 use crate::piece::{Piece, piece_of};
 use crate::table::{
     Row, arithmetic_rows, atomic_rows, jump_rows, memory_rows, other_arithmetic_rows, other_rows,
 };
-use crate::writing::{fields_of, push_instruction};
+use crate::writing::fields_of;
 use ebpf_items::bpf_insn;
-use std::alloc::{AllocError, Global};
 
 /// The length of a text that shows the bytes of a slot.
 const BYTES_LEN: usize = 52;
@@ -193,73 +193,65 @@ fn read_bytes(text: &[u8]) -> Option<Instruction>
 }
 
 /// An instruction, if this is its text.
-fn checked(
-    alloc: Global,
-    text: &[u8],
-    found: Option<Instruction>,
-) -> Result<Option<Instruction>, AllocError>
-    ensures { IfOk result (λ r. r ≡ checked_option text.now found) }
+fn checked(text: &[u8], found: Option<Instruction>) -> Option<Instruction>
+    ensures { result ≡ checked_option text.now found }
 {
-    let Some(instruction) = found else {
-        return Ok(None);
-    };
-    let mut own_text = String::new(alloc);
-    push_instruction(&mut own_text, instruction.first, instruction.second)?;
-    if own_text.as_bytes() == text {
-        Ok(Some(Instruction::of_slots(instruction.first, instruction.second)))
+    let Instruction { first, second } = found?;
+    if is_text_of(text, first, second) {
+        Some(Instruction::of_slots(first, second))
     } else {
-        Ok(None)
+        None
     }
 }
 
 /// The first instruction of some forms whose text this is.
-fn read_in(alloc: Global, rows: &[Row], text: &[u8]) -> Result<Option<Instruction>, AllocError>
-    ensures { IfOk result (λ r. r ≡ read_in (map form_of rows.now) text.now) }
+fn read_in(rows: &[Row], text: &[u8]) -> Option<Instruction>
+    ensures { result ≡ read_in (map form_of rows.now) text.now }
 {
     let mut left = rows;
     while let [row, rest @ ..] = left {
-        let found = checked(alloc, text, read_row(row, text))?;
+        let found = checked(text, read_row(row, text));
         if found.is_some() {
-            return Ok(found);
+            return found;
         }
         left = rest;
     }
-    Ok(None)
+    None
 }
 
 #[tactic(auto, using(crate::proofs::Finds::read_both))]
-fn instruction_in(alloc: Global, text: &[u8]) -> Result<Option<Instruction>, AllocError>
-    ensures { IfOk result (λ r. r ≡ instruction_in text.now) }
+fn instruction_in(text: &[u8]) -> Option<Instruction>
+    ensures { result ≡ instruction_in text.now }
 {
-    if let Some(instruction) = read_in(alloc, arithmetic_rows(), text)? {
-        return Ok(Some(instruction));
+    if let Some(instruction) = read_in(arithmetic_rows(), text) {
+        return Some(instruction);
     }
-    if let Some(instruction) = read_in(alloc, other_arithmetic_rows(), text)? {
-        return Ok(Some(instruction));
+    if let Some(instruction) = read_in(other_arithmetic_rows(), text) {
+        return Some(instruction);
     }
-    if let Some(instruction) = read_in(alloc, memory_rows(), text)? {
-        return Ok(Some(instruction));
+    if let Some(instruction) = read_in(memory_rows(), text) {
+        return Some(instruction);
     }
-    if let Some(instruction) = read_in(alloc, atomic_rows(), text)? {
-        return Ok(Some(instruction));
+    if let Some(instruction) = read_in(atomic_rows(), text) {
+        return Some(instruction);
     }
-    if let Some(instruction) = read_in(alloc, jump_rows(), text)? {
-        return Ok(Some(instruction));
+    if let Some(instruction) = read_in(jump_rows(), text) {
+        return Some(instruction);
     }
-    if let Some(instruction) = read_in(alloc, other_rows(), text)? {
-        return Ok(Some(instruction));
+    if let Some(instruction) = read_in(other_rows(), text) {
+        return Some(instruction);
     }
-    checked(alloc, text, read_bytes(text))
+    checked(text, read_bytes(text))
 }
 
 /// The instruction that a text is the text of, if there is one.
-pub fn read_instruction(alloc: Global, text: &str) -> Result<Option<Instruction>, AllocError>
-    ensures found { IfOk result (λ r. IfSome r (IsTextOf text.now)) }
+pub fn read_instruction(text: &str) -> Option<Instruction>
+    ensures found { IfSome result (IsTextOf text.now) }
     ensures again { (first : bpf_insn) (second : Option bpf_insn)
         → IsSlot first
         → IfSome second IsSlot
         → text.now ≡ text_of first second
-        → IfOk result (λ r. r ≡ Some (taken first second)) }
+        → result ≡ Some (taken first second) }
 {
-    instruction_in(alloc, text.as_bytes())
+    instruction_in(text.as_bytes())
 }

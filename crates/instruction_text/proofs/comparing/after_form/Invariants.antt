@@ -1,7 +1,7 @@
 use Rattle.std.proofs.Common.{◌≡◌, length, map}
 use Rattle.instruction_text.specs.Forms.{form_of}
 use Rattle.instruction_text.specs.Reading.{after_pieces}
-use Rattle.instruction_text.specs.Texts.{more_bytes, piece_of, pieces_of, rendered}
+use Rattle.instruction_text.specs.Texts.{piece_of, pieces_of}
 use Rattle.instruction_text.proofs.comparing.after_form.Given as goal
 
 abbrev pub invariant-loop-letters : goal.invariant-loop-letters

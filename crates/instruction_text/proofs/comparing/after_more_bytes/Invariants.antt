@@ -1,7 +1,6 @@
-use Rattle.std.proofs.Common.{◌≡◌, length, map}
-use Rattle.instruction_text.specs.Forms.{form_of}
+use Rattle.std.proofs.Common.{◌≡◌, length}
 use Rattle.instruction_text.specs.Reading.{after_front}
-use Rattle.instruction_text.specs.Texts.{more_bytes, piece_of, pieces_of, rendered}
+use Rattle.instruction_text.specs.Texts.{more_bytes}
 use Rattle.instruction_text.proofs.comparing.after_more_bytes.Given as goal
 
 abbrev pub invariant-loop-more : goal.invariant-loop-more
