@@ -1,16 +1,16 @@
 //! Comparing a text to an instruction's.
 
-ghost use Rattle.std.specs.Prelude.{◌≡◌, [], ◌∷◌, bytes_eq};
+ghost use Rattle.std.specs.Prelude.{◌≡◌, bytes_eq};
 ghost use Rattle.std.specs.Option.{option_map};
-ghost use Rattle.ebpf_items.specs.Instruction.{bytes_of};
 ghost use Rattle.instruction_text.specs.Forms.{form_of};
 ghost use Rattle.instruction_text.specs.Reading.{after_front, after_pieces, is_done};
-ghost use Rattle.instruction_text.specs.Texts.{byte_text, form_for, hex_byte, listed_bytes, more_bytes, pieces_of, rendered, shown, shown_number, text_by, text_of};
+ghost use Rattle.instruction_text.specs.Texts.{byte_text, form_for, hex_byte, listed_bytes, more_bytes, pieces_of, shown, shown_number, text_by, text_of};
 
+use crate::forms::row_for;
 use crate::parts::{Parts, parts_of};
 use crate::piece::{Piece, Style, piece_of};
 use crate::table::Row;
-use crate::writing::{hex_digit, row_for, sign};
+use crate::writing::{hex_digit, sign};
 use ebpf_items::bpf_insn;
 use itoa::Buffer;
 

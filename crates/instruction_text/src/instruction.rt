@@ -1,27 +1,30 @@
 //! Instructions, and their texts.
 
-ghost use Rattle.std.specs.Prelude.{◌≡◌, IfOk, None, OnSome, Some, IfSome, is_some};
+ghost use Rattle.std.specs.Prelude.{◌≡◌, IfOk};
 ghost use Rattle.std.specs.String.{string_bytes};
 ghost use Rattle.instruction_text.specs.Texts.{slots_in, taken, text_of};
 
+use crate::forms::has_form;
 use crate::parts::{WIDE_LOAD, parts_of};
-use crate::writing::{has_form, push_instruction};
+use crate::writing::push_instruction;
 use ebpf_items::bpf_insn;
 use std::alloc::{AllocError, Global};
 
-/// An instruction: one slot, or two ("Instruction encoding" in the kernel's
-/// `instruction-set.rst`).
+/// An instruction: one slot, or the two of a load of a 64-bit immediate ("Instruction encoding" in
+/// the kernel's `instruction-set.rst`).
 #[derive(Clone, Copy, Debug)]
 pub struct Instruction {
-    /// The slot of its code.
+    /// The slot with the code.
     pub first: bpf_insn,
-    /// The second slot of a load of a 64-bit immediate.
+    /// The slot with the high half of a 64-bit immediate.
     pub second: Option<bpf_insn>,
 }
 
 impl Instruction {
-    /// The instruction in a slot and the slot behind it. Only a load of a 64-bit immediate has a
-    /// second slot; a slot with an encoding that the standard doesn't name is one instruction.
+    /// The instruction in a slot and the slot behind it.
+    ///
+    /// Only a load of a 64-bit immediate takes the second slot. A slot with an encoding that the
+    /// standard doesn't name is an instruction by itself.
     pub fn of_slots(first: bpf_insn, second: Option<bpf_insn>) -> Instruction
         ensures { result ≡ taken first second }
     {
@@ -50,7 +53,9 @@ fn second_of(first: bpf_insn, second: Option<bpf_insn>) -> Option<bpf_insn>
     }
 }
 
-/// The text of the instruction in a slot and the slot behind it, as LLVM's disassembler writes it.
+/// The text of the instruction in a slot and the slot behind it.
+///
+/// The second slot counts only for a load of a 64-bit immediate, as for [`Instruction::of_slots`].
 pub fn instruction_text(
     alloc: Global,
     first: bpf_insn,

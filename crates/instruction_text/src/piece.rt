@@ -1,4 +1,4 @@
-//! The letters of a form's text.
+//! The letters in the text of a form.
 
 ghost use Rattle.std.specs.Prelude.{◌≡◌};
 ghost use Rattle.instruction_text.specs.Texts.{piece_of};
@@ -16,7 +16,7 @@ pub(crate) enum Style {
     Spaced,
 }
 
-/// What a letter stands for.
+/// What a letter in the text of a form stands for.
 #[derive(Clone, Copy)]
 pub(crate) enum Piece {
     /// Itself.
@@ -25,7 +25,7 @@ pub(crate) enum Piece {
     Number(Field, Style),
 }
 
-/// What a letter of a form's text stands for.
+/// What a letter in the text of a form stands for.
 pub(crate) fn piece_of(letter: u8) -> Piece
     ensures { result ≡ piece_of letter }
 {

@@ -1,21 +1,20 @@
 //! Reading an instruction's text.
 
-ghost use Rattle.std.specs.Prelude.{◌≡◌, ◌<◌, ◌≤◌, ◌+◌, ℕ, IfSome, Some, None, Option, map, length};
+ghost use Rattle.std.specs.Prelude.{◌≡◌, ◌<◌, ◌≤◌, ◌+◌, IfSome, Some, Option, map, length};
 ghost use Rattle.std.specs.Option.{option_map};
-ghost use Rattle.std.specs.String.{string_bytes};
 ghost use Rattle.ebpf_items.specs.declared.instruction.bpf_insn.{bpf_insn};
 ghost use Rattle.instruction_text.specs.Forms.{form_of};
-ghost use Rattle.instruction_text.specs.Reading.{IsSlot, IsTextOf, after_sign, after_space, byte_at, checked, checked_option, digits_from, hex_value, instruction_in, is_digit, is_minus, is_sign, number_at, read_bytes, read_form, read_in, read_mark, read_piece, signed_bits, state, with_digit};
+ghost use Rattle.instruction_text.specs.Reading.{IsSlot, IsTextOf, after_sign, after_space, byte_at, checked_option, digits_from, hex_value, instruction_in, is_digit, is_minus, number_at, read_bytes, read_form, read_in, read_mark, read_piece, signed_bits, state, with_digit};
 ghost use Rattle.instruction_text.specs.Texts.{taken, text_of};
 
 use crate::comparing::is_text_of;
+use crate::forms::fields_of;
 use crate::instruction::Instruction;
 use crate::parts::Parts;
 use crate::piece::{Piece, piece_of};
 use crate::table::{
     Row, arithmetic_rows, atomic_rows, jump_rows, memory_rows, other_arithmetic_rows, other_rows,
 };
-use crate::writing::fields_of;
 use ebpf_items::bpf_insn;
 
 /// The length of a text that shows the bytes of a slot.
@@ -244,7 +243,10 @@ fn instruction_in(text: &[u8]) -> Option<Instruction>
     checked(text, read_bytes(text))
 }
 
-/// The instruction that a text is the text of, if there is one.
+/// The instruction with this text, if there is one.
+///
+/// The text must be exactly as [`instruction_text`](crate::instruction_text) writes it: other spaces
+/// or digits are refused.
 pub fn read_instruction(text: &str) -> Option<Instruction>
     ensures found { IfSome result (IsTextOf text.now) }
     ensures again { (first : bpf_insn) (second : Option bpf_insn)

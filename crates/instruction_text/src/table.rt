@@ -3,8 +3,11 @@
 ghost use Rattle.std.specs.Prelude.{◌≡◌, map};
 ghost use Rattle.instruction_text.specs.Forms.{arithmetic_forms, atomic_operation_forms, form_of, jump_forms, memory_forms, other_arithmetic_forms, other_forms};
 
-/// A code, the source register, the offset and the immediate, which count where the text names no
-/// such field, and the text, with letters in place of fields.
+/// A form: the code, the source register, the offset, the immediate and the text.
+///
+/// Capital letters in the text stand for fields, as `piece_of` says. The source register, the offset
+/// and the immediate count where the text names no such field. The destination register is 0 where
+/// the text doesn't name it.
 pub(crate) struct Row(
     pub(crate) u8,
     pub(crate) u8,
