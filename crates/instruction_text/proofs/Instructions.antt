@@ -10,10 +10,10 @@ use Rattle.instruction_text.specs.declared.instruction.Instruction.{Instruction}
 use Rattle.instruction_text.specs.declared.parts.Parts.{Parts}
 use Rattle.instruction_text.specs.Fields.{are_same, first_slot, high_in, high_of, is_plain, parts_of, parts_with, second_slot, second_slot_of}
 use Rattle.instruction_text.specs.Forms.{Form, forms}
-use Rattle.instruction_text.specs.Reading.{IsSlot, instruction_of}
+use Rattle.instruction_text.specs.Laws.{IsSlot}
+use Rattle.instruction_text.specs.Reading.{instruction_of}
 use Rattle.instruction_text.specs.Texts.{byte_text, fields_of, filled, form_for, pieces_of, rendered, second_by, second_from, taken, text_by, text_from, text_of}
 use Rattle.instruction_text.proofs.Numbers.{IsParts}
-use Rattle.instruction_text.proofs.Shapes.{three}
 use Rattle.instruction_text.proofs.FormTable.{IsIn, found_in}
 
 -- ---- equal fields
@@ -150,11 +150,11 @@ with_form : (a : bpf_insn) (b : Option bpf_insn) (p : Parts) (f : Form) → IsSl
 with_form a b p f s t h k =
     let g = parts_again a b p s t h in
     let m = found_in p f forms k in
-    let u = three (nat_le p.destination 10) (nat_le p.source 10) (are_same (filled (pieces_of f) p (fields_of f)) p) m.1 in
+    let u = four (p.code == f.code) (nat_le p.destination 10) (nat_le p.source 10) (are_same (filled (pieces_of f) p (fields_of f)) p) m.1 in
     record {
       fits = g.0;
       member = m.0;
-      same = same_parts (filled (pieces_of f) p (fields_of f)) p u.2;
+      same = same_parts (filled (pieces_of f) p (fields_of f)) p u.3;
       text = ap (text_from a) h ∙ ap (text_by a p) k;
       taken =
           ap (λ o. record { first = a; second = second_from a b o }) h

@@ -11,7 +11,8 @@ use Rattle.instruction_text.specs.declared.piece.Piece.{Piece}
 use Rattle.instruction_text.specs.declared.piece.Piece.TheVariants.{Mark, Number}
 use Rattle.instruction_text.specs.Fields.{second_slot, second_slot_of, with_bits}
 use Rattle.instruction_text.specs.Forms.{Form}
-use Rattle.instruction_text.specs.Reading.{IsSlot, after_sign, after_space, digits_from, instruction_of, is_digit, is_minus, number_at, read_form, read_pieces, signed_bits, state, with_digit}
+use Rattle.instruction_text.specs.Laws.{IsSlot}
+use Rattle.instruction_text.specs.Reading.{after_sign, after_space, digits_from, instruction_of, is_digit, is_minus, number_at, read_form, read_pieces, signed_bits, state, with_digit}
 use Rattle.instruction_text.specs.Texts.{fields_of, pieces_of}
 use Rattle.instruction_text.proofs.FormTable.{is_ranged, is_small}
 use Rattle.instruction_text.proofs.Shapes.{both, less_is}

@@ -10,7 +10,8 @@ use Rattle.instruction_text.specs.declared.parts.Parts.{Parts}
 use Rattle.instruction_text.specs.declared.piece.Piece.{Piece}
 use Rattle.instruction_text.specs.declared.piece.Piece.TheVariants.{Mark, Number}
 use Rattle.instruction_text.specs.Forms.{Form, forms}
-use Rattle.instruction_text.specs.Reading.{IsSlot, checked, checked_option, instruction_in, instruction_of, IsTextOf, is_digit, is_sign, or_else, read_bytes, read_form, read_in, read_pieces, state}
+use Rattle.instruction_text.specs.Laws.{IsSlot, IsTextOf}
+use Rattle.instruction_text.specs.Reading.{checked, checked_option, instruction_in, instruction_of, is_digit, is_sign, or_else, read_bytes, read_form, read_in, read_pieces, state}
 use Rattle.instruction_text.specs.Texts.{byte_text, fields_of, pieces_of, rendered, taken, text_of}
 use Rattle.instruction_text.proofs.FormTable.{IsIn, all_good, forms_good, forms_distinct, good_in, is_good, is_ranged, key, key_from, one_form, starts}
 use Rattle.instruction_text.proofs.Instructions.{HasForm, HasNone, View, raw, settled, settled_text, view}

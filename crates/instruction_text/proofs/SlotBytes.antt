@@ -8,7 +8,8 @@ use Rattle.std.proofs.lemmas.Int.{ints, to_z-of_z}
 use Rattle.std.proofs.lemmas.Nat.{from_le_bytes-to_le_bytes_2, from_le_bytes-to_le_bytes_4}
 use Rattle.ebpf_items.specs.declared.instruction.bpf_insn.{bpf_insn}
 use Rattle.ebpf_items.specs.Instruction.{bytes_of, slot_of}
-use Rattle.instruction_text.specs.Reading.{IsSlot, byte_at, bytes_in, hex_value, read_bytes}
+use Rattle.instruction_text.specs.Laws.{IsSlot}
+use Rattle.instruction_text.specs.Reading.{byte_at, bytes_in, hex_value, read_bytes}
 use Rattle.instruction_text.specs.Texts.{byte_text, hex_digit}
 use Rattle.instruction_text.proofs.Numbers.{bits_32}
 

@@ -1,7 +1,5 @@
 -- Reading the text of an instruction.
-use Rattle.std.specs.Prelude.{◌≡◌, ℕ, ◌+◌, ◌-◌, ◌*◌, ◌%◌, ◌^◌, ◌<◌, ◌==◌, ◌&&◌, ◌||◌, nat_lt, nat_le, Bool, true, false, if◌then◌else◌, List, [], ◌∷◌, length, slice_index, bytes_eq, Option, Some, None, IfSome, option_map, option_and_then, FitsSigned}
-use Rattle.std.specs.Int.{w16, w32}
-use Rattle.ebpf_items.specs.declared.instruction.bpf_insn.{bpf_insn}
+use Rattle.std.specs.Prelude.{ℕ, ◌+◌, ◌-◌, ◌*◌, ◌%◌, ◌^◌, ◌==◌, ◌&&◌, ◌||◌, nat_lt, nat_le, Bool, true, false, if◌then◌else◌, List, [], ◌∷◌, length, slice_index, bytes_eq, Option, Some, None, option_map, option_and_then}
 use Rattle.ebpf_items.specs.Instruction.{slot_of}
 use Rattle.instruction_text.specs.declared.instruction.Instruction.{Instruction}
 use Rattle.instruction_text.specs.declared.parts.Parts.{Parts}
@@ -10,13 +8,6 @@ use Rattle.instruction_text.specs.declared.piece.Piece.TheVariants.{Mark, Number
 use Rattle.instruction_text.specs.Fields.{first_slot, second_slot_of, with_bits}
 use Rattle.instruction_text.specs.Forms.{Form, forms}
 use Rattle.instruction_text.specs.Texts.{fields_of, pieces_of, shown, taken, text_of}
-
--- each field is in its range
-pub record IsSlot (s : bpf_insn) : Type 0 where
-  pub code : s.code < 2 ^ 8
-  pub registers : s.registers < 2 ^ 8
-  pub off : FitsSigned w16 s.off
-  pub imm : FitsSigned w32 s.imm
 
 -- ---- numbers
 
@@ -161,22 +152,3 @@ read_in (form ∷ more) text = or_else (checked_option text (read_form form text
 -- the instruction that a text is of
 abbrev pub instruction_in : List ℕ → Option Instruction
 instruction_in text = or_else (read_in forms text) (checked_option text (read_bytes text))
-
--- reading the text of an instruction gives it, so no two instructions have one text
-pub record IsReadBack : Type 0 where
-  pub each : (first : bpf_insn) (second : Option bpf_insn)
-      → IsSlot first
-      → IfSome second IsSlot
-      → instruction_in (text_of first second) ≡ Some (taken first second)
-  pub one : (a c : bpf_insn) (b d : Option bpf_insn)
-      → IsSlot a
-      → IfSome b IsSlot
-      → IsSlot c
-      → IfSome d IsSlot
-      → text_of a b ≡ text_of c d
-      → taken a b ≡ taken c d
-
--- an instruction with all of its slots and no more, and its text
-pub record IsTextOf (bytes : List ℕ) (i : Instruction) : Type 0 where
-  pub text : text_of i.first i.second ≡ bytes
-  pub whole : taken i.first i.second ≡ i

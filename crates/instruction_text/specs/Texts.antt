@@ -72,11 +72,11 @@ fields_of form =
       high = pos 0;
     }
 
--- whether an instruction is of a form: it differs only in fields that the text names, and its
--- registers are r0 to r10
+-- whether an instruction is of a form: it has the form's code and differs only in fields that the
+-- text names, and its registers are r0 to r10
 abbrev pub takes : Parts → Form → Bool
 takes p form =
-    nat_le p.destination 10 && nat_le p.source 10
+    p.code == form.code && nat_le p.destination 10 && nat_le p.source 10
     && are_same (filled (pieces_of form) p (fields_of form)) p
 
 abbrev pub form_for : Parts → Option Form
@@ -129,5 +129,5 @@ taken first second =
     record { first = first; second = second_from first second (parts_of first second) }
 
 -- the number of an instruction's slots
-abbrev pub slots_in : Instruction → ℕ
-slots_in i = if is_some i.second then 2 else 1
+abbrev pub slot_count : Instruction → ℕ
+slot_count i = if is_some i.second then 2 else 1

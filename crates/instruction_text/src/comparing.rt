@@ -47,7 +47,7 @@ fn after_form<'a>(text: &'a [u8], row: &Row, parts: &Parts) -> Option<&'a [u8]>
     ensures { option_map (λ rest. rest.now) result
         ≡ after_pieces (pieces_of (form_of row.now)) parts.now text.now }
 {
-    let mut letters = row.4;
+    let mut letters = row.text();
     let mut left = text;
     while let [letter, rest @ ..] = letters {
         left = after_piece(left, piece_of(*letter), parts)?;

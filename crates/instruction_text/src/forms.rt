@@ -15,12 +15,13 @@ use crate::table::{
 pub(crate) fn fields_of(row: &Row) -> Parts
     ensures { result ≡ fields_of (form_of row.now) }
 {
+    let &Row(code, source, offset, immediate, _text) = row;
     Parts {
-        code: row.0,
+        code,
         destination: 0,
-        source: row.1,
-        offset: row.2,
-        immediate: row.3,
+        source,
+        offset,
+        immediate,
         high: 0,
     }
 }
@@ -38,7 +39,7 @@ fn filled_one(piece: Piece, from: &Parts, parts: Parts) -> Parts
 fn filled(row: &Row, from: &Parts) -> Parts
     ensures { result ≡ filled (pieces_of (form_of row.now)) from.now (fields_of (form_of row.now)) }
 {
-    let mut letters = row.4;
+    let mut letters = row.text();
     let mut parts = fields_of(row);
     while let [letter, rest @ ..] = letters {
         parts = filled_one(piece_of(*letter), from, parts);
@@ -50,7 +51,10 @@ fn filled(row: &Row, from: &Parts) -> Parts
 fn takes(parts: &Parts, row: &Row) -> bool
     ensures { result ≡ takes parts.now (form_of row.now) }
 {
-    parts.destination <= 10 && parts.source <= 10 && filled(row, parts).is(parts)
+    parts.code == row.code()
+        && parts.destination <= 10
+        && parts.source <= 10
+        && filled(row, parts).is(parts)
 }
 
 fn row_in(rows: &'static [Row], parts: &Parts) -> Option<&'static Row>

@@ -2,7 +2,7 @@
 
 ghost use Rattle.std.specs.Prelude.{◌≡◌, IfOk};
 ghost use Rattle.std.specs.String.{string_bytes};
-ghost use Rattle.instruction_text.specs.Texts.{slots_in, taken, text_of};
+ghost use Rattle.instruction_text.specs.Texts.{slot_count, taken, text_of};
 
 use crate::forms::has_form;
 use crate::parts::{WIDE_LOAD, parts_of};
@@ -35,8 +35,8 @@ impl Instruction {
     }
 
     /// The number of slots, 1 or 2.
-    pub fn len(self) -> usize
-        ensures { result ≡ slots_in self }
+    pub fn slot_count(self) -> usize
+        ensures { result ≡ slot_count self }
     {
         if self.second.is_some() { 2 } else { 1 }
     }

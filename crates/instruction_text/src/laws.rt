@@ -1,8 +1,8 @@
-//! The law of texts and their reader.
+//! The law of texts.
 
-ghost use Rattle.instruction_text.specs.Reading.{IsReadBack};
+ghost use Rattle.instruction_text.specs.Laws.{AreToldApart};
 
-/// Reading the text of an instruction gives the instruction, so no two instructions have one text.
-pub fn texts_are_read_back()
-    ensures { IsReadBack }
+/// No two instructions have one text: from equal texts follow equal instructions.
+pub fn texts_are_told_apart()
+    ensures { AreToldApart }
 {}

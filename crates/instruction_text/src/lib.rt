@@ -20,5 +20,5 @@ mod table;
 mod writing;
 
 pub use instruction::{Instruction, instruction_text};
-pub use laws::texts_are_read_back;
+pub use laws::texts_are_told_apart;
 pub use reading::read_instruction;

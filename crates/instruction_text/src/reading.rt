@@ -4,7 +4,8 @@ ghost use Rattle.std.specs.Prelude.{◌≡◌, ◌<◌, ◌≤◌, ◌+◌, IfSo
 ghost use Rattle.std.specs.Option.{option_map};
 ghost use Rattle.ebpf_items.specs.declared.instruction.bpf_insn.{bpf_insn};
 ghost use Rattle.instruction_text.specs.Forms.{form_of};
-ghost use Rattle.instruction_text.specs.Reading.{IsSlot, IsTextOf, after_sign, after_space, byte_at, checked_option, digits_from, hex_value, instruction_in, is_digit, is_minus, number_at, read_bytes, read_form, read_in, read_mark, read_piece, signed_bits, state, with_digit};
+ghost use Rattle.instruction_text.specs.Laws.{IsSlot, IsTextOf};
+ghost use Rattle.instruction_text.specs.Reading.{after_sign, after_space, byte_at, checked_option, digits_from, hex_value, instruction_in, is_digit, is_minus, number_at, read_bytes, read_form, read_in, read_mark, read_piece, signed_bits, state, with_digit};
 ghost use Rattle.instruction_text.specs.Texts.{taken, text_of};
 
 use crate::comparing::is_text_of;
@@ -131,7 +132,7 @@ fn read_piece(piece: Piece, text: &[u8], parts: Parts) -> Option<Reading<'_>>
 fn read_row(row: &Row, text: &[u8]) -> Option<Instruction>
     ensures { result ≡ read_form (form_of row.now) text.now }
 {
-    let mut letters = row.4;
+    let mut letters = row.text();
     let mut left = text;
     let mut parts = fields_of(row);
     while let [letter, more @ ..] = letters {

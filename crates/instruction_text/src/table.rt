@@ -16,6 +16,20 @@ pub(crate) struct Row(
     pub(crate) &'static [u8],
 );
 
+impl Row {
+    pub(crate) fn code(&self) -> u8
+        ensures { result ≡ (form_of self.now).code }
+    {
+        self.0
+    }
+
+    pub(crate) fn text(&self) -> &'static [u8]
+        ensures { result.now ≡ (form_of self.now).template }
+    {
+        self.4
+    }
+}
+
 static ARITHMETIC_ROWS: [Row; 48] = [
     Row(0x0f, 0, 0, 0, b"rD += rS"),
     Row(0x07, 0, 0, 0, b"rD += I"),

@@ -47,7 +47,7 @@ fn push_form(text: &mut String, row: &Row, parts: &Parts) -> Result<(), AllocErr
     ensures { OnOk result (string_bytes text.new
         ≡ string_bytes text.old ++ rendered (pieces_of (form_of row.now)) parts.now) }
 {
-    let mut letters = row.4;
+    let mut letters = row.text();
     while let [letter, rest @ ..] = letters {
         push_piece(text, piece_of(*letter), parts)?;
         letters = rest;
