@@ -4,7 +4,7 @@ use Rattle.instruction_text.specs.declared.table.Row.{Row}
 
 -- Instructions with a code, and with these other fields but for those that the text names: D and S
 -- the registers, J and O the offset, I, C and M the immediate, H the immediate of the second slot,
--- W both immediates.
+-- W both immediates. The destination register is 0 where the text names none.
 pub record Form : Type 0 where
   pub code : ℕ
   pub source : ℕ

@@ -1,6 +1,6 @@
 //! Instructions, and their texts.
 
-ghost use Rattle.std.specs.Prelude.{◌≡◌, IfOk};
+ghost use Rattle.std.specs.Prelude.{◌≡◌, ◌≤◌, IfOk, IfSome, Some};
 ghost use Rattle.std.specs.String.{string_bytes};
 ghost use Rattle.instruction_text.specs.Texts.{slot_count, taken, text_of};
 
@@ -26,7 +26,9 @@ impl Instruction {
     /// Only a load of a 64-bit immediate takes the second slot. A slot with an encoding that the
     /// standard doesn't name is an instruction by itself.
     pub fn of_slots(first: bpf_insn, second: Option<bpf_insn>) -> Instruction
-        ensures { result ≡ taken first second }
+        ensures value { result ≡ taken first second }
+        ensures first { result.first ≡ first }
+        ensures second { IfSome result.second (λ slot. second ≡ Some slot) }
     {
         Instruction {
             first,
@@ -36,14 +38,17 @@ impl Instruction {
 
     /// The number of slots, 1 or 2.
     pub fn slot_count(self) -> usize
-        ensures { result ≡ slot_count self }
+        ensures value { result ≡ slot_count self }
+        ensures some { 1 ≤ result }
+        ensures few { result ≤ 2 }
     {
         if self.second.is_some() { 2 } else { 1 }
     }
 }
 
 fn second_of(first: bpf_insn, second: Option<bpf_insn>) -> Option<bpf_insn>
-    ensures { result ≡ (taken first second).second }
+    ensures value { result ≡ (taken first second).second }
+    ensures second { IfSome result (λ slot. second ≡ Some slot) }
 {
     let parts = parts_of(first, second)?;
     if has_form(&parts) && first.code == WIDE_LOAD {
