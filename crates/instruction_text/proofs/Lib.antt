@@ -1,0 +1,9 @@
+mod Finds
+mod FormTable
+mod Fronts
+mod Instructions
+mod Numbers
+mod Ranges
+mod ReadBack
+mod Shapes
+mod SlotBytes
