@@ -17,9 +17,8 @@ from toolkit import estimates, machine, processes, repository
 
 # What isn't copied of a crate: what was made from it, and the edits.
 LEFT_OUT = ("out", "must-fail")
-# What the gate says of a crate: where its lines begin, and what it came to.
+# Where the gate's lines on a crate begin, and what it says of one that it refuses.
 BEGINS = re.compile(r"== \w+$")
-PROVED = re.compile(r"rt: (\w+) (proved$|is kept:)")
 REFUSED = re.compile(r"rt: (\w+) NOT PROVED$")
 SHOWN = 40
 
@@ -52,20 +51,19 @@ def copy_crates(needed, top):
         copy_crate(crate, os.path.join(top, "crates", crate))
 
 
-class Progress:
+class Build:
     """What a build has come to, by the lines of the gate."""
 
     def __init__(self, name, needed):
         self.name = name
-        self.open = set(needed)
-        self.count = len(needed)
-        self.estimate = estimates.Estimate(estimates.parts_of(needed), machine.processors(), machine.slowness())
+        self.progress = estimates.Progress(needed)
         self.lines = []
 
     def begin(self):
         """Tells at once what there is to do, with what, and about how long it takes."""
-        length = estimates.minutes(self.estimate.seconds_left())
-        say(self.name, f"{self.count} crates are to be proved, the program last, on {machine.told_of_gate()}")
+        progress = self.progress
+        say(self.name, f"{progress.count} crates are to be proved, the program last, on {machine.told_of_gate()}")
+        length = progress.whole()
         say(self.name, f"it takes {length} where none of them is kept; a build that was stopped goes on from the crates that it proved")
 
     def note(self, line):
@@ -78,19 +76,10 @@ class Progress:
             self.show_lines()
             say(self.name, f"the crate {refused[1]} could not be proved")
             return False
-        proved = PROVED.match(line)
-        if proved and proved[1] in self.open:
-            self.note_proved(proved[1], proved[2] == "proved")
+        text = self.progress.note(line)
+        if text:
+            say(self.name, text)
         return True
-
-    def note_proved(self, crate, is_new):
-        self.open.remove(crate)
-        if is_new:
-            self.estimate.end(crate, estimates.PROOF)
-        else:
-            self.estimate.leave_out(crate)
-        left = f", {estimates.minutes(self.estimate.seconds_left())} left" if self.open else ""
-        say(self.name, f"{self.count - len(self.open)} of {self.count} crates are proved{left}")
 
     def show_lines(self):
         for line in self.lines[-SHOWN:]:
@@ -99,18 +88,18 @@ class Progress:
 
 def pass_gate(name, needed, top):
     """Runs the gate over the copied crates, up to the first that it refuses; says whether they pass."""
-    progress = Progress(name, needed)
-    progress.begin()
+    build = Build(name, needed)
+    build.begin()
     how = {"stdout": subprocess.PIPE, "stderr": subprocess.STDOUT, "encoding": "utf-8", "errors": "replace"}
     process = processes.begin(["rt", "ci"], cwd=top, **how)
     for line in process.stdout:
-        if not progress.note(line.rstrip("\n")):
+        if not build.note(line.rstrip("\n")):
             processes.end_all()
             return False
     process.wait()
     processes.forget(process)
     if process.returncode != 0:
-        progress.show_lines()
+        build.show_lines()
         say(name, "the crates don't pass the gate")
     return process.returncode == 0
 

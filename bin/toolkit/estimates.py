@@ -5,6 +5,7 @@ time that this took counts.
 """
 
 import os
+import re
 import time
 
 from toolkit import machine, repository
@@ -21,6 +22,14 @@ WAITING = 1.1
 TRUSTED = 0.05
 
 PROOF, TESTS, EDITS = "proof", "tests", "edits"
+# What the gate says of a crate: its proof, its tests, and its edits, which count as tried once they begin since it doesn't say when
+# they end. Of a crate whose proof is kept its tests and edits count as kept.
+DONE = (
+    (re.compile(r"rt: (\w+) proved$"), PROOF),
+    (re.compile(r"rt: (\w+): its tests are proved$"), TESTS),
+    (re.compile(r"rt: (\w+): trying its must-fail edits"), EDITS),
+)
+KEPT = re.compile(r"rt: (\w+) is kept:")
 
 
 def measured():
@@ -122,6 +131,41 @@ def minutes(seconds):
     """About so many minutes, as a message has them."""
     number = max(1, round(seconds / 60))
     return "about a minute" if number == 1 else f"about {number} minutes"
+
+
+class Progress:
+    """How far the proofs of some crates are, by the lines of the gate."""
+
+    def __init__(self, crates, with_rest=False):
+        self.open = set(crates)
+        self.count = len(self.open)
+        self.estimate = Estimate(parts_of(crates, with_rest), machine.processors(), machine.slowness())
+
+    def whole(self):
+        """About how long all takes where nothing is kept."""
+        return minutes(self.estimate.seconds_left())
+
+    def note(self, line):
+        """Notes a line; answers with a text where the line changes how far the proofs are."""
+        for form, part in DONE:
+            found = form.match(line)
+            if found:
+                self.estimate.end(found[1], part)
+                return self.told(found[1], part)
+        kept = KEPT.match(line)
+        if kept:
+            self.estimate.leave_out(kept[1])
+            return self.told(kept[1], PROOF)
+        return None
+
+    def told(self, crate, part):
+        if part == PROOF:
+            if crate not in self.open:
+                return None
+            self.open.remove(crate)
+        left = self.estimate.seconds_left()
+        rest = f", {minutes(left)} left" if left else ""
+        return f"{self.count - len(self.open)} of {self.count} crates are proved{rest}"
 
 
 def build_seconds(name, processors):

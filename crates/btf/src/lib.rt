@@ -1,5 +1,8 @@
-//! Type tables of the BPF Type Format (BTF): the items of the crates that they are made of.
+//! Type tables of the BPF Type Format (BTF): the items of the crates that they are made of, and the
+//! calls that rewrite a table.
 #![tactic(auto)]
+
+mod rewriting;
 
 pub use btf_compatibility::{fields_are_compatible, types_are_compatible};
 pub use btf_encoding::TypeRef;
@@ -14,5 +17,7 @@ pub use btf_records::{
     Struct, TypeTag, Typedef, Union, Var, VarLinkage, Volatile,
 };
 pub use btf_rewrite::{Answers, KsymsIds, fixup_and_sanitize, fixup_ksyms_datasec};
-pub use btf_tables::{Btf, Types, essential_name};
-pub use string_map::{TextMap, TextMapBuilder};
+pub use btf_storage::TypeRecords;
+pub use btf_tables::{Btf, Strings, Types, essential_name};
+pub use rewriting::RewriteBtf;
+pub use string_map::{Iter as TextMapIter, TextMap, TextMapBuilder};

@@ -1,7 +1,8 @@
 -- What the words of a command line of `inspect_object` ask for.
-use Rattle.std.specs.Prelude.{◌≡◌, ℕ, List, Some, codes, map}
+use Rattle.std.specs.Prelude.{◌≡◌, ℕ, List, Some, codes, false, map}
 use Rattle.std.specs.Option.{option_map}
 use Rattle.clap.specs.Simple.{app_of}
+use Rattle.clap.specs.Takes.{takes}
 use Rattle.clap.specs.declared.builder.command.Command.{Command}
 use Rattle.clap.specs.declared.parser.matches.ArgMatches.{ArgMatches}
 use Rattle.command_line.specs.Commands.{TakesObject}
@@ -25,3 +26,9 @@ pub record IsInspectLine (words : List (List ℕ)) (line : InspectArguments) : T
   pub types_order : line.types_order ≡ order_named (value_found matches (codes "types-order"))
   pub symbols : option_map (λ name. name.now) line.symbols ≡ value_found matches (codes "symbols")
   pub summary : IsFlag matches (codes "summary") line.summary
+
+-- the program's command line doesn't take the words, by clap's own definition of what one takes
+pub record IsRefusedInspectLine (words : List (List ℕ)) : Type 0 where
+  pub command : Command
+  pub program : IsInspectCommand (app_of command)
+  pub refused : takes (app_of command) words ≡ false

@@ -5,3 +5,4 @@ pub mod PrepareCommand
 pub mod PrepareLine
 pub mod InspectCommand
 pub mod InspectLine
+pub mod Messages

@@ -1,7 +1,8 @@
 -- What the words of a command line of `bpf_prepare` ask for.
-use Rattle.std.specs.Prelude.{◌≡◌, ℕ, List, Some, codes, map}
+use Rattle.std.specs.Prelude.{◌≡◌, ℕ, List, Some, codes, false, map}
 use Rattle.std.specs.Option.{option_map}
 use Rattle.clap.specs.Simple.{app_of}
+use Rattle.clap.specs.Takes.{takes}
 use Rattle.clap.specs.declared.builder.command.Command.{Command}
 use Rattle.clap.specs.declared.parser.matches.ArgMatches.{ArgMatches}
 use Rattle.command_line.specs.Commands.{TakesObject}
@@ -33,3 +34,9 @@ pub record IsPrepareLine (words : List (List ℕ)) (line : Arguments) : Type 0 w
   pub maps : map (λ word. word.now) line.maps.items ≡ values_found matches (codes "map")
   pub globals : map (λ word. word.now) line.globals.items ≡ values_found matches (codes "global")
   pub denied : map Some line.denied.items ≡ map feature_named (values_found matches (codes "deny"))
+
+-- the program's command line doesn't take the words, by clap's own definition of what one takes
+pub record IsRefusedPrepareLine (words : List (List ℕ)) : Type 0 where
+  pub command : Command
+  pub program : IsPrepareCommand (app_of command)
+  pub refused : takes (app_of command) words ≡ false

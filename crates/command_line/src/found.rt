@@ -1,29 +1,31 @@
 //! What is found in the arguments.
 
-ghost use Rattle.std.specs.Prelude.{◌≡◌, codes, map, Some, IfOk, is_some, true};
+ghost use Rattle.std.specs.Prelude.{◌≡◌, ◌≢◌, codes, map, Some, IfErr, IfOk, is_some, false, true};
 ghost use Rattle.std.specs.Option.{option_map};
 ghost use Rattle.std.specs.String.{string_bytes};
 ghost use Rattle.clap.specs.Matches.{first_value, found_of};
+ghost use Rattle.clap.specs.Simple.{app_of};
+ghost use Rattle.clap.specs.Takes.{takes};
+ghost use Rattle.clap.specs.Values.{kind_of};
+ghost use Rattle.clap.specs.declared.error.kind.ErrorKind.TheVariants.{OutOfMemory};
 ghost use Rattle.command_line.specs.Found.{order_named, values_found, IsFoundBy};
 
-use crate::error::LineError;
-use crate::line_text::line_error;
 use btf_records::Endianness;
-use clap::{ArgMatches, Command};
+use clap::{ArgMatches, Command, Error};
 use std::alloc::{AllocError, Global};
 
 /// What clap finds in the arguments, for a command.
 pub(crate) fn matches_in<'w>(
-    alloc: Global,
     command: Command<'w>,
     words: &'w [String],
-) -> Result<ArgMatches<'w>, LineError>
-    ensures { IfOk result (IsFoundBy command.entry (map string_bytes words.now)) }
+) -> Result<ArgMatches<'w>, Error>
+    ensures found { IfOk result (IsFoundBy command.entry (map string_bytes words.now)) }
+    ensures refused { IfErr result (λ error.
+        kind_of error ≢ OutOfMemory
+        → takes (app_of command.entry) (map string_bytes words.now) ≡ false) }
 {
-    match command.try_get_matches_from(words) {
-        Ok(matches) => Ok(matches),
-        Err(error) => Err(line_error(alloc, &error)?),
-    }
+    let matches = command.try_get_matches_from(words)?;
+    Ok(matches)
 }
 
 /// The values of an option that may be given several times.

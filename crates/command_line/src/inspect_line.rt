@@ -1,14 +1,15 @@
 //! What the arguments of `inspect_object` ask for.
 
-ghost use Rattle.std.specs.Prelude.{map, IfOk};
+ghost use Rattle.std.specs.Prelude.{◌≢◌, map, IfErr, IfOk};
 ghost use Rattle.std.specs.String.{string_bytes};
-ghost use Rattle.command_line.specs.InspectLine.{IsInspectLine, IsInspectMatch};
+ghost use Rattle.clap.specs.Values.{kind_of};
+ghost use Rattle.clap.specs.declared.error.kind.ErrorKind.TheVariants.{OutOfMemory};
+ghost use Rattle.command_line.specs.InspectLine.{IsInspectLine, IsInspectMatch, IsRefusedInspectLine};
 
-use crate::error::LineError;
 use crate::found::{matches_in, object_of, order_of, values_of};
 use crate::inspect_command::inspect_command;
 use btf_records::Endianness;
-use clap::ArgMatches;
+use clap::{ArgMatches, Error};
 use std::alloc::Global;
 
 /// What the arguments of a command line ask for. File names are as they are given.
@@ -27,11 +28,13 @@ pub struct InspectArguments<'w> {
 }
 
 /// What clap finds in the arguments, for the program's command line.
-fn matches_of<'w>(alloc: Global, words: &'w [String]) -> Result<ArgMatches<'w>, LineError>
-    ensures { IfOk result (IsInspectMatch (map string_bytes words.now)) }
+fn matches_of<'w>(alloc: Global, words: &'w [String]) -> Result<ArgMatches<'w>, Error>
+    ensures found { IfOk result (IsInspectMatch (map string_bytes words.now)) }
+    ensures refused { IfErr result (λ error.
+        kind_of error ≢ OutOfMemory → IsRefusedInspectLine (map string_bytes words.now)) }
 {
     let command = inspect_command(alloc)?;
-    let matches = matches_in(alloc, command, words)?;
+    let matches = matches_in(command, words)?;
     Ok(matches)
 }
 
@@ -39,13 +42,15 @@ fn matches_of<'w>(alloc: Global, words: &'w [String]) -> Result<ArgMatches<'w>, 
 ///
 /// # Errors
 ///
-/// [`LineError::Fault`] where the arguments are invalid, and [`LineError::Asked`] where they ask
-/// for the help or the version.
+/// Clap's error where the arguments are invalid, where they ask for the help or the version, and
+/// where memory runs out. [`line_message`](crate::line_message) makes of it what a user is told.
 pub fn inspect_arguments<'w>(
     alloc: Global,
     words: &'w [String],
-) -> Result<InspectArguments<'w>, LineError>
-    ensures { IfOk result (IsInspectLine (map string_bytes words.now)) }
+) -> Result<InspectArguments<'w>, Error>
+    ensures line { IfOk result (IsInspectLine (map string_bytes words.now)) }
+    ensures refused { IfErr result (λ error.
+        kind_of error ≢ OutOfMemory → IsRefusedInspectLine (map string_bytes words.now)) }
 {
     let matches = matches_of(alloc, words)?;
     Ok(InspectArguments {

@@ -2,7 +2,6 @@
 #![tactic(auto)]
 
 mod common_options;
-mod error;
 mod found;
 mod inspect_command;
 mod inspect_line;
@@ -13,9 +12,9 @@ mod prepare_line;
 mod prepare_reading;
 mod setting_words;
 
-pub use error::LineError;
+pub use clap::Error;
 pub use inspect_line::{InspectArguments, inspect_arguments};
-pub use line_text::first_paragraph;
+pub use line_text::{LineMessage, first_paragraph, line_message};
 pub use prepare_line::Arguments;
 pub use prepare_reading::arguments;
 pub use setting_words::WordError;

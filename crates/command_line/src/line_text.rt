@@ -1,8 +1,22 @@
 //! Messages about a command line, in one line.
 
-use crate::error::LineError;
+ghost use Rattle.std.specs.Prelude.{◌≡◌, ◌≢◌, ◌↔◌, IfOk, IsErr, IsTrue};
+ghost use Rattle.clap.specs.Values.{kind_of};
+ghost use Rattle.clap.specs.declared.error.kind.ErrorKind.TheVariants.{DisplayHelp, DisplayVersion, OutOfMemory};
+ghost use Rattle.command_line.specs.Messages.{is_fault};
+
 use clap::Error;
+use clap::error::ErrorKind;
 use std::alloc::{AllocError, Global};
+
+/// What a user is told in place of an answer.
+#[derive(Debug, Drop)]
+pub enum LineMessage {
+    /// The command line is invalid: what is wrong with it, in one line.
+    Fault { text: String },
+    /// The command line asks for the help or the version: its text.
+    Asked { text: String },
+}
 
 /// Appends the words of a line, one space before each but the first.
 fn push_words(text: &mut String, line: &str) -> Result<(), AllocError> {
@@ -27,21 +41,33 @@ pub fn first_paragraph(alloc: Global, text: &str) -> Result<String, AllocError> 
     Ok(paragraph)
 }
 
-/// What is wrong with a command line: the first paragraph of the error's text.
+/// What is wrong with a command line, in one line: the first paragraph of the error's text.
 fn fault_text(alloc: Global, error: &Error) -> Result<String, AllocError> {
     let text = format!(in alloc; "{error}")?;
     let said = text.strip_prefix("error: ").unwrap_or(&text);
     first_paragraph(alloc, said)
 }
 
-/// The error for arguments that clap refuses.
-pub(crate) fn line_error(alloc: Global, error: &Error) -> Result<LineError, AllocError> {
+/// What a user is told where clap answers with an error.
+///
+/// # Errors
+///
+/// `AllocError` where clap's error is one of memory, and where memory runs out for the text.
+pub fn line_message(alloc: Global, error: &Error) -> Result<LineMessage, AllocError>
+    ensures memory { kind_of error.now ≡ OutOfMemory → IsErr result }
+    ensures kind { IfOk result (λ message.
+        IsTrue (is_fault message) ↔ ((kind_of error.now ≢ DisplayHelp)
+        × (kind_of error.now ≢ DisplayVersion))) }
+{
+    if error.kind() == ErrorKind::OutOfMemory {
+        return Err(AllocError);
+    }
     if error.use_stderr() {
-        return Ok(LineError::Fault {
+        return Ok(LineMessage::Fault {
             text: fault_text(alloc, error)?,
         });
     }
-    Ok(LineError::Asked {
+    Ok(LineMessage::Asked {
         text: format!(in alloc; "{error}")?,
     })
 }

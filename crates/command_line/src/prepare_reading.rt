@@ -1,26 +1,29 @@
 //! The reading of a command line of `bpf_prepare`.
 
-ghost use Rattle.std.specs.Prelude.{◌≡◌, is_some, map, true, IfOk, Some};
+ghost use Rattle.std.specs.Prelude.{◌≡◌, ◌≢◌, is_some, map, true, IfErr, IfOk, Some};
 ghost use Rattle.std.specs.List.{All};
 ghost use Rattle.std.specs.String.{string_bytes};
 ghost use Rattle.run_settings.specs.Features.{feature_named};
-ghost use Rattle.command_line.specs.PrepareLine.{IsPrepareLine, IsPrepareMatch};
+ghost use Rattle.clap.specs.Values.{kind_of};
+ghost use Rattle.clap.specs.declared.error.kind.ErrorKind.TheVariants.{OutOfMemory};
+ghost use Rattle.command_line.specs.PrepareLine.{IsPrepareLine, IsPrepareMatch, IsRefusedPrepareLine};
 
-use crate::error::LineError;
 use crate::found::{matches_in, object_of, order_of, values_of};
 use crate::prepare_command::prepare_command;
 use crate::prepare_line::Arguments;
 use btf_records::BtfFeature;
-use clap::ArgMatches;
+use clap::{ArgMatches, Error};
 use run_settings::feature_named;
 use std::alloc::{AllocError, Global};
 
 /// What clap finds in the arguments, for the program's command line.
-fn matches_of<'w>(alloc: Global, words: &'w [String]) -> Result<ArgMatches<'w>, LineError>
-    ensures { IfOk result (IsPrepareMatch (map string_bytes words.now)) }
+fn matches_of<'w>(alloc: Global, words: &'w [String]) -> Result<ArgMatches<'w>, Error>
+    ensures found { IfOk result (IsPrepareMatch (map string_bytes words.now)) }
+    ensures refused { IfErr result (λ error.
+        kind_of error ≢ OutOfMemory → IsRefusedPrepareLine (map string_bytes words.now)) }
 {
     let command = prepare_command(alloc)?;
-    let matches = matches_in(alloc, command, words)?;
+    let matches = matches_in(command, words)?;
     Ok(matches)
 }
 
@@ -41,10 +44,12 @@ fn features_of(alloc: Global, names: &[&str]) -> Result<Vec<BtfFeature>, AllocEr
 ///
 /// # Errors
 ///
-/// [`LineError::Fault`] where the arguments are invalid, and [`LineError::Asked`] where they ask
-/// for the help or the version.
-pub fn arguments<'w>(alloc: Global, words: &'w [String]) -> Result<Arguments<'w>, LineError>
-    ensures { IfOk result (IsPrepareLine (map string_bytes words.now)) }
+/// Clap's error where the arguments are invalid, where they ask for the help or the version, and
+/// where memory runs out. [`line_message`](crate::line_message) makes of it what a user is told.
+pub fn arguments<'w>(alloc: Global, words: &'w [String]) -> Result<Arguments<'w>, Error>
+    ensures line { IfOk result (IsPrepareLine (map string_bytes words.now)) }
+    ensures refused { IfErr result (λ error.
+        kind_of error ≢ OutOfMemory → IsRefusedPrepareLine (map string_bytes words.now)) }
 {
     let matches = matches_of(alloc, words)?;
     let denied = values_of(alloc, &matches, "deny")?;

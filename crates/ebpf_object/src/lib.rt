@@ -4,6 +4,13 @@
 
 mod type_relocations;
 
+pub use btf_ext::{BtfExt, FuncSecInfo, LineSecInfo, bpf_func_info, bpf_line_info};
+pub use btf_records::{BtfError, BtfFeature, Endianness};
+pub use btf_rewrite::{Answers, KsymsIds};
+pub use btf_tables::Btf;
+pub use ebpf_items::MapWord;
+pub use elf64::{ElfError, RelocView, SectionView, SymbolKind, SymbolView};
+pub use object_parts::{Code, MatchedTables};
 pub use object_whole::{
     BtfMap, BtfMapDef, BtfRelocationCause, BtfRelocationError, CgroupSkbAttachType,
     CgroupSockAddrAttachType, CgroupSockAttachType, CgroupSockoptAttachType, EbpfRelocationError,
@@ -16,4 +23,6 @@ pub use object_whole::{
     bpf_prog_type, copy_instructions, function_without_code, name_at, parse_map_info,
     unnamed_symbol,
 };
+pub use string_map::Iter as TextMapIter;
 pub use type_relocations::RelocateBtf;
+pub use watched::TakeBytes;

@@ -10,6 +10,8 @@
 //!   at which others are refused;
 //! - `library-example OBJECT [KERNEL_TYPES]`: what an object holds, and its plan, by the example of
 //!   the library's use;
+//! - `patched-objects OBJECT..`: what the programs of objects are, and their maps before and after
+//!   values are written into them by name;
 //! - `refused-objects TYPES SYMBOLS OBJECT..`, `refused-structs`, `refused-tables`: steps for which
 //!   one request for memory may be refused;
 //! - `measure-types FILE [STRUCT..]`, `measure-matching FILE STRUCT..`, `measure-symbols FILE
@@ -19,6 +21,7 @@
 mod changed_objects;
 mod memory_calls;
 mod object_steps;
+mod patched_objects;
 mod relocated_objects;
 mod rewritten_tables;
 mod thousand_structs;
@@ -66,6 +69,7 @@ fn run(rt: &HostRuntime, exercise: &str, words: &mut Args) -> ExitCode {
         "changed-lines" => status_of(rt, print_changed_lines(rt, words)),
         "read-plans" => status_of(rt, print_read_plans(rt, words)),
         "library-example" => status_of_example(rt, print_object_and_plan(rt, words)),
+        "patched-objects" => status_of(rt, patched_objects::run(rt, words)),
         "refused-objects" => status_of(rt, relocated_objects::run(rt, words)),
         "refused-structs" => thousand_structs::run(rt),
         "refused-tables" => rewritten_tables::run(rt),

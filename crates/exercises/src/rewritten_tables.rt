@@ -1,7 +1,7 @@
 //! A table, rewritten by the two calls that rewrite tables. Where memory is refused, the table must
 //! be unchanged.
 
-use btf::{Btf, BtfError, Endianness, TextMap, fixup_and_sanitize, fixup_ksyms_datasec};
+use btf::{Btf, BtfError, Endianness, RewriteBtf, TextMap};
 use std::alloc::Global;
 use std::process::ExitCode;
 
@@ -54,7 +54,7 @@ fn outcome(
 /// The step on the section `.ksyms` alone.
 fn step(alloc: Global) -> Result<&'static str, BtfError> {
     let mut table = Btf::parse(alloc, &SECTION, Endianness::Little)?;
-    let answer = fixup_ksyms_datasec(&mut table, 3, None);
+    let answer = table.fixup_ksyms_datasec(3, None);
     outcome(&table, answer, &STEPPED)
 }
 
@@ -63,10 +63,8 @@ fn rewriting(alloc: Global) -> Result<&'static str, BtfError> {
     let mut table = Btf::parse(alloc, &SECTION, Endianness::Little)?;
     let numbers = TextMap::new(alloc);
     let ksyms = Some((3, None));
-    let answer = fixup_and_sanitize(&mut table, &numbers, &numbers, ksyms, |_feature| false).map(
-        |_answers| (),
-    );
-    outcome(&table, answer, &REWRITTEN)
+    let answer = table.fixup_and_sanitize(&numbers, &numbers, ksyms, |_feature| false);
+    outcome(&table, answer.map(|_answers| ()), &REWRITTEN)
 }
 
 fn print(rt: &HostRuntime, what: &str, outcome: Result<&'static str, BtfError>) {

@@ -12,7 +12,7 @@ mod names;
 mod notes;
 mod type_relocations;
 
-use command_line::{InspectArguments, LineError, inspect_arguments};
+use command_line::{InspectArguments, LineMessage, inspect_arguments, line_message};
 use diagnostics::{Refusal, parse_text};
 use ebpf_object::ParseError;
 use error::{InspectError, ProgramError};
@@ -58,15 +58,21 @@ fn print_named(rt: &HostRuntime, line: &InspectArguments<'_>) -> Result<(), Prog
     print_bytes(rt, &object)
 }
 
+/// Prints the program's help or its version where clap's error is a request for one of them.
+fn print_message(rt: &HostRuntime, error: &command_line::Error) -> Result<(), ProgramError> {
+    match line_message(rt.alloc(), error)? {
+        LineMessage::Fault { text } => Err(ProgramError::Usage { text }),
+        LineMessage::Asked { text } => Ok(print_text(rt, &text)?),
+    }
+}
+
 /// Prints what the command line asks for: an object, reports on it, the program's help or its
 /// version.
 fn print_asked(rt: &HostRuntime) -> Result<(), ProgramError> {
     let words = words_of(rt)?;
     match inspect_arguments(rt.alloc(), &words) {
         Ok(line) => print_named(rt, &line),
-        Err(LineError::OutOfMemory) => Err(ProgramError::OutOfMemory(AllocError)),
-        Err(LineError::Fault { text }) => Err(ProgramError::Usage { text }),
-        Err(LineError::Asked { text }) => Ok(print_text(rt, &text)?),
+        Err(error) => print_message(rt, &error),
     }
 }
 

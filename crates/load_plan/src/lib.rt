@@ -5,11 +5,15 @@ mod making;
 mod order;
 mod planning;
 
+pub use btf_ext::{FuncSecInfo, LineSecInfo, bpf_func_info, bpf_line_info};
 pub use btf_records::{BtfError, BtfFeature, Endianness};
 pub use btf_tables::Btf;
 pub use ebpf_object::{
-    BtfRelocationCause, BtfRelocationError, GlobalValue, GlobalValues, KsymsError, ParseError,
-    PinningType, ProgramSection, RelocationPlace, Slots, Watched, bpf_insn,
+    BtfRelocationCause, BtfRelocationError, CgroupSkbAttachType, CgroupSockAddrAttachType,
+    CgroupSockAttachType, CgroupSockoptAttachType, ElfError, GlobalValue, GlobalValues,
+    InvalidSection, KsymsError, ParseError, PinningType, ProgramSection, RelocationKind,
+    RelocationPlace, SkReuseportAttachType, SkSkbKind, SlotIter, Slots, TakeBytes, Watched,
+    XdpAttachType, bpf_insn,
 };
 pub use order::Order;
 pub use plan_errors::PrepareError;

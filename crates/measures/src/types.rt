@@ -2,7 +2,7 @@
 //! a kernel grants, and to find structs in it by name.
 
 use crate::times::{micros, print_times};
-use btf::{Btf, BtfError, BtfKind, Endianness, TextMap, fixup_and_sanitize, fixup_ksyms_datasec};
+use btf::{Btf, BtfError, BtfKind, Endianness, RewriteBtf, TextMap};
 use exercise_words::{ExerciseError, read_next};
 use std::alloc::Global;
 use std::env::Args;
@@ -68,7 +68,7 @@ fn measure_writing(rt: &HostRuntime, table: &Btf<'_>) -> Result<(), ExerciseErro
 /// Rewrites a table for a kernel that grants all features, or none.
 fn rewrite(alloc: Global, table: &mut Btf<'_>, is_granted: bool) -> Result<(), BtfError> {
     let numbers = TextMap::new(alloc);
-    let _answers = fixup_and_sanitize(table, &numbers, &numbers, None, |_feature| is_granted)?;
+    let _answers = table.fixup_and_sanitize(&numbers, &numbers, None, |_feature| is_granted)?;
     Ok(())
 }
 
@@ -120,7 +120,7 @@ fn first_section(table: &Btf<'_>) -> Option<u32> {
 /// The time of the step on `.ksyms` for a section of a table, in microseconds.
 fn step_time(rt: &HostRuntime, table: &mut Btf<'_>, section: u32) -> Result<u128, ExerciseError> {
     let start = Instant::now(rt)?;
-    fixup_ksyms_datasec(table, section, None)?;
+    table.fixup_ksyms_datasec(section, None)?;
     micros(rt, start)
 }
 

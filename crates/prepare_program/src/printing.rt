@@ -2,7 +2,7 @@
 
 use crate::error::ProgramError;
 use crate::settings_text::fault_text;
-use command_line::{Arguments, LineError, arguments};
+use command_line::{Arguments, LineMessage, arguments, line_message};
 use diagnostics::{KernelFiles, Refusal, prepare_text};
 use lints::notes;
 use load_plan::{Order, PrepareError, Watched};
@@ -178,6 +178,21 @@ fn print_named(rt: &HostRuntime, line: &Arguments<'_>) -> Result<(), ProgramErro
     print_object(rt, line, &object)
 }
 
+/// Prints the program's help or its version where clap's error is a request for one of them.
+///
+/// # Errors
+///
+/// What is wrong with the command line otherwise; or standard output can't be written.
+fn print_message(rt: &HostRuntime, error: &command_line::Error) -> Result<(), ProgramError> {
+    match line_message(rt.alloc(), error)? {
+        LineMessage::Fault { text } => Err(ProgramError::Line { text }),
+        LineMessage::Asked { text } => match print_text(rt, &text) {
+            Ok(()) => Ok(()),
+            Err(error) => Err(ProgramError::TextUnwritten(error)),
+        },
+    }
+}
+
 /// Prints what the program's arguments ask for: a plan, the program's help or its version.
 ///
 /// # Errors
@@ -187,11 +202,6 @@ pub fn print_asked(rt: &HostRuntime) -> Result<(), ProgramError> {
     let words = words_of(rt)?;
     match arguments(rt.alloc(), &words) {
         Ok(line) => print_named(rt, &line),
-        Err(LineError::OutOfMemory) => Err(ProgramError::OutOfMemory(AllocError)),
-        Err(LineError::Fault { text }) => Err(ProgramError::Line { text }),
-        Err(LineError::Asked { text }) => match print_text(rt, &text) {
-            Ok(()) => Ok(()),
-            Err(error) => Err(ProgramError::TextUnwritten(error)),
-        },
+        Err(error) => print_message(rt, &error),
     }
 }

@@ -1,7 +1,5 @@
 -- What a kernel must have for a program, and whether it has it.
-use Rattle.std.specs.Prelude.{◌≡◌, ℕ, ℤ, Bool, List, Option, codes, map}
-use Rattle.std.specs.BTreeSet.{BTreeSet}
-use Rattle.std.specs.Int.{w64, cast_unsigned}
+use Rattle.std.specs.Prelude.{◌≡◌, ℕ, ℤ, List, Option, codes, map}
 use Rattle.std.specs.Option.{option_map, option_map_or}
 use Rattle.btf_tables.specs.Tables.{Table}
 use Rattle.ebpf_items.specs.declared.instruction.bpf_insn.{bpf_insn}
@@ -10,7 +8,6 @@ use Rattle.program_kinds.specs.Bindings.{prog_type_number}
 use Rattle.program_kinds.specs.declared.program_section.ProgramSection.{ProgramSection}
 use Rattle.report_needs.specs.Enums.{func_ids, helper_presence, presence_in}
 use Rattle.report_needs.specs.Helpers.{AreHelpers}
-use Rattle.report_needs.specs.Numbers.{known_presence}
 use Rattle.report_needs.specs.Targets.{attach_target, find_target}
 use Rattle.report_needs.specs.declared.enums.Presence.{Presence}
 use Rattle.report_needs.specs.declared.needs.HelperNeed.{HelperNeed}
@@ -36,17 +33,9 @@ attach_presence kernel kind =
     (attributes_of kind).expected_attach_type
 
 -- a helper, where the kernel's helpers are in the enum of this id
-abbrev pub helper_need : Table → Option ℕ → ℤ → HelperNeed
+unfoldable pub helper_need : Table → Option ℕ → ℤ → HelperNeed
 helper_need kernel id number =
     record { number = number; presence = helper_presence kernel id number }
-
--- the same by the numbers of that enum, if it is there
-abbrev pub told_need : Bool → BTreeSet ℕ → ℤ → HelperNeed
-told_need is_there known number =
-    record {
-      number = number;
-      presence = known_presence is_there known (cast_unsigned w64 number);
-    }
 
 -- the helpers that the slots call, and whether the kernel has each
 pub record AreHelperNeeds (kernel : Table) (slots : List bpf_insn) (needs : List HelperNeed)

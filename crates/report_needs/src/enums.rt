@@ -3,7 +3,7 @@
 ghost use Rattle.std.specs.Prelude.{◌≡◌};
 ghost use Rattle.std.specs.Int.{w64, cast_unsigned};
 ghost use Rattle.std.specs.Option.{option_copied, option_map};
-ghost use Rattle.report_needs.specs.Enums.{enum_of, ends_enum, func_ids, has_number, helper_name, map_presence, name_at_number, presence_at, presence_in, variant_32, variant_64, widened};
+ghost use Rattle.report_needs.specs.Enums.{enum_of, ends_enum, func_ids, has_number, helper_name, name_at_number, presence_at, variant_32, variant_64, widened};
 
 use crate::records::first_named;
 use btf_encoding::TypeRef;
@@ -101,7 +101,7 @@ fn name_at_number(kernel: &Btf<'_>, id: u32, number: u64) -> Option<u32>
 }
 
 /// Whether the enum with an id has a number.
-fn presence_at(kernel: &Btf<'_>, id: Option<u32>, number: u64) -> Presence
+pub(crate) fn presence_at(kernel: &Btf<'_>, id: Option<u32>, number: u64) -> Presence
     ensures { result ≡ presence_at kernel.now id number }
 {
     let Some(id) = id else {
@@ -113,32 +113,11 @@ fn presence_at(kernel: &Btf<'_>, id: Option<u32>, number: u64) -> Presence
     }
 }
 
-/// Whether the kernel's enum with a name has a variant of this value; `Unknown` where the kernel
-/// has no such enum. The enum is the first `BTF_KIND_ENUM` with the name, or where there is none
-/// the first `BTF_KIND_ENUM64`. Values are compared as numbers of 64 bits, signed ones as their
-/// bits. A variant whose name begins with `__`, like `__BPF_FUNC_MAX_ID`, marks the end of its
-/// enum: its value is the first number that the kernel lacks, and it doesn't count.
-///
-/// Takes no memory, and searches the kernel's types.
-pub fn presence_in(kernel: &Btf<'_>, enum_name: &str, number: u64) -> Presence
-    ensures { result ≡ presence_in kernel.now enum_name.now number }
-{
-    presence_at(kernel, enum_of(kernel, enum_name), number)
-}
-
 /// The kernel's `enum bpf_func_id`.
 pub(crate) fn func_ids(kernel: &Btf<'_>) -> Option<u32>
     ensures { result ≡ func_ids kernel.now }
 {
     enum_of(kernel, "bpf_func_id")
-}
-
-/// Whether a kernel has maps of a type. `map_type` is a number of `enum bpf_map_type`. Takes no
-/// memory.
-pub fn map_presence(kernel: &Btf<'_>, map_type: u32) -> Presence
-    ensures { result ≡ map_presence kernel.now map_type }
-{
-    presence_in(kernel, "bpf_map_type", u64::from(map_type))
 }
 
 /// The kernel's name of a helper, like `BPF_FUNC_map_lookup_elem`: that of the first variant of

@@ -4,12 +4,14 @@
 
 mod enums;
 mod helpers;
+mod kernel;
 mod needs;
 mod numbers;
 mod records;
 mod targets;
 
-pub use enums::{Presence, helper_name, map_presence, presence_in};
+pub use enums::{Presence, helper_name};
 pub use helpers::helpers_of;
-pub use needs::{HelperNeed, ProgramNeeds, TargetNeed, program_needs};
+pub use kernel::KernelNumbers;
+pub use needs::{HelperNeed, ProgramNeeds, TargetNeed, program_needs, target_need};
 pub use targets::{AttachTarget, attach_target, find_target};

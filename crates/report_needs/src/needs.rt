@@ -2,17 +2,16 @@
 
 ghost use Rattle.std.specs.Prelude.{◌≡◌, IfOk, map};
 ghost use Rattle.report_needs.specs.Enums.{func_ids};
-ghost use Rattle.report_needs.specs.Needs.{AreHelperNeeds, AreNeeds, attach_presence, helper_need, told_need, target_need, type_presence};
+ghost use Rattle.report_needs.specs.Needs.{AreHelperNeeds, AreNeeds, helper_need, target_need};
 
-use crate::enums::{Presence, func_ids, presence_in};
+use crate::enums::Presence;
 use crate::helpers::helpers_of;
-use crate::numbers::{known_presence, numbers_at};
+use crate::kernel::KernelNumbers;
 use crate::targets::{attach_target, find_target};
 use btf_tables::Btf;
 use ebpf_items::Slots;
-use program_kinds::{ProgramSection, load_attributes};
+use program_kinds::ProgramSection;
 use std::alloc::{AllocError, Global};
-use std::collections::BTreeSet;
 
 /// Whether a kernel has what a program is attached to.
 #[derive(Clone, Copy, Debug, PartialEq, Eq)]
@@ -47,7 +46,8 @@ pub struct ProgramNeeds {
     pub helpers: Vec<HelperNeed>,
 }
 
-fn target_need(kernel: &Btf<'_>, kind: &ProgramSection, section: &str) -> TargetNeed
+/// Whether a kernel has what a program of a kind is attached to by the name of its section.
+pub fn target_need(kernel: &Btf<'_>, kind: &ProgramSection, section: &str) -> TargetNeed
     ensures { result ≡ target_need kernel.now kind.now section.now }
 {
     let Some(target) = attach_target(kind, section) else {
@@ -59,68 +59,37 @@ fn target_need(kernel: &Btf<'_>, kind: &ProgramSection, section: &str) -> Target
     }
 }
 
-/// Whether the kernel has the type of programs of a kind.
-fn type_presence(kernel: &Btf<'_>, kind: &ProgramSection) -> Presence
-    ensures { result ≡ type_presence kernel.now kind.now }
+/// Whether the kernel has a helper.
+#[tactic(auto, unfolding(crate::specs::Needs::helper_need))]
+fn helper_need(kernel: &KernelNumbers<'_>, number: i32) -> HelperNeed
+    ensures { result ≡ helper_need kernel.now (func_ids kernel.now) number }
 {
-    let number = load_attributes(kind).prog_type.number();
-    presence_in(kernel, "bpf_prog_type", u64::from(number))
-}
-
-/// Whether the kernel has the attach type of programs of a kind, if they have one.
-fn attach_presence(kernel: &Btf<'_>, kind: &ProgramSection) -> Option<Presence>
-    ensures { result ≡ attach_presence kernel.now kind.now }
-{
-    let number = load_attributes(kind).expected_attach_type?;
-    Some(presence_in(kernel, "bpf_attach_type", u64::from(number)))
-}
-
-/// Whether the kernel has a helper, given the numbers of its enum of helpers, if it has that enum.
-fn told_need(is_there: bool, known: &BTreeSet<u64>, number: i32) -> HelperNeed
-    ensures { result ≡ told_need is_there known.now number }
-{
-    let wanted = i64::from(number).cast_unsigned();
     HelperNeed {
         number,
-        presence: known_presence(is_there, known, wanted),
+        presence: kernel.helper(number),
     }
-}
-
-fn told_needs(
-    alloc: Global,
-    is_there: bool,
-    known: &BTreeSet<u64>,
-    numbers: &[i32],
-) -> Result<Vec<HelperNeed>, AllocError>
-    ensures { IfOk result (λ needs.
-        needs.items ≡ map (told_need is_there known.now) numbers.now) }
-{
-    let mut needs = Vec::new(alloc);
-    for number in numbers {
-        needs.push(told_need(is_there, known, *number))?;
-    }
-    Ok(needs)
 }
 
 /// Whether the kernel has each of some helpers.
 fn helper_needs(
     alloc: Global,
-    kernel: &Btf<'_>,
+    kernel: &KernelNumbers<'_>,
     numbers: &[i32],
 ) -> Result<Vec<HelperNeed>, AllocError>
     ensures { IfOk result (λ needs.
         needs.items ≡ map (helper_need kernel.now (func_ids kernel.now)) numbers.now) }
 {
-    let id = func_ids(kernel);
-    let known = numbers_at(alloc, kernel, id)?;
-    let needs = told_needs(alloc, id.is_some(), &known, numbers)?;
+    let mut needs = Vec::new(alloc);
+    for number in numbers {
+        needs.push(helper_need(kernel, *number))?;
+    }
     Ok(needs)
 }
 
 /// Whether the kernel has each of the helpers that slots call.
 fn called_needs(
     alloc: Global,
-    kernel: &Btf<'_>,
+    kernel: &KernelNumbers<'_>,
     slots: &Slots<'_>,
 ) -> Result<Vec<HelperNeed>, AllocError>
     ensures { IfOk result (λ needs. AreHelperNeeds kernel.now slots.now needs.items) }
@@ -132,15 +101,14 @@ fn called_needs(
 
 /// What a kernel must have for a program of a kind with these slots, and whether it has it: what
 /// the program is attached to by the name of its section, its type and attach type, and the helpers
-/// that it calls. The kernel's types are searched at most twice for each of these four, and each
-/// helper is looked up in a set.
+/// that it calls. The kernel's types are searched for the target alone.
 ///
 /// # Errors
 ///
 /// `AllocError` where memory runs out.
 pub fn program_needs(
     alloc: Global,
-    kernel: &Btf<'_>,
+    kernel: &KernelNumbers<'_>,
     kind: &ProgramSection,
     section: &str,
     slots: &Slots<'_>,
@@ -149,9 +117,9 @@ pub fn program_needs(
 {
     let helpers = called_needs(alloc, kernel, slots)?;
     Ok(ProgramNeeds {
-        target: target_need(kernel, kind, section),
-        prog_type: type_presence(kernel, kind),
-        attach_type: attach_presence(kernel, kind),
+        target: target_need(kernel.kernel(), kind, section),
+        prog_type: kernel.program_type(kind),
+        attach_type: kernel.attach_type(kind),
         helpers,
     })
 }

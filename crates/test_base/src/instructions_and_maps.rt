@@ -5,7 +5,7 @@ ghost use Rattle.ebpf_items.specs.Maps.{map_view};
 
 use ebpf_items::{
     BtfMap, BtfMapDef, EbpfSectionKind, LegacyMap, Map, ParseError, PinningType, RelocationKind,
-    Slots, bpf_insn, bpf_map_def, bpf_map_info, copy_instructions, parse_map_info,
+    Slots, bpf_insn, bpf_map_def, bpf_map_info, bpf_map_type, copy_instructions, parse_map_info,
 };
 use std::alloc::{AllocError, Global};
 use std::process::Abort;
@@ -195,6 +195,32 @@ fn reads_what_the_kernel_tells_of_a_map_with_types(rt: HostRuntime) {
     assert!(rt; words(&map) == (1, 4, 8, 16, 128, 5));
     let kind = EbpfSectionKind::BtfMaps;
     assert!(rt; place(&map) == (PinningType::ByName, 0, kind, Some(0)));
+}
+
+// The ids of the types of keys and values.
+fn type_ids(map: &Map) -> Option<(u32, u32)> {
+    match map {
+        Map::Legacy(_) => None,
+        Map::Btf(typed) => Some((typed.def.btf_key_type_id, typed.def.btf_value_type_id)),
+    }
+}
+
+#[test]
+fn reads_what_the_kernel_tells_of_a_map_without_keys(rt: HostRuntime) {
+    let info = bpf_map_info {
+        type_: bpf_map_type::BPF_MAP_TYPE_BLOOM_FILTER.number(),
+        id: 0,
+        key_size: 0,
+        value_size: 4,
+        max_entries: 64,
+        map_flags: 0,
+        map_extra: 3,
+        btf_key_type_id: 0,
+        btf_value_type_id: 7,
+    };
+    let map = parse_map_info(rt.alloc(), info, PinningType::None);
+    assert!(rt; words(&map) == (30, 0, 4, 64, 0, 3));
+    assert!(rt; type_ids(&map) == Some((0, 7)));
 }
 
 // Keeps the first `count` bytes of a map.

@@ -3,9 +3,7 @@
 use btf_records::Endianness;
 use btf_tables::Btf;
 use ebpf_items::{ProgramSection, Slots};
-use report_needs::{
-    Presence, ProgramNeeds, TargetNeed, helper_name, map_presence, presence_in, program_needs,
-};
+use report_needs::{KernelNumbers, Presence, ProgramNeeds, TargetNeed, helper_name, program_needs};
 use std::alloc::Global;
 use std::process::Abort;
 use test_table_samples::section;
@@ -107,7 +105,7 @@ fn is_one_helper(needs: &ProgramNeeds, helper: (u8, Presence)) -> bool {
     }
 }
 
-fn check_case(rt: &impl Abort, alloc: Global, kernel: &Btf<'_>, case: &Case) {
+fn check_case(rt: &impl Abort, alloc: Global, kernel: &KernelNumbers<'_>, case: &Case) {
     let call = [0x85, 0, 0, 0, case.helper.0, 0, 0, 0];
     let slots = Slots::borrowed(alloc, &call).expect(rt, case.section);
     let needs = program_needs(alloc, kernel, &case.kind, case.section, &slots).expect(rt, "memory");
@@ -123,8 +121,9 @@ fn needs_of_programs(rt: HostRuntime) {
     let kernel = Btf::parse(rt.alloc(), &bytes, Endianness::Little)
         .ok()
         .expect(&rt, "a table");
+    let numbers = KernelNumbers::of(rt.alloc(), &kernel).expect(&rt, "memory");
     for case in &CASES {
-        check_case(&rt, rt.alloc(), &kernel, case);
+        check_case(&rt, rt.alloc(), &numbers, case);
     }
 }
 
@@ -134,9 +133,10 @@ fn numbers_of_enums(rt: HostRuntime) {
     let kernel = Btf::parse(rt.alloc(), &bytes, Endianness::Little)
         .ok()
         .expect(&rt, "a table");
-    assert!(rt; map_presence(&kernel, 1) == Presence::Unknown);
-    assert!(rt; presence_in(&kernel, "bpf_prog_type", 26) == Presence::Found);
-    assert!(rt; presence_in(&kernel, "bpf_prog_type", 27) == Presence::Missing);
+    let numbers = KernelNumbers::of(rt.alloc(), &kernel).expect(&rt, "memory");
+    assert!(rt; numbers.map_type(1) == Presence::Unknown);
+    assert!(rt; numbers.program_type(&ProgramSection::RawTracePoint) == Presence::Missing);
+    assert!(rt; numbers.helper(-1) == Presence::Missing);
     assert!(rt; helper_name(&kernel, 1) == Some("BPF_FUNC_map_lookup_elem"));
     assert!(rt; helper_name(&kernel, 2).is_none());
 }

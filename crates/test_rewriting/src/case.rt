@@ -1,6 +1,6 @@
 //! Tables, and the results of rewriting them.
 
-use btf::{Answers, Btf, BtfError, BtfFeature, Endianness, KsymsIds, TextMap, fixup_and_sanitize};
+use btf::{Answers, Btf, BtfError, BtfFeature, Endianness, KsymsIds, RewriteBtf, TextMap};
 use std::alloc::Global;
 use std::process::Abort;
 
@@ -36,13 +36,7 @@ fn rewrite<'m, 'n>(
     ksyms: Option<KsymsIds>,
     kernel: &mut Kernel,
 ) -> Result<Answers, BtfError> {
-    fixup_and_sanitize(
-        table,
-        numbers,
-        numbers,
-        ksyms,
-        |feature| kernel.grants(feature),
-    )
+    table.fixup_and_sanitize(numbers, numbers, ksyms, |feature| kernel.grants(feature))
 }
 
 /// Whether there are as many answers as questions, if there are answers.

@@ -4,7 +4,7 @@ use crate::case::{is_written, parse};
 use crate::sections::{
     DATASEC, DATASEC_1, DATASEC_2, EXTERN, FUNC, GLOBAL, INT, PROTO, SIGNED_INT, VAR,
 };
-use btf::{Endianness, fixup_ksyms_datasec};
+use btf::{Endianness, RewriteBtf};
 use std::alloc::Global;
 use std::process::Abort;
 use test_table_samples::{ORDERS, section};
@@ -83,7 +83,9 @@ fn becomes(
     [before, after]: [&[u8]; 2],
 ) -> bool {
     let mut table = parse(rt, alloc, before, order);
-    let is_stepped = fixup_ksyms_datasec(&mut table, step.section, step.placeholder).is_ok();
+    let is_stepped = table
+        .fixup_ksyms_datasec(step.section, step.placeholder)
+        .is_ok();
     is_written(table, after) && is_stepped
 }
 

@@ -2,7 +2,7 @@
 
 use crate::case::{ALL, is_written, parse, sanitize};
 use crate::sections::{DATASEC_1, DATASEC_2, ENUM, EXTERN, INT, VAR};
-use btf::{Btf, BtfError, Endianness, KsymsIds, fixup_ksyms_datasec};
+use btf::{Btf, BtfError, Endianness, KsymsIds, RewriteBtf};
 use std::alloc::Global;
 use std::process::Abort;
 use test_table_samples::{ORDERS, section};
@@ -91,7 +91,7 @@ fn is_refusal(error: Option<BtfError>, wanted: Refusal) -> bool {
 /// Whether the step for externs alone refuses a table.
 fn is_step_refused(table: &mut Btf<'_>, refused: &Refused) -> bool {
     let (id, placeholder) = refused.ksyms;
-    let outcome = fixup_ksyms_datasec(table, id, placeholder);
+    let outcome = table.fixup_ksyms_datasec(id, placeholder);
     is_refusal(outcome.err(), refused.refusal)
 }
 

@@ -5,13 +5,13 @@ use Rattle.command_line.proofs.inspect_line.inspect_arguments.Goals as goal
 
 pub object_of-requires : goal.object_of-requires
 object_of-requires c =
-    let match = c.in_ok-matches.ensures in
+    let match = c.in_ok-matches.ensures.found in
     object_is_there match.command c.in_ok-matches.matches match.takes match.found.parsed
 
-pub returns : goal.returns
-returns c = record {
+pub returns-clause-line : goal.returns-clause-line
+returns-clause-line c = record {
   matches = c.in_ok-matches.matches;
-  match = c.in_ok-matches.ensures;
+  match = c.in_ok-matches.ensures.found;
   object = c.object_of.ensures;
   types = c.in_ok-values_of.ensures;
   types_order = c.order_of.ensures ∙ ap order_named c.get_str.ensures;

@@ -8,19 +8,19 @@ use Rattle.command_line.proofs.prepare_reading.arguments.Goals as goal
 
 pub object_of-requires : goal.object_of-requires
 object_of-requires c =
-    let match = c.in_ok-matches.ensures in
+    let match = c.in_ok-matches.ensures.found in
     object_is_there match.command c.in_ok-matches.matches match.takes match.found.parsed
 
 pub features_of-requires : goal.features_of-requires
 features_of-requires c =
-    let match = c.in_ok-matches.ensures in
+    let match = c.in_ok-matches.ensures.found in
     let all = all_before (λ name. is_some (feature_named name) ≡ true) (λ name. name.now) c.in_ok-denied.denied.items _ c.in_ok-denied.ensures (denied_are_features match.command c.in_ok-matches.matches match.program match.takes match.found.parsed) in
     subst (All (λ name. is_some (feature_named name.now) ≡ true)) (sym c.deref.ensures.value) all
 
-pub returns : goal.returns
-returns c = record {
+pub returns-clause-line : goal.returns-clause-line
+returns-clause-line c = record {
   matches = c.in_ok-matches.matches;
-  match = c.in_ok-matches.ensures;
+  match = c.in_ok-matches.ensures.found;
   object = c.object_of.ensures;
   types = c.in_ok-values_of.ensures;
   types_order = c.order_of.ensures ∙ ap order_named c.get_str.ensures;
