@@ -119,7 +119,13 @@ pub fn presences_of(
     };
     let mut weak = all_weak(alloc, externs)?;
     let mut symbols = Watched::new(symbols);
-    let answer = resolve_externs(alloc, &mut weak, Some(table), kernel_types.first(), &mut symbols);
+    let answer = resolve_externs(
+        alloc,
+        &mut weak,
+        Some(table),
+        kernel_types.first(),
+        &mut symbols,
+    );
     // a reader of bytes doesn't fail
     if symbols.failed() {
         return Err(AllocError);
