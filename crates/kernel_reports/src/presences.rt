@@ -1,6 +1,6 @@
 //! Whether a kernel has the externs of an object.
 
-ghost use Rattle.std.specs.Prelude.{◌≡◌, ◌≢◌, Some, map, option_copied, slice_get, IfOk, IfSome};
+ghost use Rattle.std.specs.Prelude.{◌≡◌, ◌≢◌, Some, map, option_copied, IfOk, IfSome};
 ghost use Rattle.extern_resolution.specs.declared.error.KsymsError.TheVariants.{OutOfMemory};
 ghost use Rattle.kernel_reports.specs.Presences.{SaysOfExterns, all_weak, as_weak, presence_of};
 ghost use Rattle.kernel_reports.specs.declared.presences.Presence.TheVariants.{Unknown};
@@ -105,12 +105,12 @@ pub fn presences_of(
     alloc: Global,
     externs: &Externs<'_>,
     table: Option<&Btf<'_>>,
-    kernel_types: &[Btf<'_>],
+    kernel: Option<&Btf<'_>>,
     symbols: &[u8],
     has_symbols: bool,
 ) -> Result<Vec<Presence>, AllocError>
     ensures { IfOk result (λ said.
-        SaysOfExterns (option_copied table.entry) (slice_get kernel_types.now 0) symbols.now
+        SaysOfExterns (option_copied table.entry) (option_copied kernel.entry) symbols.now
         has_symbols externs.now said.items) }
 {
     let Some(table) = table else {
@@ -119,13 +119,7 @@ pub fn presences_of(
     };
     let mut weak = all_weak(alloc, externs)?;
     let mut symbols = Watched::new(symbols);
-    let answer = resolve_externs(
-        alloc,
-        &mut weak,
-        Some(table),
-        kernel_types.first(),
-        &mut symbols,
-    );
+    let answer = resolve_externs(alloc, &mut weak, Some(table), kernel, &mut symbols);
     // a reader of bytes doesn't fail
     if symbols.failed() {
         return Err(AllocError);

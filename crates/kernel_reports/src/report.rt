@@ -64,7 +64,7 @@ pub fn report_on(
         alloc,
         object.externs(),
         object.btf(),
-        kernel_types,
+        kernel_types.first(),
         reported.symbols,
         reported.has_symbols,
     )?;
