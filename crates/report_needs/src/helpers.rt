@@ -7,7 +7,7 @@ use ebpf_items::{Slots, bpf_insn};
 use std::alloc::{AllocError, Global};
 
 /// Whether a slot calls a helper by its number: `BPF_JMP | BPF_CALL` with source register 0.
-fn calls_helper(slot: bpf_insn) -> bool
+pub fn calls_helper(slot: bpf_insn) -> bool
     ensures { result ≡ calls_helper slot }
 {
     slot.code == 0x85 && slot.src_reg() == 0

@@ -11,7 +11,7 @@ mod records;
 mod targets;
 
 pub use enums::{Presence, helper_name};
-pub use helpers::helpers_of;
+pub use helpers::{calls_helper, helpers_of};
 pub use kernel::KernelNumbers;
 pub use needs::{HelperNeed, ProgramNeeds, TargetNeed, program_needs, target_need};
 pub use targets::{AttachTarget, attach_target, find_target};

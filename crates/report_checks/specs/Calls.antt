@@ -1,0 +1,53 @@
+-- Calls that a kernel doesn't take.
+use Rattle.std.specs.Prelude.{◌≡◌, ℕ, ◌<◌, List, Option, None, Some, ℤ, pos, int_le, option_and_then, slice_get, if◌then◌else◌}
+use Rattle.std.specs.Ordering.{int_eq}
+use Rattle.btf_tables.specs.Tables.{Table}
+use Rattle.ebpf_items.specs.declared.instruction.bpf_insn.{bpf_insn}
+use Rattle.plan_reach.specs.Reach.{IsReached}
+use Rattle.report_needs.specs.Enums.{func_ids, helper_presence}
+use Rattle.report_needs.specs.Helpers.{calls_helper}
+use Rattle.report_needs.specs.declared.enums.Presence.{Presence}
+use Rattle.report_needs.specs.declared.enums.Presence.TheVariants.{Missing}
+use Rattle.report_checks.specs.declared.calls.CallCause.{CallCause}
+use Rattle.report_checks.specs.declared.calls.CallCause.TheVariants.{MissingFunction, MissingHelper, Poison}
+use Rattle.report_checks.specs.declared.calls.ReachedCall.{ReachedCall}
+
+abbrev pub helper_cause : Presence → ℤ → Option CallCause
+helper_cause Missing number = Some (MissingHelper number)
+helper_cause _ number = None
+
+-- the call of a helper's number: what a type relocation without a match leaves (0xbad2310), what is
+-- left of a call of a weak function that is missing (2002000000 and the symbol's index), or one of
+-- a helper, which the kernel has or lacks
+abbrev pub number_cause : Presence → ℤ → Option CallCause
+number_cause presence number =
+    if int_eq number (pos 0xbad2310) then Some Poison
+    else (if int_le (pos 2002000000) number then Some MissingFunction
+    else helper_cause presence number)
+
+abbrev pub call_cause : Table → bpf_insn → Option CallCause
+call_cause kernel slot =
+    if calls_helper slot then number_cause (helper_presence kernel (func_ids kernel) slot.imm) slot.imm
+    else None
+
+abbrev pub cause_at : Table → List bpf_insn → ℕ → Option CallCause
+cause_at kernel slots slot = option_and_then (call_cause kernel) (slice_get slots slot)
+
+-- a run can come to the slot, and the kernel doesn't take its call
+pub record IsHarmful (kernel : Table) (slots : List bpf_insn) (slot : ℕ) (cause : CallCause)
+    : Type 0 where
+  pub reached : IsReached slots slot
+  pub not_taken : cause_at kernel slots slot ≡ Some cause
+
+abbrev pub IsHarmless : Table → List bpf_insn → ℕ → Type 0
+IsHarmless kernel slots slot = IsReached slots slot → cause_at kernel slots slot ≡ None
+
+-- the first such slot
+pub record IsFirstCall (kernel : Table) (slots : List bpf_insn) (call : ReachedCall)
+    : Type 0 where
+  pub harmful : IsHarmful kernel slots call.slot call.cause
+  pub before : (slot : ℕ) → slot < call.slot → IsHarmless kernel slots slot
+
+-- there is none
+pub record AreHarmless (kernel : Table) (slots : List bpf_insn) : Type 0 where
+  pub each : (slot : ℕ) → IsHarmless kernel slots slot

@@ -1,0 +1,128 @@
+//! Calls that a kernel doesn't take.
+
+ghost use Rattle.std.specs.Prelude.{◌≡◌, IfOk};
+ghost use Rattle.std.specs.Option.{MatchOption};
+ghost use Rattle.report_needs.specs.Enums.{func_ids, helper_presence};
+ghost use Rattle.report_checks.specs.Calls.{AreHarmless, IsFirstCall, IsHarmful, IsHarmless, call_cause, cause_at, number_cause};
+
+use ebpf_items::{Slots, bpf_insn};
+use plan_reach::{Reach, reach};
+use report_needs::{KernelNumbers, Presence, calls_helper};
+use std::alloc::{AllocError, Global};
+
+/// The helper that a type relocation without a match calls; no kernel has it.
+const POISON: i32 = 0xbad_2310;
+
+/// The least number in a call of a missing weak function (libbpf's `POISON_CALL_KFUNC_BASE`).
+const MISSING_FUNCTION: i32 = 2_002_000_000;
+
+/// Why a kernel doesn't take a call.
+#[derive(Clone, Copy, Debug, PartialEq, Eq)]
+pub enum CallCause {
+    /// It stands for a type relocation without a match.
+    Poison,
+    /// It calls a weak function that the kernel lacks.
+    MissingFunction,
+    /// It calls a helper that the kernel lacks.
+    MissingHelper {
+        /// The helper's number, of `enum bpf_func_id`.
+        number: i32,
+    },
+}
+
+/// A call that a run can reach, and why a kernel doesn't take it.
+#[derive(Clone, Copy, Debug, PartialEq, Eq)]
+pub struct ReachedCall {
+    /// The index of its slot in the program.
+    pub slot: usize,
+    pub cause: CallCause,
+}
+
+/// Why a kernel doesn't take a call of a helper's number, if it doesn't.
+fn number_cause(kernel: &KernelNumbers<'_>, number: i32) -> Option<CallCause>
+    ensures { result
+        ≡ number_cause (helper_presence kernel.now (func_ids kernel.now) number) number }
+{
+    if number == POISON {
+        return Some(CallCause::Poison);
+    }
+    if number >= MISSING_FUNCTION {
+        return Some(CallCause::MissingFunction);
+    }
+    match kernel.helper(number) {
+        Presence::Missing => Some(CallCause::MissingHelper { number }),
+        Presence::Found | Presence::Unknown => None,
+    }
+}
+
+/// Why a kernel doesn't take the call in a slot. `None` where it takes the call, where its types
+/// don't tell, and where the slot calls no helper.
+pub fn call_cause(kernel: &KernelNumbers<'_>, slot: bpf_insn) -> Option<CallCause>
+    ensures { result ≡ call_cause kernel.now slot }
+{
+    if calls_helper(slot) {
+        number_cause(kernel, slot.imm)
+    } else {
+        None
+    }
+}
+
+/// Why a kernel doesn't take the call in the slot at an index.
+fn cause_at(kernel: &KernelNumbers<'_>, slots: &Slots<'_>, slot: usize) -> Option<CallCause>
+    ensures { result ≡ cause_at kernel.now slots.now slot }
+{
+    match slots.get(slot) {
+        Some(insn) => call_cause(kernel, insn),
+        None => None,
+    }
+}
+
+/// The same, if a run can reach the slot.
+fn reached_cause(
+    kernel: &KernelNumbers<'_>,
+    reach: &Reach,
+    slots: &Slots<'_>,
+    slot: usize,
+) -> Option<CallCause>
+    requires { reach.now.slots ≡ slots.now }
+    ensures { MatchOption result (IsHarmless kernel.now slots.now slot)
+        (IsHarmful kernel.now slots.now slot) }
+{
+    if reach.is_reached(slot) {
+        cause_at(kernel, slots, slot)
+    } else {
+        None
+    }
+}
+
+/// The first of the calls that a run can reach and that a kernel doesn't take.
+fn first_of(kernel: &KernelNumbers<'_>, reach: &Reach, slots: &Slots<'_>) -> Option<ReachedCall>
+    requires { reach.now.slots ≡ slots.now }
+    ensures { MatchOption result (AreHarmless kernel.now slots.now)
+        (IsFirstCall kernel.now slots.now) }
+{
+    for slot in 0..slots.len() {
+        if let Some(cause) = reached_cause(kernel, reach, slots, slot) {
+            return Some(ReachedCall { slot, cause });
+        }
+    }
+    None
+}
+
+/// The first call, in the order of a program's slots, that a run can reach and that a kernel
+/// doesn't take. `None` where there is no such call, or the kernel's types don't tell.
+///
+/// # Errors
+///
+/// `AllocError` where memory runs out.
+pub fn first_call(
+    alloc: Global,
+    kernel: &KernelNumbers<'_>,
+    slots: &Slots<'_>,
+) -> Result<Option<ReachedCall>, AllocError>
+    ensures { IfOk result (λ call.
+        MatchOption call (AreHarmless kernel.now slots.now) (IsFirstCall kernel.now slots.now)) }
+{
+    let reach = reach(alloc, slots)?;
+    Ok(first_of(kernel, &reach, slots))
+}

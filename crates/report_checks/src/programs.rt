@@ -1,0 +1,69 @@
+//! Programs that a kernel doesn't take.
+
+ghost use Rattle.std.specs.Prelude.{IfOk};
+ghost use Rattle.std.specs.Option.{MatchOption};
+ghost use Rattle.report_checks.specs.Programs.{FailsAs, FailsBy, Loads, LoadsAs};
+
+use crate::calls::{ReachedCall, first_call};
+use plan_text::PlanProgram;
+use program_kinds::ProgramSection;
+use report_needs::{KernelNumbers, Presence, TargetNeed, target_need};
+use std::alloc::{AllocError, Global};
+
+/// Why a kernel doesn't take a program.
+#[derive(Clone, Copy, Debug, PartialEq, Eq)]
+pub enum ProgramCause {
+    /// A run can reach a call that the kernel doesn't take.
+    Call(ReachedCall),
+    /// The kernel lacks what the program is attached to by the name of its section.
+    Target,
+    /// The kernel lacks the program's type.
+    ProgramType,
+    /// The kernel lacks the program's attach type.
+    AttachType,
+}
+
+/// Why a kernel doesn't take programs of a kind and a section, whatever their slots are.
+fn kind_cause(
+    kernel: &KernelNumbers<'_>,
+    kind: &ProgramSection,
+    section: &str,
+) -> Option<ProgramCause>
+    ensures { MatchOption result (LoadsAs kernel.now kind.now section.now)
+        (FailsAs kernel.now kind.now section.now) }
+{
+    if target_need(kernel.kernel(), kind, section) == TargetNeed::Missing {
+        return Some(ProgramCause::Target);
+    }
+    if kernel.program_type(kind) == Presence::Missing {
+        return Some(ProgramCause::ProgramType);
+    }
+    if kernel.attach_type(kind) == Some(Presence::Missing) {
+        return Some(ProgramCause::AttachType);
+    }
+    None
+}
+
+/// Why a kernel doesn't take a program of a plan whose section has this name: the first call that a
+/// run can reach and that the kernel doesn't take, or else its target, its type or its attach type
+/// that the kernel lacks. `None` where there is no such cause, or the kernel's types don't tell.
+///
+/// # Errors
+///
+/// `AllocError` where memory runs out.
+pub fn program_cause(
+    alloc: Global,
+    kernel: &KernelNumbers<'_>,
+    program: &PlanProgram<'_>,
+    section: &str,
+) -> Result<Option<ProgramCause>, AllocError>
+    ensures { IfOk result (λ cause.
+        MatchOption cause (Loads kernel.now program.now section.now)
+        (FailsBy kernel.now program.now section.now)) }
+{
+    let call = first_call(alloc, kernel, program.slots())?;
+    match call {
+        Some(call) => Ok(Some(ProgramCause::Call(call))),
+        None => Ok(kind_cause(kernel, program.section(), section)),
+    }
+}
