@@ -1,5 +1,4 @@
-//! What the programs of objects are, and what their maps hold before and after values are written
-//! into them by name.
+//! Programs of objects, and the bytes of their maps before and after variables are set by name.
 
 use ebpf_object::{Maps, Object, ParseError};
 use exercise_words::ExerciseError;
@@ -11,7 +10,7 @@ use std::{fs, str};
 /// The value of each variable.
 static VALUE: [u8; 3] = [1, 2, 3];
 
-/// The values of two variables, of which an object may lack the second.
+/// The values of two variables; the second is optional.
 fn values(alloc: Global) -> Result<HashMap<&'static str, (&'static [u8], bool)>, AllocError> {
     let mut values = HashMap::new(alloc);
     values.insert("my_config", (VALUE.as_slice(), true))?;
@@ -56,14 +55,14 @@ fn print_written(rt: &HostRuntime, object: &mut Object<'_>) -> Result<(), Exerci
     }
 }
 
-/// Prints an object, and what becomes of its maps.
+/// Prints an object, sets the variables, and prints its maps.
 fn print_object(rt: &HostRuntime, object: &mut Object<'_>) -> Result<(), ExerciseError> {
     print_programs(rt, object)?;
     print_maps(rt, "map", object.maps())?;
     print_written(rt, object)
 }
 
-/// Parses an object, and prints it and what becomes of its maps.
+/// Parses and prints an object.
 fn print_parsed(rt: &HostRuntime, bytes: &[u8]) -> Result<(), ExerciseError> {
     let mut object = Object::parse(rt.alloc(), bytes)?;
     print_object(rt, &mut object)

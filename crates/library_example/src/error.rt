@@ -1,4 +1,4 @@
-//! Why the example ends early.
+//! The errors of the example.
 
 use btf::BtfError;
 use ebpf_object::{EbpfRelocationError, ParseError};
@@ -8,7 +8,7 @@ use std::alloc::AllocError;
 use std::io;
 use thiserror::Error;
 
-/// Why the example ends early.
+/// An error of the example.
 #[derive(Debug, Drop, Error)]
 pub enum ExampleError {
     #[error("usage: exercises library-example OBJECT [KERNEL_TYPES]")]
@@ -32,8 +32,8 @@ pub enum ExampleError {
 }
 
 impl ExampleError {
-    /// The status that a program ends with: 2 where it was called otherwise, 3 for lack of memory,
-    /// else 1.
+    /// The program's exit status: 2 for wrong arguments, 3 for out of memory, and 1 for any other
+    /// error.
     pub fn status(&self) -> u8 {
         match self {
             ExampleError::Usage => 2,

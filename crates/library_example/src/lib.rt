@@ -1,11 +1,10 @@
-//! What a program does with the library, by its four names alone: `elf64` for the file,
-//! `ebpf_object` for what it holds, `btf` for types, and `load_plan` for what a kernel gets of it.
-//! The program of exercises prints it.
+//! An example of the library. It uses four crates: `elf64` reads the file, `ebpf_object` the object
+//! in it, `btf` the kernel's types, and `load_plan` makes the plan.
 //!
-//! The steps stand in [`print_object_and_plan`], at the end of this file, and in the functions that
-//! it leads to: the file is listed (`listing`), its object is parsed and listed, a copy of it is
-//! relocated as a loader does (`relocating`), the object's plan is written (`planning`), and the
-//! plan's text is read back (`reading`).
+//! Read it from [`print_object_and_plan`], at the end of this file, on. It lists the file
+//! (`listing`), parses and lists the object, relocates a copy of it as a loader does
+//! (`relocating`), writes the object's plan (`planning`), and reads the plan's text back
+//! (`reading`).
 #![tactic(auto)]
 
 mod error;
@@ -23,7 +22,7 @@ use relocating::list_relocated;
 use std::env::Args;
 use std::fs;
 
-/// The file that a word names, if there is one more.
+/// Reads the file that the next argument names, if there is another argument.
 fn next_file(rt: &HostRuntime, words: &mut Args) -> Result<Option<Vec<u8>>, ExampleError> {
     match words.next() {
         Some(name) => Ok(Some(fs::read(rt, name.as_str())?)),
@@ -31,7 +30,7 @@ fn next_file(rt: &HostRuntime, words: &mut Args) -> Result<Option<Vec<u8>>, Exam
     }
 }
 
-/// The steps on a parsed object: it is listed, relocated and planned, and the plan is read back.
+/// Lists a parsed object, relocates a copy, writes the plan, and reads the plan back.
 fn show_object(
     rt: &HostRuntime,
     bytes: &[u8],
@@ -44,16 +43,16 @@ fn show_object(
     list_plan(rt, &text)
 }
 
-/// The steps on a file: it is listed, and its object is parsed.
+/// Lists a file, parses its object, and shows the object.
 fn show_file(rt: &HostRuntime, bytes: &[u8], types: Option<&[u8]>) -> Result<(), ExampleError> {
     list_file(rt, bytes)?;
     let object = Object::parse(rt.alloc(), bytes)?;
     show_object(rt, bytes, &object, types)
 }
 
-/// Prints how much an object's file holds, its maps and programs, how long these are once they are
-/// linked, and the plan for a kernel. The words name the object's file and, where the kernel has
-/// types, their file.
+/// Prints a summary of an object's file, its maps and programs, the lengths of the linked programs,
+/// and the plan for a kernel. The arguments name the object's file and, optionally, a file with the
+/// kernel's types.
 pub fn print_object_and_plan(rt: &HostRuntime, words: &mut Args) -> Result<(), ExampleError> {
     let Some(bytes) = next_file(rt, words)? else {
         return Err(ExampleError::Usage);

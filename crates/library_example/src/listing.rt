@@ -1,10 +1,10 @@
-//! What a file and its object hold, listed.
+//! Listing a file and its object.
 
 use crate::error::ExampleError;
 use ebpf_object::{Maps, Object};
 use elf64::ElfFile;
 
-/// Prints how many sections and symbols the file has.
+/// Prints the numbers of sections and symbols of the file.
 fn list_counts(rt: &HostRuntime, file: &ElfFile<'_>) -> Result<(), ExampleError> {
     println!(rt;
         "{} sections, {} symbols",
@@ -14,12 +14,13 @@ fn list_counts(rt: &HostRuntime, file: &ElfFile<'_>) -> Result<(), ExampleError>
     Ok(())
 }
 
-/// Lists what an ELF file holds.
+/// Lists an ELF file.
 pub(crate) fn list_file(rt: &HostRuntime, bytes: &[u8]) -> Result<(), ExampleError> {
     list_counts(rt, &ElfFile::parse(bytes)?)
 }
 
-/// Prints how many types the object has, and what its functions and variables expect of the kernel.
+/// Prints the number of types of the object, and the functions and variables that it expects of the
+/// kernel.
 fn list_types(rt: &HostRuntime, object: &Object<'_>) -> Result<(), ExampleError> {
     if let Some(types) = object.btf() {
         println!(rt; "{} types", types.len())?;
@@ -57,7 +58,7 @@ fn list_programs(rt: &HostRuntime, object: &Object<'_>) -> Result<(), ExampleErr
     Ok(())
 }
 
-/// Lists what an object holds.
+/// Lists an object.
 pub(crate) fn list_object(rt: &HostRuntime, object: &Object<'_>) -> Result<(), ExampleError> {
     list_types(rt, object)?;
     list_maps(rt, object.maps())?;

@@ -1,4 +1,4 @@
-//! What a kernel gets of an object: its load plan, written as text.
+//! Making an object's load plan, and writing it as text.
 
 ghost use Rattle.std.specs.Prelude.{◌≤◌, ◌^◌, length, IfOk};
 
@@ -9,7 +9,7 @@ use load_plan::{Order, Plan, Settings, Watched, prepare};
 use std::alloc::{AllocError, Global};
 use std::io;
 
-/// The numbers of maps are below this one, as file descriptors are.
+/// The limit of map numbers, which stand for file descriptors.
 const NUMBERS: u32 = 0x8000_0000;
 
 /// A list of one table.
@@ -21,7 +21,7 @@ fn list_of<'t>(alloc: Global, table: Btf<'t>) -> Result<Vec<Btf<'t>>, ExampleErr
     Ok(tables)
 }
 
-/// The kernel's tables of types, one or none.
+/// The kernel's types: one table, or none.
 fn kernel_types<'t>(alloc: Global, bytes: Option<&'t [u8]>) -> Result<Vec<Btf<'t>>, ExampleError>
     ensures { IfOk result (λ tables. length tables.items ≤ 2 ^ 32) }
 {
@@ -52,8 +52,7 @@ fn text_of(alloc: Global, plan: &Plan<'_>) -> Result<Vec<u8>, ExampleError> {
     Ok(out.into_inner())
 }
 
-/// The text of the plan of an object's bytes, for a kernel that grants all features and has these
-/// types.
+/// The text of an object's plan, for a kernel with these types that grants all features.
 fn planned_text(
     alloc: Global,
     bytes: &[u8],
@@ -76,7 +75,7 @@ fn planned_text(
     text_of(alloc, &plan)
 }
 
-/// The same under settings that number the maps.
+/// The same, with settings that number the maps.
 fn numbered_text(
     alloc: Global,
     bytes: &[u8],
@@ -89,8 +88,8 @@ fn numbered_text(
     planned_text(alloc, bytes, &settings, kernel_types)
 }
 
-/// The text of an object's plan, for a kernel that grants all features and whose types these bytes
-/// are.
+/// The text of an object's plan, for a kernel that grants all features. `types` are the bytes of
+/// the kernel's types.
 pub(crate) fn plan_text(
     alloc: Global,
     bytes: &[u8],

@@ -1,9 +1,9 @@
-//! A plan, read back from its text.
+//! Reading a plan back from its text.
 
 use crate::error::ExampleError;
 use load_plan::Plan;
 
-/// Prints what a plan holds.
+/// Prints the maps and programs of a plan.
 fn list_contents(rt: &HostRuntime, plan: &Plan<'_>) -> Result<(), ExampleError> {
     for map in plan.maps() {
         println!(rt; "planned map {} under number {}", map.name(), map.number())?;
@@ -18,7 +18,7 @@ fn list_contents(rt: &HostRuntime, plan: &Plan<'_>) -> Result<(), ExampleError> 
     Ok(())
 }
 
-/// Lists the plan that a text holds.
+/// Reads a plan from its text, and prints it.
 pub(crate) fn list_plan(rt: &HostRuntime, text: &[u8]) -> Result<(), ExampleError> {
     let plan = Plan::read(rt.alloc(), text)?;
     list_contents(rt, &plan)

@@ -1,14 +1,14 @@
-//! A loader's own passes over an object, under the names that aya-obj has for them.
+//! A loader's own passes over an object, by the names of aya-obj.
 
 use crate::error::ExampleError;
 use ebpf_object::{Map, Object};
 use std::alloc::{AllocError, Global};
 use std::collections::{HashMap, HashSet};
 
-/// The number that a loader gives the first map: a file descriptor.
+/// The number of the first map, which stands for a file descriptor.
 const FIRST_NUMBER: i32 = 3;
 
-/// Puts the value of the global variable `longest`, if there is one.
+/// Sets the global variable `longest`, if the object has it.
 fn put_value(alloc: Global, object: &mut Object<'_>) -> Result<(), ExampleError> {
     let mut values = HashMap::new(alloc);
     values.insert("longest", (&[0xe8u8, 3, 0, 0][..], false))?;
@@ -16,7 +16,7 @@ fn put_value(alloc: Global, object: &mut Object<'_>) -> Result<(), ExampleError>
     Ok(())
 }
 
-/// The sections that functions lie in.
+/// The indices of the sections with functions.
 fn text_sections(alloc: Global, object: &Object<'_>) -> Result<HashSet<usize>, AllocError> {
     let mut sections = HashSet::new(alloc);
     for (key, _function) in object.functions().iter() {
@@ -25,7 +25,7 @@ fn text_sections(alloc: Global, object: &Object<'_>) -> Result<HashSet<usize>, A
     Ok(sections)
 }
 
-/// The maps under numbers, one after the other.
+/// The maps, numbered in order of name.
 fn numbered<'m>(
     alloc: Global,
     object: &'m Object<'_>,
@@ -37,7 +37,7 @@ fn numbered<'m>(
     Ok(numbered)
 }
 
-/// Writes the numbers of the maps of an object into a copy of it.
+/// Writes the numbers of an object's maps into a copy of the object.
 fn write_numbers(
     alloc: Global,
     object: &Object<'_>,
@@ -48,7 +48,7 @@ fn write_numbers(
     Ok(relocated.relocate_maps(maps.into_iter(), sections)?)
 }
 
-/// Writes the numbers of the maps of an object into a copy of it, and links that one's programs.
+/// Writes the numbers of an object's maps into a copy of the object, and links the copy's programs.
 fn relocate(
     alloc: Global,
     object: &Object<'_>,
@@ -60,7 +60,7 @@ fn relocate(
     Ok(())
 }
 
-/// Prints how long an object's programs are.
+/// Prints the lengths of an object's programs.
 fn list_lengths(rt: &HostRuntime, object: &Object<'_>) -> Result<(), ExampleError> {
     for (name, program) in object.programs().iter() {
         if let Some(function) = object.function(program.function_key()) {
@@ -73,7 +73,8 @@ fn list_lengths(rt: &HostRuntime, object: &Object<'_>) -> Result<(), ExampleErro
     Ok(())
 }
 
-/// Sets one value in a copy of an object, relocates it, and prints how long its programs are.
+/// Sets a variable in a copy of an object, relocates the copy, and prints the lengths of its
+/// programs.
 fn list_copy(
     rt: &HostRuntime,
     object: &Object<'_>,
@@ -84,8 +85,8 @@ fn list_copy(
     list_lengths(rt, relocated)
 }
 
-/// Relocates a copy of an object as a loader does, with one value set, and prints how long its
-/// programs are.
+/// Relocates a copy of an object as a loader does, with one variable set, and prints the lengths of
+/// its programs.
 pub(crate) fn list_relocated(rt: &HostRuntime, object: &Object<'_>) -> Result<(), ExampleError> {
     let mut relocated = object.try_clone()?;
     list_copy(rt, object, &mut relocated)
