@@ -19,8 +19,6 @@ pub enum ProgramCause {
     Target,
     /// The kernel lacks the program's type.
     ProgramType,
-    /// The kernel lacks the program's attach type.
-    AttachType,
 }
 
 /// Why a kernel doesn't take programs of a kind and a section, whatever their slots are.
@@ -38,19 +36,20 @@ fn kind_cause(
     if kernel.program_type(kind) == Presence::Missing {
         return Some(ProgramCause::ProgramType);
     }
-    if kernel.attach_type(kind) == Some(Presence::Missing) {
-        return Some(ProgramCause::AttachType);
-    }
     None
 }
 
 /// Why a kernel doesn't take a program of a plan whose section has this name: the first call that a
-/// run can reach and that the kernel doesn't take, or else its target, its type or its attach type
-/// that the kernel lacks. `None` where there is no such cause, or the kernel's types don't tell.
+/// run can reach and that the kernel doesn't take, or else its target that the kernel lacks, or else
+/// its type. `None` where there is no such cause, or the kernel's types don't tell.
+///
+/// A target is looked up in these types alone: a function of a module isn't found. An attach type
+/// that the kernel lacks is no cause, since kernels ignore attach types of some program types.
 ///
 /// # Errors
 ///
 /// `AllocError` where memory runs out.
+#[tactic(auto, using(crate::proofs::Causes::lifted))]
 pub fn program_cause(
     alloc: Global,
     kernel: &KernelNumbers<'_>,

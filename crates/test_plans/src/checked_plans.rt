@@ -33,7 +33,7 @@ struct Case {
     verdict: Verdict,
 }
 
-static CASES: [Case; 9] = [
+static CASES: [Case; 10] = [
     // call 1; exit
     Case {
         map: "",
@@ -101,6 +101,20 @@ static CASES: [Case; 9] = [
         verdict: Verdict::Program {
             index: 0,
             cause: ProgramCause::Target,
+        },
+    },
+    // the call of poison; exit
+    Case {
+        map: "",
+        kind: "21 0 0",
+        slots: "850000001023ad0b9500000000000000",
+        section: "fentry/f",
+        verdict: Verdict::Program {
+            index: 0,
+            cause: ProgramCause::Call(ReachedCall {
+                slot: 0,
+                cause: CallCause::Poison,
+            }),
         },
     },
     Case {
