@@ -1,4 +1,4 @@
--- Where programs are attached, as the kernel names it.
+-- The kernel's attach types of programs.
 use Rattle.program_kinds.specs.declared.attach.XdpAttachType.{XdpAttachType}
 use Rattle.program_kinds.specs.declared.attach.XdpAttachType.TheVariants.{Interface, CpuMap, DevMap}
 use Rattle.program_kinds.specs.declared.attach.SkSkbKind.{SkSkbKind}

@@ -1,4 +1,4 @@
--- What BPF_PROG_LOAD takes of a program, by its kind.
+-- The attributes of a program for BPF_PROG_LOAD, by its kind.
 use Rattle.std.specs.Prelude.{ℕ, Bool, Option, Some, None, if◌then◌else◌}
 use Rattle.program_kinds.specs.Attach.{of_xdp, of_sk_skb, of_sk_reuseport, of_cgroup_skb, of_cgroup_sockopt, of_cgroup_sock, of_cgroup_sock_addr}
 use Rattle.program_kinds.specs.Bindings.{attach_type_number}
@@ -9,7 +9,7 @@ use Rattle.program_kinds.specs.declared.program_section.ProgramSection.{ProgramS
 use Rattle.program_kinds.specs.declared.program_section.ProgramSection.TheVariants.{KRetProbe, KProbe, UProbe, URetProbe, TracePoint, SocketFilter, Xdp, SkMsg, SkSkbStream, SockOps, SchedClassifier, CgroupSkb, CgroupSockAddr, CgroupSysctl, CgroupSockopt, LircMode2, PerfEvent, RawTracePoint, Lsm, LsmCgroup, BtfTracePoint, FEntry, FExit, FlowDissector, Extension, SkLookup, SkReuseport, CgroupSock, CgroupDevice, Iter}
 use Rattle.program_kinds.specs.declared.attributes.LoadAttributes.{LoadAttributes}
 
--- numbers of the kernel's enum bpf_attach_type
+-- Numbers of the kernel's enum bpf_attach_type.
 abbrev pub cgroup_sock_ops : ℕ
 cgroup_sock_ops = 3
 
@@ -52,7 +52,7 @@ lsm_cgroup = 43
 abbrev pub trace_uprobe_multi : ℕ
 trace_uprobe_multi = 48
 
--- a flag where it is set
+-- The value of a flag if the flag is set, and 0 otherwise.
 abbrev pub flag : Bool → ℕ → ℕ
 flag is_set value = if is_set then value else 0
 
@@ -62,7 +62,7 @@ sleepable_flag sleepable = flag sleepable 16
 abbrev pub frags_flag : Bool → ℕ
 frags_flag frags = flag frags 32
 
--- where a probe of many functions is attached
+-- The attach type of a probe of many functions.
 abbrev pub multi : Bool → Option ℕ
 multi is_multi = if is_multi then Some trace_uprobe_multi else None
 
@@ -73,7 +73,7 @@ abbrev pub attributes : bpf_prog_type → Option ℕ → ℕ → LoadAttributes
 attributes prog_type attach_type flags =
     record { prog_type = prog_type; expected_attach_type = attach_type; flags = flags }
 
--- program type, expected attach type and flags of each kind
+-- The program type, expected attach type and flags of each kind.
 abbrev pub attributes_of : ProgramSection → LoadAttributes
 attributes_of KRetProbe = attributes prog.BPF_PROG_TYPE_KPROBE None 0
 attributes_of KProbe = attributes prog.BPF_PROG_TYPE_KPROBE None 0

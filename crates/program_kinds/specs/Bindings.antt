@@ -1,4 +1,4 @@
--- Numbers of the kernel's bpf.h, by the order of its enums.
+-- Numbers of the kernel's bpf.h, in the order of its enums.
 use Rattle.std.specs.Prelude.{◌≡◌, ℕ, List, [], ◌∷◌, Result, IfErr}
 use Rattle.program_kinds.specs.declared.bindings.InvalidTypeBinding.{InvalidTypeBinding}
 use Rattle.program_kinds.specs.declared.bindings.bpf_map_type.{bpf_map_type}
@@ -8,11 +8,11 @@ use Rattle.program_kinds.specs.declared.bindings.bpf_prog_type.TheVariants.{BPF_
 use Rattle.program_kinds.specs.declared.bindings.bpf_attach_type.{bpf_attach_type}
 use Rattle.program_kinds.specs.declared.bindings.bpf_attach_type.TheVariants.{BPF_CGROUP_INET_INGRESS, BPF_CGROUP_INET_EGRESS, BPF_CGROUP_INET_SOCK_CREATE, BPF_SK_SKB_STREAM_PARSER, BPF_SK_SKB_STREAM_VERDICT, BPF_CGROUP_INET4_BIND, BPF_CGROUP_INET6_BIND, BPF_CGROUP_INET4_CONNECT, BPF_CGROUP_INET6_CONNECT, BPF_CGROUP_INET4_POST_BIND, BPF_CGROUP_INET6_POST_BIND, BPF_CGROUP_UDP4_SENDMSG, BPF_CGROUP_UDP6_SENDMSG, BPF_CGROUP_UDP4_RECVMSG, BPF_CGROUP_UDP6_RECVMSG, BPF_CGROUP_GETSOCKOPT, BPF_CGROUP_SETSOCKOPT, BPF_CGROUP_INET4_GETPEERNAME, BPF_CGROUP_INET6_GETPEERNAME, BPF_CGROUP_INET4_GETSOCKNAME, BPF_CGROUP_INET6_GETSOCKNAME, BPF_XDP_DEVMAP, BPF_CGROUP_INET_SOCK_RELEASE, BPF_XDP_CPUMAP, BPF_XDP, BPF_SK_REUSEPORT_SELECT, BPF_SK_REUSEPORT_SELECT_OR_MIGRATE}
 
--- an error holds the number that was refused
+-- An error holds the number that was refused.
 abbrev pub Refuses : {T : Type 0} → ℕ → Result T (InvalidTypeBinding ℕ) → Type 0
 Refuses value r = IfErr r (λ e. e.value ≡ value)
 
--- kinds of maps, from 0
+-- The kinds of maps, from number 0 on.
 abbrev pub map_types : List bpf_map_type
 map_types =
     BPF_MAP_TYPE_UNSPEC
@@ -52,7 +52,7 @@ map_types =
     ∷ BPF_MAP_TYPE_INSN_ARRAY
     ∷ []
 
--- kinds of programs, from 0
+-- The kinds of programs, from number 0 on.
 abbrev pub prog_types : List bpf_prog_type
 prog_types =
     BPF_PROG_TYPE_UNSPEC
@@ -90,7 +90,7 @@ prog_types =
     ∷ BPF_PROG_TYPE_NETFILTER
     ∷ []
 
--- the number of a kind of maps: its place in the list
+-- The number of a kind of maps: its index in the list.
 abbrev pub map_type_number : bpf_map_type → ℕ
 map_type_number BPF_MAP_TYPE_UNSPEC = 0
 map_type_number BPF_MAP_TYPE_HASH = 1
@@ -128,7 +128,7 @@ map_type_number BPF_MAP_TYPE_CGRP_STORAGE = 32
 map_type_number BPF_MAP_TYPE_ARENA = 33
 map_type_number BPF_MAP_TYPE_INSN_ARRAY = 34
 
--- the number of a kind of programs: its place in the list
+-- The number of a kind of programs: its index in the list.
 abbrev pub prog_type_number : bpf_prog_type → ℕ
 prog_type_number BPF_PROG_TYPE_UNSPEC = 0
 prog_type_number BPF_PROG_TYPE_SOCKET_FILTER = 1
@@ -164,7 +164,7 @@ prog_type_number BPF_PROG_TYPE_SK_LOOKUP = 30
 prog_type_number BPF_PROG_TYPE_SYSCALL = 31
 prog_type_number BPF_PROG_TYPE_NETFILTER = 32
 
--- the number of a place that programs are attached to
+-- The number of an attach type.
 abbrev pub attach_type_number : bpf_attach_type → ℕ
 attach_type_number BPF_CGROUP_INET_INGRESS = 0
 attach_type_number BPF_CGROUP_INET_EGRESS = 1

@@ -16,7 +16,7 @@ use Rattle.program_kinds.specs.declared.program_section.ProgramSection.TheVarian
 abbrev pub is_slash : ℕ → Bool
 is_slash byte = byte == 47
 
--- a name's pieces stand between slashes
+-- The pieces of a name are separated by slashes.
 abbrev pub first_piece : List ℕ → List ℕ
 first_piece name = before_first is_slash name
 
@@ -24,7 +24,7 @@ abbrev pub second_piece : List ℕ → Option (List ℕ)
 second_piece name =
     if list_any is_slash name then Some (first_piece (after_first is_slash name)) else None
 
--- kinds that the first piece alone decides
+-- Kinds that the first piece alone decides.
 abbrev pub plain_kinds : List (List ℕ × ProgramSection)
 plain_kinds =
     (codes "kprobe", KProbe)
@@ -70,7 +70,8 @@ sleepable_kinds =
     ∷ (codes "iter.s", Iter true)
     ∷ []
 
--- kinds that the second piece decides, by the first piece; None stands for a name without a second
+-- Kinds that the second piece decides, by the first piece. None is for a name without a second
+-- piece.
 abbrev pub xdp_kinds : Bool → List (Option (List ℕ) × ProgramSection)
 xdp_kinds frags =
     (None, Xdp frags Interface)
@@ -132,12 +133,12 @@ parted_kinds =
     ∷ (codes "cgroup", cgroup_kinds)
     ∷ []
 
--- a second piece, or the want of one, is that of a row
+-- Whether a second piece is that of a row. A missing one is that of a row without a second piece.
 abbrev pub is_second : Option (List ℕ) → Option (List ℕ) → Bool
 is_second None row = is_none row
 is_second (Some second) row = option_map_or (λ piece. bytes_eq second piece) row false
 
--- the kind in a table of first pieces, or of second pieces
+-- The kind in a table of first pieces, or of second pieces.
 abbrev pub kind_by_first : List (List ℕ × ProgramSection) → List ℕ → Option ProgramSection
 kind_by_first kinds first = lookup (bytes_eq first) kinds
 
@@ -146,7 +147,7 @@ abbrev pub kind_by_second : List (Option (List ℕ) × ProgramSection)
     → Option ProgramSection
 kind_by_second kinds second = lookup (is_second second) kinds
 
--- the kind that the first piece alone decides
+-- The kind that the first piece alone decides.
 abbrev pub unparted_kind : List ℕ → Option ProgramSection
 unparted_kind first =
     option_or (option_or (kind_by_first plain_kinds first) (kind_by_first user_probe_kinds first))
@@ -159,6 +160,6 @@ parted_kind first second =
 abbrev pub kind_of_pieces : List ℕ → Option (List ℕ) → Option ProgramSection
 kind_of_pieces first second = option_or (unparted_kind first) (parted_kind first second)
 
--- the kind of a section's name
+-- The kind of a program, by the name of its section.
 abbrev pub kind_of_name : List ℕ → Option ProgramSection
 kind_of_name name = kind_of_pieces (first_piece name) (second_piece name)

@@ -6,7 +6,7 @@ use Rattle.std.specs.Option.{option_or}
 use Rattle.program_kinds.specs.declared.section_kind.EbpfSectionKind.{EbpfSectionKind}
 use Rattle.program_kinds.specs.declared.section_kind.EbpfSectionKind.TheVariants.{Undefined, Maps, BtfMaps, Program, Data, Rodata, Bss, Text, Btf, BtfExt, License, Version}
 
--- kinds by the beginning of the name, of which the first counts
+-- Kinds by a prefix of the name. The first prefix that matches decides.
 abbrev pub kinds_by_beginning : List (List ℕ × EbpfSectionKind)
 kinds_by_beginning =
     (codes "license", License)
@@ -19,14 +19,14 @@ kinds_by_beginning =
     ∷ (codes ".rodata", Rodata)
     ∷ []
 
--- kinds by the whole name
+-- Kinds by the whole name.
 abbrev pub kinds_by_name : List (List ℕ × EbpfSectionKind)
 kinds_by_name =
     (codes ".BTF", Btf)
     ∷ (codes ".BTF.ext", BtfExt)
     ∷ []
 
--- the kind that a name alone decides
+-- The kind that the name alone decides.
 abbrev pub kind_decided : List ℕ → Option EbpfSectionKind
 kind_decided name =
     option_or (lookup (starts_with nat_eq name) kinds_by_beginning)
@@ -35,7 +35,8 @@ kind_decided name =
 abbrev pub kind_named : List ℕ → EbpfSectionKind
 kind_named name = unwrap_or (kind_decided name) Undefined
 
--- a section of no such name holds programs if it is executable text of nonzero size
+-- The kind of a section. A section whose name decides no kind holds programs if it is executable
+-- text of nonzero size.
 abbrev pub kind_of_section : List ℕ → Bool → ℕ → EbpfSectionKind
 kind_of_section name is_text size =
     unwrap_or (kind_decided name) (if is_text && not (size == 0) then Program else Undefined)

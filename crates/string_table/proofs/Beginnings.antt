@@ -1,4 +1,4 @@
--- Strings in which each byte begins a text.
+-- Strings in which a text begins at each byte.
 use Rattle.std.proofs.Common.{◌≡◌, ℕ, zero, suc, ◌+◌, ◌-◌, ◌<◌, Bool, true, false, cond, nat_eq, nat_lt, not, List, [], ◌∷◌, None, Some, drop, take, length, length-drop, get_or, refl, ap, ◌∙◌, arith}
 use Rattle.std.specs.Prelude.{◌==◌, is_some, option_and_then, slice_get}
 use Rattle.std.proofs.lemmas.Bool.Decides.{nat_tests}
@@ -21,7 +21,7 @@ below_by false n len h = omega (arith, h refl)
 below_first : (b n len : ℕ) → b ≡ 0 → cond (not (nat_eq b 0)) (1 + n) 0 < suc len
 below_first b n len is = let yes : nat_eq b 0 ≡ true = grind (arith, nat_tests) in rw yes (omega arith)
 
--- a NUL is found where one stands
+-- If some byte is a NUL, the search for the first NUL finds one.
 below : (bytes : List ℕ) (k : ℕ) → k < length bytes → get_or bytes k 1 ≡ 0 → nul_at bytes < length bytes
 below [] k lt is = absurd (omega (arith, lt))
 below (b ∷ bs) zero lt is = below_first b (nul_at bs) (length bs) is
@@ -31,7 +31,7 @@ text_by : (test : Bool) (len : ℕ) (bytes : List ℕ) → IsAscii bytes → tes
 text_by true len bytes ascii is = ap (λ (b : Bool). is_some (cond b (Some (take len bytes)) None)) (is_utf8-from_IsUtf8 (take len bytes) (IsUtf8-from_ascii (take len bytes) (IsAscii-take bytes len ascii)))
 text_by false len bytes ascii is = absurd cc
 
--- bytes of ASCII with a NUL among them begin with a text
+-- Bytes of ASCII with a NUL among them begin with a text.
 text_before : (bytes : List ℕ) → IsAscii bytes → nul_at bytes < length bytes → is_some (option_and_then text_of (before_nul bytes)) ≡ true
 text_before bytes ascii lt = let yes : nat_lt (nul_at bytes) (length bytes) ≡ true = grind (arith, nat_tests, lt) in text_by (nat_lt (nul_at bytes) (length bytes)) (nul_at bytes) bytes ascii yes
 
@@ -43,7 +43,7 @@ last_left strings offset last lt =
 left_len : (strings : List ℕ) (offset : ℕ) → offset < length strings → length strings - 1 - offset < length (drop offset strings)
 left_len strings offset lt = omega (arith, lt, length-drop offset strings)
 
--- each byte of strings of ASCII that a NUL ends begins a text
+-- In strings of ASCII that end in a NUL, a text begins at each byte.
 text_from : (strings : List ℕ) → slice_get strings (length strings - 1) ≡ Some 0 → IsAscii strings → (offset : ℕ) → offset < length strings → is_some (text_at strings offset) ≡ true
 unfolding text_at
 text_from strings last ascii offset lt =

@@ -28,7 +28,7 @@ end_is_text bytes utf8 = rw (is_utf8-from_IsUtf8 bytes utf8) refl
 pub end_is_none : (bytes : List ℕ) → (IsCharBoundary bytes 0 → ⊥) → None ≡ text_of bytes
 end_is_none bytes inside = rw (false_from_ne_true _ (λ is_text. inside (IsCharBoundary-start bytes (IsUtf8-from_is_utf8 bytes is_text)))) refl
 
--- what is before the first NUL of a beginning
+-- If a prefix of the bytes has a first NUL, the bytes before it are the same in all of the bytes.
 pub before_nul_stays : (bytes text : List ℕ) (n : ℕ) → before_nul (take n bytes) ≡ Some text → before_nul bytes ≡ Some text
 before_nul_stays bytes text n e =
     let b = begun (take n bytes) text e in
@@ -54,7 +54,7 @@ plain_end zero text plain = plain
 plain_end (suc k) [] plain = plain
 plain_end (suc k) (b ∷ bs) plain = plain_end k bs (right_false (nat_eq b 0) (list_any (λ c. c == 0) bs) plain)
 
--- a text stays where more is written after the strings
+-- Appending to the strings leaves the text at an offset as it is.
 text_stays : (strings more text : List ℕ) (offset : ℕ) → text_at strings offset ≡ Some text → is_utf8 text ≡ true → text_at (strings ++ more) offset ≡ Some text
 text_stays strings more text offset e utf8 =
     let b = begun (drop offset strings) text (text_here strings text offset e) in
@@ -75,7 +75,7 @@ one_stays strings more t h = some_stays strings more t.0 t.1 (text_at strings t.
 pub all_stay : (strings more : List ℕ) (texts : List (ℕ × ℕ)) → All (IsTextIn strings) texts → All (IsTextIn (strings ++ more)) texts
 all_stay strings more texts all = λ k d lt. one_stays strings more (slice_index_or texts k d) (all k d lt)
 
--- what is left of a long text from an offset on
+-- The rest of a long text from an offset on.
 pub record StandsLeft (rest : List ℕ) (left : ℕ) : Type 0 where
   pub before : before_nul rest ≡ Some (take left rest)
   pub is_end : IsEnd (take left rest)
@@ -105,7 +105,7 @@ stands_at strings t offset left (Some text) e h l =
 pub left_stands : (strings rest : List ℕ) (known : KnownTexts) (t : ℕ × ℕ) (offset left : ℕ) → rest ≡ drop offset strings → AreLongTextsOf strings known → Contains known.texts t → IsLeft t offset left → StandsLeft rest left
 left_stands strings rest known t offset left is a c l = rw is (stands_at strings t offset left (text_at strings t.0) refl (All-contains (IsTextIn strings) known.texts t a.stand c) l)
 
--- the text at an offset, by what stands there
+-- The text at an offset, by the bytes before the first NUL there.
 pub text_found : (strings rest bytes : List ℕ) (offset : ℕ) (found : Option (List ℕ)) → rest ≡ drop offset strings → before_nul rest ≡ Some bytes → found ≡ text_of bytes → found ≡ text_at strings offset
 unfolding text_at
 text_found strings rest bytes offset found is before text =

@@ -1,4 +1,4 @@
--- Few bytes are taken whole, and none is left of them.
+-- The parts of a name that are hashed: its first 1,024 bytes, and the bytes after them.
 use Rattle.std.proofs.Common.{◌≡◌, ℕ, ◌-◌, ◌<◌, List, [], length, length-drop, take, take_all, drop, arith, sym}
 use Rattle.std.proofs.lemmas.List.{drop_all}
 

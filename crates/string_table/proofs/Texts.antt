@@ -9,11 +9,11 @@ use Rattle.std.proofs.Math.Seq.{drop-append_seam, take-append_seam}
 use Rattle.std.proofs.lemmas.List.{take-append-drop}
 use Rattle.string_table.specs.Texts.{before_nul, text_at, text_of}
 
--- where the first NUL stands
+-- The index of the first NUL, or the length.
 abbrev nul_at : List ℕ → ℕ
 nul_at bytes = position_or_len (λ b. b == 0) bytes
 
--- the bytes before the first NUL by cases on the first byte
+-- The bytes before the first NUL, by cases on whether the first byte is a NUL.
 abbrev after_first : Bool → ℕ → Option (List ℕ) → Option (List ℕ)
 after_first true b rest = Some []
 after_first false b rest = option_map (λ bs. b ∷ bs) rest
@@ -32,7 +32,7 @@ before_nul_by false b bs = rw (shifted (nul_at bs) (length bs)) (taken (nat_lt (
 before_nul-cons : (b : ℕ) (bs : List ℕ) → before_nul (b ∷ bs) ≡ after_first (nat_eq b 0) b (before_nul bs)
 before_nul-cons b bs = before_nul_by (nat_eq b 0) b bs
 
--- a text and a NUL stand at the beginning
+-- Bytes that begin with a text and a NUL.
 pub record Begins (bytes text : List ℕ) : Type 0 where
   pub more : List ℕ
   pub is : bytes ≡ text ++ 0 ∷ more
@@ -59,7 +59,7 @@ begins_text (b ∷ bs) more plain =
 pub begins : (bytes text : List ℕ) → Begins bytes text → before_nul bytes ≡ Some text
 begins bytes text b = ap before_nul b.is ∙ begins_text text b.more b.plain
 
--- the rest begins so
+-- The induction step of `begun`.
 begun_after : (b : ℕ) (bs text : List ℕ) (test : Bool) (rest : Option (List ℕ)) → nat_eq b 0 ≡ test → before_nul bs ≡ rest → ((t : List ℕ) → before_nul bs ≡ Some t → Begins bs t) → after_first test b rest ≡ Some text → Begins (b ∷ bs) text
 begun_after b bs text true rest is_nul is go e =
     let none : [] ≡ text = cc in
@@ -75,7 +75,7 @@ pub begun : (bytes text : List ℕ) → before_nul bytes ≡ Some text → Begin
 begun [] text e = absurd cc
 begun (b ∷ bs) text e = begun_after b bs text (nat_eq b 0) (before_nul bs) refl refl (λ t is. begun bs t is) (sym (before_nul-cons b bs) ∙ e)
 
--- what is compared, where a text and a NUL stand at the beginning
+-- The result of comparing bytes with a text: the text is a prefix, and a NUL follows it.
 pub record Compared (bytes text : List ℕ) : Type 0 where
   pub more : List ℕ
   pub prefix : take (length text) bytes ≡ text
@@ -101,7 +101,7 @@ equal_by_bytes bytes text c =
 utf8_text : (test : Bool) (text : List ℕ) → test ≡ true → cond test (Some text) None ≡ Some text
 utf8_text test text e = rw e refl
 
--- a text at an offset is the bytes there up to a NUL
+-- The text at an offset is the bytes before the next NUL, where they are UTF-8.
 pub text_from : (strings text : List ℕ) (offset : ℕ) → is_utf8 text ≡ true → before_nul (drop offset strings) ≡ Some text → text_at strings offset ≡ Some text
 unfolding text_at
 text_from strings text offset utf8 e = ap (option_and_then text_of) e ∙ utf8_text (is_utf8 text) text utf8

@@ -1,4 +1,4 @@
--- Where no text begins.
+-- Offsets at which no text begins.
 use Rattle.std.proofs.Common.{◌≡◌, ℕ, suc, ◌+◌, ◌-◌, ◌<◌, ◌≤◌, Bool, true, false, nat_eq, nat_lt, slice_index_or, get_or, length-drop, length-take, List, [], ◌∷◌, ◌++◌, None, Some, Option, refl, ap, sym, ◌∙◌, subst, arith, take, drop, length, append_assoc}
 use Rattle.std.specs.Prelude.{◌==◌, ◌||◌, map, All, Contains, IsSomeAnd, option_and_then}
 use Rattle.std.specs.List.{list_any}
@@ -25,7 +25,8 @@ boundary_in_front bytes n k le within b =
           omega (arith, same, b.1 (omega (arith, length-take n bytes)) (omega (arith, same))),
     )
 
--- what comes before an end that is UTF-8, in bytes whose front is UTF-8, is UTF-8
+-- If some bytes have a prefix that is UTF-8, and a suffix that is UTF-8 and begins within the
+-- prefix, the bytes before the suffix are UTF-8.
 front_utf8 : (bytes : List ℕ) (n k : ℕ) → k ≤ n → n ≤ length bytes → IsUtf8 (take n bytes) → IsUtf8 (drop k bytes) → IsUtf8 (take k bytes)
 front_utf8 bytes n k le within front tail =
     let here : IsCharBoundary bytes k = IsCharBoundary-from_drop bytes k (omega arith) tail in
@@ -37,7 +38,7 @@ no_end bytes valid k not v le tail =
     let front : IsUtf8 (take k bytes) = front_utf8 bytes valid k le (omega (arith, v.short)) v.front tail in
     not (subst IsUtf8 (take-append-drop k bytes) (IsUtf8-append (take k bytes) (drop k bytes) front tail))
 
--- a step over bytes that aren't UTF-8
+-- A step over bytes that aren't UTF-8.
 no_text_before : (bytes rest : List ℕ) (start valid : ℕ) → start + length rest ≡ length bytes → rest ≡ drop start bytes → IsNoTextBefore bytes start → ¬ (IsUtf8 rest) → IsValidUpTo rest valid → IsNoTextBefore bytes (start + (valid + 1))
 no_text_before bytes rest start valid whole is before not v =
     record {
@@ -53,7 +54,8 @@ no_text_before bytes rest start valid whole is before not v =
       ] refl;
     }
 
--- no text begins in the front of a stretch that a NUL ends
+-- If none of the first suffixes of the bytes before a NUL is UTF-8, no text begins at their
+-- offsets.
 pub unreadable_at : (strings bytes : List ℕ) (from start offset : ℕ) → before_nul (drop from strings) ≡ Some bytes → IsNoTextBefore bytes start → from ≤ offset → offset < from + start → IsUnreadableAt strings offset
 unreadable_at strings bytes from start offset before none after lt =
     let b = begun (drop from strings) bytes before in
@@ -68,7 +70,7 @@ unreadable_at strings bytes from start offset before none after lt =
 pub unreadable_in : (strings bytes : List ℕ) (from start : ℕ) → before_nul (drop from strings) ≡ Some bytes → IsNoTextBefore bytes start → IsUnreadableIn strings (from, from + start)
 unreadable_in strings bytes from start before none = record { at = λ offset after lt. unreadable_at strings bytes from start offset before none after lt }
 
--- that stays where more is written after the strings
+-- Appending to the strings leaves an unreadable offset unreadable.
 still_by : (strings more : List ℕ) (offset : ℕ) (found : Option (List ℕ)) → before_nul (drop offset strings) ≡ found → IsSomeAnd found (λ bytes. is_utf8 bytes ≡ false) → IsUnreadableAt (strings ++ more) offset
 still_by strings more offset None e h = absurd h
 still_by strings more offset (Some bytes) e h =
@@ -84,7 +86,7 @@ one_still strings more s u = record { at = λ offset after lt. still_by strings 
 pub all_still : (strings more : List ℕ) (stretches : List (ℕ × ℕ)) → All (IsUnreadableIn strings) stretches → All (IsUnreadableIn (strings ++ more)) stretches
 all_still strings more stretches all = λ k d lt. one_still strings more (slice_index_or stretches k d) (all k d lt)
 
--- what is known stays, and the last NUL is found anew
+-- The known texts of a prefix of the strings are known texts of all of the strings, with a new end.
 known_stays : (strings : List ℕ) (from end : ℕ) (known : KnownTexts) → AreLongTextsOf (take from strings) known → IsLastNulBefore strings end → AreLongTextsOf strings (record known { end = end })
 known_stays strings from end known a ended =
     let P : List ℕ → Type 0 = λ s. All (IsTextIn s) known.texts in
@@ -95,7 +97,7 @@ known_stays strings from end known a ended =
       ended = ended;
     }
 
--- no text begins at an unreadable offset
+-- No text begins at an unreadable offset.
 none_by : (strings : List ℕ) (offset : ℕ) (found : Option (List ℕ)) → before_nul (drop offset strings) ≡ found → IsSomeAnd found (λ bytes. is_utf8 bytes ≡ false) → None ≡ option_and_then text_of found
 none_by strings offset None e h = absurd h
 none_by strings offset (Some bytes) e h = rw h refl
@@ -112,7 +114,7 @@ or_true : (a : Bool) → (a || true) ≡ true
 or_true true = refl
 or_true false = refl
 
--- no text begins after the last NUL
+-- No text begins after the last NUL.
 has_nul : (text more : List ℕ) → list_any (λ b. b == 0) (text ++ 0 ∷ more) ≡ true
 has_nul [] more = refl
 has_nul (b ∷ bs) more = rw (has_nul bs more) (or_true (nat_eq b 0))
@@ -133,7 +135,8 @@ none_after strings end offset ended le =
     let plain : list_any (λ b. b == 0) (drop offset strings) ≡ false = rw tail (plain_end k (drop end strings) ended) in
     rw (no_nul (drop offset strings) (before_nul (drop offset strings)) refl plain) refl
 
--- one byte more before the end of the strings that is no NUL
+-- If no NUL occurs from an offset on, and the byte before it isn't a NUL, no NUL occurs from that
+-- byte on.
 pub no_nul_before : (strings : List ℕ) (end : ℕ) → 0 < end → end ≤ length strings → ¬ (get_or strings (end - 1) 0 ≡ 0) → IsLastNulBefore strings end → IsLastNulBefore strings (end - 1)
 no_nul_before strings end pos le other ended =
     let k : ℕ = end - 1 in
@@ -142,7 +145,7 @@ no_nul_before strings end pos le other ended =
     let first : nat_eq (get_or strings k 0) 0 ≡ false = grind (arith, nat_tests) in
     rw (tail, first) ended
 
--- one step over bytes that aren't UTF-8
+-- A step over bytes that aren't UTF-8, by the index of the first invalid byte.
 pub text_step : (bytes rest after : List ℕ) (last valid : ℕ) → last ≡ valid → length rest ≤ length bytes → rest ≡ drop (length bytes - length rest) bytes → IsNoTextBefore bytes (length bytes - length rest) → ¬ (IsUtf8 rest) → IsValidUpTo rest valid → after ≡ take (length rest - (last + 1)) (drop (last + 1) rest) → (length after ≤ length bytes) × (after ≡ drop (length bytes - length after) bytes) × IsNoTextBefore bytes (length bytes - length after)
 text_step bytes rest after last valid e le is before not v taken =
     let step : after ≡ drop (valid + 1) rest = taken ∙ take_rest rest (last + 1) ∙ ap (λ (n : ℕ). drop (n + 1) rest) e in

@@ -4,14 +4,14 @@ use Rattle.std.specs.Prelude.{ℕ, List, take, drop, position, ◌==◌, if◌th
 use Rattle.std.specs.Option.{option_map}
 use Rattle.std.specs.Str.{is_utf8}
 
--- the bytes before the first NUL, where there is one
+-- The bytes before the first NUL, if there is one.
 abbrev pub before_nul : List ℕ → Option (List ℕ)
 before_nul bytes = option_map (λ len. take len bytes) (position (λ b. b == 0) bytes)
 
--- bytes that are UTF-8
+-- The bytes, if they are UTF-8.
 abbrev pub text_of : List ℕ → Option (List ℕ)
 text_of bytes = if is_utf8 bytes then Some bytes else None
 
--- the text at an offset of a string table: the UTF-8 bytes up to the next NUL
+-- The text at an offset of a string table: the bytes before the next NUL, if they are UTF-8.
 unfoldable pub text_at : List ℕ → ℕ → Option (List ℕ)
 text_at strings at = option_and_then text_of (before_nul (drop at strings))

@@ -1,4 +1,4 @@
--- What is known of a watched reader or writer.
+-- Properties of a watched reader or writer.
 use Rattle.std.specs.Prelude.{◌≡◌, ℕ, ◌-◌, ◌≤◌, Bool, true, false, List, [], ◌++◌, length, take, drop, Option, refl, ◌⊎◌}
 use Rattle.std.specs.Io.KnownBytes.{Appends}
 use Rattle.std.proofs.Common.{sym, ap, ◌∙◌, subst, append_assoc, take-append-drop, inl, inr}
@@ -7,29 +7,29 @@ use Rattle.std.proofs.Math.Nat.{le_refl, le_trans}
 use Rattle.std.proofs.KnownBytes.{Appends-nil, Appends-trans}
 use Rattle.watched.specs.declared.watch.Watched.{Watched}
 
--- the reader or writer itself
+-- The reader or writer inside.
 abbrev pub watched_inner : {T : Type 0} → Watched T → T
 watched_inner w = w.inner
 
 abbrev pub has_failed : {T : Type 0} → Watched T → Bool
 has_failed w = w.has_failed
 
--- how many calls may still be passed on
+-- The number of calls that may still be passed on.
 abbrev pub calls_left : {T : Type 0} → Watched T → ℕ
 calls_left w = w.calls_left
 
--- of a text all but the rest was appended to a writer's known bytes
+-- All but the rest of a text was appended to the known bytes of a writer.
 pub record AppendsAllBut (old new : Option (List ℕ)) (text rest : List ℕ) : Type 0 where
   pub front : List ℕ
   pub split : text ≡ front ++ rest
   pub appended : Appends old new front
 
--- a beginning of a text was appended
+-- A prefix of a text was appended.
 abbrev pub AppendsPart : Option (List ℕ) → Option (List ℕ) → List ℕ → Type 0
 AppendsPart old new text = (rest : List ℕ) × AppendsAllBut old new text rest
 
--- The whole text was appended, or a beginning of it where the writer has failed. One that had
--- failed before is left as it was, and no call that may be passed on is gained.
+-- The whole text was appended, or a prefix of it if the writer has failed. A writer that had failed
+-- before is unchanged. The number of calls left doesn't grow.
 pub record Sends {W : Type 0} (contents : W → Option (List ℕ)) (old new : Watched W) (text : List ℕ)
     : Type 0 where
   pub ok : has_failed new ≡ false
@@ -40,12 +40,12 @@ pub record Sends {W : Type 0} (contents : W → Option (List ℕ)) (old new : Wa
   pub still : has_failed old ≡ true → new ≡ old
   pub calls : calls_left new ≤ calls_left old
 
--- ---- laws
+-- ---- Laws
 
 pub AppendsAllBut-none : (old : Option (List ℕ)) (text : List ℕ) → AppendsAllBut old old text text
 AppendsAllBut-none old text = record { front = []; split = refl; appended = Appends-nil old }
 
--- some of the rest is appended too
+-- A part of the rest is appended too.
 pub AppendsAllBut-more : (old between new : Option (List ℕ)) (text rest : List ℕ) (n : ℕ)
     → AppendsAllBut old between text rest
     → Appends between new (take n rest)
@@ -60,7 +60,7 @@ AppendsAllBut-more old between new text rest n before more = record {
   appended = Appends-trans old between new before.front (take n rest) before.appended more;
 }
 
--- a whole text, and then all but a rest of another
+-- A whole text is appended, and then all but a rest of another text.
 AppendsAllBut-after : (old between new : Option (List ℕ)) (first text rest : List ℕ)
     → Appends old between first
     → AppendsAllBut between new text rest
@@ -71,7 +71,7 @@ AppendsAllBut-after old between new first text rest whole more = record {
   appended = Appends-trans old between new first more.front whole more.appended;
 }
 
--- all but a rest of a text that goes on
+-- If a text continues, its rest continues too.
 AppendsAllBut-before : (old new : Option (List ℕ)) (text last rest : List ℕ)
     → AppendsAllBut old new text rest
     → AppendsAllBut old new (text ++ last) (rest ++ last)
@@ -86,7 +86,7 @@ true_or_false true = inl refl
 true_or_false false = inr refl
 
 module _ {W : Type 0} (contents : W → Option (List ℕ)) where
-  -- nothing is sent
+  -- Nothing is sent.
   pub Sends-none : (out : Watched W) → Sends contents out out []
   Sends-none out = record {
     ok = λ well. (well, Appends-nil (contents (watched_inner out)));
@@ -95,7 +95,7 @@ module _ {W : Type 0} (contents : W → Option (List ℕ)) where
     calls = le_refl (calls_left out);
   }
 
-  -- one text is sent, and then another
+  -- One text is sent, and then another.
   pub Sends-then : (a b c : Watched W) (first last : List ℕ)
       → Sends contents a b first
       → Sends contents b c last

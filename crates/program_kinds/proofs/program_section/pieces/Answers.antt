@@ -8,7 +8,7 @@ step : (b later : Bool) (n m : ℕ) → cond (not b) (1 + n) 0 ≡ suc m → (n 
 step true later n m h k = absurd (omega arith)
 step false later n m h k = k (omega arith)
 
--- where no place passes, none does
+-- If the index of the first element that passes is the length of the list, no element passes.
 none_passes : (p : ℕ → Bool) (xs : List ℕ) → position_or_len p xs ≡ length xs → list_any p xs ≡ false
 none_passes p [] h = refl
 none_passes p (x ∷ xs) h = step (p x) (list_any p xs) (position_or_len p xs) (length xs) h (none_passes p xs)

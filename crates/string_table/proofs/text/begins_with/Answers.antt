@@ -5,7 +5,7 @@ use Rattle.string_table.specs.Texts.{before_nul}
 use Rattle.string_table.proofs.Texts.{compared, equal_by_bytes}
 use Rattle.string_table.proofs.text.begins_with.Goals as goal
 
--- the byte after a text that stands at the beginning
+-- The byte after a text that the bytes begin with is a NUL.
 nul_after : (bytes text after : List ℕ) (next : ℕ) → after ≡ drop (length text) bytes → Some next ≡ slice_get after 0 → before_nul bytes ≡ Some text → next ≡ 0
 nul_after bytes text after next is first e =
     let c = compared bytes text e in
