@@ -1,4 +1,4 @@
--- What the comparison of all bytes of a block says of each.
+-- A comparison of all bytes of a block at once, byte by byte.
 use Rattle.std.proofs.Common.{◌≡◌, ℕ, ◌+◌, ◌%◌, ◌^◌, ◌≤◌, Bool, true, false, not, ◌||◌, List, map, length, get_or, Fits, w8, sym, ap, ◌∙◌, arith}
 use Rattle.std.proofs.lemmas.Bool.{agree_below, agree_below_at}
 use Rattle.std.proofs.lemmas.List.{length-map}
@@ -22,7 +22,7 @@ module _ (bytes : List ℕ) (at run : ℕ) (lanes : List ℕ) (room : at + 16 �
   pub block_within : run ≤ 16
   block_within = run_in_chunk_le stops bytes at 16 run 0 room counted
 
-  -- each byte at which no lane stops is plain
+  -- Each byte before the first lane that stops is plain.
   pub block_plain : agree_below (λ x. stops x || is_plain x) (λ _. true) 256 ≡ true → ArePlain bytes at (at + run)
   block_plain all = record {
     each = λ k from to.

@@ -1,4 +1,4 @@
--- Where a name stands in a list in order of names, and what is written there.
+-- The index of a name in a list in order of names, and a write at that index.
 use Rattle.std.proofs.Common.{◌≡◌, ◌<◌, ℕ, zero, suc, Bool, true, false, cond, List, [], ◌∷◌, Option, Some, None, length, refl, ap, sym, ◌∙◌, get_or, slice_get, slice_set, subst, unwrap_or, arith}
 use Rattle.std.specs.Prelude.{bytes_eq, find, nat_lt}
 use Rattle.std.specs.Borrow.{Bor}
@@ -19,7 +19,7 @@ use Rattle.string_map.specs.Orders.{by_bytes, texts_of}
 use Rattle.kernel_symbols.specs.Wanted.{under, with_address}
 use Rattle.kernel_symbols.specs.declared.wanted.Wanted.{Wanted}
 
--- whether an entry has this name
+-- Whether an entry has this name.
 abbrev pub is_here : List ℕ → Bor (List ℕ) × Wanted → Bool
 is_here name e = is_at (slice_cmp nat_cmp name) e.0.now
 
@@ -28,7 +28,7 @@ unfolding IsStrictlySortedBy
 none_rising [] none = tt
 none_rising (e ∷ es) none = absurd cc
 
--- ---- what stands under a name
+-- ---- The value under a name
 
 found-by : (e : Bor (List ℕ) × Wanted) (test : Bool) (held : Option Wanted) (found : Option (Bor (List ℕ) × Wanted)) → held ≡ option_map (λ f. f.1) found → cond test (Some e.1) held ≡ option_map (λ f. f.1) (cond test (Some e) found)
 found-by e true held found is = refl
@@ -62,7 +62,7 @@ nowhere name given es found same =
     let past = ltb-false (position_or_len (is_here name) es) (length es) (no-place (nat_lt (position_or_len (is_here name) es) (length es)) (position_or_len (is_here name) es) is) in
     sym (by-place name es ∙ ap (option_map (λ e. e.1)) (slice_get_past es (position_or_len (is_here name) es) past))
 
--- ---- what is written at its place
+-- ---- A write at the index of a name
 
 swapped : {A : Type 0} (a b : Bool) (x y rest : A) → (a ≡ true → b ≡ true → ⊥) → cond a x (cond b y rest) ≡ cond b y (cond a x rest)
 swapped true true x y rest apart = absurd (apart refl refl)
@@ -99,7 +99,7 @@ written name other given es place e w found same at =
     ap (λ (x : Bor (List ℕ) × Wanted). under (by_bytes (slice_set es place (x.0, w))) other) at
     ∙ exchanged name other es place e w p.0 p.1 p.2
 
--- names stay
+-- A write leaves the names strictly increasing.
 pub written_rising : (es : List (Bor (List ℕ) × Wanted)) (place : ℕ) (e : Bor (List ℕ) × Wanted) (w : Wanted) → IsStrictlySortedBy (slice_cmp nat_cmp) (texts_of es) → e ≡ get_or es place e → IsStrictlySortedBy (slice_cmp nat_cmp) (texts_of (slice_set es place (e.0, w)))
 written_rising es place e w rising at = subst (IsStrictlySortedBy (slice_cmp nat_cmp)) (sym (map-set_same (λ x. x.0.now) es place (e.0, w) e (ap (λ (x : Bor (List ℕ) × Wanted). x.0.now) at))) rising
 
@@ -108,6 +108,6 @@ put-by true address None other none same = same refl
 put-by true address (Some x) other none same = absurd cc
 put-by false address here other none same = refl
 
--- nothing is put under a name that isn't wanted
+-- A name that isn't wanted leaves the entries as they are.
 pub none_put : (name other : List ℕ) (address : Option ℕ) (entries : List (List ℕ × Wanted)) → None ≡ under entries name → under entries other ≡ cond (bytes_eq name other) (with_address address (under entries name)) (under entries other)
 none_put name other address entries none = put-by (bytes_eq name other) address (under entries name) (under entries other) (sym none) (λ same. ap (under entries) (sym (same-name name other same)) ∙ sym none)

@@ -1,4 +1,4 @@
--- What a reader gives, and the addresses in it.
+-- The text of a reader, and the addresses in it.
 use Rattle.std.proofs.Common.{◌≡◌, ◌≢◌, ℕ, ◌<◌, Bool, true, false, List, [], ◌∷◌, ◌++◌, length, drop, Option, None, Some, Bor, Result, Ok, Err, refl, ap, sym, ◌∙◌, subst, arith, append_assoc, append-nil, inl, inr}
 use Rattle.std.specs.Prelude.{◌==◌, IfErr, IfOk, IfSome, MatchBool, is_some}
 use Rattle.std.specs.Io.KnownBytes.{Consumes, IsAtEnd}
@@ -15,7 +15,7 @@ use Rattle.kernel_symbols.specs.declared.reading.Reading.{Reading}
 use Rattle.kernel_symbols.specs.declared.wanted.Addresses.{Addresses}
 use Rattle.kernel_symbols.specs.declared.wanted.Wanted.{Wanted}
 
--- ---- faults
+-- ---- Faults
 
 at_hand : (known : Option (List ℕ)) (failed : Bool) (old : Reading) (text : List ℕ) (e : SymbolsError) → HasAtHand known (λ bytes. Refuses old bytes e) → e ≢ error.OutOfMemory → HasRead text old → StandsAfter known failed old text e
 at_hand None failed old text e h other read = record {
@@ -35,7 +35,7 @@ pub hand_refused : {T : Type 0} (r : Result T SymbolsError) (known : Option (Lis
 hand_refused (Ok x) known failed old h = tt
 hand_refused (Err e) known failed old h = record { after = λ other text read. at_hand known failed old text e h other read }
 
--- any text of a reader, where its bytes aren't known none
+-- A text of a reader: its known bytes, or no bytes where they aren't known.
 some_text : Option (List ℕ) → List ℕ
 some_text None = []
 some_text (Some xs) = xs
@@ -60,7 +60,7 @@ failed_stands failed P text error.OutOfMemory h is = absurd h
 pub reader_failed : (known : Option (List ℕ)) (failed : Bool) (old : Reading) (x : SymbolsError) → IsAccess x → failed ≡ true → RefusesReader known failed old x
 reader_failed known failed old x access is = record { after = λ _ text read. record { more = some_text known; given = some_given known; stands = failed_stands failed (IsWantedIn (entries_of old)) (text ++ some_text known) x access is } }
 
--- ---- more of a text
+-- ---- More of a text
 
 takes_both : (one between other : Reading) (a b : List ℕ) → Takes one a between → Takes between b other → Takes one (a ++ b) other
 takes_both one between other a b p q = record {
@@ -107,7 +107,7 @@ refused_later known left failed one two e p refuses = record {
       };
 }
 
--- ---- the end
+-- ---- The end
 
 pub finished : (old : Reading) (found : Addresses) → length old.partial.items ≡ 0 → found.by_name ≡ entries_of old → Finishes old found
 finished old found none same = record {
@@ -139,7 +139,7 @@ cannot_finish old line e some is refuses = record {
       subst (λ (l : List (List ℕ)). LinesFault failed (IsWantedIn (entries_of old)) l e) (sym all) (refuses.stands other failed read.lines [] read.settled);
 }
 
--- ---- the addresses
+-- ---- The addresses
 
 true_false : true ≡ false → ⊥
 true_false h = absurd cc
@@ -194,7 +194,7 @@ fault_last names known failed one two e other wanted begun reads cannot = record
   stands = wanted_as (IsWantedIn (entries_of two)) (IsAmong names) (λ name h. sym (reads.taken.names.same name ∙ wanted.among name) ∙ h) failed reads.text e (cannot.stands other failed reads.text (reads.taken.after [] begun));
 }
 
--- ---- answers
+-- ---- Results
 
 pub ok_found : (r : Result Addresses SymbolsError) (names : List (Bor (List ℕ))) (known : Option (List ℕ)) (one two : Reading) → AreWanted names (entries_of one) → HasRead [] one → ReadsWhole known one two → IfOk r (Finishes two) → IfOk r (AreAddresses names known)
 ok_found (Ok found) names known one two wanted begun reads finishes = all_found names known one two found wanted begun reads finishes
@@ -204,7 +204,7 @@ pub err_last : (r : Result Addresses SymbolsError) (names : List (Bor (List ℕ)
 err_last (Ok found) names known failed one two wanted begun reads cannot = tt
 err_last (Err e) names known failed one two wanted begun reads cannot = λ other. fault_last names known failed one two e other wanted begun reads cannot
 
--- a turn of the reading
+-- One iteration of the reading.
 pub turned : (is_more failed : Bool) (known between left : Option (List ℕ)) (one two three : Reading) → ReadsSome known between one two → (is_more ≡ true → ReadsSome between left two three) → (is_more ≡ false → (three ≡ two) × IsAtEnd between) → failed ≡ false
     → MatchBool is_more (ReadsSome known left one three) (ReadsWhole known one three × (failed ≡ false))
 turned true failed known between left one two three before more end sound = reads_more known between left one two three before (more refl)

@@ -1,4 +1,4 @@
--- What lines say of a name.
+-- The addresses that lines give for a name.
 use Rattle.std.proofs.Common.{◌≡◌, ℕ, Bool, true, false, cond, ◌||◌, List, [], ◌∷◌, ◌++◌, Option, None, Some, Ok, Err, refl, ap, sym, ◌∙◌, subst, arith, append-nil}
 use Rattle.std.specs.Prelude.{◌==◌, IfSome, is_some, slice_get, is_none}
 use Rattle.std.specs.List.{list_any}
@@ -42,7 +42,7 @@ pub same_bytes : (name : List ℕ) → bytes_eq name name ≡ true
 same_bytes [] = refl
 same_bytes (x ∷ xs) = rw (eq_self x) (same_bytes xs)
 
--- what is said in one more line comes at the end
+-- The addresses of one more line follow those of the lines before it.
 pub said_more : (name : List ℕ) (lines more : List (List ℕ)) (line : List ℕ) → said name (lines ++ line ∷ more) ≡ said name lines ++ (said_in name line ++ said name more)
 said_more name lines more line = flat_map-append (said_in name) lines (line ∷ more)
 
@@ -60,7 +60,7 @@ none_before : (xs : List ℕ) → None ≡ slice_get xs 0 → xs ≡ []
 none_before [] h = refl
 none_before (x ∷ xs) h = absurd cc
 
--- an address that is met for the first time
+-- The first address that is found.
 settled_first : (s : List (Option ℕ)) (n : ℕ) → (n == 0) ≡ false → IsSettled s None → IsSettled (s ++ Some n ∷ []) (Some n)
 settled_first s n more before =
     let none : addresses_in s ≡ [] = none_before (addresses_in s) before.first in
@@ -79,7 +79,7 @@ settled_first s n more before =
         by true h = refl
         by false h = h
 
--- an address that is met again
+-- An address that is found again.
 settled_again : (s : List (Option ℕ)) (n first : ℕ) → (n == 0) ≡ false → first ≡ n → IsSettled s (Some first) → IsSettled (s ++ Some n ∷ []) (Some first)
 settled_again s n first more is before =
     let shows : shown (Some n) ++ [] ≡ n ∷ [] = rw more refl in
@@ -100,7 +100,7 @@ settled_again s n first more is before =
         let k : (n == other) ≡ true = here (n == other) (subst (λ (b : Bool). (b || list_any (λ a. a == other) (n ∷ [])) ≡ true) known h) in
         ap Some (is ∙ eq_is n other k)
 
--- address 0 says nothing
+-- Address 0 gives no address.
 settled_zero : (s : List (Option ℕ)) (n : ℕ) (address : Option ℕ) → (n == 0) ≡ true → IsSettled s address → IsSettled (s ++ Some n ∷ []) address
 settled_zero s n address is_zero before =
     let shows : shown (Some n) ++ [] ≡ [] = rw is_zero refl in
@@ -111,7 +111,7 @@ settled_zero s n address is_zero before =
       same = λ other h. before.same other (subst (λ (l : List ℕ). list_any (λ a. a == other) l ≡ true) all h);
     }
 
--- one more address is settled
+-- One more address is settled.
 pub settled_more : (w : Wanted) (s : List (Option ℕ)) (x address : Option ℕ) → IsSettled s w.address → Ok address ≡ settled w x → IsSettled (s ++ x ∷ []) address
 settled_more w s None address before is = absurd cc
 settled_more w s (Some n) address before is = at (n == 0) refl is
@@ -134,7 +134,7 @@ settled_more w s (Some n) address before is = at (n == 0) refl is
         rw here (settled_zero s n w.address none before)
     at false more is = beside w.address refl more is
 
--- why an address isn't settled
+-- If one more address isn't settled, the fault holds for all of the lines.
 pub refused_more : (w : Wanted) (s more : List (Option ℕ)) (x : Option ℕ) (e : SymbolsError) → IsSettled s w.address → Err e ≡ settled w x → (failed : Bool) (IsWanted : List ℕ → Type 0) (lines : List (List ℕ)) → IsWanted w.name.now → said w.name.now lines ≡ s ++ x ∷ more → LinesFault failed IsWanted lines e
 refused_more w s more None e before is failed IsWanted lines wanted all =
     let here : e ≡ UnreadableAddress w.name = cc in
@@ -167,7 +167,7 @@ refused_more w s more (Some n) e before is failed IsWanted lines wanted all = at
     at true none is = absurd cc
     at false other is = beside w.address refl other is
 
--- ---- a line
+-- ---- A line
 
 foreign_more : (lines : List (List ℕ)) (line : List ℕ) → is_utf8 line ≡ true → list_any is_foreign lines ≡ false → list_any is_foreign (lines ++ line ∷ []) ≡ false
 foreign_more lines line text before = list_any-append is_foreign lines (line ∷ []) ∙ or_false _ _ before (rw text refl)
@@ -178,7 +178,7 @@ unsaid name lines line (Some w) nothing before =
     let same : said name (lines ++ line ∷ []) ≡ said name lines = said_one name lines line ∙ ap (λ (l : List (Option ℕ)). said name lines ++ l) nothing ∙ append-nil (said name lines) in
     (before.0, subst (λ (s : List (Option ℕ)). IsSettled s w.address) (sym same) before.1)
 
--- a line of fewer than three words says nothing
+-- A line of fewer than three words gives no address.
 pub short_line : (entries : List (List ℕ × Wanted)) (line : List ℕ) → is_utf8 line ≡ true → first_and_third (words_of line) ≡ None → TakesLine entries entries line
 short_line entries line text short = record {
   settled = λ lines before. record {
@@ -188,7 +188,7 @@ short_line entries line text short = record {
   names = record { same = λ name. refl };
 }
 
--- a line of a name that isn't wanted
+-- A line of a name that isn't wanted.
 pub other_line : (entries : List (List ℕ × Wanted)) (line word name : List ℕ) → is_utf8 line ≡ true → first_and_third (words_of line) ≡ Some (word, name) → under entries name ≡ None → TakesLine entries entries line
 other_line entries line word name text says unwanted = record {
   settled = λ lines before. record {
@@ -205,7 +205,7 @@ other_line entries line word name text says unwanted = record {
         rw none tt
     at other lines false equal before = unsaid other lines line (under entries other) (ap (said_by other) says ∙ ap (λ (b : Bool). cond b (address_in word ∷ []) []) equal) before
 
--- a line of a wanted name
+-- A line of a wanted name.
 pub wanted_line : (old new : List (List ℕ × Wanted)) (line word name : List ℕ) (w : Wanted) (address : Option ℕ) → is_utf8 line ≡ true → first_and_third (words_of line) ≡ Some (word, name) → under old name ≡ Some w → Ok address ≡ settled w (address_in word) → ((other : List ℕ) → under new other ≡ cond (bytes_eq name other) (with_address address (under old name)) (under old other)) → TakesLine old new line
 wanted_line old new line word name w address text says known is put = record {
   settled = λ lines before. record {
@@ -233,7 +233,7 @@ wanted_line old new line word name w address text says known is put = record {
         equal_here here = ap (bytes_eq name) here ∙ equal
     at other lines false equal before settled_before = unsaid other lines line (under old other) (ap (said_by other) says ∙ ap (λ (b : Bool). cond b (address_in word ∷ []) []) equal) before
 
--- a line of a wanted name that is refused
+-- A line of a wanted name that is refused.
 pub refused_line : (old : List (List ℕ × Wanted)) (line word name : List ℕ) (w : Wanted) (e : SymbolsError) → first_and_third (words_of line) ≡ Some (word, name) → under old name ≡ Some w → Err e ≡ settled w (address_in word) → bytes_eq name name ≡ true → RefusesLine old line e
 refused_line old line word name w e says known is equal = record {
   stands = λ _ failed lines more before.

@@ -1,4 +1,4 @@
--- Lines and the text that they stand in.
+-- A text and its lines.
 use Rattle.std.proofs.Common.{◌≡◌, ℕ, zero, suc, ◌+◌, ◌<◌, ◌≤◌, Bool, true, false, ◌||◌, List, [], ◌∷◌, ◌++◌, length, take, drop, get_or, zero-le, Result, Ok, Err, Option, None, Some, refl, ap, sym, ◌∙◌, subst, arith, append_assoc, append-nil}
 use Rattle.std.specs.Prelude.{◌==◌, MatchBool, MatchOption}
 use Rattle.std.specs.Str.{IsAscii, IsNotAscii}
@@ -24,7 +24,7 @@ or_neither : (a b : Bool) → a ≡ false → b ≡ false → (a || b) ≡ false
 or_neither true b h k = absurd cc
 or_neither false b h k = k
 
--- ---- lines of a text
+-- ---- Lines of a text
 
 line_broken : (line rest : List ℕ) → IsUnbroken line → lines_of (line ++ 10 ∷ rest) ≡ line ∷ lines_of rest
 unfolding lines_of
@@ -54,7 +54,7 @@ one_line (x ∷ y ∷ line) whole some =
     let both = or_both (is_break x) (list_any is_break (y ∷ line)) whole in
     rw both.0 (ap (onto_first x) (one_line (y ∷ line) both.1 (omega arith)))
 
--- ---- lines one after another
+-- ---- Lines one after another
 
 text_more : (one other : List (List ℕ)) → text_of (one ++ other) ≡ text_of one ++ text_of other
 text_more [] other = refl
@@ -67,7 +67,7 @@ unbroken_more : (lines : List (List ℕ)) (line : List ℕ) → AreUnbroken line
 unbroken_more [] line whole one = (one, tt)
 unbroken_more (l ∷ lines) line whole one = (whole.0, unbroken_more lines line whole.1 one)
 
--- the text where the end of a line comes
+-- The text when a line ends.
 text_ended : (text partial end : List ℕ) (lines : List (List ℕ)) → text ≡ text_of lines ++ partial → text ++ (end ++ 10 ∷ []) ≡ text_of (lines ++ (partial ++ end) ∷ [])
 text_ended text partial end lines begun =
     ap (λ (l : List ℕ). l ++ (end ++ 10 ∷ [])) begun
@@ -75,7 +75,7 @@ text_ended text partial end lines begun =
     ∙ ap (λ (l : List ℕ). text_of lines ++ l) (sym (append_assoc partial end (10 ∷ [])))
     ∙ sym (text_more lines ((partial ++ end) ∷ []))
 
--- ---- the end of a line
+-- ---- The end of a line
 
 pub ended : (old new : Reading) (end line : List ℕ) → IsUnbroken end → line ≡ old.partial.items ++ end → new.partial.items ≡ [] → TakesLine (entries_of old) (entries_of new) line → Takes old (end ++ 10 ∷ []) new
 ended old new end line whole is none takes = record {
@@ -101,7 +101,7 @@ end_refused old end line e whole is refuses = record {
       rw all (refuses.stands other failed before.lines (lines_of more) before.settled);
 }
 
--- ---- the first NL
+-- ---- The first NL
 
 not_true : (b : Bool) → (b ≡ true → ⊥) → b ≡ false
 not_true true h = absurd (h refl)
@@ -137,7 +137,7 @@ first_break bytes (Some at) h =
       rw next (parted bytes at h.0.high (eq_is (get_or bytes at 0) h.1)),
     )
 
--- ---- some bytes of a text
+-- ---- Some bytes of a text
 
 pub nothing_before : (partial end : List ℕ) → length partial ≡ 0 → (end ≡ partial ++ end) × (partial ≡ [])
 nothing_before [] end h = (refl, refl)
@@ -151,7 +151,7 @@ pub end_refused_err : {T : Type 0} (r : Result T SymbolsError) (old : Reading) (
 end_refused_err (Ok x) old end line whole is refuses = tt
 end_refused_err (Err e) old end line whole is refuses = end_refused old end line e whole is refuses
 
--- the same names are wanted
+-- `SameNames` is transitive.
 same_again : (one between other : Reading) → SameNames (entries_of one) (entries_of between) → SameNames (entries_of between) (entries_of other) → SameNames (entries_of one) (entries_of other)
 same_again one between other p q = record { same = λ name. q.same name ∙ p.same name }
 
@@ -163,7 +163,7 @@ takes_none old bytes = record {
   names = record { same = λ name. refl };
 }
 
--- one more line is taken
+-- One more line is taken.
 pub takes_more : (old between new : Reading) (bytes rest line more : List ℕ) → TakesAllBut old bytes rest between → rest ≡ line ++ 10 ∷ more → Takes between (line ++ 10 ∷ []) new → TakesAllBut old bytes more new
 takes_more old between new bytes rest line more before split takes = record {
   taken = before.taken ++ (line ++ 10 ∷ []);
@@ -172,7 +172,7 @@ takes_more old between new bytes rest line more before split takes = record {
   names = same_again old between new before.names takes.names;
 }
 
--- the rest begins a line
+-- The rest begins a line that doesn't end yet.
 pub takes_rest : (old between new : Reading) (bytes rest : List ℕ) → TakesAllBut old bytes rest between → IsUnbroken rest → entries_of new ≡ entries_of between → new.partial.items ≡ between.partial.items ++ rest → Takes old bytes new
 takes_rest old between new bytes rest before whole same grown = record {
   after = λ text read.
@@ -190,17 +190,17 @@ takes_rest old between new bytes rest before whole same grown = record {
   names = rw same before.names;
 }
 
--- ---- bytes of ASCII
+-- ---- Bytes of ASCII
 
 ascii_rest : (bytes taken rest : List ℕ) → IsAscii bytes → bytes ≡ taken ++ rest → IsAscii rest
 ascii_rest bytes taken rest ascii split = subst IsAscii (ap (drop (length taken)) split ∙ drop-append_seam taken rest) (IsAscii-drop bytes (length taken) ascii)
 
--- each line of them is ASCII
+-- Each line of bytes of ASCII is ASCII.
 pub ascii_line : (b : Bool) (bytes taken rest : List ℕ) (at : ℕ) → MatchBool b (IsAscii bytes) (IsNotAscii bytes) → bytes ≡ taken ++ rest → b ≡ true → IsAscii (take at rest)
 ascii_line true bytes taken rest at ascii split is = IsAscii-take rest at (ascii_rest bytes taken rest ascii split)
 ascii_line false bytes taken rest at ascii split is = absurd cc
 
--- ---- a fault among other names
+-- ---- A fault among other names
 
 pub wanted_as : (P Q : List ℕ → Type 0) → ((name : List ℕ) → P name → Q name) → (failed : Bool) (text : List ℕ) (e : SymbolsError) → TextFault failed P text e → TextFault failed Q text e
 wanted_as P Q from failed text (error.Access e) h = h
@@ -208,7 +208,7 @@ wanted_as P Q from failed text (error.UnreadableAddress name) h = (from name.now
 wanted_as P Q from failed text (error.Ambiguous name first second) h = (from name.now h.0, h.1)
 wanted_as P Q from failed text error.OutOfMemory h = h
 
--- a line is refused after others
+-- A line is refused after other lines.
 pub refused_after : (old between : Reading) (bytes rest line more : List ℕ) (e : SymbolsError) → TakesAllBut old bytes rest between → rest ≡ line ++ 10 ∷ more → Refuses between (line ++ 10 ∷ []) e → Refuses old bytes e
 refused_after old between bytes rest line more e before split refuses = record {
   stands = λ other failed text later read.

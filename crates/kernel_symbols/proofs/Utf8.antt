@@ -8,7 +8,7 @@ not_true : (b : Bool) → (b ≡ true → ⊥) → b ≡ false
 not_true true h = absurd (h refl)
 not_true false h = refl
 
--- bytes of ASCII are
+-- Bytes of ASCII are UTF-8.
 pub ascii_text : (bytes : List ℕ) → IsAscii bytes → true ≡ is_utf8 bytes
 ascii_text bytes ascii = sym (is_utf8-from_IsUtf8 bytes (IsUtf8-from_ascii bytes ascii))
 

@@ -13,7 +13,7 @@ use Rattle.kernel_symbols.specs.Texts.{is_among}
 use Rattle.kernel_symbols.specs.declared.error.SymbolsError.{SymbolsError}
 use Rattle.kernel_symbols.specs.declared.wanted.Wanted.{Wanted}
 
--- an error that is passed on
+-- An error that is passed on.
 pub passed_on : {T : Type 0} (result : Result T SymbolsError) (e : SymbolsError) (P : SymbolsError → Type 0) → IsErrAnd result (λ f. f ≡ e) → P e → IfErr result P
 passed_on (Ok x) e P h p = tt
 passed_on (Err f) e P h p = subst P (sym h) p
@@ -24,13 +24,13 @@ put_under name other address w old new known put = put ∙ ap (λ (o : Option Wa
 pub entered_under : (name key other : List ℕ) (w old new : Option Wanted) → key ≡ name → new ≡ cond (bytes_eq key other) w old → new ≡ cond (bytes_eq name other) w old
 entered_under name key other w old new same put = put ∙ ap (λ (k : List ℕ). cond (bytes_eq k other) w old) same
 
--- ---- marks
+-- ---- Marks
 
 set_there : (marks : List Bool) (at other : ℕ) → at < length marks → (other ≡ at) ⊎ (get_or marks other false ≡ true) → get_or (set marks at true) other false ≡ true
 set_there marks at other within (inl same) = rw same (get_or-set_same marks at true false within)
 set_there marks at other within (inr there) = elim (cases_eq other at) [ inl same ↦ rw same (get_or-set_same marks at true false within) | inr apart ↦ get_or-set_other marks at other true false apart ∙ there ]
 
--- a name is marked once it is wanted
+-- Adding a wanted name and its mark leaves each wanted name marked.
 pub marked_more : (name : List ℕ) (w : Wanted) (marks : List Bool) (old new : List (List ℕ × Wanted)) (at : ℕ) → at ≡ mark name → at < 256 → ((other : List ℕ) → under new other ≡ cond (bytes_eq name other) (Some w) (under old other)) → AreMarked old marks → AreMarked new (set marks at true)
 marked_more name w marks old new at marked within put before = record {
   long = length-set marks at true ∙ before.long;
@@ -41,7 +41,7 @@ marked_more name w marks old new at marked within put before = record {
     by other true equal known = inl (ap mark (sym (same_text name other (sym equal))) ∙ sym marked)
     by other false equal known = inr (before.each other known)
 
--- an address is put in place under a wanted name
+-- Setting the address of a wanted name leaves each wanted name marked.
 pub marked_still : (name : List ℕ) (was w : Wanted) (old new : List (List ℕ × Wanted)) (marks : List Bool) → Some was ≡ under old name → ((other : List ℕ) → under new other ≡ cond (bytes_eq name other) (Some w) (under old other)) → AreMarked old marks → AreMarked new marks
 marked_still name was w old new marks here put before = record { long = before.long; each = λ other known. before.each other (by other (bytes_eq name other) refl (sym (ap is_some (put other)) ∙ known)) }
   where
@@ -52,9 +52,9 @@ marked_still name was w old new marks here put before = record { long = before.l
 pub none_marked : (marks : List Bool) → length marks ≡ 256 → AreMarked [] marks
 none_marked marks long = record { long = long; each = λ name known. absurd cc }
 
--- ---- the names, one after another
+-- ---- The names, one after another
 
--- nothing is said by no lines
+-- Entries without addresses are the entries after an empty text.
 pub begun : (entries : List (List ℕ × Wanted)) (partial : List ℕ) → partial ≡ [] → HasNoAddress entries → IsAfter [] entries partial
 begun entries partial none fresh = record {
   lines = [];

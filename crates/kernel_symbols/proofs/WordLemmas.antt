@@ -1,4 +1,4 @@
--- Words and the bytes that they stand in.
+-- Words, and the bytes that contain them.
 use Rattle.std.proofs.Common.{◌≡◌, ℕ, zero, suc, ◌-◌, ◌<◌, ◌≤◌, Bool, true, false, cond, List, [], ◌∷◌, length, take, drop, zero-le, refl, ap, sym, ◌∙◌, arith, inl, inr}
 use Rattle.std.specs.Prelude.{filter, slice_index, ◌==◌}
 use Rattle.std.proofs.lemmas.Bool.{cases_lt}
@@ -9,7 +9,7 @@ use Rattle.kernel_symbols.specs.Words.{ArePlain, is_ascii_space, is_plain, words
 plain_byte : (b : ℕ) → is_plain b ≡ true → (is_ascii_space b ≡ false) × ((b == 194) ≡ false) × ((b == 225) ≡ false) × ((b == 226) ≡ false) × ((b == 227) ≡ false)
 plain_byte b plain = grind (arith, nat_tests)
 
--- a plain byte begins no white space
+-- No white space begins at a plain byte.
 no_space : (bytes : List ℕ) → is_plain (slice_index bytes 0) ≡ true → space_len bytes ≡ 0
 unfolding space_len
 no_space bytes plain =
@@ -24,7 +24,7 @@ no_space_at bytes k plain =
 pub front_plain : (bytes : List ℕ) (n : ℕ) → ArePlain bytes 0 n → IsPlain n bytes
 front_plain bytes n plain k within = no_space_at bytes k (plain.each k zero-le within)
 
--- a block that begins among plain bytes
+-- Two ranges of plain bytes that overlap or meet are one range of plain bytes.
 pub plain_last : (bytes : List ℕ) (len last end : ℕ) → last ≤ len → ArePlain bytes 0 len → ArePlain bytes last end → ArePlain bytes 0 end
 plain_last bytes len last end before front back = record {
   each = λ k from to. elim (cases_lt k len) [ inl early ↦ front.each k from early | inr late ↦ back.each k (omega (arith, before, late)) to ];
@@ -35,7 +35,7 @@ plain_more bytes start between end front back = record {
   each = λ k from to. elim (cases_lt k between) [ inl early ↦ front.each k from early | inr late ↦ back.each k late to ];
 }
 
--- the rest of a white space character is passed over
+-- The remaining bytes of a white space character are skipped.
 skipped : (n : ℕ) (xs : List ℕ) → pieces_after n xs ≡ pieces_after 0 (drop n xs)
 unfolding pieces_after
 skipped zero [] = refl
@@ -58,7 +58,7 @@ at_space [] n some is more = absurd (omega arith)
 at_space (x ∷ xs) zero some is more = absurd (more refl)
 at_space (x ∷ xs) (suc n) some is more = sym (after_space x xs n is)
 
--- words stay where white space at the front is passed over
+-- Skipping white space at the front leaves the words as they are.
 pub words_past : (bytes rest : List ℕ) (n : ℕ) → 0 < length bytes → n ≡ space_len bytes → (n ≡ 0 → ⊥) → rest ≡ drop n bytes → words_of rest ≡ words_of bytes
 words_past bytes rest n some is more left = ap words_of left ∙ at_space bytes n some (sym is) more
 
@@ -84,7 +84,7 @@ some_word [] n some within ends front = absurd (omega arith)
 some_word (x ∷ xs) zero some within ends front = absurd (ends front)
 some_word (x ∷ xs) (suc n) some within ends front = refl
 
--- bytes that begin with no white space begin with a word
+-- Bytes that don't begin with white space begin with a word.
 pub words_split : (bytes : List ℕ) (n : ℕ) → 0 < length bytes → space_len bytes ≡ 0 → n ≤ length bytes → IsPlain n bytes → EndsWord (drop n bytes) → words_of bytes ≡ take n bytes ∷ words_of (drop n bytes)
 words_split bytes n some front within plain ends =
     let word : is_word (take n bytes) ≡ true = some_word bytes n some within ends front in

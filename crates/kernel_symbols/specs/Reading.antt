@@ -1,4 +1,4 @@
--- How far a text of kernel symbols was read.
+-- The progress of reading a text of kernel symbols.
 use Rattle.std.specs.Prelude.{◌≡◌, ◌≢◌, ℕ, Bool, true, false, List, [], ◌∷◌, ◌++◌, Option, None, Some, IfSome, IsSome, is_some, slice_get}
 use Rattle.std.specs.Borrow.{Bor}
 use Rattle.std.specs.Io.KnownBytes.{Consumes}
@@ -15,7 +15,7 @@ use Rattle.kernel_symbols.specs.declared.wanted.Wanted.{Wanted}
 abbrev pub IsWantedIn : List (List ℕ × Wanted) → List ℕ → Type 0
 IsWantedIn entries name = IsSome (under entries name)
 
--- the address is the only one that lines say
+-- The address is the only one that the lines give.
 pub record IsSettled (said_of : List (Option ℕ)) (address : Option ℕ) : Type 0 where
   pub readable : has_unreadable said_of ≡ false
   pub first : address ≡ slice_get (addresses_in said_of) 0
@@ -24,13 +24,13 @@ pub record IsSettled (said_of : List (Option ℕ)) (address : Option ℕ) : Type
 abbrev pub IsSettledAs : List ℕ → List (List ℕ) → Wanted → Type 0
 IsSettledAs name lines w = (w.name.now ≡ name) × IsSettled (said name lines) w.address
 
--- each wanted name has the address that these lines say
+-- Each wanted name has the address that these lines give.
 pub record AreSettled (entries : List (List ℕ × Wanted)) (lines : List (List ℕ))
     : Type 0 where
   pub texts : list_any is_foreign lines ≡ false
   pub found : (name : List ℕ) → IfSome (under entries name) (IsSettledAs name lines)
 
--- these names are wanted, and no others
+-- The wanted names are exactly these.
 pub record AreWanted (names : List (Bor (List ℕ))) (entries : List (List ℕ × Wanted))
     : Type 0 where
   pub among : (name : List ℕ) → is_some (under entries name) ≡ is_among names name
@@ -39,8 +39,8 @@ pub record HasNoAddress (entries : List (List ℕ × Wanted)) : Type 0 where
   pub none : (name : List ℕ)
       → IfSome (under entries name) (λ w. (w.name.now ≡ name) × (w.address ≡ None))
 
--- the address of a wanted name after a line that says this one: the first is kept, and another is
--- refused
+-- The address of a wanted name after a line with this address. The first address is kept, and a
+-- different one is refused.
 abbrev pub settled_beside : Wanted → ℕ → Option ℕ → Result (Option ℕ) SymbolsError
 settled_beside w address None = Ok (Some address)
 settled_beside w address (Some first) =
@@ -50,16 +50,16 @@ abbrev pub settled : Wanted → Option ℕ → Result (Option ℕ) SymbolsError
 settled w None = Err (UnreadableAddress w.name)
 settled w (Some address) = if address == 0 then Ok w.address else settled_beside w address w.address
 
--- the same names are wanted
+-- The wanted names are the same.
 pub record SameNames (old new : List (List ℕ × Wanted)) : Type 0 where
   pub same : (name : List ℕ) → is_some (under new name) ≡ is_some (under old name)
 
--- one more line is taken
+-- One more line is taken.
 pub record TakesLine (old new : List (List ℕ × Wanted)) (line : List ℕ) : Type 0 where
   pub settled : (lines : List (List ℕ)) → AreSettled old lines → AreSettled new (lines ++ line ∷ [])
   pub names : SameNames old new
 
--- one more line is refused: the fault stands whatever lines come after it
+-- One more line is refused. The fault holds whatever lines follow.
 pub record RefusesLine (old : List (List ℕ × Wanted)) (line : List ℕ) (e : SymbolsError)
     : Type 0 where
   pub stands : e ≢ OutOfMemory
@@ -70,7 +70,7 @@ pub record RefusesLine (old : List (List ℕ × Wanted)) (line : List ℕ) (e : 
 abbrev pub is_break : ℕ → Bool
 is_break b = b == 10
 
--- a line without its NL
+-- A line without NL.
 abbrev pub IsUnbroken : List ℕ → Type 0
 IsUnbroken line = list_any is_break line ≡ false
 
@@ -78,12 +78,12 @@ abbrev pub AreUnbroken : List (List ℕ) → Type 0
 AreUnbroken [] = Unit {0}
 AreUnbroken (line ∷ lines) = IsUnbroken line × AreUnbroken lines
 
--- the text of lines that all end in an NL
+-- The text of lines that each end in an NL.
 abbrev pub text_of : List (List ℕ) → List ℕ
 text_of [] = []
 text_of (line ∷ lines) = line ++ 10 ∷ text_of lines
 
--- so much of a text was taken: lines, and the beginning of another
+-- The text that was taken so far: lines, and the beginning of another line.
 pub record IsAfter (text : List ℕ) (entries : List (List ℕ × Wanted)) (partial : List ℕ)
     : Type 0 where
   pub lines : List (List ℕ)
@@ -98,7 +98,7 @@ entries_of r = r.by_name
 abbrev pub HasRead : List ℕ → Reading → Type 0
 HasRead text r = IsAfter text r.by_name r.partial.items
 
--- of some bytes all but the rest are taken
+-- All but the rest of some bytes is taken.
 pub record TakesAllBut (old : Reading) (bytes rest : List ℕ) (new : Reading) : Type 0 where
   pub taken : List ℕ
   pub split : bytes ≡ taken ++ rest
@@ -115,19 +115,19 @@ pub record Refuses (old : Reading) (bytes : List ℕ) (e : SymbolsError) : Type 
       → HasRead text old
       → TextFault failed (IsWantedIn (entries_of old)) ((text ++ bytes) ++ more) e
 
--- the reader's bytes are lost so far, and taken
+-- The bytes that the reader lost so far are taken.
 pub record ReadsSome (known left : Option (List ℕ)) (old new : Reading) : Type 0 where
   pub text : List ℕ
   pub lost : Consumes known left text
   pub taken : Takes old text new
 
--- the reader's whole text is taken
+-- The whole text of the reader is taken.
 pub record ReadsWhole (known : Option (List ℕ)) (old new : Reading) : Type 0 where
   pub text : List ℕ
   pub given : IsGiven known text
   pub taken : Takes old text new
 
--- a fault stands in what was read and what the reader gives
+-- A fault holds for the text that was read followed by the text that the reader gives.
 pub record StandsAfter (known : Option (List ℕ)) (failed : Bool) (old : Reading) (text : List ℕ)
     (e : SymbolsError) : Type 0 where
   pub more : List ℕ
@@ -141,7 +141,7 @@ pub record RefusesReader (known : Option (List ℕ)) (failed : Bool) (old : Read
       → HasRead text old
       → StandsAfter known failed old text e
 
--- what was read is the whole text
+-- The text that was read is the whole text.
 pub record Finishes (old : Reading) (found : Addresses) : Type 0 where
   pub settled : (text : List ℕ)
       → HasRead text old
@@ -154,19 +154,19 @@ pub record CannotFinish (old : Reading) (e : SymbolsError) : Type 0 where
       → HasRead text old
       → TextFault failed (IsWantedIn (entries_of old)) text e
 
--- why the addresses of these names can't be had from a reader with these bytes, which failed or
--- didn't: the fault stands in its text
+-- The reason why the addresses of these names can't be read from a reader with these bytes, which
+-- failed or didn't fail: a fault of its text.
 pub record ReaderFault (names : List (Bor (List ℕ))) (known : Option (List ℕ)) (failed : Bool)
     (e : SymbolsError) : Type 0 where
   pub text : List ℕ
   pub given : IsGiven known text
   pub stands : TextFault failed (IsAmong names) text e
 
--- the address that was found under a name
+-- The address that was found under a name.
 abbrev pub address_under : Addresses → List ℕ → Option ℕ
 address_under a name = option_and_then (λ w. w.address) (under a.by_name name)
 
--- the reader's text has no fault, and each of the names has the address that it says
+-- The text of the reader has no fault, and each of the names has the address that the text gives.
 pub record AreAddresses (names : List (Bor (List ℕ))) (known : Option (List ℕ)) (found : Addresses)
     : Type 0 where
   pub text : List ℕ

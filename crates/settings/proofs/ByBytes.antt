@@ -1,4 +1,4 @@
--- An entry of a map whose keys are names, by their bytes.
+-- An entry of a map whose keys are names, by the bytes of the name.
 use Rattle.std.proofs.Common.{◌≡◌, ℕ, Bool, true, false, cond, List, [], ◌∷◌, Option, Some, refl, ap, ◌∙◌}
 use Rattle.std.specs.Prelude.{String, string_bytes}
 use Rattle.std.specs.String.{string_cmp}
@@ -25,7 +25,7 @@ chosen : {V : Type 0} (test : Bool) (v : V) (a b : Option V) → a ≡ b → con
 chosen true v a b same = refl
 chosen false v a b same = same
 
--- what stands under a name
+-- The value under a name.
 pub by_bytes-lookup : {Y V : Type 0} (name : List ℕ) (entries : List (String Y × V)) → lookup (is_at (λ key. slice_cmp nat_cmp name (string_bytes key))) entries ≡ lookup (is_at (slice_cmp nat_cmp name)) (by_bytes entries)
 by_bytes-lookup name [] = refl
 by_bytes-lookup {Y} {V} name (e ∷ es) = chosen (is_eq (slice_cmp nat_cmp name (string_bytes e.0))) e.1 (lookup (is_at (λ key. slice_cmp nat_cmp name (string_bytes key))) es) (lookup (is_at (slice_cmp nat_cmp name)) (by_bytes es)) (by_bytes-lookup name es)

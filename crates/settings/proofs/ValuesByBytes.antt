@@ -1,4 +1,4 @@
--- An entry of a map whose keys are names.
+-- An entry of a map whose keys are names, and the order of the names.
 use Rattle.std.proofs.Common.{◌≡◌, ℕ, Bool, true, false, cond, List, [], ◌∷◌, map, Option, Some, refl, ap, ◌∙◌}
 use Rattle.std.specs.Prelude.{String, string_bytes}
 use Rattle.std.specs.String.{string_cmp}
@@ -23,7 +23,7 @@ by_bytes-insert {Y} {V} (e ∷ es) name value =
     by_bytes-match (slice_cmp nat_cmp (string_bytes name) (string_bytes e.0)) ((name, value) ∷ e ∷ es) ((e.0, value) ∷ es) (e ∷ insert_entry string_cmp es name value)
     ∙ ap (λ (rest : List (List ℕ × V)). match_ordering (slice_cmp nat_cmp (string_bytes name) (string_bytes e.0)) ((string_bytes name, value) ∷ (string_bytes e.0, e.1) ∷ by_bytes es) ((string_bytes e.0, value) ∷ by_bytes es) ((string_bytes e.0, e.1) ∷ rest)) (by_bytes-insert es name value)
 
--- each name is below those after it
+-- If a name is less than the name of each entry, it is less than the bytes of each name.
 below : {Y V : Type 0} (name : List ℕ) (entries : List (String Y × V)) → AllByRecursion (λ y. slice_cmp nat_cmp name (string_bytes y) ≡ Less) (map (λ e. e.0) entries) → AllByRecursion (λ y. slice_cmp nat_cmp name y ≡ Less) (map (λ e. e.0) (by_bytes entries))
 below name [] h = h
 below name (e ∷ es) h = (h.0, below name es h.1)
@@ -37,7 +37,7 @@ chosen : {V : Type 0} (test : Bool) (v : V) (a b : Option V) → a ≡ b → con
 chosen true v a b same = refl
 chosen false v a b same = same
 
--- what stands under a name
+-- The value under a name.
 pub by_bytes-lookup : {Y V : Type 0} (name : List ℕ) (entries : List (String Y × V)) → lookup (is_at (λ key. slice_cmp nat_cmp name (string_bytes key))) entries ≡ lookup (is_at (slice_cmp nat_cmp name)) (by_bytes entries)
 by_bytes-lookup name [] = refl
 by_bytes-lookup {Y} {V} name (e ∷ es) = chosen (is_eq (slice_cmp nat_cmp name (string_bytes e.0))) e.1 (lookup (is_at (λ key. slice_cmp nat_cmp name (string_bytes key))) es) (lookup (is_at (slice_cmp nat_cmp name)) (by_bytes es)) (by_bytes-lookup name es)
