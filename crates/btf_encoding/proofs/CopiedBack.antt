@@ -1,4 +1,4 @@
--- A record that is copied is read back.
+-- Reading back a record that was copied.
 use Rattle.std.proofs.Common.{◌≡◌, ℕ, ◌≤◌, List, [], ◌∷◌, Option, true, drop, length, take, refl, sym, ap, ◌∙◌, arith, length-drop}
 use Rattle.btf_encoding.specs.Records.{HasRecord, ReadsBack, ReadsSame, Spells, kind_at, record_bytes, record_len, type_as, type_in, with_fallback, without_fallback, words_of}
 use Rattle.btf_encoding.specs.Rewriting.{is_kept}
@@ -13,7 +13,7 @@ use Rattle.btf_records.specs.declared.types.BtfType.{BtfType}
 use Rattle.btf_records.specs.declared.types.BtfType.TheVariants as types
 use Rattle.btf_records.specs.declared.words.Endianness.{Endianness}
 
--- a record that is read stands for no enum
+-- A record that was read from bytes stands for no enum.
 read_without : (kind : BtfKind) (order : Endianness) (bytes : List ℕ) → without_fallback (type_as kind order bytes) ≡ type_as kind order bytes
 read_without kinds.Unknown order bytes = refl
 read_without kinds.Fwd order bytes = refl
@@ -57,7 +57,7 @@ copied_back order bytes has range kept =
     let one : Spells order (type_in order bytes ∷ []) (take (record_len order bytes) bytes) = alone order bytes has in
     copied_from order bytes (take (record_len order bytes) bytes) one.0 one.1 one.2 (is_kept_back order bytes has range kept)
 
--- the enum that a union stands for has no bytes
+-- The enum that a union stands for has no bytes.
 words_with : (f : Option Enum64Fallback) (t : BtfType) → words_of (with_fallback f t) ≡ words_of t
 words_with f types.Unknown = refl
 words_with f (types.Fwd t) = refl

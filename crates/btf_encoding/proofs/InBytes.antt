@@ -1,4 +1,4 @@
--- What is read of bytes that begin with a record.
+-- The lists and counts of the record that bytes begin with.
 use Rattle.std.proofs.Common.{◌≡◌, ◌≢◌, ℕ, zero, suc, ◌*◌, ◌<◌, List, [], ◌∷◌, ◌++◌, length, drop, Option, Some, refl, sym, ap, ◌∙◌, arith, mul-zero, slice_get}
 use Rattle.std.proofs.lemmas.List.{drop-drop}
 use Rattle.btf_records.specs.Fields.{kind_of_type}

@@ -1,4 +1,4 @@
--- A record that is written as it was read.
+-- Records that are written with the bytes they were read from.
 use Rattle.std.proofs.Common.{◌≡◌, ℕ, zero, suc, ◌+◌, ◌*◌, ◌/◌, ◌%◌, ◌<◌, ◌≤◌, ◌^◌, Bool, true, false, List, [], ◌∷◌, ◌++◌, length, take, drop, get_or, refl, sym, ap, subst, ◌∙◌, arith, length-drop, length-take, append-nil, mul-zero, nat_eq, inl, inr}
 use Rattle.std.specs.Prelude.{◌==◌, ◌&&◌, nat_lt}
 use Rattle.std.specs.List.{flat_map}
@@ -22,7 +22,7 @@ use Rattle.btf_records.specs.declared.kind.BtfKind.TheVariants as kinds
 use Rattle.btf_records.specs.declared.words.Endianness.{Endianness}
 use Rattle.btf_records.specs.declared.words.Endianness.TheVariants.{Little, Big}
 
--- each is a byte
+-- Each number is a byte.
 abbrev pub IsBytes : List ℕ → Type 0
 IsBytes bytes = (i : ℕ) → get_or bytes i 0 < 256
 
@@ -68,7 +68,7 @@ info_back info lt =
     let y = bit_of (info / 536870912 % 2) (omega arith) in
     rw (f, x, y) (omega (arith, lt))
 
--- two words, three, and three with others after them
+-- One word, two words, three words, and three words with more after them.
 one_back : (order : Endianness) (bytes : List ℕ) → 4 ≤ length bytes → IsBytes bytes → words_bytes order (word_at order bytes 0 ∷ []) ≡ take 4 bytes
 one_back order bytes h fits = append-nil (word_bytes order (word_at order bytes 0)) ∙ word_back order bytes 0 h fits
 
@@ -98,7 +98,7 @@ after_three order bytes ws m h fits after =
 three_back : (order : Endianness) (bytes : List ℕ) → 12 ≤ length bytes → IsBytes bytes → words_bytes order (word_at order bytes 0 ∷ word_at order bytes 4 ∷ word_at order bytes 8 ∷ []) ≡ take 12 bytes
 three_back order bytes h fits = after_three order bytes [] 0 (omega arith) fits refl
 
--- items, one after the other
+-- Items, one after the other.
 items_back : {X : Type 0} (order : Endianness) (item : List ℕ → X) (words : X → List ℕ) (size n : ℕ) (bytes : List ℕ) → ((b : List ℕ) → size ≤ length b → IsBytes b → words_bytes order (words (item b)) ≡ take size b) → size * n ≤ length bytes → IsBytes bytes → words_bytes order (flat_map words (items_in item size n bytes)) ≡ take (size * n) bytes
 items_back order item words size zero bytes each h fits = rw mul-zero refl
 items_back order item words size (suc n) bytes each h fits =
@@ -107,13 +107,13 @@ items_back order item words size (suc n) bytes each h fits =
     let this = each bytes (omega arith) fits in
     flat_map-append (word_bytes order) (words (item bytes)) (flat_map words (items_in item size n (drop size bytes))) ∙ rw (this, others, more) (sym (take-add size (size * n) bytes))
 
--- the first three words of a record, and what is after them
+-- The first three words of a record, and the bytes after them.
 head_back : (order : Endianness) (bytes : List ℕ) (kind : ℕ) (ws : List ℕ) (m : ℕ) → kind ≡ kind_number_at order bytes → 12 + m ≤ length bytes → IsBytes bytes → words_bytes order ws ≡ take m (drop 12 bytes) → words_bytes order (name_at order bytes ∷ info_of kind (count_at order bytes) (bits_at order bytes) ∷ third_at order bytes ∷ ws) ≡ take (12 + m) bytes
 head_back order bytes kind ws m number h fits after =
     let info : info_of kind (count_at order bytes) (bits_at order bytes) ≡ word_at order bytes 4 = rw number (info_back (word_at order bytes 4) (word_small order bytes 4 fits)) in
     rw info (after_three order bytes ws m h fits after)
 
--- one more word
+-- One more word.
 word_after : (order : Endianness) (bytes : List ℕ) → 16 ≤ length bytes → IsBytes bytes → words_bytes order (word_at order bytes 12 ∷ []) ≡ take 4 (drop 12 bytes)
 word_after order bytes h fits = rw (fourth order bytes) (one_back order (drop 12 bytes) (omega (arith, length-drop 12 bytes)) (IsBytes-drop 12 bytes fits))
 
@@ -211,7 +211,7 @@ number_of-kind_of (suc (suc (suc (suc (suc (suc (suc (suc (suc (suc (suc (suc (s
 number_of-kind_of (suc (suc (suc (suc (suc (suc (suc (suc (suc (suc (suc (suc (suc (suc (suc (suc (suc (suc (suc zero))))))))))))))))))) lt = refl
 number_of-kind_of (suc (suc (suc (suc (suc (suc (suc (suc (suc (suc (suc (suc (suc (suc (suc (suc (suc (suc (suc (suc n)))))))))))))))))))) lt = absurd (omega (arith, lt))
 
--- such a record's bytes are those that it was read from
+-- A record whose bytes are kept is written with the bytes it was read from.
 pub is_kept_back : (order : Endianness) (bytes : List ℕ) → HasRecord order bytes → IsBytes bytes → is_kept (kind_at order bytes) order bytes ≡ true → record_bytes order (type_in order bytes) ≡ take (record_len order bytes) bytes
 unfolding record_bytes
 is_kept_back order bytes has fits kept = kept_back (kind_at order bytes) order bytes (number_of-kind_of (kind_number_at order bytes) has.known) has.whole fits kept

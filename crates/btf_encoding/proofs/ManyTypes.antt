@@ -10,12 +10,12 @@ use Rattle.btf_records.specs.declared.types.BtfType.{BtfType}
 use Rattle.btf_encoding.proofs.WhateverFollows.{reads_same, word_same}
 use Rattle.btf_records.specs.declared.words.Endianness.{Endianness}
 
--- records after records
+-- Records after records.
 pub begins_append : (order : Endianness) (front more : List BtfType) (mid rest bytes : List ℕ) → Begins order front mid bytes → Begins order more rest mid → Begins order (front ++ more) rest bytes
 begins_append order [] more mid rest bytes b m = subst (λ (bs : List ℕ). Begins order more rest bs) (sym b) m
 begins_append order (t ∷ ts) more mid rest bytes b m = (b.0, b.1, begins_append order ts more mid rest (drop (record_len order bytes) bytes) b.2 m)
 
--- whatever follows the rest
+-- Appending bytes to the rest leaves the records before it.
 begins_after : (order : Endianness) (front : List BtfType) (rest x bytes : List ℕ) → Begins order front rest bytes → Begins order front (rest ++ x) (bytes ++ x)
 begins_after order [] rest x bytes b = ap (λ (bs : List ℕ). bs ++ x) b
 begins_after order (t ∷ ts) rest x bytes b =
@@ -26,13 +26,13 @@ begins_after order (t ∷ ts) rest x bytes b =
 pub spells_append : (order : Endianness) (front more : List BtfType) (bytes new : List ℕ) → Spells order front bytes → Spells order more new → Spells order (front ++ more) (bytes ++ new)
 spells_append order front more bytes new s m = begins_append order front more new [] (bytes ++ new) (begins_after order front [] new bytes s) m
 
--- a record written after others is one more
+-- A record that is written after others is one more record.
 pub follows : (order : Endianness) (t : BtfType) (new : List ℕ) → HasRecord order new → type_in order new ≡ t → record_len order new ≡ length new → (front : List BtfType) (bytes : List ℕ) → Spells order front bytes → Spells order (front ++ t ∷ []) (bytes ++ new)
 follows order t new has same len front bytes s =
     let all : drop (record_len order new) new ≡ [] = rw len (drop-length new) in
     spells_append order front (t ∷ []) bytes new s (has, same, all)
 
--- the bytes of the first record are it alone
+-- The bytes of the first record are that record alone.
 pub alone : (order : Endianness) (bytes : List ℕ) → HasRecord order bytes → Spells order (type_in order bytes ∷ []) (take (record_len order bytes) bytes)
 alone order bytes has =
     let len : ℕ = record_len order bytes in
@@ -59,7 +59,7 @@ first_record order bytes are more = first_of order are.types bytes are.spelled m
   first_of order [] bytes s more = absurd (omega (arith, more, ap length s))
   first_of order (t ∷ ts) bytes s more = s.0
 
--- what is left after some of the records
+-- The records in the rest, after some of the records.
 pub record AreLeft (order : Endianness) (types front : List BtfType) (rest : List ℕ) : Type 0 where
   pub others : List BtfType
   pub spelled : Spells order others rest
@@ -79,7 +79,7 @@ none_spelled : (order : Endianness) (others : List BtfType) → Spells order oth
 none_spelled order [] s = refl
 none_spelled order (o ∷ os) s = absurd (none_in_empty order s.0)
 
--- bytes are these records alone
+-- The records that bytes spell are unique.
 pub unique : (order : Endianness) (types front : List BtfType) (bytes : List ℕ) → Spells order types bytes → Spells order front bytes → types ≡ front
 unique order types front bytes s b =
     let l = are_left order types front [] bytes s b in

@@ -1,4 +1,4 @@
--- Records written one after the other.
+-- Records that are written one after the other.
 use Rattle.std.proofs.Common.{◌≡◌, ℕ, ◌+◌, ◌-◌, ◌≤◌, List, [], ◌∷◌, ◌++◌, length, take, drop, refl, sym, ap, subst, ◌∙◌, arith, append-nil, append_assoc, length-drop}
 use Rattle.std.specs.List.{flat_map}
 use Rattle.std.proofs.Math.Seq.{take-add}
@@ -28,7 +28,7 @@ and_then order bytes mid rest old between new a b =
 pub same_front : (order : Endianness) (bytes rest old new more : List ℕ) → AreWrittenUpTo order bytes rest [] new → more ≡ old ++ new → AreWrittenUpTo order bytes rest old more
 same_front order bytes rest old new more a is = record { front = a.front; begins = a.begins; written = is ∙ ap (λ (x : List ℕ). old ++ x) a.written; spelled = a.spelled }
 
--- the first record's bytes, where it is written as they are
+-- The bytes of the first record are copied, where its fields would be written as the same bytes.
 pub copied : (order : Endianness) (bytes old : List ℕ) → HasRecord order bytes → record_bytes order (type_in order bytes) ≡ take (record_len order bytes) bytes → AreWrittenUpTo order bytes (drop (record_len order bytes) bytes) old (old ++ take (record_len order bytes) bytes)
 copied order bytes old has same =
     let own : flat_map (record_bytes order) (type_in order bytes ∷ []) ≡ take (record_len order bytes) bytes = append-nil (record_bytes order (type_in order bytes)) ∙ same in
@@ -61,7 +61,7 @@ as_read kinds.DeclTag order bytes = refl
 as_read kinds.TypeTag order bytes = refl
 as_read kinds.Enum64 order bytes = refl
 
--- the first record, written by its fields
+-- The first record is written by its fields.
 pub pushed : (order : Endianness) (bytes old new : List ℕ) → HasRecord order bytes → ReadsBack order (type_in order bytes) → new ≡ old ++ record_bytes order (type_in order bytes) → AreWrittenUpTo order bytes (drop (record_len order bytes) bytes) old new
 pushed order bytes old new has reads is =
     let t : BtfType = type_in order bytes in
@@ -74,7 +74,7 @@ pushed order bytes old new has reads is =
       spelled = rw own (subst (λ (u : BtfType). Spells order (u ∷ []) (record_bytes order t)) same (reads.follows [] [] refl));
     }
 
--- one more record of those that are copied
+-- One more record is copied.
 pub copied_more : (order : Endianness) (bytes rest : List ℕ) → rest ≡ drop (length bytes - length rest) bytes → length rest ≤ length bytes → AreWrittenUpTo order bytes rest [] (take (length bytes - length rest) bytes) → HasRecord order rest → record_bytes order (type_in order rest) ≡ take (record_len order rest) rest → AreWrittenUpTo order bytes (drop (record_len order rest) rest) [] (take (length bytes - length (drop (record_len order rest) rest)) bytes)
 copied_more order bytes rest left within are has same =
     let done : ℕ = length bytes - length rest in
@@ -93,7 +93,7 @@ records_left order bytes rest old new are up =
     let l = are_left order are.types up.front rest bytes are.spelled up.begins in
     record { types = l.others; spelled = l.spelled }
 
--- up to the end
+-- When no bytes are left, all records are written.
 pub all_again : (order : Endianness) (bytes old new : List ℕ) → AreWrittenUpTo order bytes [] old new → IsWrittenAgain order bytes old new
 all_again order bytes old new up = record {
   written = λ types s. up.written ∙ ap (λ (ts : List BtfType). old ++ flat_map (record_bytes order) ts) (sym (unique order types up.front bytes s up.begins));

@@ -1,4 +1,4 @@
--- A written record is read as itself.
+-- Reading back a record that was written.
 use Rattle.std.proofs.Common.{◌≡◌, ℕ, suc, ◌+◌, ◌*◌, ◌^◌, ◌<◌, Bool, true, false, List, [], ◌∷◌, ◌++◌, length, drop, refl, sym, ap, subst, ◌∙◌, arith, length-append, append_assoc, append-nil, nat_eq}
 use Rattle.std.specs.Prelude.{All}
 use Rattle.std.specs.List.{flat_map}
@@ -38,7 +38,7 @@ pub length-words : (order : Endianness) (ws : List ℕ) → length (words_bytes 
 length-words order [] = refl
 length-words order (w ∷ ws) = omega (arith, length-append (word_bytes order w) (words_bytes order ws), length-word order w, length-words order ws)
 
--- three words, and what follows them
+-- Three words, and the bytes after them.
 abbrev pub three : Endianness → ℕ → ℕ → ℕ → List ℕ → List ℕ
 three order a b c rest = word_bytes order a ++ (word_bytes order b ++ (word_bytes order c ++ rest))
 
@@ -89,7 +89,7 @@ bits_from flag bit_30 bit_29 middle = record { flag = flag; bit_30 = bit_30; bit
 bits_same : (flag bit_30 bit_29 : Bool) (middle : ℕ) (bits : InfoBits) → flag ≡ bits.flag → bit_30 ≡ bits.bit_30 → bit_29 ≡ bits.bit_29 → middle ≡ bits.bits_16_to_23 → bits_from flag bit_30 bit_29 middle ≡ bits
 bits_same flag bit_30 bit_29 middle bits a b c d = rw (a, b, c, d) refl
 
--- the parts of an info word
+-- The parts of an info word.
 record InfoIs (info kind count : ℕ) (bits : InfoBits) : Type 0 where
   pub kind_is : kind_number_in info ≡ kind
   pub count_is : count_in info ≡ count
@@ -157,7 +157,7 @@ number_of-small kinds.DeclTag = omega arith
 number_of-small kinds.TypeTag = omega arith
 number_of-small kinds.Enum64 = omega arith
 
--- the third word of a record
+-- The third word of a record.
 abbrev third_of : BtfType → ℕ
 third_of types.Unknown = 0
 third_of (types.Int t) = t.size
@@ -203,7 +203,7 @@ words_parts (types.DeclTag t) = refl
 words_parts (types.TypeTag t) = refl
 words_parts (types.Enum64 t) = refl
 
--- what stands in a record's first three words, and after them
+-- The first three words of a record, and the bytes after them.
 record HeadIs (order : Endianness) (bytes : List ℕ) (t : BtfType) (rest : List ℕ) : Type 0 where
   pub kind_is : kind_at order bytes ≡ kind_of_type t
   pub number_is : kind_number_at order bytes ≡ number_of (kind_of_type t)
@@ -226,7 +226,7 @@ head_from order t name info third rest bytes parts n i h name_is third_is parts_
       rest_is = rw parts (drop-three order name info third rest);
     }
 
--- each word fits 32 bits
+-- Each word fits 32 bits.
 abbrev Fit : List ℕ → Type 0
 Fit [] = Unit {0}
 Fit (w ∷ ws) = (w < 2 ^ 32) × Fit ws
@@ -351,7 +351,7 @@ var_linkage-number variables.Global = refl
 var_linkage-number variables.Extern = refl
 var_linkage-number variables.Unknown = refl
 
--- the word after the first three
+-- The word after the first three.
 word_after : (order : Endianness) (bytes after : List ℕ) (w : ℕ) → drop 12 bytes ≡ words_bytes order (w ∷ []) ++ after → w < 2 ^ 32 → word_at order bytes 12 ≡ w
 word_after order bytes after w rest lt =
     fourth order bytes ∙ ap (λ (b : List ℕ). word_at order b 0) (rest ∙ append_assoc (word_bytes order w) [] after) ∙ first order w after lt

@@ -1,4 +1,4 @@
--- A record is read the same, whatever follows it.
+-- Appending bytes leaves the record that the bytes begin with as it is.
 use Rattle.std.proofs.Common.{◌≡◌, ℕ, zero, suc, ◌+◌, ◌*◌, ◌≤◌, List, ◌++◌, length, take, drop, refl, ap, ◌∙◌, arith, length-append, length-drop}
 use Rattle.std.proofs.lemmas.List.{drop-append-le, take-append-le}
 use Rattle.std.specs.Int.{w32, from_le_bytes, from_be_bytes}

@@ -1,4 +1,4 @@
--- What stands after what was there, word by word and item by item.
+-- Bytes that are appended word by word and item by item.
 use Rattle.std.proofs.Common.{◌≡◌, ℕ, zero, suc, ◌+◌, ◌<◌, ◌^◌, List, [], ◌∷◌, ◌++◌, length, take, get_or, refl, sym, ap, subst, ◌∙◌, arith, length-append, append-nil, append_assoc}
 use Rattle.std.specs.Prelude.{All, Result, Ok, Err, OnOk, OnErr}
 use Rattle.btf_records.specs.Words.{word_bytes, words_bytes}
@@ -9,7 +9,7 @@ use Rattle.std.proofs.lemmas.List.{take-take, take_more}
 use Rattle.std.proofs.lemmas.List.Elements.{All-append}
 use Rattle.std.proofs.Math.Seq.{take-append_seam}
 
--- what was there still stands, where only what follows it was written
+-- A write that keeps some bytes keeps each prefix of them.
 pub kept : (old x mid new : List ℕ) → mid ≡ old ++ x → take (length mid) new ≡ mid → take (length old) new ≡ old
 kept old x mid new parts same =
     let shorter : take (length old) (take (length mid) new) ≡ take (length old) new = take-take (length old) (length mid) new (omega (arith, ap length parts, length-append old x)) in
@@ -19,7 +19,7 @@ pub on_err : {X E : Type 0} (r : Result X E) (P : Type 0) → P → OnErr r P
 on_err (Ok x) P p = tt
 on_err (Err e) P p = p
 
--- one more item
+-- One more item.
 pub flat_map-take_more : {X : Type 0} (words : X → List ℕ) (xs : List X) (i : ℕ) (x : X) → i < length xs → x ≡ get_or xs i x → flat_map words (take (i + 1) xs) ≡ flat_map words (take i xs) ++ words x
 flat_map-take_more words xs i x lt is =
     ap (flat_map words) (take_more xs i x lt ∙ rw (← is) refl) ∙ flat_map-append words (take i xs) (x ∷ []) ∙ rw append-nil refl
@@ -27,7 +27,7 @@ flat_map-take_more words xs i x lt is =
 abbrev pub Fit : List ℕ → Type 0
 Fit ws = All (λ w. w < 2 ^ 32) ws
 
--- one more word
+-- One more word.
 whichever : (ws : List ℕ) (i d e : ℕ) → i < length ws → get_or ws i d ≡ get_or ws i e
 whichever [] i d e lt = absurd (omega (arith, lt))
 whichever (w ∷ ws) zero d e lt = refl

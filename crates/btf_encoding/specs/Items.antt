@@ -1,4 +1,4 @@
--- The items of the lists that follow a record's first three words, and their words.
+-- The items of the lists that follow a record's first three words, and the words of the items.
 use Rattle.std.specs.Prelude.{ℕ, zero, suc, List, [], ◌∷◌, drop}
 use Rattle.btf_records.specs.Words.{word_at}
 use Rattle.btf_records.specs.declared.words.Endianness.{Endianness}
@@ -9,7 +9,7 @@ use Rattle.btf_records.specs.declared.item.BtfEnum64.{BtfEnum64}
 use Rattle.btf_records.specs.declared.item.BtfParam.{BtfParam}
 use Rattle.btf_records.specs.declared.item.DataSecEntry.{DataSecEntry}
 
--- a member: name, type, offset
+-- A member: name, type and offset.
 abbrev pub member_in : Endianness → List ℕ → BtfMember
 member_in order bytes =
     record {
@@ -21,7 +21,7 @@ member_in order bytes =
 abbrev pub member_words : BtfMember → List ℕ
 member_words m = m.name_offset ∷ m.btf_type ∷ m.offset ∷ []
 
--- a variant: name, value
+-- A variant: name and value.
 abbrev pub variant_in : Endianness → List ℕ → BtfEnum
 variant_in order bytes =
     record { name_offset = word_at order bytes 0; value = word_at order bytes 4 }
@@ -29,7 +29,7 @@ variant_in order bytes =
 abbrev pub variant_words : BtfEnum → List ℕ
 variant_words v = v.name_offset ∷ v.value ∷ []
 
--- a variant of 64 bits: name, low half, high half
+-- A variant of 64 bits: name, low half and high half.
 abbrev pub enum64_in : Endianness → List ℕ → BtfEnum64
 enum64_in order bytes =
     record {
@@ -41,7 +41,7 @@ enum64_in order bytes =
 abbrev pub enum64_words : BtfEnum64 → List ℕ
 enum64_words v = v.name_offset ∷ v.value_low ∷ v.value_high ∷ []
 
--- a parameter: name, type
+-- A parameter: name and type.
 abbrev pub param_in : Endianness → List ℕ → BtfParam
 param_in order bytes =
     record { name_offset = word_at order bytes 0; btf_type = word_at order bytes 4 }
@@ -49,7 +49,7 @@ param_in order bytes =
 abbrev pub param_words : BtfParam → List ℕ
 param_words p = p.name_offset ∷ p.btf_type ∷ []
 
--- an entry of a section: type, offset, size
+-- An entry of a section: type, offset and size.
 abbrev pub entry_in : Endianness → List ℕ → DataSecEntry
 entry_in order bytes =
     record {
@@ -61,7 +61,7 @@ entry_in order bytes =
 abbrev pub entry_words : DataSecEntry → List ℕ
 entry_words e = e.btf_type ∷ e.offset ∷ e.size ∷ []
 
--- an array's element, index and length
+-- An array: the element type, index type and length.
 abbrev pub array_in : Endianness → List ℕ → BtfArray
 array_in order bytes =
     record {
@@ -73,7 +73,7 @@ array_in order bytes =
 abbrev pub array_words : BtfArray → List ℕ
 array_words a = a.element_type ∷ a.index_type ∷ a.len ∷ []
 
--- as many items as asked for, each of as many bytes, one after the other
+-- A number of items, each with the same number of bytes, one after the other.
 abbrev pub items_in : {T : Type 0} → (List ℕ → T) → ℕ → ℕ → List ℕ → List T
 items_in item size zero bytes = []
 items_in item size (suc n) bytes = item bytes ∷ items_in item size n (drop size bytes)

@@ -1,5 +1,5 @@
--- The grammar of type records ("Type Encoding"): three words of name, info and size or type, and
--- what each kind has after them.
+-- The grammar of type records ("Type Encoding"): three words (name, info, and size or type), and
+-- after them the words of each kind.
 use Rattle.std.specs.Prelude.{◌≡◌, ℕ, ◌+◌, ◌*◌, ◌<◌, ◌≤◌, ◌⊎◌, ◌^◌, List, [], ◌∷◌, ◌++◌, length, drop, All, Option, None, false}
 use Rattle.std.specs.List.{flat_map}
 use Rattle.btf_records.specs.Words.{word_at, words_bytes}
@@ -17,7 +17,7 @@ use Rattle.btf_records.specs.declared.compound.Enum64Fallback.{Enum64Fallback}
 use Rattle.btf_records.specs.declared.info.InfoBits.{InfoBits}
 use Rattle.btf_records.specs.declared.words.Endianness.{Endianness}
 
--- the kind in the second word of these bytes, and the count
+-- The kind and the count in the second word of the bytes.
 abbrev pub kind_number_at : Endianness → List ℕ → ℕ
 kind_number_at order bytes = kind_number_in (word_at order bytes 4)
 
@@ -27,7 +27,7 @@ kind_at order bytes = kind_of (kind_number_at order bytes)
 abbrev pub count_at : Endianness → List ℕ → ℕ
 count_at order bytes = count_in (word_at order bytes 4)
 
--- the other parts of the first three words, and what is after them
+-- The name, the other bits and the third word of the first three words.
 abbrev pub name_at : Endianness → List ℕ → ℕ
 name_at order bytes = word_at order bytes 0
 
@@ -37,11 +37,11 @@ bits_at order bytes = bits_in (word_at order bytes 4)
 abbrev pub third_at : Endianness → List ℕ → ℕ
 third_at order bytes = word_at order bytes 8
 
--- the bytes after a record's first three words
+-- The bytes after the first three words of a record.
 abbrev pub after_words : List ℕ → List ℕ
 after_words bytes = drop 12 bytes
 
--- the bytes of a record of a kind after its first three words
+-- The number of bytes of a record of a kind after its first three words.
 abbrev pub len_after : BtfKind → ℕ → ℕ
 len_after kinds.Int count = 4
 len_after kinds.Array count = 12
@@ -58,13 +58,13 @@ len_after _ count = 0
 abbrev pub record_len : Endianness → List ℕ → ℕ
 record_len order bytes = 12 + len_after (kind_at order bytes) (count_at order bytes)
 
--- the bytes begin with a record
+-- The bytes begin with a record.
 pub record HasRecord (order : Endianness) (bytes : List ℕ) : Type 0 where
   pub head : 12 ≤ length bytes
   pub known : kind_number_at order bytes < kind_count
   pub whole : record_len order bytes ≤ length bytes
 
--- why they begin with none
+-- The reason why the bytes don't begin with a record.
 abbrev pub RecordFault : Endianness → List ℕ → BtfError → Type 0
 RecordFault order bytes InvalidTypeInfo =
     (length bytes < 12)
@@ -73,8 +73,8 @@ RecordFault order bytes (InvalidTypeKind kind) =
     (12 ≤ length bytes) × (kind ≡ kind_number_at order bytes) × (kind_count ≤ kind)
 RecordFault order bytes _ = ⊥
 
--- the record of a kind that these bytes begin with: the third word of FWD and ARRAY isn't kept,
--- nor anything of UNKNOWN
+-- The record of a kind that the bytes begin with. The third word of FWD and ARRAY isn't kept, and
+-- no word of UNKNOWN.
 abbrev pub type_as : BtfKind → Endianness → List ℕ → BtfType
 type_as kinds.Unknown order bytes = types.Unknown
 type_as kinds.Int order bytes =
@@ -230,12 +230,12 @@ type_as kinds.Enum64 order bytes =
       variants = items_in (enum64_in order) 12 (count_at order bytes) (after_words bytes);
     })
 
--- the record that the bytes begin with
+-- The record that the bytes begin with.
 abbrev pub type_in : Endianness → List ℕ → BtfType
 type_in order bytes = type_as (kind_at order bytes) order bytes
 
--- the words as which a record is written: 0 for the third word of FWD and ARRAY, 3 for an unknown
--- linkage of a VAR, zeros for UNKNOWN; the fallback of a UNION has none
+-- The words that a record is written as: 0 for the third word of FWD and ARRAY, 3 for an unknown
+-- linkage of a VAR, zeros for UNKNOWN. The fallback of a UNION has no words.
 abbrev pub words_of : BtfType → List ℕ
 words_of types.Unknown = 0 ∷ 0 ∷ 0 ∷ []
 words_of (types.Int t) = t.name_offset ∷ info_of 1 t.vlen t.info ∷ t.size ∷ t.int_word ∷ []
@@ -269,7 +269,7 @@ words_of (types.Enum64 t) =
     t.name_offset ∷ info_of 19 (length t.variants) t.info ∷ t.size
     ∷ flat_map enum64_words t.variants
 
--- those after the first three
+-- The words of a record after the first three.
 abbrev pub words_after : BtfType → List ℕ
 words_after types.Unknown = []
 words_after (types.Int t) = t.int_word ∷ []
@@ -292,20 +292,20 @@ words_after (types.DeclTag t) = t.index_word ∷ []
 words_after (types.TypeTag t) = []
 words_after (types.Enum64 t) = flat_map enum64_words t.variants
 
--- its bytes
+-- The bytes of a record.
 unfoldable pub record_bytes : Endianness → BtfType → List ℕ
 record_bytes order t = words_bytes order (words_of t)
 
--- a record whose UNION stands for this enum
+-- A record, with this enum as the fallback if it is a UNION.
 abbrev pub with_fallback : Option Enum64Fallback → BtfType → BtfType
 with_fallback fallback (types.Union t) = types.Union (record t { fallback = fallback })
 with_fallback fallback t = t
 
--- what is read again of a written record
+-- The record that is read back from the bytes of a record.
 abbrev pub without_fallback : BtfType → BtfType
 without_fallback t = with_fallback None t
 
--- the count of its info word: of a kind with a list the list's length
+-- The count in the info word of a record. For a kind with a list it is the length of the list.
 abbrev pub count_of : BtfType → ℕ
 count_of types.Unknown = 0
 count_of (types.Int t) = t.vlen
@@ -350,19 +350,19 @@ bits_of (types.DeclTag t) = t.info
 bits_of (types.TypeTag t) = t.info
 bits_of (types.Enum64 t) = t.info
 
--- its numbers are in the range of their fields, as those of every value of `BtfType` are
+-- The numbers of a record are in the range of their fields, as in every value of `BtfType`.
 pub record IsInRange (t : BtfType) : Type 0 where
   pub words : All (λ w. w < 2 ^ 32) (words_of t)
   pub count : count_of t < 65536
   pub bits : (bits_of t).bits_16_to_23 < 256
 
--- the record that the bytes begin with is read the same, and as long, whatever follows them
+-- Appending bytes leaves the record that the bytes begin with, and its length, as they are.
 pub record ReadsSame (order : Endianness) (bytes : List ℕ) : Type 0 where
   pub begins : (after : List ℕ) → HasRecord order (bytes ++ after)
   pub same : (after : List ℕ) → type_in order (bytes ++ after) ≡ type_in order bytes
   pub len : (after : List ℕ) → record_len order (bytes ++ after) ≡ record_len order bytes
 
--- the bytes begin with these records, one after the other, and then the rest comes
+-- The bytes begin with these records, one after the other, and the rest follows.
 abbrev pub Begins : Endianness → List BtfType → List ℕ → List ℕ → Type 0
 Begins order [] rest bytes = bytes ≡ rest
 Begins order (t ∷ ts) rest bytes =
@@ -370,12 +370,12 @@ Begins order (t ∷ ts) rest bytes =
     × (type_in order bytes ≡ t)
     × Begins order ts rest (drop (record_len order bytes) bytes)
 
--- the bytes are these records
+-- The bytes are these records.
 abbrev pub Spells : Endianness → List BtfType → List ℕ → Type 0
 Spells order ts bytes = Begins order ts [] bytes
 
--- wherever the bytes of a record stand, they are read as it, and as no more bytes; written after
--- records, they are one more
+-- The bytes of a record are read back as this record and its length, whatever bytes follow. If they
+-- are written after records, they are one more record.
 pub record ReadsBack (order : Endianness) (t : BtfType) : Type 0 where
   pub begins : (after : List ℕ) → HasRecord order (record_bytes order t ++ after)
   pub same : (after : List ℕ) → type_in order (record_bytes order t ++ after) ≡ without_fallback t
@@ -386,7 +386,7 @@ pub record ReadsBack (order : Endianness) (t : BtfType) : Type 0 where
       → Spells order front bytes
       → Spells order (front ++ without_fallback t ∷ []) (bytes ++ record_bytes order t)
 
--- after some records stands something that begins with none
+-- Some records are followed by bytes that don't begin with a record.
 pub record TypesFault (order : Endianness) (bytes : List ℕ) (e : BtfError) : Type 0 where
   pub front : List BtfType
   pub rest : List ℕ

@@ -1,4 +1,4 @@
--- What is read of a record: its kind, its name, its size or type, and its lists.
+-- The fields of a record: its kind, its name, its size or type, and its lists.
 use Rattle.std.specs.Prelude.{ℕ, List, [], Option, None, Some}
 use Rattle.btf_records.specs.declared.item.BtfArray.{BtfArray}
 use Rattle.btf_records.specs.declared.item.BtfEnum.{BtfEnum}
@@ -38,7 +38,7 @@ kind_of_type (types.DeclTag t) = kinds.DeclTag
 kind_of_type (types.TypeTag t) = kinds.TypeTag
 kind_of_type (types.Enum64 t) = kinds.Enum64
 
--- the offset of its name; that of UNKNOWN is 0
+-- The offset of the name of a record. That of UNKNOWN is 0.
 abbrev pub name_offset_of : BtfType → ℕ
 name_offset_of types.Unknown = 0
 name_offset_of (types.Int t) = t.name_offset
@@ -61,7 +61,7 @@ name_offset_of (types.DeclTag t) = t.name_offset
 name_offset_of (types.TypeTag t) = t.name_offset
 name_offset_of (types.Enum64 t) = t.name_offset
 
--- its own size in bytes, of the kinds that give one
+-- The size in bytes of a record of a kind that has one.
 abbrev pub size_of : BtfType → Option ℕ
 size_of (types.Int t) = Some t.size
 size_of (types.Struct t) = Some t.size
@@ -72,7 +72,7 @@ size_of (types.Float t) = Some t.size
 size_of (types.Enum64 t) = Some t.size
 size_of _ = None
 
--- the id that its third word holds, of the kinds that name a type there
+-- The id of a type in the third word of a record of a kind that has one there.
 abbrev pub type_of : BtfType → Option ℕ
 type_of (types.Ptr t) = Some t.btf_type
 type_of (types.Typedef t) = Some t.btf_type
@@ -127,7 +127,7 @@ abbrev pub decl_tag_of : BtfType → Option DeclTag
 decl_tag_of (types.DeclTag t) = Some t
 decl_tag_of _ = None
 
--- the enum that a UNION stands for
+-- The enum that a UNION stands for.
 abbrev pub fallback_of : BtfType → Option Enum64Fallback
 fallback_of (types.Union t) = t.fallback
 fallback_of _ = None

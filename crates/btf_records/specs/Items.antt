@@ -1,10 +1,10 @@
--- What the items of the lists of records say.
+-- The fields of the items in the lists of records.
 use Rattle.std.specs.Prelude.{ℕ, ◌+◌, ◌*◌, ◌/◌, ◌%◌, ◌^◌, Bool, if◌then◌else◌}
 use Rattle.btf_records.specs.declared.item.BtfMember.{BtfMember}
 use Rattle.btf_records.specs.declared.item.BtfEnum64.{BtfEnum64}
 
--- its offset in bits and the size of its bit field, in a record whose flag is set or not
--- ("BTF_KIND_STRUCT")
+-- The bit offset of a member and the size of its bit field, in a record whose flag is set or not
+-- set ("BTF_KIND_STRUCT").
 abbrev pub bit_offset_of : Bool → BtfMember → ℕ
 bit_offset_of flag m = if flag then m.offset % 2 ^ 24 else m.offset
 

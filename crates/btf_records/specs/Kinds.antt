@@ -3,7 +3,7 @@ use Rattle.std.specs.Prelude.{ℕ, List, [], ◌∷◌, codes, slice_index_or}
 use Rattle.btf_records.specs.declared.kind.BtfKind.{BtfKind}
 use Rattle.btf_records.specs.declared.kind.BtfKind.TheVariants.{Unknown, Int, Ptr, Array, Struct, Union, Enum, Fwd, Typedef, Volatile, Const, Restrict, Func, FuncProto, Var, DataSec, Float, DeclTag, TypeTag, Enum64}
 
--- the kinds, from number 0 on
+-- The kinds, from number 0 on.
 abbrev pub all_kinds : List BtfKind
 all_kinds =
     Unknown ∷ Int ∷ Ptr ∷ Array ∷ Struct ∷ Union ∷ Enum ∷ Fwd ∷ Typedef ∷ Volatile ∷ Const
@@ -12,7 +12,7 @@ all_kinds =
 abbrev pub kind_count : ℕ
 kind_count = 20
 
--- the kind of a number below 20
+-- The kind of a number below 20.
 unfoldable pub kind_of : ℕ → BtfKind
 kind_of n = slice_index_or all_kinds n Unknown
 
@@ -38,7 +38,7 @@ number_of DeclTag = 17
 number_of TypeTag = 18
 number_of Enum64 = 19
 
--- the kind as it is printed, in brackets
+-- The kind as it is printed, in brackets.
 abbrev pub text_of : BtfKind → List ℕ
 text_of Unknown = codes "[UNKNOWN]"
 text_of Int = codes "[INT]"

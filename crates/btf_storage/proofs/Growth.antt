@@ -1,4 +1,4 @@
--- One more record after the others.
+-- Appending a record to a table.
 use Rattle.std.proofs.Common.{◌≡◌, ℕ, suc, ◌+◌, ◌<◌, ◌^◌, List, [], ◌∷◌, ◌++◌, length, drop, map, Option, None, Some, refl, sym, ap, ◌∙◌, arith, inl, inr, append-nil, append_assoc, length-append}
 use Rattle.std.specs.List.{flat_map}
 use Rattle.std.specs.Option.{option_map_or}
@@ -19,7 +19,7 @@ use Rattle.btf_records.specs.declared.types.BtfType.{BtfType}
 use Rattle.btf_records.specs.declared.types.BtfType.TheVariants as types
 use Rattle.btf_records.specs.declared.words.Endianness.{Endianness}
 
--- a record that is read the same whatever follows it, with something after it
+-- Appending bytes to a record that reads the same whatever follows it.
 pub reads_same_more : (order : Endianness) (bytes x : List ℕ) → ReadsSame order bytes → ReadsSame order (bytes ++ x)
 reads_same_more order bytes x same = record {
   begins = λ after. rw append_assoc (same.begins (x ++ after));
@@ -36,7 +36,7 @@ stays_at order bytes x place same = rw (drop_more order bytes x place same) (rea
 all_stay : (order : Endianness) (bytes x places : List ℕ) → All (λ p. ReadsSame order (drop p bytes)) places → All (λ p. ReadsSame order (drop p (bytes ++ x))) places
 all_stay order bytes x places all = λ k d lt. stays_at order bytes x _ (all k d lt)
 
--- the fallbacks of ids in a range are the same
+-- The fallbacks of the ids below a bound are the same.
 record SameBelow (old new : List (ℕ × Enum64Fallback)) (end : ℕ) : Type 0 where
   same : (id : ℕ) → id < end → fallback_at new id ≡ fallback_at old id
 
@@ -66,7 +66,7 @@ back_union : (t : Union) (fallback : Option Enum64Fallback) → t.fallback ≡ f
 back_union t None none = ap (λ (f : Option Enum64Fallback). types.Union (record t { fallback = f })) (sym none)
 back_union t (Some fallback) some = ap (λ (f : Option Enum64Fallback). types.Union (record t { fallback = f })) (sym some)
 
--- a record is that without the enum that it stands for, and this
+-- A record without its fallback, with the fallback set again, is the record.
 back : (t : BtfType) → option_map_or (λ f. with_fallback (Some f) (without_fallback t)) (fallback_of t) (without_fallback t) ≡ t
 back types.Unknown = refl
 back (types.Fwd t) = refl
@@ -116,7 +116,7 @@ spelled_more order bytes places t stand reads spelled =
     in
     rw all (reads.follows (types_at order bytes [] 1 places) bytes spelled)
 
--- the kind of a record is that of the record without the enum that it stands for
+-- The kind of a record doesn't depend on its fallback.
 kind_without : (t : BtfType) → kind_of_type (without_fallback t) ≡ kind_of_type t
 kind_without types.Unknown = refl
 kind_without (types.Fwd t) = refl
@@ -139,7 +139,7 @@ kind_without (types.DeclTag t) = refl
 kind_without (types.TypeTag t) = refl
 kind_without (types.Enum64 t) = refl
 
--- nor is its name another
+-- The name of a record doesn't depend on its fallback.
 name_without : (t : BtfType) → name_offset_of (without_fallback t) ≡ name_offset_of t
 name_without types.Unknown = refl
 name_without (types.Fwd t) = refl
@@ -162,7 +162,7 @@ name_without (types.DeclTag t) = refl
 name_without (types.TypeTag t) = refl
 name_without (types.Enum64 t) = refl
 
--- what is read of records stays where more is written after them
+-- Appending bytes leaves a property of the records at their offsets as it is.
 read_stays : {X : Type 0} (read : BtfType → X) (order : Endianness) (bytes x places : List ℕ) → All (λ p. ReadsSame order (drop p bytes)) places → map (λ p. read (type_in order (drop p (bytes ++ x)))) places ≡ map (λ p. read (type_in order (drop p bytes))) places
 read_stays read order bytes x [] all = refl
 read_stays read order bytes x (place ∷ places) all =
@@ -200,7 +200,7 @@ len_after : (order : Endianness) (types : List BtfType) (t : BtfType) → length
 len_after order types t =
     ap length (flat_map-append (record_bytes order) types (t ∷ []) ∙ ap (λ (b : List ℕ). flat_map (record_bytes order) types ++ b) (append-nil (record_bytes order t))) ∙ length-append (flat_map (record_bytes order) types) (record_bytes order t)
 
--- where the bytes or the places would be too many, the records' bytes or the records would be
+-- If the bytes or offsets are too many, the bytes of the records or the records are too many.
 pub too_many : (order : Endianness) (bytes places : List ℕ) (kinds : List BtfKind) (names : List ℕ) (fallbacks : List (ℕ × Enum64Fallback)) (t : BtfType) → IsLaidOut order bytes fallbacks places kinds names → TooMany (length bytes + length (record_bytes order t)) ⊎ TooMany (length places + 1) → TooMany (length (flat_map (record_bytes order) (types_at order bytes fallbacks 1 places ++ t ∷ []))) ⊎ TooMany (length (types_at order bytes fallbacks 1 places) + 1)
 too_many order bytes places kinds names fallbacks t laid (inl b) = inl (omega (arith, b, len_after order (types_at order bytes fallbacks 1 places) t, laid.tight))
 too_many order bytes places kinds names fallbacks t laid (inr n) = inr (omega (arith, n, length_types_at order bytes fallbacks 1 places))

@@ -20,7 +20,7 @@ length_words : (order : Endianness) (ws : List ℕ) → length (words_bytes orde
 length_words order [] = refl
 length_words order (w ∷ ws) = omega (arith, length-append (word_bytes order w) (words_bytes order ws), length_word order w, length_words order ws)
 
--- items of that many words
+-- Items of the same number of words.
 length_items : {X : Type 0} (item : List ℕ → X) (words : X → List ℕ) (size each n : ℕ) (bytes : List ℕ) → ((x : X) → length (words x) ≡ each) → length (flat_map words (items_in item size n bytes)) ≡ each * n
 length_items item words size each zero bytes same = omega arith
 length_items item words size each (suc n) bytes same =
@@ -71,12 +71,12 @@ spelled_few order (t ∷ ts) bytes s =
     let whole = s.0.whole in
     omega (arith, others, whole, length-drop (record_len order bytes) bytes)
 
--- one more record at the front of the rest
+-- One more record at the beginning of the rest.
 pub begins_more : (order : Endianness) (front : List BtfType) (rest bytes : List ℕ) → Begins order front rest bytes → HasRecord order rest → Begins order (front ++ type_in order rest ∷ []) (drop (record_len order rest) rest) bytes
 begins_more order [] rest bytes b has = subst (λ (r : List ℕ). Begins order (type_in order r ∷ []) (drop (record_len order r) r) bytes) b (subst (λ (r : List ℕ). HasRecord order r) (sym b) has, refl, refl)
 begins_more order (t ∷ ts) rest bytes b has = (b.0, b.1, begins_more order ts rest (drop (record_len order bytes) bytes) b.2 has)
 
--- a record has three words and more
+-- A record has three words or more.
 three_words : (t : BtfType) → 3 ≤ length (words_of t)
 three_words types.Unknown = omega arith
 three_words (types.Fwd t) = omega arith
@@ -103,7 +103,7 @@ least_bytes : (order : Endianness) (t : BtfType) → 12 ≤ length (record_bytes
 unfolding record_bytes
 least_bytes order t = omega (arith, length_words order (words_of t), three_words t)
 
--- and so 12 bytes and more
+-- A record has 12 bytes or more.
 pub least_of_all : (order : Endianness) (ts : List BtfType) → 12 * length ts ≤ length (flat_map (record_bytes order) ts)
 least_of_all order [] = omega arith
 least_of_all order (t ∷ ts) = omega (arith, least_bytes order t, least_of_all order ts, length-append (record_bytes order t) (flat_map (record_bytes order) ts))

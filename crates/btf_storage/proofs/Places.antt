@@ -1,4 +1,4 @@
--- The records at places, one by one.
+-- The records at their offsets, one by one.
 use Rattle.std.proofs.Common.{◌≡◌, ℕ, zero, suc, ◌+◌, ◌<◌, ◌≤◌, List, [], ◌∷◌, length, drop, None, Some, refl, ap, subst, ◌∙◌, arith, slice_get, append-nil, length-drop, ◌^◌}
 use Rattle.std.specs.Prelude.{All}
 use Rattle.std.proofs.lemmas.Option.{get_or_from_slice_get, slice_get_within}
@@ -45,7 +45,7 @@ stands_at order bytes places i place all some =
 pub within_bytes : (order : Endianness) (bytes : List ℕ) (place : ℕ) → HasRecord order (drop place bytes) → place ≤ length bytes
 within_bytes order bytes place h = omega (arith, h.head, length-drop place bytes)
 
--- the records and their bytes are few
+-- The bytes of the records are fewer than 2^32, and so are the records.
 pub few_bytes_of : (order : Endianness) (bytes places : List ℕ) (kinds : List BtfKind) (names : List ℕ) (fallbacks : List (ℕ × Enum64Fallback)) → IsLaidOut order bytes fallbacks places kinds names → length (flat_map (record_bytes order) (types_at order bytes fallbacks 1 places)) < 2 ^ 32
 few_bytes_of order bytes places kinds names fallbacks laid = omega (arith, laid.tight, laid.few_bytes)
 

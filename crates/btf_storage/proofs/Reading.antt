@@ -1,4 +1,4 @@
--- The places of records, one after the other.
+-- The offsets of records, one after the other.
 use Rattle.std.proofs.Common.{◌≡◌, ℕ, ◌+◌, ◌-◌, ◌<◌, ◌≤◌, ◌^◌, List, [], ◌∷◌, ◌++◌, length, drop, map, refl, sym, ap, subst, ◌∙◌, arith, length-drop}
 use Rattle.std.specs.Prelude.{All}
 use Rattle.std.proofs.lemmas.List.{drop-drop, map_push}
@@ -15,7 +15,7 @@ use Rattle.btf_records.specs.declared.kind.BtfKind.{BtfKind}
 use Rattle.btf_records.specs.declared.types.BtfType.{BtfType}
 use Rattle.btf_records.specs.declared.words.Endianness.{Endianness}
 
--- the places, kinds and names of the records that the bytes begin with, and the rest after them
+-- The offsets, kinds and names of the records that the bytes begin with, and the rest after them.
 pub record ArePlaces (order : Endianness) (bytes places : List ℕ) (kinds : List BtfKind) (names : List ℕ) (rest : List ℕ) : Type 0 where
   pub of_kinds : kinds ≡ map (kind_at_place order bytes) places
   pub of_names : names ≡ map (name_at_place order bytes) places
@@ -83,6 +83,6 @@ laid_out order bytes places kinds names spelled stand of_kinds of_names few = re
   few_types = omega (arith, spelled_few order (types_at order bytes [] 1 places) bytes spelled, length_types_at order bytes [] 1 places);
 }
 
--- the records are few enough for one more
+-- There are few enough records for one more.
 pub has_room : (order : Endianness) (bytes places : List ℕ) (kinds : List BtfKind) (names : List ℕ) (fallbacks : List (ℕ × Enum64Fallback)) → IsLaidOut order bytes fallbacks places kinds names → length places + 1 < 2 ^ 32
 has_room order bytes places kinds names fallbacks laid = omega (arith, laid.tight, laid.few_bytes, least_of_all order (types_at order bytes fallbacks 1 places), length_types_at order bytes fallbacks 1 places)

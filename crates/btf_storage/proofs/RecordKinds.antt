@@ -1,4 +1,4 @@
--- The kinds and names of records are those at their places.
+-- The kinds and names of records are those at their offsets.
 use Rattle.std.proofs.Common.{◌≡◌, ℕ, suc, List, [], ◌∷◌, drop, map, Option, None, Some, refl, sym, ◌∙◌}
 use Rattle.std.specs.Option.{option_map_or}
 use Rattle.btf_storage.specs.Layout.{IsLaidOut, fallback_at, type_at, types_at}
@@ -10,7 +10,7 @@ use Rattle.btf_records.specs.declared.types.BtfType.{BtfType}
 use Rattle.btf_records.specs.declared.types.BtfType.TheVariants as types
 use Rattle.btf_records.specs.declared.words.Endianness.{Endianness}
 
--- the enum that a record stands for isn't seen in its kind
+-- The kind of a record doesn't depend on the enum that it stands for.
 kind_with : (t : BtfType) (fallback : Enum64Fallback) → kind_of_type (with_fallback (Some fallback) t) ≡ kind_of_type t
 kind_with types.Unknown fallback = refl
 kind_with (types.Fwd t) fallback = refl
@@ -33,7 +33,7 @@ kind_with (types.DeclTag t) fallback = refl
 kind_with (types.TypeTag t) fallback = refl
 kind_with (types.Enum64 t) fallback = refl
 
--- nor in its name
+-- The name of a record doesn't depend on the enum that it stands for.
 name_with : (t : BtfType) (fallback : Enum64Fallback) → name_offset_of (with_fallback (Some fallback) t) ≡ name_offset_of t
 name_with types.Unknown fallback = refl
 name_with (types.Fwd t) fallback = refl

@@ -14,7 +14,7 @@ use Rattle.btf_records.specs.declared.types.BtfType.TheVariants as types
 use Rattle.btf_records.specs.declared.compound.Enum64Fallback.{Enum64Fallback}
 use Rattle.btf_records.specs.declared.words.Endianness.{Endianness}
 
--- the enum that a union stands for has no words
+-- The enum that a union stands for has no words.
 same_words : (fallback : Option Enum64Fallback) (t : BtfType) → words_of (with_fallback fallback t) ≡ words_of t
 same_words fallback types.Unknown = refl
 same_words fallback (types.Int t) = refl
@@ -37,7 +37,7 @@ same_words fallback (types.DeclTag t) = refl
 same_words fallback (types.TypeTag t) = refl
 same_words fallback (types.Enum64 t) = refl
 
--- a record that is read stands for none
+-- A record that was read from bytes stands for no enum.
 read_alone : (kind : BtfKind) (order : Endianness) (bytes : List ℕ) → without_fallback (type_as kind order bytes) ≡ type_as kind order bytes
 read_alone kinds.Unknown order bytes = refl
 read_alone kinds.Int order bytes = refl

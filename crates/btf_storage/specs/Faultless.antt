@@ -1,6 +1,6 @@
--- That nothing is wrong.
+-- The absence of faults.
 use Rattle.btf_records.specs.declared.error.BtfError.{BtfError}
 
--- none of these faults stands
+-- None of these faults occurs.
 pub record IsFaultless (fault : BtfError → Type 0) : Type 0 where
   pub none : (e : BtfError) → fault e → ⊥

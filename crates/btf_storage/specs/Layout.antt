@@ -1,5 +1,5 @@
--- How the records of a table lie in memory: that of each id at its place in the type bytes, and
--- beside them the enums that unions stand for, which have no bytes.
+-- The layout of the records of a table in memory: the record of each id at its offset in the type
+-- bytes, and beside them the enums that unions stand for, which have no bytes.
 use Rattle.std.specs.Prelude.{◌≡◌, ◌≢◌, ℕ, suc, ◌<◌, ◌^◌, List, [], ◌∷◌, length, drop, map, All, Option, None, Some}
 use Rattle.std.specs.List.{flat_map}
 use Rattle.std.specs.Map.{lookup}
@@ -13,22 +13,22 @@ use Rattle.btf_records.specs.declared.kind.BtfKind.{BtfKind}
 use Rattle.btf_records.specs.declared.types.BtfType.{BtfType}
 use Rattle.btf_records.specs.declared.words.Endianness.{Endianness}
 
--- the records of a table from id 1 on, and the byte order of their numbers
+-- The records of a table, from id 1 on, and the byte order of their numbers.
 pub record RecordList : Type 0 where
   pub order : Endianness
   pub types : List BtfType
 
--- the enum that the union of an id stands for
+-- The enum that the union of an id stands for.
 abbrev pub fallback_at : List (ℕ × Enum64Fallback) → ℕ → Option Enum64Fallback
 fallback_at fallbacks id = lookup (is_at (nat_cmp id)) fallbacks
 
--- the record of an id
+-- The record of an id, by its offset.
 abbrev pub type_at : Endianness → List ℕ → List (ℕ × Enum64Fallback) → ℕ → ℕ → BtfType
 type_at order bytes fallbacks id place =
     option_map_or (λ fallback. with_fallback (Some fallback) (type_in order (drop place bytes)))
     (fallback_at fallbacks id) (type_in order (drop place bytes))
 
--- the records at places, of ids from this one on
+-- The records at some offsets, from an id on.
 unfoldable pub types_at : Endianness
     → List ℕ
     → List (ℕ × Enum64Fallback)
@@ -39,17 +39,17 @@ types_at order bytes fallbacks id [] = []
 types_at order bytes fallbacks id (place ∷ places) =
     type_at order bytes fallbacks id place ∷ types_at order bytes fallbacks (suc id) places
 
--- the kind of the record at a place
+-- The kind of the record at an offset.
 abbrev pub kind_at_place : Endianness → List ℕ → ℕ → BtfKind
 kind_at_place order bytes place = kind_of_type (type_in order (drop place bytes))
 
--- the offset of the name of the record at a place
+-- The name offset of the record at an offset.
 abbrev pub name_at_place : Endianness → List ℕ → ℕ → ℕ
 name_at_place order bytes place = name_offset_of (type_in order (drop place bytes))
 
--- a record stands at each place and has this kind and this offset of a name, no id past the last
--- stands for an enum, and the bytes are those records, one after the other, and as many as they are
--- written with
+-- A record lies at each offset, with the kind and name offset given. No id after the last stands
+-- for an enum. The bytes are those records, one after the other, and as many as the records are
+-- written with.
 pub record IsLaidOut (order : Endianness) (bytes : List ℕ) (fallbacks : List (ℕ × Enum64Fallback))
     (places : List ℕ) (kinds : List BtfKind) (names : List ℕ) : Type 0 where
   pub stand : All (λ place. ReadsSame order (drop place bytes)) places
@@ -62,7 +62,7 @@ pub record IsLaidOut (order : Endianness) (bytes : List ℕ) (fallbacks : List (
   pub few_bytes : length bytes < 2 ^ 32
   pub few_types : length places < 2 ^ 32
 
--- an id that stood for no enum stands for this one, where there is one; others are as they were
+-- The id stands for the new enum, if there is one. The other ids are unchanged.
 pub record Entered (old new : List (ℕ × Enum64Fallback)) (id : ℕ) (fallback : Option Enum64Fallback)
     : Type 0 where
   pub here : fallback_at new id ≡ fallback

@@ -1,4 +1,4 @@
--- The names of sections and of symbols are those at their offsets.
+-- The names of sections and symbols are the texts at their name offsets.
 use Rattle.std.proofs.Common.{◌≡◌, ℕ, List, [], ◌∷◌, refl, Some, None}
 use Rattle.std.specs.Prelude.{map, Option, unwrap_or, option_and_then}
 use Rattle.std.specs.Option.{option_map}

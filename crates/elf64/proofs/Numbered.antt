@@ -9,7 +9,7 @@ use Rattle.elf64.specs.Headers.{AreNumbered, header_of, table_in, section_header
 use Rattle.elf64.specs.Sections.{section_from, sections_in, sections_of, section_names_in}
 use Rattle.elf64.specs.Symbols.{symbol_from, symbol_table_index, symbols_from, symbols_in, symbols_of}
 
--- the items of a range of numbers are numbered as the range is
+-- The items made from a range of indexes have the indexes of the range.
 index_of-range : {X : Type 0} (f : ℕ → X) (index_of : X → ℕ) → ((i : ℕ) → index_of (f i) ≡ i) → (a n i : ℕ) (item : X) → slice_get (map f (range_with_len a n)) i ≡ Some item → index_of item ≡ a + i
 index_of-range f index_of same a zero i item found = cc
 index_of-range f index_of same a (suc n) zero item found =

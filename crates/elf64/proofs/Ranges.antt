@@ -1,4 +1,4 @@
--- The first number of a range stands before the rest.
+-- The first number of a range, and the rest of the range.
 use Rattle.std.proofs.Common.{◌≡◌, ℕ, zero, suc, ◌+◌, ◌-◌, ◌<◌, ◌∷◌, Bool, false, refl, arith}
 use native.Mathlib.Numerals.{unary_clauses}
 use Rattle.std.specs.Prelude.{filter, find, map}

@@ -14,8 +14,8 @@ use Rattle.elf64.specs.Headers.{header_of, table_in, section_header, section_at,
 use Rattle.elf64.specs.Sections.{file_bytes_in}
 use Rattle.elf64.specs.Names.{name_in}
 
--- what a symbol shows: its name where it can be read, where in the names that begins, its section
--- where it has one
+-- A symbol, with its name if it can be read, the offset of its name in the symbols' names, and its
+-- section if it has one.
 pub record Symbol : Type 0 where
   pub index : ℕ
   pub name_offset : ℕ
@@ -28,7 +28,7 @@ pub record Symbol : Type 0 where
   pub is_global : Bool
   pub is_weak : Bool
 
--- the fields of the symbol of an index in a symbol table's bytes
+-- The fields of the symbol at an index of a symbol table's bytes.
 unfoldable pub symbol_entry : ByteOrder → List ℕ → ℕ → SymbolEntry
 symbol_entry order entries index = record {
   name = number_at w32 order entries (24 * index);
@@ -38,19 +38,21 @@ symbol_entry order entries index = record {
   size = number_at w64 order entries (24 * index + 16);
 }
 
--- st_info: the binding is the high four bits, the type the low four
+-- The binding is the high four bits of st_info, and the type is the low four.
 abbrev pub binding_of : SymbolEntry → ℕ
 binding_of entry = entry.info / 16
 
 abbrev pub type_of : SymbolEntry → ℕ
 type_of entry = entry.info % 16
 
--- st_shndx is no section where it is SHN_UNDEF or reserved, from SHN_LORESERVE on
+-- The section of a symbol. There is none if st_shndx is SHN_UNDEF or reserved, that is
+-- SHN_LORESERVE or more.
 abbrev pub section_of : SymbolEntry → Option ℕ
 section_of entry =
     if (entry.section == 0) || not (nat_lt entry.section 0xff00) then None else Some entry.section
 
--- STT_OBJECT 1, STT_FUNC 2, STT_SECTION 3, STT_FILE 4, STT_COMMON 5, STT_TLS 6, STT_GNU_IFUNC 10
+-- The kind of a type: STT_OBJECT 1, STT_FUNC 2, STT_SECTION 3, STT_FILE 4, STT_COMMON 5, STT_TLS 6,
+-- STT_GNU_IFUNC 10.
 abbrev pub kind_of : ℕ → SymbolKind
 kind_of type =
     if (type == 1) || (type == 5) then Data else
@@ -59,8 +61,8 @@ kind_of type =
     if type == 4 then File else
     if type == 6 then Tls else Unknown
 
--- a definition stands in a section, and is a function, an object, or of no type (STT_NOTYPE 0) but
--- with a size
+-- Whether a symbol is a definition: it has a section, and is a function, an object, or of no type
+-- (STT_NOTYPE 0) but with a size.
 abbrev pub is_defined : SymbolEntry → Bool
 is_defined entry =
     is_some (section_of entry)
@@ -68,7 +70,7 @@ is_defined entry =
     || (type_of entry == 2)
     || ((type_of entry == 0) && not (entry.size == 0)))
 
--- a symbol, by the names' bytes and its entry
+-- A symbol, by the bytes of the names, its index and its entry.
 unfoldable pub symbol_from : Option (List ℕ) → ℕ → SymbolEntry → Symbol
 symbol_from names index entry = record {
   index = index;
@@ -83,31 +85,31 @@ symbol_from names index entry = record {
   is_weak = binding_of entry == 2;
 }
 
--- the index of the first section of type SHT_SYMTAB
+-- The index of the first section of type SHT_SYMTAB.
 abbrev pub symbol_table_index : ByteOrder → List ℕ → Option ℕ
 symbol_table_index order table =
     find (λ i. (section_header order table i).kind == 2) (section_indexes table)
 
--- the index of the first symbol table, whose header lies in the section header table
+-- The index of the first symbol table. Its header lies in the section header table.
 pub record IsSymbolTable (order : ByteOrder) (table : List ℕ) (index : Option ℕ) : Type 0 where
   pub first : index ≡ symbol_table_index order table
   pub within : IfSome index (λ i. (0 < i) × (64 * i + 64 ≤ length table))
 
--- the bytes of the string table that a symbol table is linked to
+-- The bytes of the string table that a symbol table is linked to.
 abbrev pub symbol_names_in : List ℕ → ByteOrder → List ℕ → SectionHeader → Option (List ℕ)
 symbol_names_in bytes order table header =
     option_and_then (file_bytes_in bytes) (section_at order table header.link)
 
--- the entries' bytes
+-- The bytes of the entries of a symbol table.
 abbrev pub symbol_entries_in : List ℕ → SectionHeader → List ℕ
 symbol_entries_in bytes header = unwrap_or (bytes_at bytes header.offset header.size) []
 
--- the symbols of some indexes
+-- The symbols at some indexes.
 abbrev pub symbols_at : ByteOrder → List ℕ → Option (List ℕ) → List ℕ → List Symbol
 symbols_at order entries names indexes =
     map (λ i. symbol_from names i (symbol_entry order entries i)) indexes
 
--- the symbols of a symbol table, without symbol 0
+-- The symbols of a symbol table, without symbol 0.
 abbrev pub symbols_from : List ℕ → ByteOrder → List ℕ → SectionHeader → List Symbol
 symbols_from bytes order table header =
     symbols_at order (symbol_entries_in bytes header) (symbol_names_in bytes order table header)
@@ -119,14 +121,14 @@ symbols_in bytes order table =
     (option_map (λ i. symbols_from bytes order table (section_header order table i))
     (symbol_table_index order table)) []
 
--- the symbols of a file, in order of index
+-- The symbols of a file, in order of index.
 unfoldable pub symbols_of : List ℕ → List Symbol
 symbols_of bytes =
     unwrap_or
     (option_and_then (λ header. option_map (symbols_in bytes header.order) (table_in bytes header))
     (header_of bytes)) []
 
--- the bytes that hold the names of a file's symbols: none without a symbol table
+-- The bytes that hold the names of a file's symbols. There are none without a symbol table.
 abbrev pub symbol_names_for : List ℕ → ByteOrder → List ℕ → Option (List ℕ)
 symbol_names_for bytes order table =
     option_and_then (λ i. symbol_names_in bytes order table (section_header order table i))
